@@ -1,0 +1,6 @@
+pub mod Added
+pub mod Connected
+pub mod Forests
+pub mod Intervals
+pub mod Padding
+pub mod Searched
