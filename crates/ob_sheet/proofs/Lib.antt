@@ -1,0 +1,4 @@
+pub mod Numbered
+pub mod Ordered
+pub mod Sorting
+pub mod Writing

@@ -1,0 +1,4 @@
+pub mod Order
+pub mod Positions
+pub mod Sheet
+pub mod Supply
