@@ -1,0 +1,6 @@
+pub mod Example
+pub mod Ranges
+pub mod Rolls
+pub mod Searched
+pub mod Services
+pub mod Totals

@@ -1,0 +1,4 @@
+pub mod Blocks
+pub mod Roll
+pub mod Service
+pub mod WithoutSupply
