@@ -1,0 +1,5 @@
+mod DayLemmas
+mod MidnightLemmas
+mod MomentLemmas
+mod PeriodLemmas
+mod RuleLemmas

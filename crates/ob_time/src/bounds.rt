@@ -1,0 +1,88 @@
+//! The bounds of the days that follow a date.
+ghost use Rattle.std.specs.Prelude.{◌≡◌, ℕ, pos, ◌<◌, ◌≤◌, ◌-◌, ◌+◌, ◌+ℤ◌, ◌↔◌, List, length, slice_index, Err, IsTrue, IfSome, IfNone, IfOk, IfErr};
+ghost use Rattle.std.specs.List.Sorted.{IsStrictlyIncreasing};
+ghost use Rattle.jiff.specs.Words.{plain_zone, epoch_day, IsEpochDay};
+ghost use Rattle.ob_net.specs.Stop.{IsRefusedOrNoMemory};
+ghost use Rattle.ob_time.specs.Midnight.{IsMidnight};
+ghost use Rattle.ob_time.specs.Period.{AreMidnights};
+
+use crate::midnight::midnight;
+use jiff::civil::Date;
+use jiff::tz::TimeZone;
+use ob_net::{Refusal, Second, Stop};
+use std::alloc::Global;
+
+// The date that many days later.
+fn date_after(first: Date, days: u16) -> Option<Date>
+    ensures found { IfSome result (λ d. epoch_day d ≡ epoch_day first +ℤ pos days) }
+    ensures none { IfNone result (¬ (IsEpochDay (epoch_day first +ℤ pos days))) }
+{
+    let day = i64::from(first.to_plain().to_unix_epoch_day()) + i64::from(days);
+    match jiff_core::civil::Date::from_unix_epoch_day(day) {
+        Ok(date) => Some(Date::from_plain(date)),
+        Err(_) => None,
+    }
+}
+
+/// The bounds of that many days from the first date on: their midnights and the next date's, if
+/// each is there and they rise.
+pub(crate) fn day_bounds_from(
+    alloc: Global,
+    first: Date,
+    days: u16,
+    zone: &TimeZone<'_>,
+) -> Result<Vec<Second>, Stop>
+    requires { days ≤ 366 }
+    ensures ok { IfOk result (λ v.
+        AreMidnights (plain_zone zone.now) (epoch_day first) (days + 1) v.items) }
+    ensures refused { result ≡ Err (Stop.Refused Refusal.BadPeriod) → (bounds : List ℕ)
+        → ¬ (AreMidnights (plain_zone zone.now) (epoch_day first) (days + 1) bounds) }
+    ensures errors { IfErr result (IsRefusedOrNoMemory Refusal.BadPeriod) }
+{
+    let mut bounds = Vec::with_capacity(alloc, usize::from(days) + 1)?;
+    for k in 0..days + 1 {
+        let Some(bound) = bound_after(first, k, zone) else {
+            return Err(Stop::Refused(Refusal::BadPeriod));
+        };
+        if !rises_to(&bounds, bound) {
+            return Err(Stop::Refused(Refusal::BadPeriod));
+        }
+        bounds.push(bound)?;
+    }
+    Ok(bounds)
+}
+
+// The midnight of the date that many days later.
+fn bound_after(first: Date, days: u16, zone: &TimeZone<'_>) -> Option<Second>
+    ensures found { IfSome result
+        (IsMidnight (plain_zone zone.now) (epoch_day first +ℤ pos days)) }
+    ensures none { IfNone result ((s : ℕ)
+        → ¬ (IsMidnight (plain_zone zone.now) (epoch_day first +ℤ pos days) s)) }
+{
+    match date_after(first, days) {
+        Some(date) => midnight(date, zone),
+        None => None,
+    }
+}
+
+// Whether each bound so far is below the next one.
+fn rises_to(bounds: &[Second], next: Second) -> bool
+    ensures { IsTrue result
+        ↔ (0 < length bounds.now → slice_index bounds.now (length bounds.now - 1) < next) }
+{
+    match bounds.last() {
+        Some(last) => *last < next,
+        None => true,
+    }
+}
+
+/// How many bounds are at most the second.
+pub(crate) fn bounds_up_to(bounds: &[Second], second: Second) -> usize
+    requires { IsStrictlyIncreasing bounds.now }
+    ensures within { result ≤ length bounds.now }
+    ensures low { (k : ℕ) → k < result → slice_index bounds.now k ≤ second }
+    ensures high { (k : ℕ) → result ≤ k → k < length bounds.now
+        → second < slice_index bounds.now k }
+{
+    bounds.partition_point(|bound| *bound <= second)
+}
