@@ -1,0 +1,10 @@
+pub mod Example
+pub mod Deltas
+pub mod Keying
+pub mod Placed
+pub mod Differing
+pub mod Bounds
+pub mod Served
+pub mod Running
+pub mod Posted
+pub mod Listed

@@ -1,0 +1,6 @@
+pub mod CustomerSeconds
+pub mod Keys
+pub mod Moved
+pub mod Places
+pub mod Postings
+pub mod RunAmounts

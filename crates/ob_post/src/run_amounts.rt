@@ -1,0 +1,85 @@
+//! The amounts of one run.
+ghost use Rattle.std.specs.Prelude.{◌≡◌, ◌<◌, ◌≤◌, ℕ, List, pos, IfOk, IfErr};
+ghost use Rattle.ob_net.specs.Network.{Network};
+ghost use Rattle.ob_net.specs.Seconds.{seconds};
+ghost use Rattle.ob_net.specs.Stop.{out_of_memory};
+ghost use Rattle.ob_net.specs.declared.TheConstants.{LAST_SECOND};
+ghost use Rattle.ob_time.specs.Calendar.{days_of, first_second_of, end_second_of, day_count};
+ghost use Rattle.ob_sheet.specs.declared.Entry.{Entry};
+ghost use Rattle.ob_cust.specs.Service.{served_seconds as served};
+ghost use Rattle.ob_post.specs.CustomerSeconds.{Days};
+ghost use Rattle.ob_post.specs.Moved.{delta_of, HaveKeys};
+ghost use Rattle.ob_post.specs.RunAmounts.{customer_seconds_in, served_in, section_seconds_by, IsRunOf};
+ghost use Rattle.ob_post.specs.declared.Dim.{Dim as Dimension};
+
+use crate::{Dim, Moved};
+use ob_cust::{MOST_CUSTOMERS, Roll};
+use ob_net::{Second, Stop};
+use ob_sweep::Run;
+use ob_time::Period;
+use std::alloc::Global;
+
+/// The customer-seconds of a run that lies in the period: under its cause, under its section's home
+/// feeder, and under each day that it touches those of the part in that day, which may be 0. The
+/// error is that memory was refused.
+pub fn amounts(
+    alloc: Global,
+    run: &Run,
+    cause: u8,
+    feeder: u8,
+    roll: &Roll,
+    period: &Period,
+) -> Result<Vec<Moved>, Stop>
+    requires cause { cause < 64 }
+    requires feeder { 1 ≤ feeder }
+    requires begins { first_second_of period.now ≤ run.now.since }
+    requires some { run.now.since < run.now.until }
+    requires ends { run.now.until ≤ end_second_of period.now }
+    ensures served { IfOk result (λ moved. (dim : Dimension) (key : ℕ) → delta_of moved.items dim key ≡ pos (served_in roll.now.customers run.now cause feeder (days_of period.now) dim key)) }
+    ensures customer_seconds { IfOk result (λ moved. (dim : Dimension) (key : ℕ) → delta_of moved.items dim key ≡ pos (customer_seconds_in roll.now.customers run.now cause feeder (days_of period.now) dim key)) }
+
+    // Where it is a run of a network under a sheet, they are its part of the customer-seconds without supply.
+    ensures without_supply { (net : Network) (entries : List Entry) (p : Days) → p.days ≡ days_of period.now → IsRunOf net entries p run.now cause feeder → IfOk result (λ moved. (dim : Dimension) (key : ℕ) → delta_of moved.items dim key ≡ pos (section_seconds_by net entries roll.now.customers p run.now.section (seconds run.now.since run.now.until) dim key)) }
+    ensures keys { IfOk result (λ moved. HaveKeys (day_count period.now) moved.items) }
+    ensures err { IfErr result (λ stop. stop ≡ out_of_memory) }
+{
+    prove!(period.first_second() <= run.since && run.until <= period.end_second());
+    let delta = served_delta(roll, run.section, run.since, run.until);
+    let mut moved = Vec::new(alloc);
+    moved.push(Moved {
+        dim: Dim::Cause,
+        key: u16::from(cause),
+        delta,
+    })?;
+    moved.push(Moved {
+        dim: Dim::Feeder,
+        key: u16::from(feeder),
+        delta,
+    })?;
+    let first = period.day_of(run.since).unwrap();
+    let last = period.day_of(run.until - 1).unwrap();
+    for day in first..last + 1 {
+        let (since, until) = period.day_bounds(day).unwrap();
+        let delta = served_delta(
+            roll,
+            run.section,
+            run.since.max(since),
+            run.until.min(until),
+        );
+        moved.push(Moved {
+            dim: Dim::Day,
+            key: day,
+            delta,
+        })?;
+    }
+    Ok(moved)
+}
+
+// The seconds of service as a delta: 100,000 customers have far fewer than 2^63.
+fn served_delta(roll: &Roll, section: u16, since: Second, until: Second) -> i64
+    requires { until ≤ LAST_SECOND }
+    ensures { result ≡ pos (served roll.now.customers section since until) }
+{
+    prove!(roll.customers().len() <= MOST_CUSTOMERS);
+    roll.served_seconds(section, since, until) as i64
+}
