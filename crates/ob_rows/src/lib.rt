@@ -1,0 +1,21 @@
+//! The rows of a CSV text, RFC 4180, one at a time.
+//!
+//! Keeps how the outage book takes CSV: what ends a row, what quoting means and what the header is.
+//! Promises that a reader gives the rows of its text, each once and in order, with every field as it
+//! stands in the text. Above it stand the total, the import and the desk; none of them names `csv`.
+#![tactic(auto)]
+
+mod reader;
+mod row;
+
+pub use reader::RowReader;
+pub use row::{Row, RowFields};
+
+/// How many rows a text may have after its header.
+pub const MOST_ROWS: u32 = 1_000_000;
+
+/// How many bytes a text may have.
+pub const MOST_BYTES: usize = 268_435_456;
+
+#[cfg(test)]
+mod tests;
