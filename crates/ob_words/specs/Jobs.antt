@@ -1,0 +1,53 @@
+-- The job that a list of words names, and the reason where they name none.
+use Rattle.std.specs.Prelude.{◌≡◌, ◌≢◌, ℕ, List, [], ◌∷◌, Option, Some, None, codes, if◌then◌else◌, option_and_then}
+use Rattle.std.specs.Str.{bytes_eq}
+use Rattle.clap.specs.Words.{IsAmong, Kinds, Text, fault_of, subcommand_of}
+use Rattle.clap.specs.declared.error.kind.ErrorKind.{ErrorKind}
+use Rattle.clap.specs.declared.error.kind.ErrorKind.TheVariants as kind
+use Rattle.ob_net.specs.declared.stop.Fault.TheVariants.{OutOfMemory}
+use Rattle.ob_words.specs.Commands.{outagebook_app}
+use Rattle.ob_words.specs.declared.job.Job.{Job}
+use Rattle.ob_words.specs.declared.job.Job.TheVariants.{Total}
+use Rattle.ob_words.specs.declared.read.WrongWords.{WrongWords}
+use Rattle.ob_words.specs.declared.read.WrongWords.TheVariants as wrong
+
+-- the job of a subcommand's name
+abbrev pub job_named : Text → Option Job
+job_named name = if bytes_eq name (codes "total") then Some Total else None
+
+-- the errors that the words may give, as `clap` reads them: none where it matches them
+abbrev pub errors_of : List Text → Kinds
+errors_of words = fault_of outagebook_app words
+
+-- the job, where there are no errors
+abbrev pub where_matched : Kinds → Option Job → Option Job
+where_matched [] job = job
+where_matched (k ∷ ks) job = None
+
+-- the job that the words name: that of their subcommand, where `clap` matches the words
+abbrev pub job_of : List Text → Option Job
+job_of words = where_matched (errors_of words)
+    (option_and_then (λ p. job_named p.0) (subcommand_of outagebook_app words))
+
+-- why the words give no job: help comes only where it is asked for, a refusal only where the words
+-- name no job and do not merely ask for help, and a fault is that memory was refused
+abbrev pub IsReason : List Text → WrongWords → Type 0
+IsReason words (wrong.Help text) = IsAmong kind.DisplayHelp (errors_of words)
+IsReason words (wrong.Wrong text) = (job_of words ≡ None) × (errors_of words ≢ kind.DisplayHelp ∷ [])
+IsReason words (wrong.Fault fault) = fault ≡ OutOfMemory
+
+-- the reason that an error of this kind gives
+abbrev pub IsReasonOf : ErrorKind → WrongWords → Type 0
+IsReasonOf k (wrong.Help text) = k ≡ kind.DisplayHelp
+IsReasonOf k (wrong.Wrong text) = (k ≢ kind.DisplayHelp) × (k ≢ kind.OutOfMemory)
+IsReasonOf k (wrong.Fault fault) = fault ≡ OutOfMemory
+
+-- memory was refused
+abbrev pub out_of_memory : WrongWords
+out_of_memory = wrong.Fault OutOfMemory
+
+-- the status that the program ends with
+abbrev pub status_of : WrongWords → ℕ
+status_of (wrong.Help text) = 0
+status_of (wrong.Wrong text) = 64
+status_of (wrong.Fault fault) = 1
