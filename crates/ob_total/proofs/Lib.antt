@@ -1,0 +1,4 @@
+pub mod Counting
+pub mod Sections
+pub mod TotalLaws
+pub mod Unused

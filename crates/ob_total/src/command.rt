@@ -1,0 +1,244 @@
+//! What the rows of a text say. The leftmost bad column is refused.
+ghost use Rattle.std.specs.Prelude.{◌≡◌, ◌≢◌, ◌≤◌, ◌<◌, ◌+◌, [], ◌∷◌, length, map, IfOk, IfSome};
+ghost use Rattle.ob_net.specs.Fields.{unix_second_in, until_in};
+ghost use Rattle.ob_rows.specs.RowFields.{fields_in};
+ghost use Rattle.ob_total.specs.Commands.{IsCommand, IsSpan, with_unused, span_end_in, span_of, cause_of, bus_of, section_of, device_of, other_node_in, connect_of, switch_of, kind_in, command_by, command_of};
+
+use ob_net::{
+    Crew, LAST_SECOND, Name, Pos, Ref, Refusal, Second, read_act, read_cause, read_feeder,
+    read_normal, read_serial, read_unix_second, read_until,
+};
+use ob_rows::{Row, RowFields};
+
+/// The seconds from `first` up to `end`, `end` excluded.
+#[derive(Clone, Copy, Debug)]
+pub struct Span {
+    pub first: Second,
+    pub end: Second,
+}
+
+/// The kinds of commands.
+#[derive(Clone, Copy, Debug)]
+pub enum Kind {
+    Cause,
+    Bus,
+    Section,
+    Device,
+    Connect,
+    Switch,
+}
+
+/// What a row after the first says.
+#[derive(Clone, Copy, Debug)]
+pub enum Command {
+    /// A cause, for which a total has no use.
+    Cause,
+    /// A bus.
+    Bus(Name),
+    /// A section and its home feeder.
+    Section(Name, u8),
+    /// A device, its two nodes and its normal position.
+    Device(Name, Name, Name, Pos),
+    /// A customer's number, section and service.
+    Connect(u32, Name, Second, Option<Second>),
+    /// A device's position from a second on, with cause and crew.
+    Switch(Name, Pos, Second, u8, Crew),
+}
+
+/// The longest that a span may be, plus one, in seconds.
+const SPAN_LIMIT: u64 = 1 << 25;
+
+/// The span that the first row says.
+pub fn span_in(row: &Row) -> Result<Span, Refusal>
+    ensures span { result ≡ span_of row.now }
+    ensures valid { IfOk result IsSpan }
+{
+    match row.fields() {
+        Some(fields) => span_of_fields(&fields),
+        None => Err(Refusal::BadField(0)),
+    }
+}
+
+/// The command that a row after the first says.
+pub fn command_in(row: &Row) -> Result<Command, Refusal>
+    ensures command { result ≡ command_of row.now }
+    ensures valid { IfOk result IsCommand }
+{
+    match row.fields() {
+        Some(fields) => command_of_fields(&fields),
+        None => Err(Refusal::BadField(0)),
+    }
+}
+
+fn span_of_fields(row: &RowFields<'_>) -> Result<Span, Refusal>
+    ensures span { result ≡ span_of (fields_in row.now) }
+    ensures valid { IfOk result IsSpan }
+{
+    if row.kind != b"span".as_slice() {
+        return Err(Refusal::BadField(1));
+    }
+    Ref::read(row.reference).ok_or(Refusal::BadField(2))?;
+    let first = read_unix_second(row.f1).ok_or(Refusal::BadField(3))?;
+    let end = read_span_end(first, row.f2).ok_or(Refusal::BadField(4))?;
+    complete(Span { first, end }, 5, &[row.f3, row.f4, row.f5, row.f6])
+}
+
+fn command_of_fields(row: &RowFields<'_>) -> Result<Command, Refusal>
+    ensures command { result ≡ command_of (fields_in row.now) }
+    ensures valid { IfOk result IsCommand }
+{
+    let kind = read_kind(row.kind).ok_or(Refusal::BadField(1))?;
+    Ref::read(row.reference).ok_or(Refusal::BadField(2))?;
+    match kind {
+        Kind::Cause => read_cause_row(row),
+        Kind::Bus => read_bus(row),
+        Kind::Section => read_section(row),
+        Kind::Device => read_device(row),
+        Kind::Connect => read_connect(row),
+        Kind::Switch => read_switch(row),
+    }
+}
+
+fn read_kind(text: &[u8]) -> Option<Kind>
+    ensures { result ≡ kind_in text.now }
+{
+    if text == b"cause".as_slice() {
+        Some(Kind::Cause)
+    } else if text == b"bus".as_slice() {
+        Some(Kind::Bus)
+    } else if text == b"section".as_slice() {
+        Some(Kind::Section)
+    } else if text == b"device".as_slice() {
+        Some(Kind::Device)
+    } else if text == b"connect".as_slice() {
+        Some(Kind::Connect)
+    } else if text == b"switch".as_slice() {
+        Some(Kind::Switch)
+    } else {
+        None
+    }
+}
+
+/// The end of a span: above its first second, by less than `SPAN_LIMIT`.
+fn read_span_end(first: Second, text: &[u8]) -> Option<Second>
+    requires { first ≤ LAST_SECOND }
+    ensures end { result ≡ span_end_in first text.now }
+    ensures valid { IfSome result (λ end. IsSpan (record { first = first; end = end })) }
+{
+    let end = read_unix_second(text)?;
+    if first < end && end < first + SPAN_LIMIT {
+        Some(end)
+    } else {
+        None
+    }
+}
+
+fn read_cause_row(row: &RowFields<'_>) -> Result<Command, Refusal>
+    ensures command { result ≡ cause_of row.now.f1.now row.now.f2.now (row.now.f3.now ∷ row.now.f4.now ∷ row.now.f5.now ∷ row.now.f6.now ∷ []) }
+    ensures valid { IfOk result IsCommand }
+{
+    read_cause(row.f1).ok_or(Refusal::BadField(3))?;
+    Name::read(row.f2).ok_or(Refusal::BadField(4))?;
+    complete(Command::Cause, 5, &[row.f3, row.f4, row.f5, row.f6])
+}
+
+fn read_bus(row: &RowFields<'_>) -> Result<Command, Refusal>
+    ensures command { result ≡ bus_of row.now.f1.now (row.now.f2.now ∷ row.now.f3.now ∷ row.now.f4.now ∷ row.now.f5.now ∷ row.now.f6.now ∷ []) }
+    ensures valid { IfOk result IsCommand }
+{
+    let name = Name::read(row.f1).ok_or(Refusal::BadField(3))?;
+    complete(
+        Command::Bus(name),
+        4,
+        &[row.f2, row.f3, row.f4, row.f5, row.f6],
+    )
+}
+
+fn read_section(row: &RowFields<'_>) -> Result<Command, Refusal>
+    ensures command { result ≡ section_of row.now.f1.now row.now.f2.now (row.now.f3.now ∷ row.now.f4.now ∷ row.now.f5.now ∷ row.now.f6.now ∷ []) }
+    ensures valid { IfOk result IsCommand }
+{
+    let name = Name::read(row.f1).ok_or(Refusal::BadField(3))?;
+    let feeder = read_feeder(row.f2).ok_or(Refusal::BadField(4))?;
+    complete(
+        Command::Section(name, feeder),
+        5,
+        &[row.f3, row.f4, row.f5, row.f6],
+    )
+}
+
+fn read_device(row: &RowFields<'_>) -> Result<Command, Refusal>
+    ensures command { result ≡ device_of row.now.f1.now row.now.f2.now row.now.f3.now row.now.f4.now (row.now.f5.now ∷ row.now.f6.now ∷ []) }
+    ensures valid { IfOk result IsCommand }
+{
+    let name = Name::read(row.f1).ok_or(Refusal::BadField(3))?;
+    let a = Name::read(row.f2).ok_or(Refusal::BadField(4))?;
+    let b = read_other_node(&a, row.f3).ok_or(Refusal::BadField(5))?;
+    let normal = read_normal(row.f4).ok_or(Refusal::BadField(6))?;
+    complete(Command::Device(name, a, b, normal), 7, &[row.f5, row.f6])
+}
+
+/// The second node of a device, which isn't the first.
+fn read_other_node(a: &Name, text: &[u8]) -> Option<Name>
+    ensures node { result ≡ other_node_in a.now text.now }
+    ensures apart { IfSome result (λ b. a.now ≢ b) }
+{
+    let b = Name::read(text)?;
+    if a.bytes() == b.bytes() {
+        None
+    } else {
+        Some(b)
+    }
+}
+
+fn read_connect(row: &RowFields<'_>) -> Result<Command, Refusal>
+    ensures command { result ≡ connect_of row.now.f1.now row.now.f2.now row.now.f3.now row.now.f4.now (row.now.f5.now ∷ row.now.f6.now ∷ []) }
+    ensures valid { IfOk result IsCommand }
+{
+    let customer = read_serial(row.f1).ok_or(Refusal::BadField(3))?;
+    let section = Name::read(row.f2).ok_or(Refusal::BadField(4))?;
+    let since = read_unix_second(row.f3).ok_or(Refusal::BadField(5))?;
+    let until = read_end(row.f4).ok_or(Refusal::BadField(6))?;
+    complete(
+        Command::Connect(customer, section, since, until),
+        7,
+        &[row.f5, row.f6],
+    )
+}
+
+/// An end of service as Unix seconds, or none.
+fn read_end(text: &[u8]) -> Option<Option<Second>>
+    ensures { result ≡ until_in unix_second_in text.now }
+{
+    read_until(text, read_unix_second(text))
+}
+
+fn read_switch(row: &RowFields<'_>) -> Result<Command, Refusal>
+    ensures command { result ≡ switch_of row.now.f1.now row.now.f2.now row.now.f3.now row.now.f4.now row.now.f5.now (row.now.f6.now ∷ []) }
+    ensures valid { IfOk result IsCommand }
+{
+    let device = Name::read(row.f1).ok_or(Refusal::BadField(3))?;
+    let pos = read_act(row.f2).ok_or(Refusal::BadField(4))?;
+    let second = read_unix_second(row.f3).ok_or(Refusal::BadField(5))?;
+    let cause = read_cause(row.f4).ok_or(Refusal::BadField(6))?;
+    let crew = Crew::read(row.f5).ok_or(Refusal::BadField(7))?;
+    complete(
+        Command::Switch(device, pos, second, cause, crew),
+        8,
+        &[row.f6],
+    )
+}
+
+/// The value, where the fields from a column on are empty.
+fn complete<T: Copy>(value: T, column: u8, fields: &[&[u8]]) -> Result<T, Refusal>
+    requires { column + length fields.now < 256 }
+    ensures value { result ≡ with_unused column (map (λ f. f.now) fields.now) (Ok value) }
+    ensures kept { IfOk result (λ v. v ≡ value) }
+{
+    for (place, field) in fields.iter().enumerate() {
+        if !field.is_empty() {
+            return Err(Refusal::BadField(column + place as u8));
+        }
+    }
+    Ok(value)
+}

@@ -1,0 +1,88 @@
+//! The plain count: one search for each second, one for each customer without supply.
+ghost use Rattle.std.specs.Prelude.{◌≡◌, ◌<◌, ◌≤◌, [], not, false, length, slice_index_or, IfOk, IfErr};
+ghost use Rattle.std.specs.List.{All, count_by};
+ghost use Rattle.ob_net.specs.Seconds.{seconds};
+ghost use Rattle.ob_net.specs.Stop.{out_of_memory};
+ghost use Rattle.ob_net.specs.Walk.{is_supplied};
+ghost use Rattle.ob_sheet.specs.Positions.{positions as positions_under};
+ghost use Rattle.ob_sheet.specs.Sheet.{NameDevices};
+ghost use Rattle.ob_sheet.specs.Supply.{is_deenergized};
+ghost use Rattle.ob_cust.specs.Service.{in_service};
+ghost use Rattle.ob_total.specs.Commands.{IsSpan};
+ghost use Rattle.ob_cust.specs.WithoutSupply.{is_without_supply, seconds_without_supply};
+
+use crate::command::Span;
+use ob_cust::{Customer, MOST_CUSTOMERS};
+use ob_net::{Net, Pos, Second, Stop};
+use ob_sheet::Sheet;
+
+/// The customer-seconds without supply in a span, where `positions` are at first the normal ones.
+pub fn count_seconds(
+    net: &mut Net,
+    sheet: &Sheet,
+    customers: &[Customer],
+    span: Span,
+    positions: &mut [Pos],
+) -> Result<u64, Stop>
+    requires span { IsSpan span }
+    requires devices { NameDevices (length net.old.network.devices) sheet.now.entries }
+    requires sections { All (λ c. c.section < length net.old.network.nodes) customers.now }
+    requires few { length customers.now ≤ MOST_CUSTOMERS }
+    requires normal { positions.old ≡ positions_under net.old.network [] }
+    ensures total { IfOk result (λ n. n ≡ seconds_without_supply (is_deenergized net.old.network sheet.now.entries) (seconds span.first span.end) customers.now) }
+    ensures err { IfErr result (λ stop. stop ≡ out_of_memory) }
+    ensures network { net.new.network ≡ net.old.network }
+{
+    let mut total = 0;
+    let mut place = 0;
+    for second in span.first..span.end {
+        place = sheet.advance(place, second, positions);
+        let without = count_second(net, customers, second, positions)?;
+        total += without;
+    }
+    Ok(total)
+}
+
+/// How many customers are without supply at a second, under positions.
+fn count_second(
+    net: &mut Net,
+    customers: &[Customer],
+    second: Second,
+    positions: &[Pos],
+) -> Result<u64, Stop>
+    requires positions { length positions.now ≡ length net.old.network.devices }
+    requires sections { All (λ c. c.section < length net.old.network.nodes) customers.now }
+    ensures count { IfOk result (λ n. n ≡ count_by (λ c. is_without_supply (λ v s. not (is_supplied net.old.network positions.now v)) c second) customers.now) }
+    ensures few { IfOk result (λ n. n ≤ length customers.now) }
+    ensures err { IfErr result (λ stop. stop ≡ out_of_memory) }
+    ensures network { net.new.network ≡ net.old.network }
+{
+    let supplied = net.supplied(positions)?;
+    Ok(count_without(customers, second, &supplied))
+}
+
+/// How many customers are in service at a second, on a node that isn't supplied.
+fn count_without(customers: &[Customer], second: Second, supplied: &[bool]) -> u64
+    requires { All (λ c. c.section < length supplied.now) customers.now }
+    ensures count { result ≡ count_by (λ c. is_without_supply (λ v s. not (slice_index_or supplied.now v false)) c second) customers.now }
+    ensures few { result ≤ length customers.now }
+{
+    let mut count = 0;
+    for customer in customers {
+        if is_in_service(customer, second) && !supplied[customer.section as usize] {
+            count += 1;
+        }
+    }
+    count
+}
+
+/// Whether a customer is in service at a second.
+fn is_in_service(customer: &Customer, second: Second) -> bool
+    ensures { result ≡ in_service customer.now second }
+{
+    let has_ended = match customer.until {
+        Some(until) => until <= second,
+        None => false,
+    };
+    customer.since <= second && !has_ended
+}

@@ -1,0 +1,171 @@
+//! Runs over readers and writers that fail, are slow or give too much, and runs short of memory.
+use crate::tests::FIRST_RUN;
+use crate::{TotalStop, run_total};
+use ob_net::{Fault, Stop, Watched};
+use std::alloc::Global;
+use std::io;
+use std::io::{ErrorKind, Read, Write};
+
+// The text of a small total: one customer for 10 seconds, W 10.
+const SMALL: &[u8] = b"kind,ref,f1,f2,f3,f4,f5,f6
+span,A0,0,10,,,,
+section,A1,S1,1,,,,
+connect,C1,1,S1,0,,,
+";
+
+// Gives one byte a read and is interrupted before each read; fails behind its bytes where `fails`.
+#[derive(Drop)]
+struct Source<'b> {
+    rest: &'b [u8],
+    interrupted: bool,
+    fails: bool,
+}
+
+impl<'b> Source<'b> {
+    fn new(rest: &'b [u8], fails: bool) -> Watched<Source<'b>> {
+        Watched::new(Source {
+            rest,
+            interrupted: false,
+            fails,
+        })
+    }
+}
+
+impl Read for Source<'_> {
+    fn read(&mut self, buf: &mut [u8]) -> io::Result<usize> {
+        self.interrupted = !self.interrupted;
+        if self.interrupted {
+            return Err(io::Error::from(ErrorKind::Interrupted));
+        }
+        if self.rest.is_empty() && self.fails {
+            return Err(io::Error::from(ErrorKind::Other));
+        }
+        let count = self.rest.len().min(1).min(buf.len());
+        buf[..count].copy_from_slice(&self.rest[..count]);
+        self.rest = &self.rest[count..];
+        Ok(count)
+    }
+}
+
+// Takes one byte a write while it has room, interrupted before each, and then answers this error,
+// or 0.
+#[derive(Drop)]
+struct Sink {
+    taken: Vec<u8>,
+    interrupted: bool,
+    room: usize,
+    full: Option<ErrorKind>,
+}
+
+impl Sink {
+    fn new(alloc: Global, room: usize, full: Option<ErrorKind>) -> Watched<Sink> {
+        Watched::new(Sink {
+            taken: Vec::new(alloc),
+            interrupted: false,
+            room,
+            full,
+        })
+    }
+}
+
+impl Write for Sink {
+    fn write(&mut self, buf: &[u8]) -> io::Result<usize> {
+        self.interrupted = !self.interrupted;
+        if self.interrupted {
+            return Err(io::Error::from(ErrorKind::Interrupted));
+        }
+        if self.room == 0 {
+            return match self.full {
+                Some(kind) => Err(io::Error::from(kind)),
+                None => Ok(0),
+            };
+        }
+        let count = buf.len().min(1);
+        self.taken.extend_from_slice(&buf[..count])?;
+        self.room -= count;
+        Ok(count)
+    }
+
+    fn flush(&mut self) -> io::Result<()> {
+        Ok(())
+    }
+}
+
+fn fault(fault: Fault) -> Result<u64, TotalStop> {
+    Err(TotalStop {
+        stop: Stop::Fault(fault),
+        row: None,
+    })
+}
+
+#[test]
+fn readers_that_fail(rt: HostRuntime) {
+    for count in 0..=SMALL.len() {
+        let mut reader = Source::new(&SMALL[..count], true);
+        let mut writer = Watched::new(Vec::new(rt.alloc()));
+        let answer = run_total(rt.alloc(), &mut reader, &mut writer);
+        assert!(rt; answer == fault(Fault::Input), "{count}: {answer:?}");
+        assert!(rt; writer.into_parts().0.is_empty(), "{count}");
+    }
+}
+
+#[test]
+fn writers_that_fail(rt: HostRuntime) {
+    let line = b"W 10\n".as_slice();
+    for room in 0..line.len() {
+        for full in [None, Some(ErrorKind::Other)] {
+            let mut reader = Watched::new(SMALL);
+            let mut writer = Sink::new(rt.alloc(), room, full);
+            let answer = run_total(rt.alloc(), &mut reader, &mut writer);
+            assert!(rt; answer == fault(Fault::Output), "{room}: {answer:?}");
+            let taken = writer.into_parts().0.taken;
+            assert!(rt; taken.as_slice() == &line[..room], "{room}");
+        }
+    }
+}
+
+#[test]
+fn slow_streams(rt: HostRuntime) {
+    let mut reader = Source::new(SMALL, false);
+    let mut writer = Sink::new(rt.alloc(), 5, None);
+    let answer = run_total(rt.alloc(), &mut reader, &mut writer);
+    assert_eq!(rt; answer, Ok(10));
+    assert!(rt; writer.into_parts().0.taken.as_slice() == b"W 10\n".as_slice());
+}
+
+// Gives line ends without end.
+#[derive(Drop)]
+struct Endless;
+
+impl Read for Endless {
+    fn read(&mut self, buf: &mut [u8]) -> io::Result<usize> {
+        buf.fill(b'\n');
+        Ok(buf.len())
+    }
+}
+
+#[test]
+fn a_text_that_is_too_long(rt: HostRuntime) {
+    let mut reader = Watched::new(Endless);
+    let mut writer = Watched::new(Vec::new(rt.alloc()));
+    let answer = run_total(rt.alloc(), &mut reader, &mut writer);
+    assert_eq!(rt; answer, fault(Fault::Input));
+    assert!(rt; writer.into_parts().0.is_empty());
+}
+
+// Run with one allocation refused, it sees that a run that stops for it writes nothing. The writer's
+// own memory is among what may be refused.
+#[test]
+fn memory_refused(rt: HostRuntime) {
+    let mut reader = Watched::new(FIRST_RUN);
+    let mut writer = Watched::new(Vec::new(rt.alloc()));
+    let answer = run_total(rt.alloc(), &mut reader, &mut writer);
+    let taken = writer.into_parts().0;
+    match answer {
+        Ok(total) => assert!(rt; total == 9000 && taken.as_slice() == b"W 9000\n".as_slice()),
+        Err(_) => {
+            assert!(rt; taken.is_empty());
+            assert!(rt; answer == fault(Fault::OutOfMemory) || answer == fault(Fault::Output));
+        }
+    }
+}

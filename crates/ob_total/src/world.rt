@@ -1,0 +1,190 @@
+//! What a text has said so far: the span, the network, the sheet and the roll.
+ghost use Rattle.std.specs.Prelude.{◌≡◌};
+
+use crate::command::{Command, Span};
+use crate::count::count_seconds;
+use ob_cust::{Customer, Roll};
+use ob_net::{Crew, Name, Net, Pos, Refusal, Second, Stop};
+use ob_sheet::{MOST_ENTRIES, Sheet};
+use std::alloc::Global;
+use std::marker::Model;
+
+/// The span, and the network, the sheet and the roll that the commands so far have made.
+#[derive(Drop)]
+pub struct World {
+    span: Span,
+    net: Net,
+    sheet: Sheet,
+    roll: Roll,
+}
+
+impl Model for World {
+    ghost use Rattle.ob_total.specs.Worlds.{WorldState, IsWorld};
+
+    ghost Value = { WorldState };
+
+    ghost view = { λ w. record { span = w.span; network = w.net.network; entries = w.sheet.entries; customers = w.roll.customers } };
+
+    ghost invariant = { λ w. IsWorld (record { span = w.span; network = w.net.network; entries = w.sheet.entries; customers = w.roll.customers }) };
+}
+
+impl World {
+    ghost use Rattle.std.specs.Prelude.{◌≡◌, ◌<◌, ◌≤◌, ◌≢◌, ◌+◌, ◌^◌, [], length, IfOk, IfErr, IfSome, OnErr, OnOk};
+    ghost use Rattle.ob_net.specs.Stop.{out_of_memory};
+    ghost use Rattle.ob_total.specs.Commands.{IsCommand, IsSpan};
+    ghost use Rattle.ob_total.specs.Worlds.{empty_world, next, section_named, customer_seconds_of};
+    ghost use Rattle.ob_total.specs.Steps.{StepsAs};
+
+    /// A span, GRID alone, nothing entered and nobody connected.
+    pub fn new(alloc: Global, span: Span) -> Result<World, Stop>
+        requires { IsSpan span }
+        ensures world { IfOk result (λ w. w ≡ empty_world span) }
+        ensures err { IfErr result (λ stop. stop ≡ out_of_memory) }
+    {
+        let net = Net::new(alloc)?;
+        Ok(World {
+            span,
+            net,
+            sheet: Sheet::new(alloc),
+            roll: Roll::new(alloc),
+        })
+    }
+
+    /// Makes a command's one change. After an error the world is as before.
+    pub fn act(&mut self, command: &Command) -> Result<(), Stop>
+        requires { IsCommand command.now }
+        ensures said { StepsAs result self.new (next self.old command.now) }
+        ensures err { OnErr result (self.new ≡ self.old) }
+    {
+        match *command {
+            Command::Cause => Ok(()),
+            Command::Bus(name) => self.add_bus(name),
+            Command::Section(name, feeder) => self.add_section(name, feeder),
+            Command::Device(name, a, b, normal) => self.add_device(name, a, b, normal),
+            Command::Connect(number, section, since, until) => {
+                self.connect(number, section, since, until)
+            }
+            Command::Switch(device, pos, second, cause, crew) => {
+                self.switch(device, pos, second, cause, crew)
+            }
+        }
+    }
+
+    /// The customer-seconds without supply in the span, counted second by second.
+    pub fn count(&mut self) -> Result<u64, Stop>
+        ensures total { IfOk result (λ n. n ≡ customer_seconds_of self.old) }
+        ensures err { IfErr result (λ stop. stop ≡ out_of_memory) }
+    {
+        let mut positions = self.sheet.positions_before(0, &self.net)?;
+        let customers = self.roll.customers();
+        count_seconds(
+            &mut self.net,
+            &self.sheet,
+            customers,
+            self.span,
+            &mut positions,
+        )
+    }
+
+    fn refuse_if_sealed(&self) -> Result<(), Refusal>
+        ensures open { OnOk result (self.now.entries ≡ []) }
+        ensures sealed { IfErr result (λ refusal. (refusal ≡ Refusal.Sealed) × (0 < length self.now.entries)) }
+    {
+        if self.sheet.len() == 0 {
+            Ok(())
+        } else {
+            Err(Refusal::Sealed)
+        }
+    }
+
+    fn add_bus(&mut self, name: Name) -> Result<(), Stop>
+        ensures said { StepsAs result self.new (next self.old (Command.Bus name)) }
+        ensures err { OnErr result (self.new ≡ self.old) }
+    {
+        self.refuse_if_sealed()?;
+        self.net.reserve_one()?;
+        self.net.add_bus(name)?;
+        Ok(())
+    }
+
+    fn add_section(&mut self, name: Name, feeder: u8) -> Result<(), Stop>
+        requires { 1 ≤ feeder }
+        ensures said { StepsAs result self.new (next self.old (Command.Section name feeder)) }
+        ensures err { OnErr result (self.new ≡ self.old) }
+    {
+        self.refuse_if_sealed()?;
+        self.net.reserve_one()?;
+        self.net.add_section(name, feeder)?;
+        Ok(())
+    }
+
+    fn add_device(&mut self, name: Name, a: Name, b: Name, normal: Pos) -> Result<(), Stop>
+        requires { a ≢ b }
+        ensures said { StepsAs result self.new (next self.old (Command.Device name a b normal)) }
+        ensures err { OnErr result (self.new ≡ self.old) }
+    {
+        self.refuse_if_sealed()?;
+        self.net.reserve_one()?;
+        self.net.add_device(name, a, b, normal)?;
+        Ok(())
+    }
+
+    fn section_named(&self, name: &Name) -> Option<u16>
+        ensures section { result ≡ section_named self.now.network name.now }
+        ensures exists { IfSome result (λ v. v < length self.now.network.nodes) }
+    {
+        let node = self.net.node_of(name)?;
+        match self.net.feeder_of(node) {
+            Some(_) => Some(node),
+            None => None,
+        }
+    }
+
+    fn connect(
+        &mut self,
+        number: u32,
+        section: Name,
+        since: Second,
+        until: Option<Second>,
+    ) -> Result<(), Stop>
+        ensures said { StepsAs result self.new (next self.old (Command.Connect number section since until)) }
+        ensures err { OnErr result (self.new ≡ self.old) }
+    {
+        let Some(section) = self.section_named(&section) else {
+            return Err(Stop::Refused(Refusal::UnknownName));
+        };
+        self.roll.reserve_one()?;
+        self.roll.connect(Customer {
+            no: number,
+            section,
+            since,
+            until,
+        })?;
+        Ok(())
+    }
+
+    fn switch(
+        &mut self,
+        device: Name,
+        pos: Pos,
+        second: Second,
+        cause: u8,
+        crew: Crew,
+    ) -> Result<(), Stop>
+        ensures said { StepsAs result self.new (next self.old (Command.Switch device pos second cause crew)) }
+        ensures err { OnErr result (self.new ≡ self.old) }
+    {
+        let Some(device) = self.net.device_of(&device) else {
+            return Err(Stop::Refused(Refusal::UnknownName));
+        };
+        if second < self.span.first || self.span.end <= second {
+            return Err(Stop::Refused(Refusal::OutOfPeriod));
+        }
+        if self.sheet.is_full() {
+            return Err(Stop::Refused(Refusal::Full(MOST_ENTRIES as u32)));
+        }
+        self.sheet.reserve_one()?;
+        self.sheet.enter(device, pos, second, cause, crew);
+        Ok(())
+    }
+}
