@@ -1,0 +1,104 @@
+"""An independent model of `outagebook total`.
+
+It reads the same text and adds up, for each stretch of seconds between two switchings, the seconds
+that each customer in service has no closed path to GRID. It shares nothing with the program: that
+one looks at every second and joins nodes into trees, this one goes from switching to switching and
+walks from GRID breadth first.
+
+A text that `total` refuses is no input of the model: it may then fail in any way.
+
+    python3 benches/reference.py < examples/first-run.csv
+"""
+
+import csv
+import io
+import sys
+from collections import defaultdict, deque
+
+GRID = "GRID"
+
+
+class Book:
+    """What a text says."""
+
+    def __init__(self):
+        self.span = None
+        self.sections = set()
+        self.devices = {}  # name: (node, node)
+        self.normal = {}  # name: is it closed
+        self.customers = {}  # number: (section, since, until or None)
+        self.entries = []  # (second, number, device, is it closed from then on)
+
+
+def read_book(data):
+    """The book that the bytes of a text say."""
+    rows = csv.reader(io.StringIO(data.decode("utf-8-sig"), newline=""))
+    rows = [row for row in rows if row]
+    if rows[0] != ["kind", "ref", "f1", "f2", "f3", "f4", "f5", "f6"]:
+        raise ValueError("no header")
+    book = Book()
+    for kind, _ref, *f in rows[1:]:
+        if kind == "span":
+            book.span = (int(f[0]), int(f[1]))
+        elif kind == "section":
+            book.sections.add(f[0])
+        elif kind == "device":
+            book.devices[f[0]] = (f[1], f[2])
+            book.normal[f[0]] = f[3] == "closed"
+        elif kind == "connect":
+            book.customers[int(f[0])] = (f[1], int(f[2]), int(f[3]) if f[3] else None)
+        elif kind == "switch":
+            book.entries.append((int(f[2]), len(book.entries) + 1, f[0], f[1] == "close"))
+        elif kind not in ("cause", "bus"):
+            raise ValueError(f"unknown kind {kind}")
+    return book
+
+
+def reached_from_grid(devices, closed):
+    """The nodes to which closed devices lead from GRID."""
+    neighbours = defaultdict(list)
+    for name, (a, b) in devices.items():
+        if closed[name]:
+            neighbours[a].append(b)
+            neighbours[b].append(a)
+    reached = {GRID}
+    queue = deque([GRID])
+    while queue:
+        for node in neighbours[queue.popleft()]:
+            if node not in reached:
+                reached.add(node)
+                queue.append(node)
+    return reached
+
+
+def stretches(book):
+    """For each stretch of seconds without a switching: its first second, its end, the positions."""
+    first, end = book.span
+    closed = dict(book.normal)
+    bounds = sorted({first, end} | {second for second, _, _, _ in book.entries})
+    entries = deque(sorted(book.entries))
+    for begin, next_bound in zip(bounds, bounds[1:]):
+        while entries and entries[0][0] <= begin:
+            _, _, device, is_closed = entries.popleft()
+            closed[device] = is_closed
+        yield begin, next_bound, closed
+
+
+def customer_seconds(book):
+    """The customer-seconds without supply in the span."""
+    total = 0
+    for begin, end, closed in stretches(book):
+        reached = reached_from_grid(book.devices, closed)
+        for section, since, until in book.customers.values():
+            if section not in reached:
+                last = end if until is None else min(end, until)
+                total += max(0, last - max(begin, since))
+    return total
+
+
+def main():
+    print("W", customer_seconds(read_book(sys.stdin.buffer.read())))
+
+
+if __name__ == "__main__":
+    main()
