@@ -3,4 +3,5 @@ pub mod Connected
 pub mod Forests
 pub mod Intervals
 pub mod Padding
+pub mod Removed
 pub mod Searched

@@ -1,5 +1,5 @@
 -- The network: a list of nodes and a list of switching devices, and what a `Net` keeps beside it.
-use Rattle.std.specs.Prelude.{◌≡◌, ◌≢◌, ℕ, ◌<◌, ◌≤◌, ◌==◌, ◌||◌, List, [], ◌∷◌, ◌++◌, IfSome, Option, Some, None, is_some, is_none, unwrap_or, if◌then◌else◌, slice_get, codes, length}
+use Rattle.std.specs.Prelude.{◌≡◌, ◌≢◌, ℕ, ◌-◌, ◌<◌, ◌≤◌, ◌==◌, ◌||◌, List, [], ◌∷◌, ◌++◌, IfSome, Option, Some, None, is_some, is_none, unwrap_or, if◌then◌else◌, slice_get, codes, length, take}
 use Rattle.std.specs.List.{All, AllPairs, position}
 use Rattle.std.specs.Str.{bytes_eq}
 use Rattle.std.specs.Option.{option_and_then}
@@ -67,6 +67,10 @@ node_refusal net name =
 abbrev pub with_node : Network → Node → Network
 with_node net node = record net { nodes = net.nodes ++ node ∷ [] }
 
+-- the network without the node that was added last
+abbrev pub without_last_node : Network → Network
+without_last_node net = record net { nodes = take (length net.nodes - 1) net.nodes }
+
 -- why no device with the name between the named nodes can be added
 abbrev pub device_refusal : Network → List ℕ → List ℕ → List ℕ → Option Refusal
 device_refusal net name a b =
@@ -78,3 +82,7 @@ device_refusal net name a b =
 abbrev pub with_device : Network → List ℕ → List ℕ → List ℕ → Pos → Network
 with_device net name a b normal =
     record net { devices = net.devices ++ record { name = name; a = unwrap_or (node_of net a) 0; b = unwrap_or (node_of net b) 0; normal = normal } ∷ [] }
+
+-- the network without the device that was added last
+abbrev pub without_last_device : Network → Network
+without_last_device net = record net { devices = take (length net.devices - 1) net.devices }

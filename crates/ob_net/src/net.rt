@@ -51,10 +51,10 @@ impl Model for Net {
 
 impl Net {
     ghost use Rattle.std.specs.Prelude.{◌≡◌, ◌<◌, ◌+◌, ◌^◌, ◌-◌, ◌↔◌, ℕ, IsTrue, EachIndex, slice_index_or, false, length, map, min, IfOk, OnOk, IfErr, IfSome};
-    ghost use Rattle.std.specs.List.{range_with_len};
+    ghost use Rattle.std.specs.List.{All, range_with_len};
     ghost use Rattle.std.specs.Prelude.{◌≤◌, ◌≢◌, OnErr, slice_get};
     ghost use Rattle.std.specs.Result.{result_err};
-    ghost use Rattle.ob_net.specs.Network.{HasFeederOrNone, grid_alone, home_feeder, node_of, device_of, node_refusal, with_node, device_refusal, with_device};
+    ghost use Rattle.ob_net.specs.Network.{HasFeederOrNone, IsNetwork, JoinsTwo, grid_alone, home_feeder, node_of, device_of, node_refusal, with_node, without_last_node, device_refusal, with_device, without_last_device};
     ghost use Rattle.ob_net.specs.Stop.{out_of_memory};
     ghost use Rattle.ob_net.specs.Walk.{is_supplied, IsSupplied};
 
@@ -100,6 +100,8 @@ impl Net {
         ensures err { IfErr result (λ stop. stop ≡ out_of_memory) }
         ensures network { self.new.network ≡ self.old.network }
         ensures searches { self.new.searches ≡ min (self.old.searches + 1) (2 ^ 128 - 1) }
+        ensures node_room { self.new.node_room ≡ self.old.node_room }
+        ensures device_room { self.new.device_room ≡ self.old.device_room }
     {
         self.searches = self.searches.saturating_add(1);
         let alloc = *self.nodes.allocator();
@@ -110,7 +112,8 @@ impl Net {
 
     /// How many nodes there are, GRID among them.
     pub fn nodes(&self) -> u16
-        ensures { result ≡ length self.now.network.nodes }
+        ensures count { result ≡ length self.now.network.nodes }
+        ensures kept { IsNetwork self.now.network }
     {
         self.nodes.len() as u16
     }
@@ -196,9 +199,33 @@ impl Net {
         }
     }
 
+    /// Takes back the node that was added last, which no device may join.
+    pub fn take_back_node(&mut self)
+        requires some { 1 < length self.old.network.nodes }
+        requires free { All (JoinsTwo (length self.old.network.nodes - 1)) self.old.network.devices }
+        ensures network { self.new.network ≡ without_last_node self.old.network }
+        ensures searches { self.new.searches ≡ self.old.searches }
+        ensures node_room { self.new.node_room ≡ self.old.node_room + 1 }
+        ensures device_room { self.new.device_room ≡ self.old.device_room }
+    {
+        let _ = self.nodes.pop();
+    }
+
+    /// Takes back the device that was added last.
+    pub fn take_back_device(&mut self)
+        requires { 0 < length self.old.network.devices }
+        ensures network { self.new.network ≡ without_last_device self.old.network }
+        ensures searches { self.new.searches ≡ self.old.searches }
+        ensures node_room { self.new.node_room ≡ self.old.node_room }
+        ensures device_room { self.new.device_room ≡ self.old.device_room + 1 }
+    {
+        let _ = self.devices.pop();
+    }
+
     /// How many devices there are.
     pub fn devices(&self) -> u16
-        ensures { result ≡ length self.now.network.devices }
+        ensures count { result ≡ length self.now.network.devices }
+        ensures kept { IsNetwork self.now.network }
     {
         self.devices.len() as u16
     }

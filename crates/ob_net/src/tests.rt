@@ -526,6 +526,22 @@ fn networks(rt: HostRuntime) -> Result<(), Fail> {
 }
 
 #[test]
+fn nodes_and_devices_are_taken_back(rt: HostRuntime) -> Result<(), Fail> {
+    let mut net = Net::new(rt.alloc())?;
+    net.reserve_one()?;
+    assert!(rt; net.add_bus(name(&rt, b"BUS-A")) == Ok(()));
+    net.take_back_node();
+    assert!(rt; net.nodes() == 1 && net.node_of(&name(&rt, b"BUS-A")) == None);
+    let mut net = meshed(rt.alloc(), &rt)?;
+    assert!(rt; net.devices() == 6);
+    net.take_back_device();
+    assert!(rt; net.devices() == 5 && net.device_of(&name(&rt, b"TIE")) == None);
+    assert!(rt; net.device_of(&name(&rt, b"D3")) == Some(4) && net.nodes() == 6);
+    assert!(rt; add_device(&rt, &mut net, b"TIE", b"S1", b"S3", Opened)? == None);
+    Ok(())
+}
+
+#[test]
 fn supply(rt: HostRuntime) -> Result<(), Fail> {
     let mut net = meshed(rt.alloc(), &rt)?;
     // By number: CB-A, CB-B, D1, D2, D3, TIE; and GRID, BUS-A, BUS-B, S1, S2, S3.

@@ -1,0 +1,34 @@
+-- A network stays one where the last node is taken back, which no device joins.
+use Rattle.std.proofs.Common.{◌≡◌, ◌≢◌, ℕ, ◌-◌, ◌<◌, ◌≤◌, List, [], ◌∷◌, Some, length, take, slice_get, zero, suc, arith, length-take}
+use Rattle.std.specs.List.{All, AllPairs}
+use Rattle.std.proofs.lemmas.List.{get_or-take}
+use Rattle.std.proofs.lemmas.List.Elements.{All-take}
+use Rattle.ob_net.specs.declared.net.Node.{Node}
+use Rattle.ob_net.specs.Network.{Network, IsNetwork, JoinsTwo, HasFeederOrNone}
+
+-- the first element stays the first where some are kept
+first_kept : (n : ℕ) (xs : List Node) (x : Node) → 0 < n → slice_get xs 0 ≡ Some x → slice_get (take n xs) 0 ≡ Some x
+first_kept zero xs x some h = absurd (omega arith)
+first_kept (suc n) [] x some h = h
+first_kept (suc n) (y ∷ xs) x some h = h
+
+-- the first elements are apart where all are
+pairs_kept : (n : ℕ) (xs : List Node) → AllPairs (λ a b. a.name ≢ b.name) xs → AllPairs (λ a b. a.name ≢ b.name) (take n xs)
+pairs_kept n xs h i j d l m =
+    let long : j < n = omega (arith, m, length-take {A = Node}) in
+    let within : j < length xs = omega (arith, m, length-take {A = Node}) in
+    rw (get_or-take n xs i d (omega arith), get_or-take n xs j d long) (h i j d l within)
+
+pub without_last_is : (net : Network) (nodes : List Node) → IsNetwork net → 1 < length net.nodes → All (JoinsTwo (length net.nodes - 1)) net.devices → nodes ≡ take (length net.nodes - 1) net.nodes → IsNetwork (record { nodes = nodes; devices = net.devices })
+without_last_is net nodes h some free is =
+    let long : length (take (length net.nodes - 1) net.nodes) ≡ length net.nodes - 1 = omega (arith, length-take {A = Node}) in
+    let few = h.few_nodes in
+    rw is (record {
+      grid = first_kept (length net.nodes - 1) net.nodes _ (omega arith) h.grid;
+      distinct_nodes = pairs_kept (length net.nodes - 1) net.nodes h.distinct_nodes;
+      distinct_devices = h.distinct_devices;
+      feeders = All-take HasFeederOrNone (length net.nodes - 1) net.nodes h.feeders;
+      joins = rw long free;
+      few_nodes = omega (arith, long);
+      few_devices = h.few_devices;
+    })
