@@ -96,7 +96,7 @@ each_filter P q (e ∷ es) h =
 not_both : (s n t m : ℕ) → (nat_lt s t || (s == t && nat_lt n m)) ≡ true → (nat_lt t s || (t == s && nat_lt m n)) ≡ false
 not_both s n t m h = grind (arith, nat_tests)
 
-turned : (e f : Entry) → is_before e f ≡ true → is_before f e ≡ false
+pub turned : (e f : Entry) → is_before e f ≡ true → is_before f e ≡ false
 turned e f h = not_both e.second e.«no» f.second f.«no» h
 
 -- the latest of two entries and a third doesn't depend on the order
@@ -275,27 +275,34 @@ pub upto_grows : (entries : List Entry) (s t : ℕ) → s ≤ t → length (upto
 upto_grows entries s t l =
     filter_grows (λ e. e.kept && nat_le e.second s) (λ e. e.kept && nat_le e.second t) entries (λ e h. still_upto e.kept e.second s t l h)
 
--- an entry of at most a second is among the first ones, and one of a later second is not
-pub found_within : (es : List Entry) (s k : ℕ) (d : Entry) → AllPairs (λ a b. IsTrue (is_before a b)) es → k < length es → nat_le (get_or es k d).second s ≡ true → k < prefix_len (λ e. nat_le e.second s) es
-found_within es s k d h l is =
-    let test : Entry → Bool = λ e. nat_le e.second s in
+-- an entry in order that another doesn't come before is among the first such ones, and one that it comes before is not
+was_true : (b : Bool) → not b ≡ false → b ≡ true
+was_true true h = refl
+was_true false h = absurd (true≢false h)
+
+not_either : (e a b : Entry) → is_before a b ≡ true → not (is_before e a) ≡ false → not (is_before e b) ≡ false
+not_either e a b h is = ap not (before_on e a b (was_true (is_before e a) is) h)
+
+pub found_within : (es : List Entry) (e : Entry) (k : ℕ) (d : Entry) → AllPairs (λ a b. IsTrue (is_before a b)) es → k < length es → is_before e (get_or es k d) ≡ false → k < prefix_len (λ f. not (is_before e f)) es
+found_within es e k d h l is =
+    let test : Entry → Bool = λ f. not (is_before e f) in
     let n : ℕ = prefix_len test es in
     elim (cases_lt k n) [
       | inl lt ↦ lt
       | inr ge ↦
           let stops : test (get_or es n d) ≡ false = prefix_len_stops test es d (omega arith) in
           elim (cases_lt n k) [
-            | inl lt ↦ absurd (true≢false (sym is ∙ later_too _ _ _ _ s (h n k d lt l) stops))
+            | inl lt ↦ absurd (true≢false (sym (ap not is) ∙ not_either e (get_or es n d) (get_or es k d) (h n k d lt l) stops))
             | inr le ↦
                 let at : n ≡ k = omega arith in
-                absurd (true≢false (sym is ∙ ap (λ i. test (get_or es i d)) (sym at) ∙ stops))
+                absurd (true≢false (sym (ap not is) ∙ ap (λ i. test (get_or es i d)) (sym at) ∙ stops))
           ]
     ]
 
-pub found_later : (es : List Entry) (s k : ℕ) (d : Entry) → nat_le (get_or es k d).second s ≡ false → prefix_len (λ e. nat_le e.second s) es ≤ k
-found_later es s k d is =
-    let test : Entry → Bool = λ e. nat_le e.second s in
+pub found_later : (es : List Entry) (e : Entry) (k : ℕ) (d : Entry) → is_before e (get_or es k d) ≡ true → prefix_len (λ f. not (is_before e f)) es ≤ k
+found_later es e k d is =
+    let test : Entry → Bool = λ f. not (is_before e f) in
     elim (cases_lt k (prefix_len test es)) [
-      | inl lt ↦ absurd (true≢false (sym (prefix_len_passes test es k d lt) ∙ is))
+      | inl lt ↦ absurd (true≢false (sym (prefix_len_passes test es k d lt) ∙ ap not is))
       | inr ge ↦ ge
     ]

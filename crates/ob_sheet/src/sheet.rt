@@ -1,13 +1,15 @@
-ghost use Rattle.std.specs.Prelude.{◌≡◌, ◌≤◌, ℕ, [], IfErr, IfOk, length, nat_le, take};
-ghost use Rattle.std.specs.List.{prefix_len};
+ghost use Rattle.std.specs.Prelude.{◌≡◌, ◌==◌, ◌≤◌, ℕ, [], IfErr, IfOk, length, nat_le, not, take};
+ghost use Rattle.std.specs.List.{filter, prefix_len};
+ghost use Rattle.std.specs.Vec.{vec_capacity};
 ghost use Rattle.ob_net.specs.Network.{Network};
 ghost use Rattle.ob_net.specs.Stop.{out_of_memory};
-ghost use Rattle.ob_sheet.specs.Order.{in_order as in_order_of};
+ghost use Rattle.ob_sheet.specs.declared.Entry.{Entry as EntryOf};
+ghost use Rattle.ob_sheet.specs.Order.{in_order as in_order_of, is_before};
 ghost use Rattle.ob_sheet.specs.Positions.{positions as positions_under};
 ghost use Rattle.ob_sheet.specs.Sheet.{IsSheet, NameDevices};
 
 use crate::{Entry, MOST_ENTRIES};
-use ob_net::{Crew, Net, Pos, Second, Stop};
+use ob_net::{Crew, Net, Pos, Refusal, Second, Stop};
 use std::alloc::Global;
 use std::marker::Model;
 
@@ -27,21 +29,23 @@ impl Model for Sheet {
 
     ghost view = { λ s. record {
       entries = s.entries.items;
-      room = min (vec_capacity s.entries - vec_len s.entries) (vec_capacity s.order - vec_len s.order);
+      room = min (vec_capacity s.entries) (vec_capacity s.order) - vec_len s.entries;
     } };
 
     ghost invariant = { λ s. IsSheet s.entries.items s.order.items };
 }
 
 impl Sheet {
-    ghost use Rattle.std.specs.Prelude.{◌≡◌, ◌<◌, ◌≤◌, ◌+◌, ◌++◌, ◌∷◌, ◌↔◌, [], ℕ, Bool, Some, IsTrue, length, map, take, IfOk, OnOk, IfErr};
+    ghost use Rattle.std.specs.Prelude.{◌≡◌, ◌<◌, ◌≤◌, ◌+◌, ◌++◌, ◌∷◌, ◌↔◌, [], ℕ, Bool, Some, true, IsTrue, length, map, take, IfOk, OnOk, IfErr, OnErr};
     ghost use Rattle.std.specs.List.{All, AllPairs, filter};
     ghost use Rattle.std.specs.List.Sorted.{IsPermutation};
+    ghost use Rattle.std.specs.Result.{result_err};
     ghost use Rattle.ob_net.specs.Network.{Network};
     ghost use Rattle.ob_net.specs.Stop.{out_of_memory};
     ghost use Rattle.ob_sheet.specs.declared.Entry.{Entry};
     ghost use Rattle.ob_sheet.specs.Order.{entry_of, greatest, in_order, is_before, kept_entries, upto};
     ghost use Rattle.ob_sheet.specs.Positions.{positions as positions_under};
+    ghost use Rattle.ob_sheet.specs.Revisions.{change_entry, corrected, revision_refusal, withdrawn};
     ghost use Rattle.ob_sheet.specs.Sheet.{AreNumbered, NameDevices, new_entry};
 
     /// An empty sheet.
@@ -61,7 +65,8 @@ impl Sheet {
         ensures entries { self.new.entries ≡ self.old.entries }
     {
         self.entries.reserve(1)?;
-        self.order.reserve(1)?;
+        let room = self.entries.len() + 1 - self.order.len();
+        self.order.reserve(room)?;
         Ok(())
     }
 
@@ -101,6 +106,66 @@ impl Sheet {
         entries.get(place).copied()
     }
 
+    /// Corrects an entry for one who saw its revision `rev`: its revision rises by one, or stays at
+    /// the greatest that there is.
+    ///
+    /// Refused with `UnknownEntry` where there is no such entry, else with `Withdrawn` where it was
+    /// withdrawn, else with `Stale` and its revision where that is another.
+    pub fn correct(
+        &mut self,
+        no: u32,
+        rev: u32,
+        pos: Pos,
+        second: Second,
+        cause: u8,
+        crew: Crew,
+    ) -> Result<(), Refusal>
+        ensures refused { result_err result ≡ revision_refusal self.old.entries «no» rev }
+        ensures ok { OnOk result (self.new.entries ≡ change_entry «no» (corrected pos second cause crew) self.old.entries) }
+        ensures err { OnErr result (self.new ≡ self.old) }
+        ensures room { self.new.room ≡ self.old.room }
+    {
+        let entry = self.entry_at(no, rev)?;
+        let at = no as usize - 1;
+        let corrected = Entry {
+            rev: entry.rev.saturating_add(1),
+            pos,
+            second,
+            cause,
+            crew,
+            ..entry
+        };
+        take_out(&mut self.order, no);
+        self.entries[at] = Entry {
+            kept: false,
+            ..entry
+        };
+        let place = place_of(&self.entries, &self.order, second, no);
+        self.entries[at] = corrected;
+        if self.order.insert(place, no).is_err() {
+            unreachable!();
+        }
+        Ok(())
+    }
+
+    /// Withdraws an entry for one who saw its revision `rev`: it stays on the sheet, and acts no more.
+    /// Its revision rises, and it is refused, as with `correct`.
+    pub fn withdraw(&mut self, no: u32, rev: u32) -> Result<(), Refusal>
+        ensures refused { result_err result ≡ revision_refusal self.old.entries «no» rev }
+        ensures ok { OnOk result (self.new.entries ≡ change_entry «no» withdrawn self.old.entries) }
+        ensures err { OnErr result (self.new ≡ self.old) }
+        ensures room { self.new.room ≡ self.old.room }
+    {
+        let entry = self.entry_at(no, rev)?;
+        take_out(&mut self.order, no);
+        self.entries[no as usize - 1] = Entry {
+            rev: entry.rev.saturating_add(1),
+            kept: false,
+            ..entry
+        };
+        Ok(())
+    }
+
     /// How many entries there are, withdrawn ones among them.
     pub fn len(&self) -> usize
         ensures len { result ≡ length self.now.entries }
@@ -119,6 +184,7 @@ impl Sheet {
 
     /// The numbers of the kept entries, by second and number.
     pub fn in_order(&self) -> &[u32]
+        ensures numbered { AreNumbered self.now.entries }
         ensures numbers { result.now ≡ map (λ e. e.«no») (in_order self.now.entries) }
         ensures ordered { AllPairs (λ a b. IsTrue (is_before a b)) (in_order self.now.entries) }
         ensures kept { IsPermutation (in_order self.now.entries) (kept_entries self.now.entries) }
@@ -138,6 +204,24 @@ impl Sheet {
         let mut positions = normal_positions(*self.entries.allocator(), net)?;
         switch(&self.entries, &self.order, 0, place, &mut positions);
         Ok(positions)
+    }
+
+    /// The entry with a number where it is kept and has the revision.
+    fn entry_at(&self, no: u32, rev: u32) -> Result<Entry, Refusal>
+        ensures refused { result_err result ≡ revision_refusal self.now.entries «no» rev }
+        ensures entry { IfOk result (λ e. entry_of self.now.entries «no» ≡ Some e) }
+        ensures kept { IfOk result (λ e. e.kept ≡ true) }
+    {
+        let Some(entry) = self.entry(no) else {
+            return Err(Refusal::UnknownEntry);
+        };
+        if !entry.kept {
+            return Err(Refusal::Withdrawn);
+        }
+        if entry.rev != rev {
+            return Err(Refusal::Stale(entry.rev));
+        }
+        Ok(entry)
     }
 
     /// Moves positions on: applies the entries from `place` on, in order, whose second is at most
@@ -168,17 +252,42 @@ fn place_after(entries: &[Entry], order: &[u32], second: Second) -> usize
     ensures place { result ≡ prefix_len (λ e. nat_le e.second second) (in_order_of entries.now) }
     ensures within { result ≤ length order.now }
 {
+    place_of(entries, order, second, u32::MAX)
+}
+
+/// How many entries in order come before an entry with this second and this number, or are it.
+fn place_of(entries: &[Entry], order: &[u32], second: Second, no: u32) -> usize
+    requires { IsSheet entries.now order.now }
+    ensures place { (e : EntryOf) → e.second ≡ second → e.«no» ≡ «no» → result ≡ prefix_len (λ f. not (is_before e f)) (in_order_of entries.now) }
+    ensures within { result ≤ length order.now }
+{
     let mut low = 0;
     let mut high = order.len();
     while low < high {
         let middle = low + (high - low) / 2;
-        if entries[order[middle] as usize - 1].second <= second {
-            low = middle + 1;
-        } else {
+        let entry = entries[order[middle] as usize - 1];
+        if is_after(entry, second, no) {
             high = middle;
+        } else {
+            low = middle + 1;
         }
     }
     low
+}
+
+/// Whether the entry comes after one with this second and this number.
+fn is_after(entry: Entry, second: Second, no: u32) -> bool
+    ensures { (e : EntryOf) → e.second ≡ second → e.«no» ≡ «no» → result ≡ is_before e entry }
+{
+    second < entry.second || second == entry.second && no < entry.no
+}
+
+/// Takes a number out of the order.
+fn take_out(order: &mut Vec<u32>, no: u32)
+    ensures order { order.new.items ≡ filter (λ number. not (number == «no»)) order.old.items }
+    ensures capacity { vec_capacity order.new ≡ vec_capacity order.old }
+{
+    order.retain(|number| *number != no);
 }
 
 /// The normal positions of the devices of a network.
@@ -321,6 +430,41 @@ mod tests {
             assert_eq!(rt; place, after, "at {second}");
             assert_eq!(rt; now, positions, "at {second}");
         }
+        Ok(())
+    }
+
+    #[test]
+    fn entries_are_corrected_and_withdrawn(rt: HostRuntime) -> Result<(), Fail> {
+        let mut sheet = sheet(&rt, rt.alloc())?;
+        let crew = crew(&rt);
+        assert_eq!(rt; sheet.correct(4, 1, CLOSED, 50, 3, crew), Ok(()));
+        assert_eq!(rt; sheet.correct(1, 1, OPEN, 300, 7, crew), Ok(()));
+        assert_eq!(rt; sheet.in_order(), [4, 3, 1, 2].as_slice());
+        assert_eq!(rt; sheet.withdraw(3, 1), Ok(()));
+        assert_eq!(rt; sheet.in_order(), [4, 1, 2].as_slice());
+        for (no, rev, refusal) in [
+            (0, 1, Refusal::UnknownEntry),
+            (5, 1, Refusal::UnknownEntry),
+            (3, 1, Refusal::Withdrawn),
+            (3, 2, Refusal::Withdrawn),
+            (4, 1, Refusal::Stale(2)),
+            (2, 2, Refusal::Stale(1)),
+        ] {
+            assert_eq!(rt; sheet.correct(no, rev, OPEN, 0, 0, crew), Err(refusal));
+            assert_eq!(rt; sheet.withdraw(no, rev), Err(refusal));
+        }
+        let corrected = Entry {
+            no: 4,
+            rev: 2,
+            device: 2,
+            pos: CLOSED,
+            second: 50,
+            cause: 3,
+            crew,
+            kept: true,
+        };
+        assert_eq!(rt; sheet.entry(4), Some(corrected));
+        assert_eq!(rt; sheet.in_order(), [4, 1, 2].as_slice());
         Ok(())
     }
 
