@@ -1,5 +1,6 @@
 pub mod Example
 pub mod Ranges
+pub mod Revised
 pub mod Rolls
 pub mod Searched
 pub mod Services

@@ -40,7 +40,7 @@ impl Roll {
     ghost use Rattle.ob_net.specs.declared.TheConstants.{LAST_SECOND};
     ghost use Rattle.ob_net.specs.Stop.{out_of_memory};
     ghost use Rattle.ob_cust.specs.Blocks.{has_service, service_cmp, service_of, sum_over_blocks, sum_over_customers};
-    ghost use Rattle.ob_cust.specs.Roll.{connect_refusal, with_customer};
+    ghost use Rattle.ob_cust.specs.Roll.{connect_refusal, revise_refusal, with_customer, with_service};
     ghost use Rattle.ob_cust.specs.Service.{served_seconds as served};
 
     /// A roll of no customer.
@@ -85,6 +85,30 @@ impl Roll {
             Ok(()) => Ok(()),
             Err(_) => unreachable!(),
         }
+    }
+
+    /// Gives a customer another service. It is refused with `UnknownCustomer` where no customer has
+    /// the number, else with `BadService` where the service would end no later than it begins.
+    pub fn revise(&mut self, no: u32, since: Second, until: Option<Second>) -> Result<(), Refusal>
+        ensures refused { result_err result ≡ revise_refusal self.old.customers «no» since until }
+        ensures ok { OnOk result (self.new.customers ≡ with_service «no» since until self.old.customers) }
+        ensures err { OnErr result (self.new ≡ self.old) }
+        ensures room { self.new.room ≡ self.old.room }
+    {
+        let Ok(place) = place_of(&self.customers, no) else {
+            return Err(Refusal::UnknownCustomer);
+        };
+        let customer = self.customers[place];
+        let revised = Customer {
+            since,
+            until,
+            ..customer
+        };
+        if is_bad_service(&revised) {
+            return Err(Refusal::BadService);
+        }
+        self.customers[place] = revised;
+        Ok(())
     }
 
     /// The customers, by rising number.
@@ -202,6 +226,25 @@ mod tests {
             assert_eq!(rt; enroll(&mut roll, customer), Err(Stop::Refused(refusal)));
         }
         assert_eq!(rt; roll.customers(), [first].as_slice());
+        Ok(())
+    }
+
+    #[test]
+    fn revises_the_service_of_one_customer(rt: HostRuntime) -> Result<(), Fail> {
+        let mut roll = Roll::new(rt.alloc());
+        for customer in [service(3, 1, 0, None), service(5, 1, 0, None)] {
+            assert_eq!(rt; enroll(&mut roll, customer), Ok(()));
+        }
+        assert_eq!(rt; roll.revise(5, 10, Some(11)), Ok(()));
+        let revised = [service(3, 1, 0, None), service(5, 1, 10, Some(11))];
+        for (no, since, until, refusal) in [
+            (4, 5, Some(5), Refusal::UnknownCustomer),
+            (3, 5, Some(5), Refusal::BadService),
+            (3, 5, Some(4), Refusal::BadService),
+        ] {
+            assert_eq!(rt; roll.revise(no, since, until), Err(refusal));
+        }
+        assert_eq!(rt; roll.customers(), revised.as_slice());
         Ok(())
     }
 
