@@ -1,4 +1,5 @@
 mod DayLemmas
+mod DayOnLemmas
 mod MidnightLemmas
 mod MomentLemmas
 mod PeriodLemmas

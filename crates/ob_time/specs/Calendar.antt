@@ -1,8 +1,9 @@
 -- The days of a period: what contracts see of a `Period`.
-use Rattle.std.specs.Prelude.{◌≡◌, ℕ, ℤ, pos, ◌+◌, ◌-◌, ◌^◌, ◌<◌, ◌≤◌, ◌&&◌, ◌+ℤ◌, ◌≤ℤ◌, Bool, nat_le, nat_lt, neg_ℤ, List, [], ◌∷◌, length, map, slice_index}
+use Rattle.std.specs.Prelude.{◌≡◌, ℕ, ℤ, pos, ◌+◌, ◌-◌, ◌^◌, ◌<◌, ◌≤◌, ◌&&◌, ◌+ℤ◌, ◌≤ℤ◌, Bool, nat_le, nat_lt, neg_ℤ, List, [], ◌∷◌, Option, length, map, slice_index}
 use Rattle.std.specs.Int.{IsInRange}
-use Rattle.std.specs.List.{range_with_len}
+use Rattle.std.specs.List.{find, range_with_len}
 use Rattle.std.specs.List.Sorted.{IsStrictlyIncreasing}
+use Rattle.std.specs.Ordering.{int_eq}
 use Rattle.ob_net.specs.declared.TheConstants.{LAST_SECOND}
 use Rattle.ob_net.specs.declared.interval.Interval.{Interval}
 
@@ -66,6 +67,10 @@ IsInDay c k s = (k < day_count c) × (bound_of c k ≤ s) × (s < bound_of c (k 
 -- the day of this number, which is one of the period, has the date of this day number
 abbrev pub IsDayOn : Calendar → ℕ → ℤ → Type 0
 IsDayOn c k day = (k < day_count c) × (day ≡ c.first_day +ℤ pos k)
+
+-- the number of the period's day whose day number this is, None where none is
+abbrev pub day_on : Calendar → ℤ → Option ℕ
+day_on c day = find (λ k. int_eq day (c.first_day +ℤ pos k)) (range_with_len 0 (day_count c))
 
 -- what each period keeps: 1 to 366 days, bounds that rise strictly, fewer than 2^25 seconds, and
 -- dates from 1969-12-31, whose midnight may be second 0 or later west of UTC, to 9999-12-31

@@ -4,7 +4,7 @@ ghost use Rattle.std.specs.List.{count_by, sum_by};
 ghost use Rattle.jiff.specs.Types.{Date as PlainDate, TimeZone as PlainZone};
 ghost use Rattle.jiff.specs.Words.{plain_zone, epoch_day};
 ghost use Rattle.ob_net.specs.Stop.{IsRefusedOrNoMemory, out_of_memory};
-ghost use Rattle.ob_time.specs.Calendar.{Calendar, IsCalendar, IsDayOn, IsInDay, IsInPeriod, PartSeconds, bound_of, calendar, day_at, day_count, days_of, end_second_of, first_second_of, holds, seconds_in};
+ghost use Rattle.ob_time.specs.Calendar.{Calendar, IsCalendar, IsDayOn, IsInDay, IsInPeriod, PartSeconds, bound_of, calendar, day_at, day_count, day_on, days_of, end_second_of, first_second_of, holds, seconds_in};
 ghost use Rattle.ob_time.specs.Moment.{IsDateText, IsTextOfDay};
 ghost use Rattle.ob_time.specs.Period.{HasNoPeriod, IsPeriod, IsPeriodText, IsZoneText};
 
@@ -180,6 +180,7 @@ impl Period {
 
     /// The number of the day with this date, None where the period has no such day.
     pub fn day_index(&self, date: &Date) -> Option<u16>
+        ensures index { result ≡ day_on self.now (epoch_day date.now) }
         ensures found { IfSome result (λ k. IsDayOn self.now k (epoch_day date.now)) }
         ensures none { IfNone result ((k : ℕ) → ¬ (IsDayOn self.now k (epoch_day date.now))) }
     {
