@@ -1,0 +1,8 @@
+mod BodyLaws
+mod Cuts
+mod Days
+mod Examples
+mod Joins
+mod KindLaws
+mod Numbers
+mod Readings

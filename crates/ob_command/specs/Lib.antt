@@ -1,0 +1,4 @@
+pub mod Ranges
+pub mod Commands
+pub mod Words
+pub mod Reading
