@@ -5,10 +5,15 @@
 //! Promises that they are the runs of the definition, second by second. The postings stand above it.
 #![tactic(auto)]
 
+mod change;
+mod delta;
+mod order;
 mod scratch;
 mod step;
 mod sweep;
 
+pub use change::Change;
+pub use delta::Delta;
 use ob_net::Second;
 pub use scratch::Scratch;
 
