@@ -34,7 +34,7 @@ delta_of-le (m ∷ ms) dim key =
 pub amount_after-le : (a : PostedAmounts) (moved : List Moved) (dim : Dim) (key : ℕ) → unsigned_abs (amount_after a moved dim key) ≤ amount_of a dim key + size_of moved
 amount_after-le a moved dim key = omega (arith, abs-add (pos (amount_of a dim key)) (delta_of moved dim key), delta_of-le moved dim key)
 
-few_keys : (days : ℕ) (dim : Dim) → days ≤ 366 → length (keys days dim) ≤ 366
+pub few_keys : (days : ℕ) (dim : Dim) → days ≤ 366 → length (keys days dim) ≤ 366
 unfolding keys
 few_keys days Cause h = omega (arith, length-range_with_len 0 64)
 few_keys days Feeder h = omega (arith, length-range_with_len 1 255)

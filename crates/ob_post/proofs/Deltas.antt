@@ -66,16 +66,6 @@ delta_of_none (m ∷ ms) dim key h =
 pub tail_in_order : (m : Moved) (ms : List Moved) → AreInOrder (m ∷ ms) → AreInOrder ms
 tail_in_order m ms h = λ i j d l k. h (suc i) (suc j) d (omega arith) (omega arith)
 
--- where the rows are in order, the first ones don't move the amount of a later one
-pub none_before : (ms : List Moved) (i : ℕ) (d : Moved) → AreInOrder ms → i < length ms
-    → delta_of (take i ms) (get_or ms i d).dim (get_or ms i d).key ≡ pos 0
-none_before [] i d h l = absurd (omega arith)
-none_before (m ∷ ms) zero d h l = refl
-none_before (m ∷ ms) (suc i) d h l =
-    let n = get_or ms i d in
-    let here : delta_under n.dim n.key m ≡ pos 0 = delta_under_other n.dim n.key m (before_under m n (h 0 (suc i) d (omega arith) l)) in
-    omega (arith, ints, here, none_before ms i d (tail_in_order m ms h) (omega arith))
-
 -- where the rows are in order, each alone moves the amount under its key
 pub only_once : (ms : List Moved) (i : ℕ) (d : Moved) → AreInOrder ms → i < length ms
     → delta_of ms (get_or ms i d).dim (get_or ms i d).key ≡ (get_or ms i d).delta

@@ -14,6 +14,7 @@ use Rattle.ob_cust.specs.WithoutSupply.{seconds_without_supply}
 use Rattle.ob_cust.specs.declared.Customer.{Customer}
 use Rattle.ob_sweep.specs.Runs.{cause_at, history, runs_between}
 use Rattle.ob_post.specs.CustomerSeconds.{Days, customer_seconds_by}
+use Rattle.ob_post.specs.SectionAmounts.{amount_at, amount_of_runs}
 use Rattle.ob_post.specs.declared.Dim.TheVariants.{Cause, Feeder, Day}
 
 abbrev node : List ℕ → Option ℕ → Node
@@ -78,3 +79,12 @@ runs_of_s2 = refl
 cause_of_s1 : cause_at net sheet 0 2 60 ≡ 3
 unfolding is_supplied is_connected
 cause_of_s1 = refl
+
+-- that run, of 6 seconds and 3 customers, is posted to its cutter's cause
+run_of_s2 : amount_of_runs sheet roll days.days 1 (record { section = 3; since = 36; until = 42; cutter = Some 1 } ∷ []) Cause 3 ≡ 18
+run_of_s2 = refl
+
+-- the runs of S1 give its 2 customers' 36 seconds
+runs_of_s1 : amount_at net sheet roll days 2 Feeder 1 ≡ 72
+unfolding is_supplied is_connected
+runs_of_s1 = refl

@@ -1,14 +1,14 @@
 -- Keys of dimensions, and the places of amounts.
-use Rattle.std.proofs.Common.{◌≡◌, ◌∙◌, sym, ap, ap₂, refl, ℕ, zero, suc, ◌+◌, ◌-◌, ◌<◌, ◌≤◌, List, [], ◌∷◌, length, drop, get_or, get_or-take, get_or-drop, sum, sum_by, arith}
-use Rattle.std.specs.List.{All, Contains, range_with_len}
+use Rattle.std.proofs.Common.{◌≡◌, ◌∙◌, ap, refl, ℕ, zero, suc, ◌+◌, ◌-◌, ◌<◌, ◌≤◌, List, [], ◌∷◌, length, drop, get_or, get_or-take, get_or-drop, sum, sum_by, arith}
+use Rattle.std.specs.List.{Contains, range_with_len}
 use Rattle.std.proofs.lemmas.List.Sums.{sum_by-cons, get_or-le-sum_by}
-use Rattle.std.proofs.lemmas.List.Elements.{All-tail}
 use Rattle.std.proofs.lemmas.List.FromFn.{length-range_with_len, get_or-range_with_len}
 use Rattle.ob_post.specs.declared.Dim.{Dim}
 use Rattle.ob_post.specs.declared.Dim.TheVariants.{Cause, Feeder, Day}
 use Rattle.ob_post.specs.Keys.{dim_number, IsKey, keys}
 use Rattle.ob_post.specs.Postings.{PostedAmounts, amount_of, total_of}
 use Rattle.ob_post.specs.Places.{place_of, amounts_in}
+use Rattle.ob_post.proofs.Sums.{sum_where_same}
 
 -- with more days there are the same keys and more
 pub key_of_more : (m n : ℕ) (dim : Dim) (key : ℕ) → m ≤ n → IsKey m dim key → IsKey n dim key
@@ -81,14 +81,9 @@ at_most_sum f days dim key h =
     let le = get_or-le-sum_by f (keys days dim) found.0 key found.1 in
     rw found.2 at le
 
-same_sum : (f g : ℕ → ℕ) (xs : List ℕ) → All (λ x. f x ≡ g x) xs → sum_by f xs ≡ sum_by g xs
-same_sum f g [] h = refl
-same_sum f g (x ∷ xs) h =
-    sum_by-cons f x xs ∙ ap₂ (λ m n. m + n) (h 0 x (omega arith)) (same_sum f g xs (All-tail (λ x. f x ≡ g x) x xs h)) ∙ sym (sum_by-cons g x xs)
-
 -- sums over the keys of a dimension of the same values
 pub same_sums : (f g : ℕ → ℕ) (days : ℕ) (dim : Dim) → ((key : ℕ) → IsKey days dim key → f key ≡ g key) → sum_by f (keys days dim) ≡ sum_by g (keys days dim)
-same_sums f g days dim h = same_sum f g (keys days dim) (λ i d l. h (get_or (keys days dim) i d) (keys_exist days dim i d l))
+same_sums f g days dim h = sum_where_same f g (keys days dim) (λ i d l. h (get_or (keys days dim) i d) (keys_exist days dim i d l))
 
 -- the sum of a list is the sum of what stands at its places
 sum_of_places : (f : ℕ → ℕ) (a n : ℕ) (xs : List ℕ) → length xs ≡ n → ((i : ℕ) → i < n → f (a + i) ≡ get_or xs i 0) → sum_by f (range_with_len a n) ≡ sum xs

@@ -1,4 +1,5 @@
 pub mod Example
+pub mod Sums
 pub mod Deltas
 pub mod Keying
 pub mod Placed
@@ -8,3 +9,11 @@ pub mod Served
 pub mod Running
 pub mod Posted
 pub mod Listed
+pub mod Appended
+pub mod RunParts
+pub mod Totals
+pub mod Sections
+pub mod Rolls
+pub mod AllKeys
+pub mod Reposted
+pub mod EntryCauses

@@ -4,7 +4,7 @@ use Rattle.std.specs.List.{All, filter, range_with_len}
 use Rattle.std.proofs.lemmas.Bool.{cases_Bool, cases_order, and_left, ne_eqb, true≢false}
 use Rattle.std.proofs.lemmas.Int.{ints}
 use Rattle.std.proofs.lemmas.List.{get_or-map, length-map}
-use Rattle.std.proofs.lemmas.List.Elements.{All-nil, All-cons, All-tail, All-append, All-map}
+use Rattle.std.proofs.lemmas.List.Elements.{All-nil, All-cons, All-tail, All-append, All-filter, All-map}
 use Rattle.std.proofs.lemmas.List.FromFn.{get_or-map-range_with_len, length-map-range_with_len}
 use Rattle.std.proofs.lemmas.List.Kept.{AllPairs-cons, AllPairs-filter}
 use Rattle.ob_post.specs.declared.Dim.{Dim}
@@ -171,23 +171,34 @@ by_change change days Day key h =
     omega
     (arith, ints, delta_of_all change days Day key, under_own change days Day key h, under_other change days Cause Day key (λ e. omega arith), under_other change days Feeder Day key (λ e. omega arith))
 
--- the rows that move by the differences of two lists are those of all changes
-pub listed : (taken given moved : List Moved) (days : ℕ) → AreInOrder moved → HaveNoZero moved → ((dim : Dim) (key : ℕ) → delta_of moved dim key ≡ difference taken given dim key) → HaveKeys days taken → HaveKeys days given
-    → moved ≡ moves_by (difference taken given) days
-listed taken given moved days order no_zero each ht hg =
-    let change : Dim → ℕ → ℤ = difference taken given in
-    let all : List Moved = changes_under change days Cause ++ changes_under change days Feeder ++ changes_under change days Day in
-    let keyed : HaveKeys days all =
+abbrev all_changes : (Dim → ℕ → ℤ) → ℕ → List Moved
+all_changes change days = changes_under change days Cause ++ changes_under change days Feeder ++ changes_under change days Day
+
+all_keyed : (change : Dim → ℕ → ℤ) (days : ℕ) → HaveKeys days (all_changes change days)
+all_keyed change days =
     All-append (λ m. IsKey days m.dim m.key) (changes_under change days Cause ++ changes_under change days Feeder) (changes_under change days Day)
     (All-append (λ m. IsKey days m.dim m.key) (changes_under change days Cause) (changes_under change days Feeder) (under_keys change days Cause) (under_keys change days Feeder))
-    (under_keys change days Day) in
+    (under_keys change days Day)
+
+-- the moves by a change move each amount that is kept by its change
+pub delta_of-moves_by : (change : Dim → ℕ → ℤ) (days : ℕ) (dim : Dim) (key : ℕ) → IsKey days dim key → delta_of (moves_by change days) dim key ≡ change dim key
+delta_of-moves_by change days dim key k = delta_of-filter (all_changes change days) dim key ∙ by_change change days dim key k
+
+pub keys_of_moves_by : (change : Dim → ℕ → ℤ) (days : ℕ) → HaveKeys days (moves_by change days)
+keys_of_moves_by change days = All-filter (λ m. is_nonzero m.delta) (λ m. IsKey days m.dim m.key) (all_changes change days) (all_keyed change days)
+
+-- the rows that move by the differences of two lists are those of the changes that these are
+pub listed : (taken given moved : List Moved) (days : ℕ) (change : Dim → ℕ → ℤ) → AreInOrder moved → HaveNoZero moved → ((dim : Dim) (key : ℕ) → delta_of moved dim key ≡ difference taken given dim key) → HaveKeys days taken → HaveKeys days given
+    → ((dim : Dim) (key : ℕ) → IsKey days dim key → difference taken given dim key ≡ change dim key) → moved ≡ moves_by change days
+listed taken given moved days change order no_zero each ht hg agrees =
+    let all : List Moved = all_changes change days in
     same_moves moved (moves_by change days) order (AllPairs-filter IsBefore (λ m. is_nonzero m.delta) all (all_in_order change days)) no_zero (filter_no_zero all)
     (λ dim key.
     each dim key
     ∙ elim (cases_key days dim key) [
-      | inl k ↦ sym (delta_of-filter all dim key ∙ by_change change days dim key k)
+      | inl k ↦ agrees dim key k ∙ sym (delta_of-moves_by change days dim key k)
       | inr no_key ↦
-          let none = none_of_others days all dim key keyed no_key in
+          let none = none_of_others days all dim key (all_keyed change days) no_key in
           let filtered = delta_of-filter all dim key in
           omega (arith, ints, none, filtered, none_of_others days taken dim key ht no_key, none_of_others days given dim key hg no_key)
     ])

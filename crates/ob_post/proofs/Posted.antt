@@ -1,12 +1,9 @@
 -- The customer-seconds of a run of a network under a sheet are its part of the customer-seconds without supply.
-use Rattle.std.proofs.Common.{◌≡◌, ◌∙◌, sym, ap, ap₂, refl, ℕ, ◌+◌, ◌-◌, ◌<◌, ◌≤◌, ◌==◌, ◌&&◌, Bool, true, false, cond, List, [], ◌∷◌, get_or, sum_by, count_by, Option, inl, inr, arith}
-use Rattle.std.specs.List.{All}
+use Rattle.std.proofs.Common.{◌≡◌, ◌∙◌, sym, ap, ap₂, refl, ℕ, ◌+◌, ◌-◌, ◌<◌, ◌≤◌, ◌==◌, ◌&&◌, Bool, true, false, cond, List, get_or, count_by, Option, inl, inr, arith}
 use Rattle.std.specs.Option.{option_map_or}
 use Rattle.std.proofs.Math.Bool.{and-true}
 use Rattle.std.proofs.lemmas.Bool.{cases_Bool, eqb-true, and_right}
-use Rattle.std.proofs.lemmas.List.Elements.{All-tail}
 use Rattle.std.proofs.lemmas.List.FromFn.{length-range_with_len, get_or-range_with_len}
-use Rattle.std.proofs.lemmas.List.Sums.{sum_by-cons}
 use Rattle.ob_net.specs.Network.{Network, home_feeder}
 use Rattle.ob_net.specs.Seconds.{seconds}
 use Rattle.ob_net.specs.declared.interval.Interval.{Interval}
@@ -21,12 +18,7 @@ use Rattle.ob_post.specs.CustomerSeconds.{Days, has_key, is_in_day}
 use Rattle.ob_post.specs.declared.Dim.{Dim}
 use Rattle.ob_post.specs.declared.Dim.TheVariants.{Cause, Feeder, Day}
 use Rattle.ob_post.specs.RunAmounts.{counts_under, customer_seconds_in, section_seconds_by, IsRunOf}
-
--- sums of values that are equal on a list
-sum_where_same : {X : Type 0} (f g : X → ℕ) (xs : List X) → All (λ x. f x ≡ g x) xs → sum_by f xs ≡ sum_by g xs
-sum_where_same f g [] h = refl
-sum_where_same f g (x ∷ xs) h =
-    sum_by-cons f x xs ∙ ap₂ (λ m n. m + n) (h 0 x (omega arith)) (sum_where_same f g xs (All-tail (λ x. f x ≡ g x) x xs h)) ∙ sym (sum_by-cons g x xs)
+use Rattle.ob_post.proofs.Sums.{sum_where_same}
 
 -- at a second of the run, a customer of its section counts under the keys under which the run does
 key_of_run : (net : Network) (entries : List Entry) (p : Days) (run : Run) (cause feeder : ℕ) (days : List Interval) (dim : Dim) (key : ℕ) (c : Customer) (s : ℕ) → p.days ≡ days → IsRunOf net entries p run cause feeder

@@ -1,9 +1,11 @@
 -- The amounts of a run, day by day.
-use Rattle.std.proofs.Common.{◌≡◌, ◌∙◌, sym, ap, subst, refl, ℕ, ◌+◌, ◌-◌, ◌<◌, ◌≤◌, ◌==◌, min, max, List, [], ◌∷◌, ◌++◌, length, Option, Some, None, slice_get, ℤ, pos, inl, inr, arith}
+use Rattle.std.proofs.Common.{◌≡◌, ◌∙◌, sym, ap, subst, refl, ℕ, ◌+◌, ◌-◌, ◌<◌, ◌≤◌, ◌==◌, min, max, List, [], ◌∷◌, ◌++◌, length, take, Option, Some, None, slice_get, ℤ, pos, ◌+ℤ◌, inl, inr, arith}
 use Rattle.std.specs.Option.{option_map_or}
 use Rattle.std.proofs.lemmas.Bool.{cases_Bool, cases_lt, eqb-true, eqb-false, ne_eqb}
 use Rattle.std.proofs.lemmas.Int.{ints}
-use Rattle.std.proofs.lemmas.List.Elements.{All-push, All-cons, All-nil}
+use Rattle.std.proofs.Math.Seq.{take-append_seam}
+use Rattle.std.proofs.lemmas.List.{append_assoc}
+use Rattle.std.proofs.lemmas.List.Elements.{All-append, All-push, All-cons, All-nil}
 use Rattle.std.proofs.lemmas.List.FromFn.{get_or-map-range_with_len, length-map-range_with_len}
 use Rattle.std.proofs.lemmas.List.Kept.{AllPairs-from_increasing}
 use Rattle.std.proofs.lemmas.Option.{slice_get-get_or, slice_get_cases}
@@ -18,7 +20,7 @@ use Rattle.ob_post.specs.declared.Moved.{Moved}
 use Rattle.ob_post.specs.Keys.{IsKey}
 use Rattle.ob_post.specs.Moved.{delta_of, HaveKeys}
 use Rattle.ob_post.specs.RunAmounts.{served_in}
-use Rattle.ob_post.proofs.Deltas.{delta_under, delta_of_push}
+use Rattle.ob_post.proofs.Deltas.{delta_under, delta_of-append, delta_of_push}
 use Rattle.ob_post.proofs.Served.{served_nothing}
 
 -- the amount of a run under a day
@@ -131,3 +133,44 @@ all_amounts roll run cause feeder c moved last day Day key kept held so l = elim
   | inl below ↦ so.done key below
   | inr past ↦ so.rest key past ∙ ap pos (sym (nothing_after roll run c last key kept held (omega arith)))
 ]
+
+-- ---- rows appended to others
+-- rows of the run so far stand after the old ones
+pub record AreAppended (roll : List Customer) (run : Run) (cause feeder : ℕ) (c : Calendar) (old new : List Moved) (day : ℕ) : Type 0 where
+  pub more : List Moved
+  pub appended : new ≡ old ++ more
+  pub amounts : AreAmounts roll run cause feeder c more day
+
+pub two_appended : (roll : List Customer) (run : Run) (cause feeder : ℕ) (c : Calendar) (old new : List Moved) (first : ℕ) (z : ℤ) → IsCalendar c → IsInDay c first run.since → cause < 64 → 1 ≤ feeder → feeder < 256
+    → z ≡ pos (served_seconds roll run.section run.since run.until)
+    → new ≡ (old ++ record { dim = Cause; key = cause; delta = z } ∷ []) ++ record { dim = Feeder; key = feeder; delta = z } ∷ [] → AreAppended roll run cause feeder c old new first
+two_appended roll run cause feeder c old new first z kept held low some high e is = record {
+  more = record { dim = Cause; key = cause; delta = z } ∷ record { dim = Feeder; key = feeder; delta = z } ∷ [];
+  appended = is ∙ append_assoc old (record { dim = Cause; key = cause; delta = z } ∷ []) (record { dim = Feeder; key = feeder; delta = z } ∷ []);
+  amounts = two_rows roll run cause feeder c first z kept held low some high e;
+}
+
+pub day_appended : (roll : List Customer) (run : Run) (cause feeder : ℕ) (c : Calendar) (old now new : List Moved) (day : ℕ) (z : ℤ) → AreAppended roll run cause feeder c old now day → day < day_count c
+    → z ≡ pos (served_seconds roll run.section (max run.since (bound_of c day)) (min run.until (bound_of c (day + 1))))
+    → new ≡ now ++ record { dim = Day; key = day; delta = z } ∷ [] → AreAppended roll run cause feeder c old new (day + 1)
+day_appended roll run cause feeder c old now new day z so l e is =
+    let m : Moved = record { dim = Day; key = day; delta = z } in
+    record {
+      more = so.more ++ m ∷ [];
+      appended = is ∙ ap (λ (xs : List Moved). xs ++ m ∷ []) so.appended ∙ append_assoc old so.more (m ∷ []);
+      amounts = day_row roll run cause feeder c so.more day z so.amounts l e;
+    }
+
+pub all_appended : (roll : List Customer) (run : Run) (cause feeder : ℕ) (c : Calendar) (old new : List Moved) (last day : ℕ) (dim : Dim) (key : ℕ) → IsCalendar c → IsInDay c last (run.until - 1)
+    → AreAppended roll run cause feeder c old new day → last + 1 ≤ day → delta_of new dim key ≡ delta_of old dim key +ℤ pos (served_in roll run cause feeder (days_of c) dim key)
+all_appended roll run cause feeder c old new last day dim key kept held so l =
+    ap (λ (ms : List Moved). delta_of ms dim key) so.appended
+    ∙ delta_of-append old so.more dim key
+    ∙ ap (λ (z : ℤ). delta_of old dim key +ℤ z) (all_amounts roll run cause feeder c so.more last day dim key kept held so.amounts l)
+
+-- the old rows stay, and all have keys where those did
+pub old_stay : (old new more : List Moved) → new ≡ old ++ more → take (length old) new ≡ old
+old_stay old new more e = ap (take (length old)) e ∙ take-append_seam old more
+
+pub keys_stay : (days : ℕ) (old new more : List Moved) → new ≡ old ++ more → HaveKeys days more → HaveKeys days old → HaveKeys days new
+keys_stay days old new more e h g = subst (HaveKeys days) (sym e) (All-append (λ m. IsKey days m.dim m.key) old more g h)

@@ -1,10 +1,10 @@
 -- The customer-seconds of a run as seconds of service: sums over the seconds and the customers in either order.
-use Rattle.std.proofs.Common.{◌≡◌, ◌∙◌, sym, ap, ap₂, refl, ℕ, zero, suc, ◌+◌, ◌-◌, ◌^◌, ◌<◌, ◌≤◌, ◌==◌, ◌&&◌, Bool, true, false, cond, nat_le, nat_lt, min, max, List, [], ◌∷◌, length, get_or, sum_by, count_by, Option, Some, None, slice_get, inl, inr, zero-add, arith}
+use Rattle.std.proofs.Common.{◌≡◌, ◌∙◌, sym, ap, ap₂, refl, ℕ, zero, suc, ◌+◌, ◌-◌, ◌^◌, ◌<◌, ◌≤◌, ◌==◌, ◌&&◌, Bool, true, false, cond, nat_le, nat_lt, min, max, List, length, get_or, sum_by, count_by, Option, Some, None, slice_get, inl, inr, zero-add, arith}
 use Rattle.std.specs.List.{filter, range_with_len}
 use Rattle.std.specs.Option.{option_map_or}
 use Rattle.std.proofs.Math.Bool.{and-true}
 use Rattle.std.proofs.Math.Nat.{mul-le-mul_right}
-use Rattle.std.proofs.lemmas.Bool.{cases_lt, cases_Bool, le-leb, lt-leb, lt-ltb, le-ltb, and_right}
+use Rattle.std.proofs.lemmas.Bool.{cases_lt, le-leb, lt-leb, lt-ltb, le-ltb, and_right}
 use Rattle.std.proofs.lemmas.List.FromFn.{length-range_with_len}
 use Rattle.std.proofs.lemmas.List.Sums.{sum_by-cons, sum_by-le, count_by-le-length, length-filter}
 use Rattle.ob_net.specs.Seconds.{seconds}
@@ -17,36 +17,7 @@ use Rattle.ob_sweep.specs.declared.Run.{Run}
 use Rattle.ob_post.specs.declared.Dim.{Dim}
 use Rattle.ob_post.specs.declared.Dim.TheVariants.{Cause, Feeder, Day}
 use Rattle.ob_post.specs.RunAmounts.{customer_seconds_in, served_in}
-
--- ---- sums
-sum_of_zeros : {X : Type 0} (xs : List X) → sum_by (λ (x : X). 0) xs ≡ 0
-sum_of_zeros [] = refl
-sum_of_zeros {X} (x ∷ xs) = sum_by-cons (λ (y : X). 0) x xs ∙ zero-add (sum_by (λ (y : X). 0) xs) ∙ sum_of_zeros xs
-
-sum_of_added : {X : Type 0} (f g : X → ℕ) (xs : List X) → sum_by (λ x. f x + g x) xs ≡ sum_by f xs + sum_by g xs
-sum_of_added f g [] = refl
-sum_of_added f g (x ∷ xs) = omega (arith, sum_by-cons (λ x. f x + g x) x xs, sum_by-cons f x xs, sum_by-cons g x xs, sum_of_added f g xs)
-
-sum_of_same : {X : Type 0} (f g : X → ℕ) (xs : List X) → ((x : X) → f x ≡ g x) → sum_by f xs ≡ sum_by g xs
-sum_of_same f g [] h = refl
-sum_of_same f g (x ∷ xs) h = sum_by-cons f x xs ∙ ap₂ (λ m n. m + n) (h x) (sum_of_same f g xs h) ∙ sym (sum_by-cons g x xs)
-
--- a sum over two lists, in either order
-swap_sums : {X Y : Type 0} (f : X → Y → ℕ) (xs : List X) (ys : List Y) → sum_by (λ x. sum_by (f x) ys) xs ≡ sum_by (λ y. sum_by (λ x. f x y) xs) ys
-swap_sums f [] ys = sym (sum_of_zeros ys)
-swap_sums f (x ∷ xs) ys =
-    sum_by-cons (λ x. sum_by (f x) ys) x xs
-    ∙ ap (λ n. sum_by (f x) ys + n) (swap_sums f xs ys)
-    ∙ sym (sum_of_added (f x) (λ y. sum_by (λ x. f x y) xs) ys)
-    ∙ sum_of_same (λ y. f x y + sum_by (λ x. f x y) xs) (λ y. sum_by (λ x. f x y) (x ∷ xs)) ys (λ y. sym (sum_by-cons (λ x. f x y) x xs))
-
--- a sum over those that pass a test
-sum_of_passing : {X : Type 0} (p : X → Bool) (f : X → ℕ) (xs : List X) → sum_by (λ x. cond (p x) (f x) 0) xs ≡ sum_by f (filter p xs)
-sum_of_passing p f [] = refl
-sum_of_passing p f (x ∷ xs) = sum_by-cons (λ y. cond (p y) (f y) 0) x xs ∙ elim (cases_Bool (p x)) [
-  | inl t ↦ rw t (ap (λ n. f x + n) (sum_of_passing p f xs) ∙ sym (sum_by-cons f x (filter p xs)))
-  | inr n ↦ rw n (omega (arith, sum_of_passing p f xs))
-]
+use Rattle.ob_post.proofs.Sums.{sum_of_zeros, sum_of_same, sum_of_passing, swap_sums}
 
 -- ---- the customers of a section
 -- a test that holds nowhere counts nothing

@@ -1,6 +1,11 @@
+pub mod CauseLaws
 pub mod CustomerSeconds
 pub mod Keys
+pub mod MoveLaws
 pub mod Moved
 pub mod Places
 pub mod Postings
 pub mod RunAmounts
+pub mod SectionAmounts
+pub mod SectionLaws
+pub mod TotalLaws

@@ -1,9 +1,10 @@
 //! The moves between two lists of amounts.
-ghost use Rattle.std.specs.Prelude.{◌≡◌, ◌^◌, ◌<◌, ◌-ℤ◌, ℕ, IfOk, IfErr, length, slice_index_or, pos};
+ghost use Rattle.std.specs.Prelude.{◌≡◌, ◌^◌, ◌<◌, ◌-ℤ◌, ℕ, ℤ, IfOk, IfErr, length, slice_index_or, pos};
 ghost use Rattle.std.specs.Prelude.{FitsSigned};
 ghost use Rattle.std.specs.Int.{int_wrap, w64};
 ghost use Rattle.ob_net.specs.Stop.{out_of_memory};
 ghost use Rattle.ob_post.specs.Keys.{IsKey};
+ghost use Rattle.ob_post.specs.MoveLaws.{AreOfChange};
 ghost use Rattle.ob_post.specs.Moved.{delta_of, HaveKeys, HaveNoZero, AreInOrder, moves_by};
 ghost use Rattle.ob_post.specs.Places.{place_of as the_place_of};
 ghost use Rattle.ob_post.specs.declared.Dim.{Dim as Dimension};
@@ -27,6 +28,7 @@ pub fn moves(alloc: Global, taken: &[Moved], given: &[Moved]) -> Result<Vec<Move
     ensures order { IfOk result (λ moved. AreInOrder moved.items) }
     // As one list: with any number of days that has all their keys, the changes of all keys.
     ensures moves { IfOk result (λ moved. (days : ℕ) → HaveKeys days taken.now → HaveKeys days given.now → moved.items ≡ moves_by (λ dim key. delta_of given.now dim key -ℤ delta_of taken.now dim key) days) }
+    ensures changes { IfOk result (λ moved. (days : ℕ) (change : Dimension → ℕ → ℤ) → HaveKeys days taken.now → HaveKeys days given.now → AreOfChange days taken.now given.now change → moved.items ≡ moves_by change days) }
     ensures keys { IfOk result (λ moved. (days : ℕ) → HaveKeys days taken.now → HaveKeys days given.now → HaveKeys days moved.items) }
     ensures err { IfErr result (λ stop. stop ≡ out_of_memory) }
 {

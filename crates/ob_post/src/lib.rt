@@ -8,13 +8,14 @@
 #![tactic(auto)]
 
 mod difference;
+pub mod laws;
 mod place;
 mod postings;
 mod run_amounts;
 
 pub use difference::moves;
 pub use postings::Postings;
-pub use run_amounts::amounts;
+pub use run_amounts::{amounts, post_run, post_runs};
 
 /// How many days postings may have.
 pub const MOST_DAYS: u16 = 366;

@@ -1,5 +1,4 @@
 //! The amounts by cause, feeder and day.
-ghost use Rattle.std.specs.Prelude.{◌≡◌, ◌<◌, ◌^◌, ◌+ℤ◌, ◌≤ℤ◌, ◌<ℤ◌, pos};
 
 use crate::place::{FIRST_FEEDER, FIXED_PLACES, place_of};
 use crate::{Dim, Moved};
@@ -29,7 +28,8 @@ impl Postings {
     ghost use Rattle.std.specs.Prelude.{◌≡◌, ◌<◌, ◌≤◌, ◌^◌, ◌≤ℤ◌, ℕ, pos, sum, IfOk, IfErr};
     ghost use Rattle.ob_net.specs.Stop.{out_of_memory};
     ghost use Rattle.ob_post.specs.Keys.{IsKey};
-    ghost use Rattle.ob_post.specs.Moved.{HaveKeys, AreInOrder};
+    ghost use Rattle.ob_post.specs.MoveLaws.{LeadTo};
+    ghost use Rattle.ob_post.specs.Moved.{HaveKeys};
     ghost use Rattle.ob_post.specs.Postings.{amount_of, amount_after, day_count, total_of, total_after};
     ghost use Rattle.ob_post.specs.declared.Dim.{Dim as Dimension};
     ghost use Rattle.ob_post.specs.declared.TheConstants.{MOST_DAYS};
@@ -75,28 +75,20 @@ impl Postings {
         }
     }
 
-    /// Moves the amounts, each by its delta; every other amount stays as it is.
+    /// Moves the amounts, each by its deltas; every other amount stays as it is. A key may have several
+    /// rows, in any order: an amount may fall below 0 or rise above any bound on the way, not in the end.
     pub fn apply(&mut self, moved: &[Moved])
         requires keys { HaveKeys (day_count self.old) moved.now }
-        requires order { AreInOrder moved.now }
         requires floor { (dim : Dimension) (key : ℕ) → IsKey (day_count self.old) dim key → pos 0 ≤ℤ amount_after self.old moved.now dim key }
         requires ceiling { (dim : Dimension) → total_after self.old moved.now dim < 2 ^ 63 }
         ensures amounts { (dim : Dimension) (key : ℕ) → IsKey (day_count self.old) dim key → pos (amount_of self.new dim key) ≡ amount_after self.old moved.now dim key }
+        // Moved by the change from the amounts that it keeps to new ones, it keeps the new ones.
+        ensures led { (new : Dimension → ℕ → ℕ) → LeadTo self.old moved.now new → (dim : Dimension) (key : ℕ) → IsKey (day_count self.old) dim key → amount_of self.new dim key ≡ new dim key }
         ensures days { day_count self.new ≡ day_count self.old }
     {
         for row in moved {
             let place = place_of(row.dim, row.key);
-            self.amounts[place] = amount_moved_by(self.amounts[place], row.delta);
+            self.amounts[place] = self.amounts[place].wrapping_add_signed(row.delta);
         }
     }
-}
-
-// The amount once it has moved.
-fn amount_moved_by(amount: u64, delta: i64) -> u64
-    requires small { amount < 2 ^ 63 }
-    requires floor { pos 0 ≤ℤ (pos amount +ℤ delta) }
-    requires ceiling { (pos amount +ℤ delta) <ℤ pos (2 ^ 63) }
-    ensures { pos result ≡ pos amount +ℤ delta }
-{
-    (amount as i64 + delta) as u64
 }

@@ -1,5 +1,6 @@
-//! The amounts of one run.
-ghost use Rattle.std.specs.Prelude.{◌≡◌, ◌<◌, ◌≤◌, ℕ, List, pos, IfOk, IfErr};
+//! The amounts of runs.
+ghost use Rattle.std.specs.Prelude.{◌≡◌, ◌<◌, ◌≤◌, ◌+ℤ◌, ℕ, List, length, map, take, pos, IfOk, OnOk, IfErr};
+ghost use Rattle.std.specs.List.{All};
 ghost use Rattle.ob_net.specs.Network.{Network};
 ghost use Rattle.ob_net.specs.Seconds.{seconds};
 ghost use Rattle.ob_net.specs.Stop.{out_of_memory};
@@ -10,6 +11,7 @@ ghost use Rattle.ob_cust.specs.Service.{served_seconds as served};
 ghost use Rattle.ob_post.specs.CustomerSeconds.{Days};
 ghost use Rattle.ob_post.specs.Moved.{delta_of, HaveKeys};
 ghost use Rattle.ob_post.specs.RunAmounts.{customer_seconds_in, served_in, section_seconds_by, IsRunOf};
+ghost use Rattle.ob_post.specs.SectionAmounts.{run_cause, amount_of_runs, LieWithin};
 ghost use Rattle.ob_post.specs.declared.Dim.{Dim as Dimension};
 
 use crate::{Dim, Moved};
@@ -43,15 +45,66 @@ pub fn amounts(
     ensures keys { IfOk result (λ moved. HaveKeys (day_count period.now) moved.items) }
     ensures err { IfErr result (λ stop. stop ≡ out_of_memory) }
 {
+    let mut moved = Vec::new(alloc);
+    post_run(run, cause, feeder, roll, period, &mut moved)?;
+    Ok(moved)
+}
+
+/// Appends the customer-seconds of runs that lie in the period, of sections of one home feeder, each
+/// under its own cause. The error is that memory was refused; rows may have been appended by then.
+pub fn post_runs(
+    runs: &[Run],
+    causes: &[u8],
+    feeder: u8,
+    roll: &Roll,
+    period: &Period,
+    rows: &mut Vec<Moved>,
+) -> Result<(), Stop>
+    requires each { length causes.now ≡ length runs.now }
+    requires causes { All (λ cause. cause < 64) causes.now }
+    requires feeder { 1 ≤ feeder }
+    requires within { LieWithin (first_second_of period.now) (end_second_of period.now) runs.now }
+    // Where the causes are those that the runs' cutters have in a sheet, the amount is that of the runs.
+    ensures amounts { (entries : List Entry) → causes.now ≡ map (run_cause entries) runs.now → OnOk result ((dim : Dimension) (key : ℕ) → delta_of rows.new.items dim key ≡ delta_of rows.old.items dim key +ℤ pos (amount_of_runs entries roll.now.customers (days_of period.now) feeder runs.now dim key)) }
+    ensures keys { HaveKeys (day_count period.now) rows.old.items → HaveKeys (day_count period.now) rows.new.items }
+    ensures kept { take (length rows.old.items) rows.new.items ≡ rows.old.items }
+    ensures err { IfErr result (λ stop. stop ≡ out_of_memory) }
+{
+    for place in 0..runs.len() {
+        post_run(&runs[place], causes[place], feeder, roll, period, rows)?;
+    }
+    Ok(())
+}
+
+/// Appends the customer-seconds of a run that lies in the period, as `amounts` gives them. The error
+/// is that memory was refused; rows may have been appended by then.
+pub fn post_run(
+    run: &Run,
+    cause: u8,
+    feeder: u8,
+    roll: &Roll,
+    period: &Period,
+    rows: &mut Vec<Moved>,
+) -> Result<(), Stop>
+    requires cause { cause < 64 }
+    requires feeder { 1 ≤ feeder }
+    requires begins { first_second_of period.now ≤ run.now.since }
+    requires some { run.now.since < run.now.until }
+    requires ends { run.now.until ≤ end_second_of period.now }
+    ensures served { OnOk result ((dim : Dimension) (key : ℕ) → delta_of rows.new.items dim key ≡ delta_of rows.old.items dim key +ℤ pos (served_in roll.now.customers run.now cause feeder (days_of period.now) dim key)) }
+    ensures amounts { OnOk result ((dim : Dimension) (key : ℕ) → delta_of rows.new.items dim key ≡ delta_of rows.old.items dim key +ℤ pos (customer_seconds_in roll.now.customers run.now cause feeder (days_of period.now) dim key)) }
+    ensures keys { HaveKeys (day_count period.now) rows.old.items → HaveKeys (day_count period.now) rows.new.items }
+    ensures kept { take (length rows.old.items) rows.new.items ≡ rows.old.items }
+    ensures err { IfErr result (λ stop. stop ≡ out_of_memory) }
+{
     prove!(period.first_second() <= run.since && run.until <= period.end_second());
     let delta = served_delta(roll, run.section, run.since, run.until);
-    let mut moved = Vec::new(alloc);
-    moved.push(Moved {
+    rows.push(Moved {
         dim: Dim::Cause,
         key: u16::from(cause),
         delta,
     })?;
-    moved.push(Moved {
+    rows.push(Moved {
         dim: Dim::Feeder,
         key: u16::from(feeder),
         delta,
@@ -66,13 +119,13 @@ pub fn amounts(
             run.since.max(since),
             run.until.min(until),
         );
-        moved.push(Moved {
+        rows.push(Moved {
             dim: Dim::Day,
             key: day,
             delta,
         })?;
     }
-    Ok(moved)
+    Ok(())
 }
 
 // The seconds of service as a delta: 100,000 customers have far fewer than 2^63.

@@ -25,8 +25,23 @@ fn alike(delta: i64) -> [Moved; 3]
     ]
 }
 
+// The same three move twice, in another order.
+fn twice(first: i64, second: i64) -> [Moved; 6]
+    ensures { result ≡ record { dim = Dim.Day; key = 0; delta = first } ∷ record { dim = Dim.Cause; key = 3; delta = first } ∷ record { dim = Dim.Feeder; key = 1; delta = first } ∷ record { dim = Dim.Feeder; key = 1; delta = second } ∷ record { dim = Dim.Cause; key = 3; delta = second } ∷ record { dim = Dim.Day; key = 0; delta = second } ∷ [] }
+{
+    [
+        row(Dim::Day, 0, first),
+        row(Dim::Cause, 3, first),
+        row(Dim::Feeder, 1, first),
+        row(Dim::Feeder, 1, second),
+        row(Dim::Cause, 3, second),
+        row(Dim::Day, 0, second),
+    ]
+}
+
 // The worked example: what an opening moves, a correction that moves nothing, an earlier closing and a
-// second supply leave 9,000 customer-seconds under cause 3, feeder 1 and day 0 alike.
+// second supply leave 9,000 customer-seconds under cause 3, feeder 1 and day 0 alike. Then each of them moves
+// below 0 and back.
 #[test]
 fn moves_leave_the_amount(rt: HostRuntime) -> Result<(), Fail> {
     let mut postings = Postings::new(rt.alloc(), 2)?;
@@ -34,6 +49,7 @@ fn moves_leave_the_amount(rt: HostRuntime) -> Result<(), Fail> {
     postings.apply(&[]);
     postings.apply(&alike(-246_600));
     postings.apply(&alike(-158_400));
+    postings.apply(&twice(-10_000, 10_000));
     assert_eq!(rt; postings.amount(Dim::Cause, 3), 9_000);
     assert_eq!(rt; postings.amount(Dim::Feeder, 1), 9_000);
     assert_eq!(rt; postings.amount(Dim::Day, 0), 9_000);
@@ -162,6 +178,60 @@ fn amounts_of_runs(rt: HostRuntime) -> Result<(), Fail> {
         assert_eq!(rt; moved.as_slice(), expected, "from {since} up to {until}");
     }
     Ok(())
+}
+
+// A run of section 4.
+fn run(since: Second, until: Second, cutter: Option<u32>) -> Run
+    ensures { result ≡ record { section = 4; since = since; until = until; cutter = cutter } }
+{
+    Run {
+        section: 4,
+        since,
+        until,
+        cutter,
+    }
+}
+
+// Two runs of section 4 behind a row that stands there: ten minutes of five customers under cause 3, then one of
+// 300 seconds across midnight, which no entry caused.
+#[test]
+fn runs_are_appended(rt: HostRuntime) -> Result<(), Fail> {
+    let period = Period::from_text(rt.alloc(), b"2024-01-01", 2, b"UTC0")?;
+    let roll = roll(rt.alloc(), T + 100_000)?;
+    let runs = [
+        run(T + 3_600, T + 4_200, Some(1)),
+        run(T + 86_200, T + 86_500, None),
+    ];
+    assert!(rt; period.first_second() <= T);
+    assert!(rt; T + 86_500 <= period.end_second());
+    let mut rows = Vec::from_slice(rt.alloc(), &[row(Dim::Cause, 3, -7)])?;
+    post_runs(&runs, &[3, 0], 2, &roll, &period, &mut rows)?;
+    post_run(&runs[0], 3, 2, &roll, &period, &mut rows)?;
+    let expected = [
+        row(Dim::Cause, 3, -7),
+        row(Dim::Cause, 3, 3_000),
+        row(Dim::Feeder, 2, 3_000),
+        row(Dim::Day, 0, 3_000),
+        row(Dim::Cause, 0, 1_500),
+        row(Dim::Feeder, 2, 1_500),
+        row(Dim::Day, 0, 1_000),
+        row(Dim::Day, 1, 500),
+        row(Dim::Cause, 3, 3_000),
+        row(Dim::Feeder, 2, 3_000),
+        row(Dim::Day, 0, 3_000),
+    ];
+    assert_eq!(rt; rows.as_slice(), expected.as_slice());
+    Ok(())
+}
+
+// They are for proofs: a call does nothing.
+#[test]
+fn laws_can_be_called(rt: HostRuntime) {
+    laws::section_laws();
+    laws::cause_laws();
+    laws::roll_laws();
+    laws::total_laws();
+    laws::move_laws();
 }
 
 // The worked example of a zone that loses an hour: a run of one customer over the first day, of 82,800

@@ -59,6 +59,9 @@ pub returns-clause-keys : goal.returns-clause-keys
 returns-clause-keys c = λ days ht hg.
     keys_of_moves c.args.taken.now c.args.given.now c.loop-place.moved.items c.loop-place.place days c.requires.taken c.requires.given c.loop-place.invariant (omega arith) ht hg
 
+pub returns-clause-changes : goal.returns-clause-changes
+returns-clause-changes c = λ days change ht hg agrees.
+    listed c.args.taken.now c.args.given.now c.loop-place.moved.items days change c.loop-place.invariant.order c.loop-place.invariant.no_zero (returns-clause-deltas c) ht hg agrees
+
 pub returns-clause-moves : goal.returns-clause-moves
-returns-clause-moves c = λ days ht hg.
-    listed c.args.taken.now c.args.given.now c.loop-place.moved.items days c.loop-place.invariant.order c.loop-place.invariant.no_zero (returns-clause-deltas c) ht hg
+returns-clause-moves c = λ days ht hg. returns-clause-changes c days (difference c.args.taken.now c.args.given.now) ht hg (λ dim key k. refl)

@@ -1,0 +1,50 @@
+//! Laws of the amounts, for a proof that calls them; they do nothing when they run.
+ghost use Rattle.ob_post.specs.CauseLaws.{ChangedCause, EnteredCause, SameCause};
+ghost use Rattle.ob_post.specs.MoveLaws.{DifferencesFit, HaveKeysOfMore, MovesLeadTo, NodeReposted, NodeStays, NoneReposted, RepostedDiffer};
+ghost use Rattle.ob_post.specs.SectionLaws.{BySection, ByRuns, Changed, ChangedInRuns, Connected, ConnectedToRuns, Nobody, OneCustomer, RunsLieWithin, SameByCause, SectionByRuns};
+ghost use Rattle.ob_post.specs.TotalLaws.{AddUp, AmountsAreSmall, TotalsAgree, TotalsAreSmall};
+
+/// All customer-seconds under a key are those of the sections' runs, each under its cutter's cause.
+pub fn section_laws()
+    ensures within { RunsLieWithin }
+    ensures section_by_runs { SectionByRuns }
+    ensures by_section { BySection }
+    ensures by_runs { ByRuns }
+    ensures same_by_cause { SameByCause }
+{}
+
+/// The causes of runs once an entry is new or has changed.
+pub fn cause_laws()
+    ensures entered { EnteredCause }
+    ensures changed { ChangedCause }
+    ensures same { SameCause }
+{}
+
+/// What one customer adds, and what a change of one moves.
+pub fn roll_laws()
+    ensures nobody { Nobody }
+    ensures one { OneCustomer }
+    ensures connected { Connected }
+    ensures connected_to_runs { ConnectedToRuns }
+    ensures changed { Changed }
+    ensures changed_in_runs { ChangedInRuns }
+{}
+
+/// The amounts under all keys of a dimension add up to all customer-seconds, and are below 2^63.
+pub fn total_laws()
+    ensures add_up { AddUp }
+    ensures amounts { AmountsAreSmall }
+    ensures totals { TotalsAreSmall }
+    ensures agree { TotalsAgree }
+{}
+
+/// From what is taken and given to the moves, and from these to the new amounts.
+pub fn move_laws()
+    ensures none_reposted { NoneReposted }
+    ensures node_stays { NodeStays }
+    ensures node_reposted { NodeReposted }
+    ensures reposted { RepostedDiffer }
+    ensures more_days { HaveKeysOfMore }
+    ensures fit { DifferencesFit }
+    ensures lead_to { MovesLeadTo }
+{}
