@@ -30,6 +30,3 @@ pub const MOST_COMMANDS: u32 = 1_000_000;
 
 /// How many causes there are at most, the unassigned one among them.
 pub const MOST_CAUSES: usize = 64;
-
-#[cfg(test)]
-mod tests;
