@@ -1,1 +1,5 @@
 pub mod Marks
+pub mod Ratio
+pub mod Interruptions
+pub mod Counts
+pub mod Indices
