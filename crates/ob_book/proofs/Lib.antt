@@ -12,6 +12,7 @@ pub mod Leading
 pub mod Refused
 pub mod Replaying
 pub mod Reposting
+pub mod Rowing
 pub mod Serving
 pub mod SmallCauses
 pub mod Testing

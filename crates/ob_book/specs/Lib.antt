@@ -6,3 +6,4 @@ pub mod States
 pub mod Plans
 pub mod Effects
 pub mod Acts
+pub mod Views

@@ -15,6 +15,7 @@ mod parts;
 mod plan;
 mod posting;
 mod refusals;
+mod rows;
 mod run_causes;
 mod service;
 mod state;
