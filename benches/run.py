@@ -12,6 +12,7 @@ import shutil
 import subprocess
 import sys
 from pathlib import Path
+from statistics import median
 
 from make_data import large_text, small_text
 from reference import customer_seconds, read_book
@@ -20,13 +21,17 @@ ROOT = Path(__file__).resolve().parent.parent
 BENCHES = ROOT / "benches"
 DATA = ROOT / "bench-data"
 PROGRAM = ROOT / "crates/outagebook/out/outagebook"
-LIBRARY = ROOT / "crates/bench_search/out"
+LIBRARY = ROOT / "crates/bench_calls/out"
 SEARCH = DATA / "search"
+BUILD = DATA / "build"
 PLAIN_TOTAL = DATA / "total"
 FIRST_RUN = ROOT / "examples/first-run.csv"
 LARGE = DATA / "large.csv"
 SMALL_TEXTS = 200
 TOTAL_RUNS = 5
+SHEETS = [5_000, 10_000, 20_000]
+BUILD_CALLS = 7
+BUILD_TURNS = 5
 
 
 def run_tool(words, folder):
@@ -39,11 +44,12 @@ def build():
     """Proves and builds the program and the library, and compiles what is compared with them."""
     toolchain = Path(shutil.which("rt")).resolve().parent.parent
     run_tool(["rt", "run", "--", "--help"], ROOT / "crates/outagebook")
-    run_tool(["rt", "lib"], ROOT / "crates/bench_search")
+    run_tool(["rt", "lib"], ROOT / "crates/bench_calls")
     rustc = ["rustc", "--edition", "2024", "-O"]
-    library = ["-L", LIBRARY, "-l", "static=bench_search"]
+    library = ["-L", LIBRARY, "-l", "static=bench_calls"]
     c_library = ["-L", toolchain / "c", "-l", "static=libc_c"]
-    run_tool([*rustc, BENCHES / "search.rs", "-o", SEARCH, *library, *c_library], ROOT)
+    for source, program in [("search.rs", SEARCH), ("build.rs", BUILD)]:
+        run_tool([*rustc, BENCHES / source, "-o", program, *library, *c_library], ROOT)
     run_tool([*rustc, BENCHES / "total.rs", "-o", PLAIN_TOTAL], ROOT)
 
 
@@ -58,6 +64,31 @@ def show_searches(repeats):
         name, nodes, proved, plain = line.split("\t")
         proved, plain = int(proved) / 1e3, int(plain) / 1e3
         print(f"| {name} | {nodes} | {proved:.2f} | {plain:.2f} | {proved / plain:.2f} |")
+
+
+def measure_build(entries):
+    """What a process prints: the seconds of network and sheet, of one build, the least, and the peak in MB."""
+    words = [BUILD, str(entries), str(BUILD_CALLS)]
+    done = subprocess.run(words, stdout=subprocess.PIPE, text=True)
+    if done.returncode:
+        sys.exit(1)
+    _, making, build, least, peak, _ = map(float, done.stdout.split("\t"))
+    return making, build, least, peak / 1024
+
+
+def show_builds():
+    """The table of the runs of a year, built from scratch; the sizes take turns."""
+    turns = [[measure_build(entries) for entries in SHEETS] for _ in range(BUILD_TURNS)]
+    print("| Entries | searches | network and sheet, s | one build, s | least, s | times | peak, MB | times |")
+    print("|---|---|---|---|---|---|---|---|")
+    first = None
+    for entries, measured in zip(SHEETS, zip(*turns)):
+        makings, builds, leasts, peaks = zip(*measured)
+        least, peak = min(leasts), median(peaks)
+        first = first or (least, peak)
+        columns = [f"{entries:,}", f"{entries + 1:,}", f"{median(makings):.3f}", f"{median(builds):.3f}"]
+        columns += [f"{least:.3f}", f"{least / first[0]:.2f}", f"{peak:.1f}", f"{peak / first[1]:.2f}"]
+        print(f"| {' | '.join(columns)} |")
 
 
 def output_of(program, data):
@@ -157,6 +188,8 @@ def main():
     compare_totals()
     print()
     show_searches(words.repeats)
+    print()
+    show_builds()
     print()
     show_totals()
     print(f"\nload {os.getloadavg()[0]:.1f} on {os.cpu_count()} processors")

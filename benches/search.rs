@@ -1,14 +1,16 @@
 //! The time of one search of a network: the proved one against a plain breadth-first search over kept
 //! adjacency lists, in one process and by turns.
 //!
-//! It links the static library that `rt lib` makes of `crates/bench_search`; `run.py` builds and runs
+//! It links the static library that `rt lib` makes of `crates/bench_calls`; `run.py` builds and runs
 //! it. It prints a line for each network: its name, the nodes reached, and the nanoseconds of the
 //! proved search and of the breadth-first one. It ends with status 1 where the two reach another
 //! number of nodes.
 
 mod breadth_first;
+mod numbers;
 
 use breadth_first::Lists;
+use numbers::Numbers;
 use std::hint::black_box;
 use std::process::ExitCode;
 use std::time::Instant;
@@ -76,24 +78,12 @@ fn plain(lists: &Lists, closed: &[u8], queue: &mut Vec<u16>, rounds: u32) -> u64
     sum
 }
 
-/// Numbers that look random, the same in each run (xorshift).
-struct Numbers(u64);
-
-impl Numbers {
-    fn below(&mut self, limit: usize) -> usize {
-        self.0 ^= self.0 << 13;
-        self.0 ^= self.0 >> 7;
-        self.0 ^= self.0 << 17;
-        ((self.0 >> 33) % limit as u64) as usize
+fn shuffled<T: Copy>(items: &[T], numbers: &mut Numbers) -> Vec<T> {
+    let mut items = items.to_vec();
+    for place in (1..items.len()).rev() {
+        items.swap(place, numbers.below(place + 1));
     }
-
-    fn shuffled<T: Copy>(&mut self, items: &[T]) -> Vec<T> {
-        let mut items = items.to_vec();
-        for place in (1..items.len()).rev() {
-            items.swap(place, self.below(place + 1));
-        }
-        items
-    }
+    items
 }
 
 fn reversed<T: Copy>(items: &[T]) -> Vec<T> {
@@ -120,20 +110,20 @@ fn mesh(numbers: &mut Numbers) -> Vec<(u16, u16)> {
 }
 
 fn networks() -> Vec<Network> {
-    let mut numbers = Numbers(0x9E37_79B9_7F4A_7C15);
+    let mut numbers = Numbers::new(0x9E37_79B9_7F4A_7C15);
     let chain = chain();
     let mesh = mesh(&mut numbers);
-    let mut open = Network::new("mesh, a quarter open", &numbers.shuffled(&mesh));
+    let mut open = Network::new("mesh, a quarter open", &shuffled(&mesh, &mut numbers));
     for mark in &mut open.closed {
         *mark = u8::from(numbers.below(4) != 0);
     }
     vec![
         Network::new("chain, from GRID on", &chain),
         Network::new("chain, from the far end", &reversed(&chain)),
-        Network::new("chain, shuffled", &numbers.shuffled(&chain)),
+        Network::new("chain, shuffled", &shuffled(&chain, &mut numbers)),
         Network::new("mesh, in order", &mesh),
         Network::new("mesh, backwards", &reversed(&mesh)),
-        Network::new("mesh, shuffled", &numbers.shuffled(&mesh)),
+        Network::new("mesh, shuffled", &shuffled(&mesh, &mut numbers)),
         open,
     ]
 }

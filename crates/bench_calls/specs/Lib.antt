@@ -1,0 +1,3 @@
+pub mod Builds
+pub mod Networks
+pub mod Searches
