@@ -1,0 +1,2 @@
+pub mod MarkedDays
+pub mod Parts

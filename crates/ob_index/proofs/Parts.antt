@@ -1,0 +1,1 @@
+-- The interruptions of a customer are the parts of its section's runs at which it is in service.
