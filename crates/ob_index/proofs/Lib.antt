@@ -1,2 +1,5 @@
 pub mod MarkedDays
 pub mod Parts
+pub mod Served
+pub mod Kept
+pub mod Tallied

@@ -1,9 +1,9 @@
 //! What the interruptions of one customer add to the counts.
-ghost use Rattle.std.specs.Prelude.{◌≡◌, ◌≤◌, ◌<◌, ◌+◌, ◌-◌, ◌^◌, if◌then◌else◌, length};
+ghost use Rattle.std.specs.Prelude.{◌≡◌, ◌≤◌, ◌<◌, ◌+◌, ◌-◌, ◌^◌, ◌&&◌, if◌then◌else◌, length};
 ghost use Rattle.std.specs.List.{All, AllPairs, count_by, filter};
 ghost use Rattle.ob_cust.specs.Service.{in_service};
 ghost use Rattle.ob_index.specs.Interruptions.{duration, is_counted as is_among, is_momentary, is_sustained};
-ghost use Rattle.ob_index.specs.Tallies.{part_in_service as part_of, parts_in_service, tally as tally_among};
+ghost use Rattle.ob_index.specs.Tallies.{has_second, part_in_service as part_of, parts_in_service, tally as tally_among};
 ghost use Rattle.ob_net.specs.Seconds.{seconds};
 ghost use Rattle.ob_time.specs.Calendar.{day_count, end_second_of, first_second_of};
 
@@ -49,7 +49,7 @@ pub fn tally_of(
     };
     for run in runs {
         let part = part_in_service(customer, run.since, run.until);
-        if part.since < part.until && is_counted(&part, period, marks, which) {
+        if is_interruption(&part, period, marks, which) {
             add(&mut tally, &part);
         }
     }
@@ -70,6 +70,14 @@ pub fn part_in_service(customer: &Customer, since: Second, until: Second) -> Int
         since: customer.since.max(since),
         until,
     }
+}
+
+// Whether a part of a run is an interruption that counts: one without a second is none.
+fn is_interruption(part: &Interval, period: &Period, marks: &Marks, which: Which) -> bool
+    requires marks { length marks.now ≡ day_count period.now }
+    ensures { result ≡ (has_second part.now && is_among period.now marks.now which part.now) }
+{
+    part.since < part.until && is_counted(part, period, marks, which)
 }
 
 // Whether an interruption counts: where marked days are left out, the day of its first second decides.
