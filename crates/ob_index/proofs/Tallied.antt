@@ -3,7 +3,7 @@ use Rattle.std.proofs.Common.{◌≡◌, ℕ, zero, ◌+◌, ◌-◌, ◌<◌, �
 use Rattle.std.specs.List.{All, AllPairs, filter, count_by, sum_by}
 use Rattle.std.proofs.lemmas.Bool.{and_parts, ltb-true}
 use Rattle.std.proofs.lemmas.List.{take_all}
-use Rattle.std.proofs.lemmas.List.Sums.{sum_by_more, sum_by-take-le}
+use Rattle.std.proofs.lemmas.List.Sums.{sum_by_more, sum_by_more_le, sum_by-take-le}
 use Rattle.ob_net.specs.Seconds.{seconds}
 use Rattle.ob_net.specs.declared.interval.Interval.{Interval}
 use Rattle.ob_cust.specs.declared.Customer.{Customer}
@@ -15,7 +15,7 @@ use Rattle.ob_index.specs.Tallies.{has_second, part_in_service, parts_in_service
 use Rattle.ob_index.specs.declared.figures.Which.{Which}
 use Rattle.ob_index.specs.declared.tally.Tally.{Tally}
 use Rattle.ob_index.proofs.Kept.{kept_more, sum_of_passing}
-use Rattle.ob_index.proofs.Served.{LieWithin, served, served_in, served_apart, served_is}
+use Rattle.ob_index.proofs.Served.{LieWithin, served, served_in, served_apart, served_is, served_short}
 
 -- the parts that count
 abbrev pub counted_parts : Calendar → List (Option (List ℕ)) → Which → Customer → List Run → List Interval
@@ -104,3 +104,12 @@ module _ (period : Calendar) (marks : List (Option (List ℕ))) (which : Which) 
 pub within_service : (c : Customer) (a b : ℕ) (runs : List Run) (n : ℕ) → All (λ r. r.since < r.until) runs → AllPairs (λ r s. r.until < s.since) runs → LieWithin a b runs
     → sum_by (served_in c) (take n runs) ≤ count_by (in_service c) (seconds a b)
 within_service c a b runs n some rising within = omega (arith, sum_by-take-le (served_in c) runs n, served_apart c a b runs some rising within, served_is c a b)
+
+-- so have those before one more and that one
+pub next_within : (c : Customer) (a b : ℕ) (runs : List Run) (i : ℕ) (d : Run) (p : Interval) → i < length runs → p ≡ part_in_service c (get_or runs i d).since (get_or runs i d).until
+    → All (λ r. r.since < r.until) runs → AllPairs (λ r s. r.until < s.since) runs → LieWithin a b runs → sum_by (served_in c) (take i runs) + duration p ≤ b - a
+next_within c a b runs i d p l is some rising within =
+    rw is (omega (arith, sum_by_more_le (served_in c) runs i d l, served_apart c a b runs some rising within, served_short c a b))
+
+pub has_some : (p : Interval) (counted : Bool) → (has_second p && counted) ≡ true → p.since < p.until
+has_some p counted both = ltb-true p.since p.until (and_parts (has_second p) counted both).0

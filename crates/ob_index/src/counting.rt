@@ -9,7 +9,7 @@ ghost use Rattle.ob_time.specs.Calendar.{day_count, end_second_of, first_second_
 use crate::Marks;
 use crate::figures::{Counts as Sums, Which};
 use crate::tally::{Tally, part_in_service, tally_of};
-use ob_cust::Roll;
+use ob_cust::{MOST_CUSTOMERS, Roll};
 use ob_net::Net;
 use ob_sweep::Scratch;
 use ob_time::Period;
@@ -34,6 +34,8 @@ pub fn counts(
     ensures momentary { result.mi < 2 ^ 42 }
     ensures customers { (k : ℕ) → k < 10 → slice_index result.cn_n k < 2 ^ 42 }
 {
+    // 100,000 customers with so short a period have no count that leaves its type.
+    prove!(period.length() < 1 << 25 && roll.customers().len() <= MOST_CUSTOMERS);
     let mut counts = Sums {
         ci: 0,
         csi: 0,
