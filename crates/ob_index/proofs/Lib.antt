@@ -3,3 +3,5 @@ pub mod Parts
 pub mod Served
 pub mod Kept
 pub mod Tallied
+pub mod Summed
+pub mod Sections

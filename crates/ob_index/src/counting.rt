@@ -9,7 +9,7 @@ ghost use Rattle.ob_time.specs.Calendar.{day_count, end_second_of, first_second_
 use crate::Marks;
 use crate::figures::{Counts as Sums, Which};
 use crate::tally::{Tally, part_in_service, tally_of};
-use ob_cust::{MOST_CUSTOMERS, Roll};
+use ob_cust::Roll;
 use ob_net::Net;
 use ob_sweep::Scratch;
 use ob_time::Period;
@@ -34,8 +34,8 @@ pub fn counts(
     ensures momentary { result.mi < 2 ^ 42 }
     ensures customers { (k : ℕ) → k < 10 → slice_index result.cn_n k < 2 ^ 42 }
 {
-    // 100,000 customers with so short a period have no count that leaves its type.
-    prove!(period.length() < 1 << 25 && roll.customers().len() <= MOST_CUSTOMERS);
+    // In so short a period no count of so few customers leaves its type.
+    prove!(period.length() < 1 << 25);
     let mut counts = Sums {
         ci: 0,
         csi: 0,
@@ -77,6 +77,7 @@ fn add(counts: &mut Sums, tally: &Tally)
     ensures seconds { counts.new.csi ≡ counts.old.csi + tally.now.seconds }
     ensures momentary { counts.new.mi ≡ counts.old.mi + tally.now.momentary }
     ensures customers { counts.new.cn ≡ counts.old.cn + (if nat_le 1 tally.now.sustained then 1 else 0) }
+    ensures places { length counts.new.cn_n ≡ length counts.old.cn_n }
     ensures each { (k : ℕ) → k < 10 → slice_index counts.new.cn_n k ≡ slice_index counts.old.cn_n k + (if nat_le (1 + k) tally.now.sustained then 1 else 0) }
 {
     counts.ci += tally.sustained;
@@ -91,7 +92,8 @@ fn add(counts: &mut Sums, tally: &Tally)
 // Adds a customer with so many interruptions: the place k counts those with 1 + k or more.
 fn add_customer(customers: &mut [u64; 10], sustained: u64)
     requires { (k : ℕ) → k < 10 → slice_index customers.old k + 1 < 2 ^ 64 }
-    ensures { (k : ℕ) → k < 10 → slice_index customers.new k ≡ slice_index customers.old k + (if nat_le (1 + k) sustained then 1 else 0) }
+    ensures places { length customers.new ≡ length customers.old }
+    ensures each { (k : ℕ) → k < 10 → slice_index customers.new k ≡ slice_index customers.old k + (if nat_le (1 + k) sustained then 1 else 0) }
 {
     for place in 0..10 {
         if sustained > place as u64 {
