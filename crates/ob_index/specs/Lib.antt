@@ -3,3 +3,4 @@ pub mod Ratio
 pub mod Interruptions
 pub mod Counts
 pub mod Indices
+pub mod Tallies

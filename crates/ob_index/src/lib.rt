@@ -6,9 +6,11 @@
 //! lowest terms. Above it stands the book.
 #![tactic(auto)]
 
+pub mod counting;
 pub mod figures;
 mod fraction;
 mod marks;
+mod tally;
 
 pub use figures::{Counts, Indices, MOMENTARY_SECONDS, Which};
 pub use fraction::{Fraction, reduced};

@@ -1,0 +1,7 @@
+pub mod MarkedDays
+pub mod Parts
+pub mod Served
+pub mod Kept
+pub mod Tallied
+pub mod Summed
+pub mod Sections
