@@ -8,6 +8,8 @@
 
 pub mod figures;
 mod fraction;
+pub mod indices;
+pub mod laws;
 mod marks;
 
 pub use figures::{Counts, Indices, MOMENTARY_SECONDS, Which};
