@@ -1,3 +1,5 @@
 pub mod Places
 pub mod Quotients
 pub mod Computed
+pub mod Example
+pub mod Decimals

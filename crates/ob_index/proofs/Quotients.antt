@@ -1,11 +1,11 @@
 -- A quotient in lowest terms is one fraction, and the computed one is it.
-use Rattle.std.proofs.Common.{◌≡◌, ◌∙◌, sym, ap, ap₂, subst, refl, ℕ, zero, suc, ◌+◌, ◌-◌, ◌*◌, ◌/◌, ◌%◌, ◌^◌, ◌<◌, ◌≤◌, ◌==◌, Bool, true, false, Option, Some, None, if◌then◌else◌, arith, mod-lt, pow-suc}
+use Rattle.std.proofs.Common.{◌≡◌, ◌∙◌, sym, ap, ap₂, subst, refl, ℕ, zero, suc, ◌+◌, ◌-◌, ◌*◌, ◌/◌, ◌%◌, ◌^◌, ◌<◌, ◌≤◌, ◌==◌, Bool, true, false, Option, Some, None, if◌then◌else◌, inl, inr, arith, mod-lt, pow-suc}
 use Prim.Native.Nat.{◌∣◌}
 use Rattle.std.specs.Int.{IsGcd}
-use Rattle.std.proofs.lemmas.Nat.Gcd.{IsGcd-from_zero, IsGcd-from_mod, same_from_IsGcd, dvd_antisymm, dvd_refl}
-use Rattle.std.proofs.Math.Nat.{mod-le, mod-eq-sub-mod, div-mul_cancel, one-dvd, mul-dvd-mul_right, dvd_of_mul-dvd-mul_right, dvd-sub, dvd-mul_left, dvd-mul_right, dvd-mul_right_of_dvd, mod-eq-sub-mul-div, mul-sub, mul_right_comm, mul_assoc, mul_comm, one-mul, pos_of_dvd_of_pos, mul-one, mul_left_comm, eq_of_mul-eq-mul_right}
-use Rattle.ob_index.specs.Ratio.{Ratio}
-use Rattle.ob_index.specs.Ratio.{IsReduced, IsQuotient, gcd_within, gcd, quotient, QuotientIsOne, QuotientIsComputed}
+use Rattle.std.proofs.lemmas.Bool.{cases_lt}
+use Rattle.std.proofs.lemmas.Nat.Gcd.{IsGcd-from_zero, IsGcd-swap, le_of_dvd, IsGcd-from_mod, same_from_IsGcd, dvd_antisymm, dvd_refl}
+use Rattle.std.proofs.Math.Nat.{zero-mul, mul-pos, mod-le, mod-eq-sub-mod, div-mul_cancel, one-dvd, mul-dvd-mul_right, dvd_of_mul-dvd-mul_right, dvd-sub, dvd-mul_left, dvd-mul_right, dvd-mul_right_of_dvd, mod-eq-sub-mul-div, mul-sub, mul_right_comm, mul_assoc, mul_comm, one-mul, pos_of_dvd_of_pos, mul-one, mul_left_comm, eq_of_mul-eq-mul_right}
+use Rattle.ob_index.specs.Ratio.{Ratio, IsReduced, IsQuotient, gcd_within, gcd, quotient, QuotientIsOne, QuotientIsComputed, QuotientIsBounded}
 
 -- a remainder of remainders is below half of the divisor
 half : (b r m p q : ℕ) → m ≤ b - r → m < r → r < b → b < q → q ≡ p * 2 → m < p
@@ -116,3 +116,16 @@ quotient_is_one n d None None p q = refl
 quotient_is_one n d None (Some g) p q = absurd (omega (arith, p, q.0))
 quotient_is_one n d (Some f) None p q = absurd (omega (arith, q, p.0))
 quotient_is_one n d (Some f) (Some g) p q = ap Some (same_fraction n d f g p.0 p.1 q.1)
+
+num_bound : (n d : ℕ) (f : Ratio) → 0 < d → IsReduced n d f → f.num ≤ n
+num_bound zero d f some p = elim (cases_lt 0 f.num) [
+  | inl more ↦ let h = subst (λ m. 0 < m) (p.equal ∙ zero-mul f.den) (mul-pos more some) in absurd (omega (arith, h))
+  | inr none ↦ none
+]
+num_bound (suc n) d f some p = le_of_dvd (omega arith) (gauss f.den f.num (suc n) (IsGcd-swap f.num f.den 1 p.lowest) (subst (λ m. f.num ∣ m) p.equal (dvd-mul_right f.num d)))
+
+den_bound : (n d : ℕ) (f : Ratio) → 0 < d → IsReduced n d f → f.den ≤ d
+den_bound n d f some p = le_of_dvd some (gauss f.num f.den d p.lowest (subst (λ m. f.den ∣ m) (sym p.equal ∙ mul_comm f.num d) (dvd-mul_left f.den n)))
+
+pub quotient_is_bounded : QuotientIsBounded
+quotient_is_bounded n d f h = (num_bound n d f h.0 h.1, den_bound n d f h.0 h.1)

@@ -47,3 +47,31 @@ fn shares(customers: &[u64; 10], p: u128, s: u128) -> [Option<Fraction>; 10]
     }
     found
 }
+
+#[cfg(test)]
+mod tests {
+    use super::*;
+    use std::test::Fail;
+
+    // One of ten customers, out for 301 seconds of a day in which all are in service.
+    #[test]
+    fn one_interruption_of_a_day(rt: HostRuntime) -> Result<(), Fail> {
+        let counts = Counts {
+            ci: 1,
+            csi: 301,
+            cn: 1,
+            cn_n: [1, 0, 0, 0, 0, 0, 0, 0, 0, 0],
+            mi: 2,
+        };
+        let found = indices(&counts, 864_000, 86_400);
+        assert_eq!(rt; found.saifi, reduced(1, 10));
+        assert_eq!(rt; found.saidi, reduced(301, 600));
+        assert_eq!(rt; found.caidi, reduced(301, 60));
+        assert_eq!(rt; found.caifi, reduced(1, 1));
+        assert_eq!(rt; found.asai, reduced(863_699, 864_000));
+        assert_eq!(rt; found.cemi[0], reduced(1, 10));
+        assert_eq!(rt; found.cemi[9], reduced(0, 1));
+        assert_eq!(rt; (found.sustained, found.momentary), (1, 2));
+        Ok(())
+    }
+}

@@ -6,12 +6,14 @@
 //! lowest terms. Above it stands the book.
 #![tactic(auto)]
 
+mod decimal;
 pub mod figures;
 mod fraction;
 pub mod indices;
 pub mod laws;
 mod marks;
 
+pub use decimal::{Decimal, decimal3};
 pub use figures::{Counts, Indices, MOMENTARY_SECONDS, Which};
 pub use fraction::{Fraction, reduced};
 pub use marks::Marks;
