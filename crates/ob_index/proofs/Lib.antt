@@ -5,3 +5,8 @@ pub mod Kept
 pub mod Tallied
 pub mod Summed
 pub mod Sections
+pub mod Places
+pub mod Quotients
+pub mod Computed
+pub mod Example
+pub mod Decimals

@@ -7,11 +7,15 @@
 #![tactic(auto)]
 
 pub mod counting;
+mod decimal;
 pub mod figures;
 mod fraction;
+pub mod indices;
+pub mod laws;
 mod marks;
 mod tally;
 
+pub use decimal::{Decimal, decimal3};
 pub use figures::{Counts, Indices, MOMENTARY_SECONDS, Which};
 pub use fraction::{Fraction, reduced};
 pub use marks::Marks;

@@ -1,0 +1,67 @@
+//! The totals: the customer-seconds without supply by cause, day and home feeder.
+ghost use Rattle.std.specs.Prelude.{◌≡◌, ◌≤◌, ◌<◌, ◌-◌, ℕ, false, map, IfOk, IfErr};
+ghost use Rattle.ob_net.specs.Stop.{out_of_memory};
+ghost use Rattle.ob_post.specs.Keys.{IsKey};
+ghost use Rattle.ob_post.specs.Postings.{day_count};
+ghost use Rattle.serde_json.specs.Data.{array};
+ghost use Rattle.serde_json.specs.View.{view, items_of};
+ghost use Rattle.serde_json.specs.Written.{compact_text, has_float};
+ghost use Rattle.ob_json.specs.Totals.{row_data, rows_between, totals_data};
+ghost use Rattle.ob_json.specs.Totals as definition;
+
+use ob_net::Stop;
+use ob_post::{Dim, Postings};
+use serde_json::{Value, json};
+use std::alloc::{AllocError, Global};
+
+/// The amounts under each cause, day and home feeder that has one, by rising keys, and their total over the days:
+/// `{"cause":[[3,9000]],"day":[[0,9000]],"feeder":[[1,9000]],"total":9000}`. The error is that memory was refused.
+pub fn totals_text(alloc: Global, postings: &Postings, days: u16) -> Result<Vec<u8>, Stop>
+    requires days { days ≡ day_count postings.now }
+    ensures text { IfOk result (λ text. text.items ≡ definition.totals_text postings.now) }
+    ensures err { IfErr result (λ stop. stop ≡ out_of_memory) }
+{
+    let totals = totals(alloc, postings, days)?;
+    Ok(totals.to_vec(alloc)?)
+}
+
+// The totals as JSON.
+fn totals(alloc: Global, postings: &Postings, days: u16) -> Result<Value, AllocError>
+    requires days { days ≡ day_count postings.now }
+    ensures data { IfOk result (λ v. view v ≡ totals_data postings.now) }
+{
+    let causes = rows(alloc, postings, Dim::Cause, 0, 64)?;
+    let by_day = rows(alloc, postings, Dim::Day, 0, days)?;
+    let feeders = rows(alloc, postings, Dim::Feeder, 1, 256)?;
+    let total = postings.total(Dim::Day);
+    json!(in alloc; {"cause": causes, "day": by_day, "feeder": feeders, "total": total})
+}
+
+// The amounts that aren't 0 under the keys from the first up to the end.
+fn rows(
+    alloc: Global,
+    postings: &Postings,
+    dim: Dim,
+    first: u16,
+    end: u16,
+) -> Result<Value, AllocError>
+    requires order { first ≤ end }
+    requires keys { (key : ℕ) → first ≤ key → key < end → IsKey (day_count postings.now) dim key }
+    ensures data { IfOk result (λ v. view v ≡ array (items_of (map row_data (rows_between postings.now dim first (end - first))))) }
+{
+    let mut rows = Vec::new(alloc);
+    for key in first..end {
+        let amount = postings.amount(dim, key);
+        if amount > 0 {
+            rows.push(row(alloc, key, amount)?)?;
+        }
+    }
+    Ok(Value::Array(rows))
+}
+
+// A key with its amount.
+fn row(alloc: Global, key: u16, amount: u64) -> Result<Value, AllocError>
+    ensures { IfOk result (λ v. view v ≡ row_data (key, amount)) }
+{
+    json!(in alloc; [key, amount])
+}
