@@ -4,11 +4,12 @@ ghost use Rattle.ob_net.specs.Stop.{IsRefusedOrNoMemory};
 ghost use Rattle.ob_book.specs.Next.{after};
 
 use crate::effect::effect_of;
+use crate::figures::indices_of;
 use crate::plan::{Plan, retime};
 use crate::state::State;
 use ob_command::Command;
 use ob_cust::Roll;
-use ob_index::Marks;
+use ob_index::{Indices, Marks, Which};
 use ob_net::{Name, Net, Refusal, Stop};
 use ob_post::Postings;
 use ob_post::laws::{move_laws, roll_laws, total_laws};
@@ -52,6 +53,7 @@ impl Book {
     ghost use Rattle.ob_book.specs.Next.{next};
     ghost use Rattle.ob_book.specs.Amounts.{amount};
     ghost use Rattle.ob_book.specs.Plans.{IsPlan};
+    ghost use Rattle.ob_book.specs.Views.{indices_of_book};
 
     /// A new book of a period: GRID alone, cause 0, no customer, no entry, no marked day. The error is that memory was
     /// refused.
@@ -164,6 +166,13 @@ impl Book {
         ensures { result.now ≡ self.now.state.marks }
     {
         &self.state.marks
+    }
+
+    /// The indices of IEEE 1366 over all interruptions of the period, or over those that don't begin on a marked day.
+    pub fn index_view(&self, which: Which) -> Indices
+        ensures { result ≡ indices_of_book self.now.state which }
+    {
+        indices_of(&self.state, &self.timeline, which)
     }
 }
 

@@ -10,6 +10,7 @@ mod book;
 mod causes;
 mod change;
 mod effect;
+mod figures;
 mod laws;
 mod parts;
 mod plan;

@@ -11,11 +11,11 @@ loop-code-preserved c =
     let b = c.args.state.now.state in
     let n = c.loop-code.code in
     elim c.match-cause_row.branch [
-        in-Some+in_ok-push w ↦ ap (λ r. r.items) w.rows-is
-            ∙ w.in_ok-push.ensures.items
-            ∙ ap (λ xs. xs ++ w.in-Some.row ∷ []) c.loop-code.invariant
-            ∙ sym (one_more (cause_row b) 0 n n w.in-Some.row (omega arith) (sym c.cause_row.ensures ∙ w.in-Some.is))
-        | in_default w ↦ ap (λ r. r.items) w.rows-is ∙ c.loop-code.invariant ∙ sym (no_more (cause_row b) 0 n n (omega arith) (sym c.cause_row.ensures ∙ w.in_default.is))
+      | in-Some+in_ok-push w ↦ ap (λ r. r.items) w.rows-is
+          ∙ w.in_ok-push.ensures.items
+          ∙ ap (λ xs. xs ++ w.in-Some.row ∷ []) c.loop-code.invariant
+          ∙ sym (one_more (cause_row b) 0 n n w.in-Some.row (omega arith) (sym c.cause_row.ensures ∙ w.in-Some.is))
+      | in_default w ↦ ap (λ r. r.items) w.rows-is ∙ c.loop-code.invariant ∙ sym (no_more (cause_row b) 0 n n (omega arith) (sym c.cause_row.ensures ∙ w.in_default.is))
     ]
 
 pub returns-clause-rows : goal.returns-clause-rows
