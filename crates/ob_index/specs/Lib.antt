@@ -3,3 +3,5 @@ pub mod Ratio
 pub mod Interruptions
 pub mod Counts
 pub mod Indices
+pub mod Columns
+pub mod Table

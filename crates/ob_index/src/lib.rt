@@ -6,14 +6,18 @@
 //! lowest terms. Above it stands the book.
 #![tactic(auto)]
 
+mod columns;
 mod decimal;
+mod figure_lines;
 pub mod figures;
 mod fraction;
 pub mod indices;
 pub mod laws;
 mod marks;
+mod table;
 
 pub use decimal::{Decimal, decimal3};
 pub use figures::{Counts, Indices, MOMENTARY_SECONDS, Which};
 pub use fraction::{Fraction, reduced};
 pub use marks::Marks;
+pub use table::annual_text;
