@@ -3,3 +3,4 @@ pub mod Quotients
 pub mod Computed
 pub mod Example
 pub mod Decimals
+mod Lines

@@ -1,5 +1,5 @@
 -- The annual table: what a period's book comes to, as lines of ASCII text that end with LF.
-use Rattle.std.specs.Prelude.{◌≡◌, ⊤, ℕ, pos, ◌+◌, ◌^◌, ◌<◌, ◌||◌, ◌+ℤ◌, Bool, nat_lt, List, [], ◌∷◌, ◌++◌, Option, Some, None, if◌then◌else◌, codes, decimal, slice_index, slice_index_or}
+use Rattle.std.specs.Prelude.{◌≡◌, ⊤, ℕ, pos, ◌+◌, ◌^◌, ◌<◌, ◌||◌, ◌+ℤ◌, Bool, nat_lt, List, [], ◌∷◌, ◌++◌, Option, Some, None, if◌then◌else◌, codes, decimal, length, slice_index, slice_index_or}
 use Rattle.std.specs.List.{flat_map, range_with_len}
 use Rattle.ob_time.specs.Calendar.{Calendar, day_count}
 use Rattle.ob_time.specs.Dates.{day_text}
@@ -9,10 +9,14 @@ use Rattle.ob_index.specs.Counts.{period_length}
 use Rattle.ob_index.specs.Marks.{is_marked_day}
 use Rattle.ob_index.specs.Ratio.{Ratio, decimal3_text, fraction_text}
 
+-- the date of a day of the period, by number from 0
+abbrev pub date_of : Calendar → ℕ → List ℕ
+date_of period day = day_text (period.first_day +ℤ pos day)
+
 -- `OUTAGE BOOK 2024-01-01 days 366 zone UTC0`: the first date, how many days there are, and the zone
 abbrev pub heading : Calendar → List ℕ
 heading period =
-    codes "OUTAGE BOOK " ++ day_text period.first_day ++ codes " days " ++ decimal (day_count period) ++ codes " zone " ++ period.zone ++ 10 ∷ []
+    codes "OUTAGE BOOK " ++ date_of period 0 ++ codes " days " ++ decimal (day_count period) ++ codes " zone " ++ period.zone ++ 10 ∷ []
 
 -- `P 86400 S 864000 W 9000`: the seconds of the period, and the customer-seconds in service and without supply
 abbrev pub totals_line : ℕ → ℕ → ℕ → List ℕ
@@ -33,11 +37,13 @@ day_line date amount marked =
     codes "day " ++ date ++ right_in 36 (decimal amount) ++ (if marked then codes " marked" else []) ++ 10 ∷ []
 
 -- the line of a day that has customer-seconds or is marked; nothing for any other day
-abbrev pub day_part : Calendar → List ℕ → List (Option (List ℕ)) → ℕ → List ℕ
-day_part period days marks day =
-    if nat_lt 0 (slice_index days day) || is_marked_day marks day
-    then day_line (day_text (period.first_day +ℤ pos day)) (slice_index days day) (is_marked_day marks day)
-    else []
+abbrev pub day_part : List ℕ → ℕ → Bool → List ℕ
+day_part date amount marked = if nat_lt 0 amount || marked then day_line date amount marked else []
+
+-- the lines of the days, rising
+abbrev pub day_lines : Calendar → List ℕ → List (Option (List ℕ)) → List ℕ
+day_lines period days marks =
+    flat_map (λ day. day_part (date_of period day) (slice_index days day) (is_marked_day marks day)) (range_with_len 0 (day_count period))
 
 -- an index or a count: its name, whether it is of all interruptions or of the unmarked ones, and its value
 abbrev pub figure_line : List ℕ → List ℕ → List ℕ → List ℕ
@@ -48,9 +54,13 @@ abbrev pub quotient_text : Option Ratio → List ℕ
 quotient_text None = codes "undefined"
 quotient_text (Some f) = fraction_text f ++ 32 ∷ decimal3_text f
 
--- CEMI of n interruptions or more, for n from 1 to 10
+-- CEMI of n + 1 interruptions or more
 abbrev pub cemi_line : List ℕ → List (Option Ratio) → ℕ → List ℕ
 cemi_line which cemi n = figure_line (codes "CEMI-" ++ decimal (n + 1)) which (quotient_text (slice_index_or cemi n None))
+
+-- CEMI of 1 interruption or more, of 2, and so on
+abbrev pub cemi_lines : List ℕ → List (Option Ratio) → List ℕ
+cemi_lines which cemi = flat_map (cemi_line which cemi) (range_with_len 0 (length cemi))
 
 -- the indices, then the two counts
 abbrev pub figure_lines : List ℕ → Indices → List ℕ
@@ -60,7 +70,7 @@ figure_lines which x =
     ++ figure_line (codes "CAIDI") which (quotient_text x.caidi)
     ++ figure_line (codes "CAIFI") which (quotient_text x.caifi)
     ++ figure_line (codes "ASAI") which (quotient_text x.asai)
-    ++ flat_map (cemi_line which x.cemi) (range_with_len 0 10)
+    ++ cemi_lines which x.cemi
     ++ figure_line (codes "SUSTAINED") which (decimal x.sustained)
     ++ figure_line (codes "MOMENTARY") which (decimal x.momentary)
 
@@ -71,7 +81,7 @@ annual_table period s w causes feeders days marks all unmarked =
     ++ totals_line (period_length period) s w
     ++ flat_map cause_line causes
     ++ flat_map feeder_line feeders
-    ++ flat_map (day_part period days marks) (range_with_len 0 (day_count period))
+    ++ day_lines period days marks
     ++ figure_lines (codes "all") all
     ++ figure_lines (codes "unmarked") unmarked
 

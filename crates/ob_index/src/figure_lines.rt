@@ -1,10 +1,9 @@
 //! The lines of the indices and counts in the annual table.
-ghost use Rattle.std.specs.Prelude.{◌≡◌, ◌++◌, ◌<◌, ◌+◌, ℕ, Option, None, codes, decimal, slice_index_or, IfErr, OnOk};
-ghost use Rattle.std.specs.List.{flat_map, range_with_len};
+ghost use Rattle.std.specs.Prelude.{◌≡◌, ◌++◌, ◌∷◌, [], ◌<◌, ◌+◌, ◌%◌, ◌/◌, ◌^◌, ℕ, Option, None, codes, decimal, slice_index_or, IfErr, OnOk};
 ghost use Rattle.ob_net.specs.Stop.{out_of_memory};
 ghost use Rattle.ob_index.specs.Ratio.{Ratio, decimal3_text, fraction_text};
 ghost use Rattle.ob_index.specs.Columns.{left_in};
-ghost use Rattle.ob_index.specs.Table.{AreShort, IsShort, cemi_line, figure_line, figure_lines, quotient_text};
+ghost use Rattle.ob_index.specs.Table.{AreShort, IsShort, cemi_lines, figure_line, figure_lines, quotient_text};
 
 use crate::columns::{push_left, push_number};
 use crate::{Fraction, Indices};
@@ -24,13 +23,13 @@ pub(crate) fn push_figures(text: &mut Vec<u8>, which: &[u8], x: &Indices) -> Res
     push_quotient(text, b"ASAI", which, &x.asai)?;
     push_cemi(text, which, &x.cemi)?;
     push_count(text, b"SUSTAINED", which, x.sustained)?;
-    push_count(text, b"MOMENTARY", which, x.momentary)
+    push_count(text, b"MOMENTARY", which, x.momentary)?;
+    Ok(())
 }
 
 fn push_cemi(text: &mut Vec<u8>, which: &[u8], cemi: &[Option<Fraction>; 10]) -> Result<(), Stop>
     requires { (n : ℕ) → n < 10 → IsShort (slice_index_or cemi.now n None) }
-    ensures ok { OnOk result (text.new.items ≡ text.old.items
-        ++ flat_map (cemi_line which.now cemi.now) (range_with_len 0 10)) }
+    ensures ok { OnOk result (text.new.items ≡ text.old.items ++ cemi_lines which.now cemi.now) }
     ensures err { IfErr result (λ e. e ≡ out_of_memory) }
 {
     for (index, quotient) in cemi.iter().enumerate() {
@@ -120,8 +119,8 @@ fn push_three_digits(text: &mut Vec<u8>, number: u128) -> Result<(), Stop>
         ++ (48 + number % 1000 / 100) ∷ (48 + number % 100 / 10) ∷ (48 + number % 10) ∷ []) }
     ensures err { IfErr result (λ e. e ≡ out_of_memory) }
 {
-    for digit in [number % 1000 / 100, number % 100 / 10, number % 10] {
-        text.push(b'0' + digit as u8)?;
-    }
+    text.push(b'0' + (number % 1000 / 100) as u8)?;
+    text.push(b'0' + (number % 100 / 10) as u8)?;
+    text.push(b'0' + (number % 10) as u8)?;
     Ok(())
 }

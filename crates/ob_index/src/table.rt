@@ -3,7 +3,7 @@ ghost use Rattle.std.specs.Prelude.{◌≡◌, ◌++◌, ◌<◌, ℕ, codes, le
 ghost use Rattle.std.specs.List.{flat_map, range_with_len};
 ghost use Rattle.ob_net.specs.Stop.{out_of_memory};
 ghost use Rattle.ob_time.specs.Calendar.{day_count};
-ghost use Rattle.ob_index.specs.Table.{AreShort, annual_table, cause_line, day_line, day_part, feeder_line, heading, totals_line};
+ghost use Rattle.ob_index.specs.Table.{AreShort, annual_table, cause_line, date_of, day_line, day_lines, day_part, feeder_line, heading, totals_line};
 
 use crate::columns::{push_left, push_number, push_number_right};
 use crate::figure_lines::push_figures;
@@ -56,10 +56,11 @@ fn push_heading(text: &mut Vec<u8>, period: &Period) -> Result<(), Stop>
     ensures ok { OnOk result (text.new.items ≡ text.old.items ++ heading period.now) }
     ensures err { IfErr result (λ e. e ≡ out_of_memory) }
 {
+    let days = period.days();
     text.extend_from_slice(b"OUTAGE BOOK ")?;
     text.extend_from_slice(period.date_text(0)?.as_bytes())?;
     text.extend_from_slice(b" days ")?;
-    push_number(text, u128::from(period.days()))?;
+    push_number(text, u128::from(days))?;
     text.extend_from_slice(b" zone ")?;
     text.extend_from_slice(period.zone_text())?;
     text.push(b'\n')?;
@@ -131,21 +132,38 @@ fn push_feeder(text: &mut Vec<u8>, feeder: &(u8, u64)) -> Result<(), Stop>
 fn push_days(text: &mut Vec<u8>, period: &Period, days: &[u64], marks: &Marks) -> Result<(), Stop>
     requires days { length days.now ≡ day_count period.now }
     requires marks { length marks.now ≡ day_count period.now }
-    ensures ok { OnOk result (text.new.items ≡ text.old.items
-        ++ flat_map (day_part period.now days.now marks.now) (range_with_len 0 (day_count period.now))) }
+    ensures ok { OnOk result (text.new.items
+        ≡ text.old.items ++ day_lines period.now days.now marks.now) }
     ensures err { IfErr result (λ e. e ≡ out_of_memory) }
 {
     for day in 0..period.days() {
         let amount = days[usize::from(day)];
-        let marked = marks.is_marked(day);
-        if amount > 0 || marked {
-            push_day(text, period.date_text(day)?.as_bytes(), amount, marked)?;
-        }
+        push_day(text, period, day, amount, marks.is_marked(day))?;
     }
     Ok(())
 }
 
-fn push_day(text: &mut Vec<u8>, date: &[u8], amount: u64, marked: bool) -> Result<(), Stop>
+// Nothing, where the day has no customer-seconds and isn't marked.
+fn push_day(
+    text: &mut Vec<u8>,
+    period: &Period,
+    day: u16,
+    amount: u64,
+    marked: bool,
+) -> Result<(), Stop>
+    requires { day < day_count period.now }
+    ensures ok { OnOk result (text.new.items
+        ≡ text.old.items ++ day_part (date_of period.now day) amount marked) }
+    ensures err { IfErr result (λ e. e ≡ out_of_memory) }
+{
+    if amount == 0 && !marked {
+        return Ok(());
+    }
+    let date = period.date_text(day)?;
+    push_day_line(text, date.as_bytes(), amount, marked)
+}
+
+fn push_day_line(text: &mut Vec<u8>, date: &[u8], amount: u64, marked: bool) -> Result<(), Stop>
     ensures ok { OnOk result (text.new.items ≡ text.old.items ++ day_line date.now amount marked) }
     ensures err { IfErr result (λ e. e ≡ out_of_memory) }
 {
@@ -157,4 +175,17 @@ fn push_day(text: &mut Vec<u8>, date: &[u8], amount: u64, marked: bool) -> Resul
     }
     text.push(b'\n')?;
     Ok(())
+}
+
+#[cfg(test)]
+mod tests {
+    use super::*;
+    use crate::{Counts, reduced};
+    use std::process::Abort;
+    use std::test::Fail;
+
+    // The tables of one day with a sustained outage of half an hour of one in two customers.
+    const TABLE: &[u8] = b"\
+OUTAGE BOOK 2024-01-01 days 1 zone UTC0
+";
 }
