@@ -10,3 +10,4 @@ pub mod Quotients
 pub mod Computed
 pub mod Example
 pub mod Decimals
+mod Lines

@@ -4,3 +4,5 @@ pub mod Interruptions
 pub mod Counts
 pub mod Indices
 pub mod Tallies
+pub mod Columns
+pub mod Table

@@ -6,16 +6,20 @@
 //! lowest terms. Above it stands the book.
 #![tactic(auto)]
 
+mod columns;
 pub mod counting;
 mod decimal;
+mod figure_lines;
 pub mod figures;
 mod fraction;
 pub mod indices;
 pub mod laws;
 mod marks;
+mod table;
 mod tally;
 
 pub use decimal::{Decimal, decimal3};
 pub use figures::{Counts, Indices, MOMENTARY_SECONDS, Which};
 pub use fraction::{Fraction, reduced};
 pub use marks::Marks;
+pub use table::annual_text;

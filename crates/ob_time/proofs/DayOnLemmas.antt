@@ -1,6 +1,6 @@
 -- The day of a day number, found among the numbers of a period's days.
-use Rattle.std.proofs.Common.{◌≡◌, ◌≢◌, ◌∙◌, ap, sym, ℕ, ℤ, pos, ◌<◌, ◌+ℤ◌, Bool, true, false, List, Some, None, length, get_or, slice_get, inl, inr, arith}
-use Rattle.std.specs.List.{find, position_or_len, range_with_len}
+use Rattle.std.proofs.Common.{◌≡◌, ◌≢◌, ◌∙◌, ap, ℕ, ℤ, pos, ◌<◌, ◌+ℤ◌, Bool, true, false, List, Some, None, length, get_or, slice_get, inl, inr, arith}
+use Rattle.std.specs.List.{position_or_len, range_with_len}
 use Rattle.std.specs.Ordering.{int_eq}
 use Rattle.std.proofs.lemmas.Bool.{cases_Bool}
 use Rattle.std.proofs.lemmas.Bool.Decides.{Decides-int_eq}

@@ -1,3 +1,4 @@
+mod DateLemmas
 mod DayLemmas
 mod DayOnLemmas
 mod MidnightLemmas

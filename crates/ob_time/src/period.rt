@@ -5,6 +5,7 @@ ghost use Rattle.jiff.specs.Types.{Date as PlainDate, TimeZone as PlainZone};
 ghost use Rattle.jiff.specs.Words.{plain_zone, epoch_day};
 ghost use Rattle.ob_net.specs.Stop.{IsRefusedOrNoMemory, out_of_memory};
 ghost use Rattle.ob_time.specs.Calendar.{Calendar, IsCalendar, IsDayOn, IsInDay, IsInPeriod, PartSeconds, bound_of, calendar, day_at, day_count, day_on, days_of, end_second_of, first_second_of, holds, seconds_in};
+ghost use Rattle.ob_time.specs.Dates.{day_text};
 ghost use Rattle.ob_time.specs.Moment.{IsDateText, IsTextOfDay};
 ghost use Rattle.ob_time.specs.Period.{HasNoPeriod, IsPeriod, IsPeriodText, IsZoneText};
 
@@ -200,6 +201,8 @@ impl Period {
             → IsTextOfDay text (self.now.first_day +ℤ pos day) → text ≡ string_bytes t) }
         ensures reads_back { IfOk result (λ t. (d : PlainDate) → IsDateText (string_bytes t) d
             → epoch_day d ≡ self.now.first_day +ℤ pos day) }
+        ensures value { IfOk result (λ t.
+            string_bytes t ≡ day_text (self.now.first_day +ℤ pos day)) }
         ensures errors { IfErr result (λ e. e ≡ out_of_memory) }
     {
         let number = self.first.to_plain().days_since_min() + u32::from(day);

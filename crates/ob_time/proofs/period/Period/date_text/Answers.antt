@@ -2,6 +2,7 @@ use Rattle.std.proofs.Common.{◌≡◌, arith, ap, pos, ◌+ℤ◌}
 use Rattle.jiff.specs.Words.{epoch_day}
 use Rattle.jiff.proofs.SpanFacts.{signed_arith}
 use Rattle.ob_time.specs.Calendar.{Calendar}
+use Rattle.ob_time.proofs.DateLemmas.{day_text-is}
 use Rattle.ob_time.proofs.PeriodLemmas.{IsTextOfDay-unique, year-nonnegative}
 use Rattle.ob_time.proofs.period.Period.date_text.Goals as goal
 
@@ -17,3 +18,6 @@ returns-clause-ok c =
 
 pub returns-clause-only : goal.returns-clause-only
 returns-clause-only c = λ text h. IsTextOfDay-unique text _ _ h (returns-clause-ok c)
+
+pub returns-clause-value : goal.returns-clause-value
+returns-clause-value c = day_text-is _ _ (returns-clause-ok c)
