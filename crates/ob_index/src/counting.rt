@@ -101,3 +101,6 @@ fn add_customer(customers: &mut [u64; 10], sustained: u64)
         }
     }
 }
+
+#[cfg(test)]
+mod tests;
