@@ -1,6 +1,6 @@
 -- The JSON text of the totals.
 use Rattle.std.specs.Prelude.{ℕ, nat_lt, Bool, List, map, codes}
-use Rattle.std.specs.List.{filter, range_with_len}
+use Rattle.std.specs.List.{filter}
 use Rattle.serde_json.specs.Data.{Data, number, unsigned, array, object, no_items, item, no_members, member}
 use Rattle.serde_json.specs.View.{items_of}
 use Rattle.serde_json.specs.Written.{compact_text}
@@ -16,10 +16,6 @@ has_amount row = nat_lt 0 row.1
 -- these keys with the amounts under them, where they aren't 0
 abbrev pub rows_of : PostedAmounts → Dim → List ℕ → List (ℕ × ℕ)
 rows_of postings dim ks = filter has_amount (map (λ key. (key, amount_of postings dim key)) ks)
-
--- the same for so many keys from the first on
-abbrev pub rows_between : PostedAmounts → Dim → ℕ → ℕ → List (ℕ × ℕ)
-rows_between postings dim first count = rows_of postings dim (range_with_len first count)
 
 -- `[key,amount]`
 abbrev pub row_data : ℕ × ℕ → Data

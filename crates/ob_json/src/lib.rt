@@ -9,3 +9,6 @@ mod totals;
 
 pub use indices::indices_text;
 pub use totals::totals_text;
+
+#[cfg(test)]
+mod tests;

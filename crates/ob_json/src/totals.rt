@@ -1,12 +1,11 @@
 //! The totals: the customer-seconds without supply by cause, day and home feeder.
-ghost use Rattle.std.specs.Prelude.{◌≡◌, ◌≤◌, ◌<◌, ◌-◌, ℕ, false, map, IfOk, IfErr};
+ghost use Rattle.std.specs.Prelude.{◌≡◌, ◌≤◌, ◌<◌, ◌-◌, ℕ, IfOk, IfErr};
+ghost use Rattle.std.specs.List.{range_with_len};
 ghost use Rattle.ob_net.specs.Stop.{out_of_memory};
-ghost use Rattle.ob_post.specs.Keys.{IsKey};
+ghost use Rattle.ob_post.specs.Keys.{IsKey, keys};
 ghost use Rattle.ob_post.specs.Postings.{day_count};
-ghost use Rattle.serde_json.specs.Data.{array};
-ghost use Rattle.serde_json.specs.View.{view, items_of};
-ghost use Rattle.serde_json.specs.Written.{compact_text, has_float};
-ghost use Rattle.ob_json.specs.Totals.{row_data, rows_between, totals_data};
+ghost use Rattle.serde_json.specs.View.{view};
+ghost use Rattle.ob_json.specs.Totals.{row_data, rows_data, totals_data};
 ghost use Rattle.ob_json.specs.Totals as definition;
 
 use ob_net::Stop;
@@ -37,7 +36,7 @@ fn totals(alloc: Global, postings: &Postings, days: u16) -> Result<Value, AllocE
     json!(in alloc; {"cause": causes, "day": by_day, "feeder": feeders, "total": total})
 }
 
-// The amounts that aren't 0 under the keys from the first up to the end.
+// The amounts that aren't 0 under the keys of a dimension, which are those from the first up to the end.
 fn rows(
     alloc: Global,
     postings: &Postings,
@@ -46,8 +45,9 @@ fn rows(
     end: u16,
 ) -> Result<Value, AllocError>
     requires order { first ≤ end }
-    requires keys { (key : ℕ) → first ≤ key → key < end → IsKey (day_count postings.now) dim key }
-    ensures data { IfOk result (λ v. view v ≡ array (items_of (map row_data (rows_between postings.now dim first (end - first))))) }
+    requires exist { (key : ℕ) → first ≤ key → key < end → IsKey (day_count postings.now) dim key }
+    requires all { keys (day_count postings.now) dim ≡ range_with_len first (end - first) }
+    ensures data { IfOk result (λ v. view v ≡ rows_data postings.now dim) }
 {
     let mut rows = Vec::new(alloc);
     for key in first..end {

@@ -1,0 +1,7 @@
+use Rattle.ob_json.proofs.Rows.{totals_have_none}
+use Rattle.ob_json.proofs.totals.totals_text.Goals as goal
+
+pub returns-clause-text : goal.returns-clause-text
+returns-clause-text c =
+    let text = rw c.in_ok-totals.ensures.data at c.in_ok-to_vec.ensures.text in
+    text (totals_have_none c.args.postings.now)
