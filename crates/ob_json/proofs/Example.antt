@@ -6,11 +6,16 @@ use Rattle.serde_json.proofs.OnLiterals.{serde_json_on_literals}
 use Rattle.ob_index.specs.Ratio.{Ratio}
 use Rattle.ob_index.specs.declared.figures.Indices.{Indices}
 use Rattle.ob_post.specs.Keys.{keys}
+use Rattle.ob_post.specs.Postings.{PostedAmounts, amount_of, total_of}
+use Rattle.ob_post.specs.declared.Dim.TheVariants.{Day}
 use Rattle.ob_json.specs.Totals.{totals_text}
 use Rattle.ob_json.specs.Indices.{indices_text}
 
 -- 9,000 customer-seconds under cause 3, feeder 1 and the first day of two
-totals : totals_text (record { causes = 0 ∷ 0 ∷ 0 ∷ 9000 ∷ replicate 60 0; feeders = 9000 ∷ replicate 254 0; days = 9000 ∷ 0 ∷ [] })
+abbrev posted : PostedAmounts
+posted = record { causes = 0 ∷ 0 ∷ 0 ∷ 9000 ∷ replicate 60 0; feeders = 9000 ∷ replicate 254 0; days = 9000 ∷ 0 ∷ [] }
+
+totals : totals_text (amount_of posted) 2 (total_of posted Day)
     ≡ codes "{\"cause\":[[3,9000]],\"day\":[[0,9000]],\"feeder\":[[1,9000]],\"total\":9000}"
 unfolding keys digits serde_json_on_literals
 totals = refl

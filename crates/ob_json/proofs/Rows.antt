@@ -7,7 +7,7 @@ use Rattle.std.proofs.lemmas.List.FromFn.{filter_of_map_range_with_len_more}
 use Rattle.serde_json.specs.Data.{Data}
 use Rattle.serde_json.specs.View.{items_of}
 use Rattle.serde_json.specs.Written.{has_float, items_have_float}
-use Rattle.ob_post.specs.Postings.{PostedAmounts, amount_of, day_count}
+use Rattle.ob_post.specs.Postings.{PostedAmounts, amount_of}
 use Rattle.ob_post.specs.Keys.{keys}
 use Rattle.ob_post.specs.declared.Dim.{Dim}
 use Rattle.ob_post.specs.declared.Dim.TheVariants.{Cause, Feeder, Day}
@@ -15,7 +15,7 @@ use Rattle.ob_json.specs.Totals.{has_amount, row_data, rows_of, totals_data}
 
 -- the rows of so many keys from the first on
 abbrev pub rows_between : PostedAmounts → Dim → ℕ → ℕ → List (ℕ × ℕ)
-rows_between p dim first count = rows_of p dim (range_with_len first count)
+rows_between p dim first count = rows_of (amount_of p dim) (range_with_len first count)
 
 -- with the next key's amount, where there is one
 with_next : (p : PostedAmounts) (dim : Dim) (first key : ℕ) → first ≤ key
@@ -43,5 +43,6 @@ rows_have_none : (rows : List (ℕ × ℕ)) → items_have_float (items_of (map 
 rows_have_none [] = refl
 rows_have_none (row ∷ rows) = rows_have_none rows
 
-pub totals_have_none : (p : PostedAmounts) → has_float (totals_data p) ≡ false
-totals_have_none p = rw (rows_have_none (rows_of p Cause (keys (day_count p) Cause)), rows_have_none (rows_of p Day (keys (day_count p) Day)), rows_have_none (rows_of p Feeder (keys (day_count p) Feeder))) refl
+pub totals_have_none : (amount : Dim → ℕ → ℕ) (days total : ℕ) → has_float (totals_data amount days total) ≡ false
+totals_have_none amount days total =
+    rw (rows_have_none (rows_of (amount Cause) (keys days Cause)), rows_have_none (rows_of (amount Day) (keys days Day)), rows_have_none (rows_of (amount Feeder) (keys days Feeder))) refl

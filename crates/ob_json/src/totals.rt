@@ -3,7 +3,8 @@ ghost use Rattle.std.specs.Prelude.{◌≡◌, ◌≤◌, ◌<◌, ◌-◌, ℕ,
 ghost use Rattle.std.specs.List.{range_with_len};
 ghost use Rattle.ob_net.specs.Stop.{out_of_memory};
 ghost use Rattle.ob_post.specs.Keys.{IsKey, keys};
-ghost use Rattle.ob_post.specs.Postings.{day_count};
+ghost use Rattle.ob_post.specs.Postings.{amount_of, day_count, total_of};
+ghost use Rattle.ob_post.specs.declared.Dim.TheVariants.{Day as Total};
 ghost use Rattle.serde_json.specs.View.{view};
 ghost use Rattle.ob_json.specs.Totals.{row_data, rows_data, totals_data};
 ghost use Rattle.ob_json.specs.Totals as definition;
@@ -17,7 +18,7 @@ use std::alloc::{AllocError, Global};
 /// `{"cause":[[3,9000]],"day":[[0,9000]],"feeder":[[1,9000]],"total":9000}`. The error is that memory was refused.
 pub fn totals_text(alloc: Global, postings: &Postings, days: u16) -> Result<Vec<u8>, Stop>
     requires days { days ≡ day_count postings.now }
-    ensures text { IfOk result (λ text. text.items ≡ definition.totals_text postings.now) }
+    ensures text { IfOk result (λ text. text.items ≡ definition.totals_text (amount_of postings.now) (day_count postings.now) (total_of postings.now Total)) }
     ensures err { IfErr result (λ stop. stop ≡ out_of_memory) }
 {
     let totals = totals(alloc, postings, days)?;
@@ -27,7 +28,7 @@ pub fn totals_text(alloc: Global, postings: &Postings, days: u16) -> Result<Vec<
 // The totals as JSON.
 fn totals(alloc: Global, postings: &Postings, days: u16) -> Result<Value, AllocError>
     requires days { days ≡ day_count postings.now }
-    ensures data { IfOk result (λ v. view v ≡ totals_data postings.now) }
+    ensures data { IfOk result (λ v. view v ≡ totals_data (amount_of postings.now) (day_count postings.now) (total_of postings.now Total)) }
 {
     let causes = rows(alloc, postings, Dim::Cause, 0, 64)?;
     let by_day = rows(alloc, postings, Dim::Day, 0, days)?;
@@ -47,7 +48,7 @@ fn rows(
     requires order { first ≤ end }
     requires exist { (key : ℕ) → first ≤ key → key < end → IsKey (day_count postings.now) dim key }
     requires all { keys (day_count postings.now) dim ≡ range_with_len first (end - first) }
-    ensures data { IfOk result (λ v. view v ≡ rows_data postings.now dim) }
+    ensures data { IfOk result (λ v. view v ≡ rows_data (amount_of postings.now) (day_count postings.now) dim) }
 {
     let mut rows = Vec::new(alloc);
     for key in first..end {

@@ -4,7 +4,7 @@ use Rattle.serde_json.specs.Data.{array}
 use Rattle.serde_json.proofs.Views.{view-Array}
 use Rattle.serde_json.specs.View.{view, items_of}
 use Rattle.ob_post.specs.Keys.{keys}
-use Rattle.ob_post.specs.Postings.{day_count}
+use Rattle.ob_post.specs.Postings.{amount_of, day_count}
 use Rattle.ob_json.specs.Totals.{row_data, rows_of}
 use Rattle.ob_json.proofs.Rows.{more_rows, same_rows}
 use Rattle.ob_json.proofs.totals.rows.Goals as goal
@@ -22,6 +22,6 @@ loop-key-preserved c = elim c.if-amount-gt0.branch [
 pub returns : goal.returns
 returns c =
     let all : c.loop-key.key ≡ c.args.end = omega (arith, c) in
-    let same : map view c.loop-key.rows.items ≡ map row_data (rows_of c.args.postings.now c.args.dim (keys (day_count c.args.postings.now) c.args.dim)) =
+    let same : map view c.loop-key.rows.items ≡ map row_data (rows_of (amount_of c.args.postings.now c.args.dim) (keys (day_count c.args.postings.now) c.args.dim)) =
     c.loop-key.invariant ∙ rw (all, c.requires.all) refl in
     record { «data» = view-Array c.loop-key.rows ∙ ap (λ rows. array (items_of rows)) same }
