@@ -11,4 +11,3 @@ pub mod Computed
 pub mod Example
 pub mod Decimals
 mod Lines
-pub mod Short

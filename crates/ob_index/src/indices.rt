@@ -3,7 +3,6 @@ ghost use Rattle.std.specs.Prelude.{◌≡◌, ◌≤◌, ◌<◌, ◌^◌, ◌*
 ghost use Rattle.ob_index.specs.Ratio.{Ratio, IsQuotient};
 ghost use Rattle.ob_index.specs.Indices.{AreIndices};
 ghost use Rattle.ob_index.specs.Indices as definition;
-ghost use Rattle.ob_index.specs.Table.{AreShort};
 
 use crate::laws::quotient_law;
 use crate::{Counts, Fraction, Indices, reduced};
@@ -18,7 +17,6 @@ pub fn indices(counts: &Counts, in_service: u64, length: u64) -> Indices
     requires period { length < 2 ^ 25 }
     ensures quotients { AreIndices counts.now in_service length result }
     ensures computed { result ≡ definition.indices counts.now in_service length }
-    ensures short { AreShort result }
 {
     let ci = u128::from(counts.ci);
     let csi = u128::from(counts.csi);
