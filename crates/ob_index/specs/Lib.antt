@@ -4,4 +4,5 @@ pub mod Interruptions
 pub mod Counts
 pub mod Indices
 pub mod Columns
+pub mod Short
 pub mod Table
