@@ -11,3 +11,4 @@ pub mod Computed
 pub mod Example
 pub mod Decimals
 mod Lines
+mod Short

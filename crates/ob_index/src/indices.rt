@@ -3,12 +3,14 @@ ghost use Rattle.std.specs.Prelude.{◌≡◌, ◌≤◌, ◌<◌, ◌^◌, ◌*
 ghost use Rattle.ob_index.specs.Ratio.{Ratio, IsQuotient};
 ghost use Rattle.ob_index.specs.Indices.{AreIndices};
 ghost use Rattle.ob_index.specs.Indices as definition;
+ghost use Rattle.ob_index.specs.Short.{AreShort};
 
 use crate::laws::quotient_law;
 use crate::{Counts, Fraction, Indices, reduced};
 
 /// The indices of IEEE 1366, section 3, of the counts, of the customer-seconds in service and of the period's length in
-/// seconds. The customers served are an average over the period, the exact fraction of the two.
+/// seconds. The customers served are an average over the period, the exact fraction of the two. The numbers of each index are
+/// below 2^100.
 pub fn indices(counts: &Counts, in_service: u64, length: u64) -> Indices
     requires served { counts.now.csi ≤ in_service }
     requires service { in_service < 2 ^ 42 }
@@ -17,6 +19,7 @@ pub fn indices(counts: &Counts, in_service: u64, length: u64) -> Indices
     requires period { length < 2 ^ 25 }
     ensures quotients { AreIndices counts.now in_service length result }
     ensures computed { result ≡ definition.indices counts.now in_service length }
+    ensures short { AreShort result }
 {
     let ci = u128::from(counts.ci);
     let csi = u128::from(counts.csi);

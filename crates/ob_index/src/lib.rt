@@ -2,8 +2,8 @@
 //!
 //! Keeps which days of a period are marked, each with the engineer who marked it, and finds from the runs of the sections
 //! the counts of interruptions and the indices of IEEE Std 1366. Promises that a mark changes its own day alone, that counts
-//! are sums over the customers' longest intervals in service and without supply, and that each index is its quotient in
-//! lowest terms. Above it stands the book.
+//! are sums over the customers' longest intervals in service and without supply, that each index is its quotient in
+//! lowest terms, and the exact bytes of the annual table. Above it stands the book.
 #![tactic(auto)]
 
 mod columns;
