@@ -1,4 +1,4 @@
-use Rattle.std.proofs.Common.{◌≡◌, ◌<◌, ◌≤◌, ◌+◌, ◌^◌, List, None, length, get_or, refl, sym, ◌∙◌, ap, arith}
+use Rattle.std.proofs.Common.{List, None, get_or, ◌∙◌, ap, arith}
 use Rattle.std.specs.List.{All, count_by}
 use Rattle.ob_net.specs.Seconds.{seconds}
 use Rattle.ob_cust.specs.declared.Customer.{Customer}

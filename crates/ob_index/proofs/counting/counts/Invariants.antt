@@ -1,4 +1,3 @@
-use Rattle.std.proofs.Common.{◌≡◌, length}
 use Rattle.std.specs.List.{count_by}
 use Rattle.ob_net.specs.Seconds.{seconds}
 use Rattle.ob_cust.specs.Service.{in_service}

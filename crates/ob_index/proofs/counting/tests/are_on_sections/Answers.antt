@@ -1,5 +1,4 @@
 use Rattle.std.proofs.Common.{ℕ, Option, None, is_some, sym, ◌∙◌, ap}
-use Rattle.std.specs.List.{All}
 use Rattle.std.proofs.lemmas.List.{take_all}
 use Rattle.std.proofs.lemmas.List.Elements.{All-more}
 use Rattle.ob_cust.specs.declared.Customer.{Customer}
