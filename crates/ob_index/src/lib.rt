@@ -6,7 +6,7 @@
 //! lowest terms. Above it stands the book.
 #![tactic(auto)]
 
-pub mod counting;
+pub mod counts;
 pub mod figures;
 mod fraction;
 mod marks;
