@@ -7,7 +7,7 @@ ghost use Rattle.ob_sweep.specs.Timeline.{AreRuns, IsSection};
 ghost use Rattle.ob_time.specs.Calendar.{day_count, end_second_of, first_second_of};
 
 use crate::Marks;
-use crate::figures::{Counts as Sums, Which};
+use crate::figures::{Counts, Which};
 use crate::tally::{Tally, part_in_service, tally_of};
 use ob_cust::Roll;
 use ob_net::Net;
@@ -24,7 +24,7 @@ pub fn counts(
     period: &Period,
     marks: &Marks,
     which: Which,
-) -> Sums
+) -> Counts
     requires runs { (entries : List Entry) × AreRuns net.now.network entries (first_second_of period.now) (end_second_of period.now) timeline.now }
     requires sections { All (λ c. IsSection net.now.network c.section) roll.now.customers }
     requires marks { length marks.now ≡ day_count period.now }
@@ -32,11 +32,12 @@ pub fn counts(
     ensures served { result.csi ≤ in_service roll.now.customers period.now }
     ensures sustained { result.ci < 2 ^ 42 }
     ensures momentary { result.mi < 2 ^ 42 }
+    ensures interrupted { result.cn < 2 ^ 42 }
     ensures customers { (k : ℕ) → k < 10 → slice_index result.cn_n k < 2 ^ 42 }
 {
     // In so short a period no count of so few customers leaves its type.
     prove!(period.length() < 1 << 25);
-    let mut counts = Sums {
+    let mut counts = Counts {
         ci: 0,
         csi: 0,
         cn: 0,
@@ -67,7 +68,7 @@ pub fn seconds_in_service(roll: &Roll, period: &Period) -> u64
 }
 
 // Adds a customer's tally to the counts.
-fn add(counts: &mut Sums, tally: &Tally)
+fn add(counts: &mut Counts, tally: &Tally)
     requires sustained { counts.old.ci + tally.now.sustained < 2 ^ 64 }
     requires seconds { counts.old.csi + tally.now.seconds < 2 ^ 64 }
     requires momentary { counts.old.mi + tally.now.momentary < 2 ^ 64 }

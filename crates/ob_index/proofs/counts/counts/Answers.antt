@@ -1,4 +1,4 @@
-use Rattle.std.proofs.Common.{◌≡◌, ◌<◌, ◌≤◌, ◌+◌, ◌^◌, List, None, length, get_or, refl, sym, ◌∙◌, ap, arith}
+use Rattle.std.proofs.Common.{List, None, get_or, ◌∙◌, ap, arith}
 use Rattle.std.specs.List.{All, count_by}
 use Rattle.ob_net.specs.Seconds.{seconds}
 use Rattle.ob_cust.specs.declared.Customer.{Customer}
@@ -9,7 +9,7 @@ use Rattle.ob_index.specs.Counts.{counts_of}
 use Rattle.ob_index.specs.Interruptions.{counted}
 use Rattle.ob_index.proofs.Sections.{by_runs, by_runs_is, runs_lie_within, service_short}
 use Rattle.ob_index.proofs.Summed.{summed_more, summed_all, next_served, first_served}
-use Rattle.ob_index.proofs.counting.counts.Goals as goal
+use Rattle.ob_index.proofs.counts.counts.Goals as goal
 
 -- the customer past the end of a roll
 abbrev absent : Customer

@@ -89,7 +89,7 @@ fn both_counts(
     roll: &Roll,
     period: &Period,
     marks: &Marks,
-) -> Result<(Sums, Sums), Fail>
+) -> Result<(Counts, Counts), Fail>
     requires between { LieBetween (first_second_of period.now) (end_second_of period.now) sheet.now.entries }
     requires devices { NameDevices (length net.old.network.devices) sheet.now.entries }
     requires sections { All (λ c. IsSection net.old.network c.section) roll.now.customers }
@@ -137,7 +137,7 @@ fn interruptions_are_counted(rt: HostRuntime) -> Result<(), Fail> {
     assert!(rt; are_on_sections(&net, &roll));
     let marks = marked(&rt, rt.alloc(), &period)?;
     let (all, unmarked) = both_counts(rt.alloc(), &mut net, &sheet, &roll, &period, &marks)?;
-    let wanted = Sums {
+    let wanted = Counts {
         ci: 5,
         csi: 4_802,
         cn: 3,
@@ -145,7 +145,7 @@ fn interruptions_are_counted(rt: HostRuntime) -> Result<(), Fail> {
         mi: 2,
     };
     assert_eq!(rt; all, wanted);
-    let wanted = Sums {
+    let wanted = Counts {
         ci: 3,
         csi: 1_202,
         cn: 2,
