@@ -7,9 +7,11 @@ use crate::effect::effect_of;
 use crate::figures::indices_of;
 use crate::plan::{Plan, retime};
 use crate::state::State;
+use crate::texts::{annual_table, totals_of};
 use ob_command::Command;
 use ob_cust::Roll;
 use ob_index::{Indices, Marks, Which};
+use ob_json::indices_text;
 use ob_net::{Name, Net, Refusal, Stop};
 use ob_post::Postings;
 use ob_post::laws::{move_laws, roll_laws, total_laws};
@@ -53,7 +55,7 @@ impl Book {
     ghost use Rattle.ob_book.specs.Next.{next};
     ghost use Rattle.ob_book.specs.Amounts.{amount};
     ghost use Rattle.ob_book.specs.Plans.{IsPlan};
-    ghost use Rattle.ob_book.specs.Views.{indices_of_book};
+    ghost use Rattle.ob_book.specs.Views.{annual_table_of_book, indices_of_book, indices_text_of_book, totals_of_book};
 
     /// A new book of a period: GRID alone, cause 0, no customer, no entry, no marked day. The error is that memory was
     /// refused.
@@ -173,6 +175,33 @@ impl Book {
         ensures { result ≡ indices_of_book self.now.state which }
     {
         indices_of(&self.state, &self.timeline, which)
+    }
+
+    /// The totals as JSON: the customer-seconds without supply of each cause, day and feeder that has some, by rising
+    /// number, and of all. The error is that memory was refused.
+    pub fn totals_text(&self) -> Result<Vec<u8>, Stop>
+        ensures text { IfOk result (λ text. text.items ≡ totals_of_book self.now.state) }
+        ensures err { IfErr result (λ stop. stop ≡ out_of_memory) }
+    {
+        totals_of(self.alloc, &self.state, &self.postings)
+    }
+
+    /// The indices as JSON, over all interruptions and over the unmarked ones. The error is that memory was refused.
+    pub fn indices_text(&self) -> Result<Vec<u8>, Stop>
+        ensures text { IfOk result (λ text. text.items ≡ indices_text_of_book self.now.state) }
+        ensures err { IfErr result (λ stop. stop ≡ out_of_memory) }
+    {
+        let all = self.index_view(Which::All);
+        let unmarked = self.index_view(Which::Unmarked);
+        indices_text(self.alloc, &all, &unmarked)
+    }
+
+    /// The annual table: ASCII lines that end with LF. The error is that memory was refused.
+    pub fn annual_text(&self) -> Result<Vec<u8>, Stop>
+        ensures text { IfOk result (λ text. text.items ≡ annual_table_of_book self.now.state) }
+        ensures err { IfErr result (λ stop. stop ≡ out_of_memory) }
+    {
+        annual_table(self.alloc, &self.state, &self.timeline, &self.postings)
     }
 }
 

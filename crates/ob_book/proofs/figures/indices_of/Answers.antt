@@ -7,8 +7,8 @@ use Rattle.ob_book.specs.States.{BookValue, AreRunsOf, book_state}
 use Rattle.ob_book.specs.Views.{indices_of_book}
 use Rattle.ob_book.proofs.figures.indices_of.Goals as goal
 
-pub returns : goal.returns
-returns c =
+pub returns-clause-value : goal.returns-clause-value
+returns-clause-value c =
     let i = c.state.inside in
     let s : BookState = book_state i.period i.net.network i.causes i.roll.customers i.sheet.entries i.marks i.accepted in
     let same : s ≡ c.args.state.now.state = ap (λ (v : BookValue). v.state) c.state.view_is in
