@@ -1,8 +1,7 @@
 -- Rows of keys with amounts, one key after the other.
-use Rattle.std.proofs.Common.{◌≡◌, sym, ap, refl, ℕ, ◌+◌, ◌-◌, ◌<◌, ◌≤◌, true, false, cond, List, [], ◌∷◌, ◌++◌, map, append-nil, nat_lt, arith}
-use Rattle.std.proofs.lemmas.Bool.Decides.{nat_tests}
+use Rattle.std.proofs.Common.{◌≡◌, sym, refl, ℕ, ◌+◌, ◌-◌, ◌≤◌, false, cond, List, [], ◌∷◌, ◌++◌, map, arith}
 use Rattle.std.proofs.lemmas.List.{map-append}
-use Rattle.std.specs.List.{range_with_len}
+use Rattle.std.specs.List.{filter, range_with_len}
 use Rattle.std.proofs.lemmas.List.FromFn.{filter_of_map_range_with_len_more}
 use Rattle.serde_json.specs.Data.{Data}
 use Rattle.serde_json.specs.View.{items_of}
@@ -24,19 +23,11 @@ with_next p dim first key from =
     let next : key + 1 - first ≡ key - first + 1 = omega arith in
     rw next (filter_of_map_range_with_len_more has_amount (λ k. (k, amount_of p dim k)) first (key - first) key (omega arith))
 
-pub more_rows : (p : PostedAmounts) (dim : Dim) (first key : ℕ) (rows : List Data) (row : Data) → first ≤ key
-    → rows ≡ map row_data (rows_between p dim first (key - first)) → 0 < amount_of p dim key → row ≡ row_data (key, amount_of p dim key)
-    → rows ++ row ∷ [] ≡ map row_data (rows_between p dim first (key + 1 - first))
-more_rows p dim first key rows row from before some is =
-    let shown : nat_lt 0 (amount_of p dim key) ≡ true = grind (arith, nat_tests) in
-    rw (before, is, with_next p dim first key from, shown) (sym (map-append row_data (rows_between p dim first (key - first)) ((key, amount_of p dim key) ∷ [])))
-
-pub same_rows : (p : PostedAmounts) (dim : Dim) (first key : ℕ) (rows : List Data) → first ≤ key
-    → rows ≡ map row_data (rows_between p dim first (key - first)) → amount_of p dim key ≡ 0
-    → rows ≡ map row_data (rows_between p dim first (key + 1 - first))
-same_rows p dim first key rows from before none =
-    let hidden : nat_lt 0 (amount_of p dim key) ≡ false = grind (arith, nat_tests) in
-    rw (before, with_next p dim first key from, hidden) (ap (map row_data) (sym (append-nil (rows_between p dim first (key - first)))))
+pub more_rows : (p : PostedAmounts) (dim : Dim) (first key : ℕ) (rows : List Data) → first ≤ key
+    → rows ≡ map row_data (rows_between p dim first (key - first))
+    → rows ++ map row_data (filter has_amount ((key, amount_of p dim key) ∷ [])) ≡ map row_data (rows_between p dim first (key + 1 - first))
+more_rows p dim first key rows from before =
+    rw (before, with_next p dim first key from) (sym (map-append row_data (rows_between p dim first (key - first)) (filter has_amount ((key, amount_of p dim key) ∷ []))))
 
 -- no row is a float
 rows_have_none : (rows : List (ℕ × ℕ)) → items_have_float (items_of (map row_data rows)) ≡ false

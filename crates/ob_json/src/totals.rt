@@ -1,12 +1,12 @@
 //! The totals: the customer-seconds without supply by cause, day and home feeder.
-ghost use Rattle.std.specs.Prelude.{◌≡◌, ◌≤◌, ◌<◌, ◌-◌, ℕ, IfOk, IfErr};
-ghost use Rattle.std.specs.List.{range_with_len};
+ghost use Rattle.std.specs.Prelude.{◌≡◌, ◌≤◌, ◌<◌, ◌-◌, ℕ, [], ◌∷◌, ◌++◌, map, IfOk, IfErr, OnOk};
+ghost use Rattle.std.specs.List.{filter, range_with_len};
 ghost use Rattle.ob_net.specs.Stop.{out_of_memory};
 ghost use Rattle.ob_post.specs.Keys.{IsKey, keys};
 ghost use Rattle.ob_post.specs.Postings.{amount_of, day_count, total_of};
 ghost use Rattle.ob_post.specs.declared.Dim.TheVariants.{Day as Total};
 ghost use Rattle.serde_json.specs.View.{view};
-ghost use Rattle.ob_json.specs.Totals.{row_data, rows_data, totals_data};
+ghost use Rattle.ob_json.specs.Totals.{has_amount, row_data, rows_data, totals_data};
 ghost use Rattle.ob_json.specs.Totals as definition;
 
 use ob_net::Stop;
@@ -52,12 +52,19 @@ fn rows(
 {
     let mut rows = Vec::new(alloc);
     for key in first..end {
-        let amount = postings.amount(dim, key);
-        if amount > 0 {
-            rows.push(row(alloc, key, amount)?)?;
-        }
+        push_row(alloc, &mut rows, key, postings.amount(dim, key))?;
     }
     Ok(Value::Array(rows))
+}
+
+// Puts a row for the key behind the others, where its amount isn't 0.
+fn push_row(alloc: Global, rows: &mut Vec<Value>, key: u16, amount: u64) -> Result<(), AllocError>
+    ensures data { OnOk result (map view rows.new.items ≡ map view rows.old.items ++ map row_data (filter has_amount ((key, amount) ∷ []))) }
+{
+    if amount > 0 {
+        rows.push(row(alloc, key, amount)?)?;
+    }
+    Ok(())
 }
 
 // A key with its amount.

@@ -1,23 +1,18 @@
 use Rattle.std.proofs.Common.{◌≡◌, ◌∙◌, ap, map, refl, arith, rules}
-use Rattle.std.proofs.lemmas.List.{map-append}
 use Rattle.serde_json.specs.Data.{array}
 use Rattle.serde_json.proofs.Views.{view-Array}
 use Rattle.serde_json.specs.View.{view, items_of}
 use Rattle.ob_post.specs.Keys.{keys}
 use Rattle.ob_post.specs.Postings.{amount_of, day_count}
 use Rattle.ob_json.specs.Totals.{row_data, rows_of}
-use Rattle.ob_json.proofs.Rows.{more_rows, same_rows}
+use Rattle.ob_json.proofs.Rows.{more_rows}
 use Rattle.ob_json.proofs.totals.rows.Goals as goal
-use Rattle.ob_json.proofs.totals.rows.Goals.{then-amount-gt0+in_ok-row+in_ok-push, else-amount-gt0}
 
 pub loop-key-preserved : goal.loop-key-preserved
-loop-key-preserved c = elim c.if-amount-gt0.branch [
-  | then-amount-gt0+in_ok-row+in_ok-push w ↦
-      rw (w.rows-is, w.in_ok-push.ensures.items)
-      (map-append view c.loop-key.rows.items _ ∙ more_rows c.args.postings.now c.args.dim c.args.first c.loop-key.key (map view c.loop-key.rows.items) (view w.in_ok-row.field-0) (search rules) c.loop-key.invariant (search rules) (search rules))
-  | else-amount-gt0 w ↦
-      rw w.rows-is (same_rows c.args.postings.now c.args.dim c.args.first c.loop-key.key (map view c.loop-key.rows.items) (search rules) c.loop-key.invariant (search rules))
-]
+loop-key-preserved c =
+    c.in_ok-push_row.ensures.data
+    ∙ rw c.amount.ensures.value
+    (more_rows c.args.postings.now c.args.dim c.args.first c.loop-key.key (map view c.loop-key.rows.items) (search rules) c.loop-key.invariant)
 
 pub returns : goal.returns
 returns c =
