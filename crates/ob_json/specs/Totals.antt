@@ -20,9 +20,13 @@ rows_of amount ks = filter has_amount (map (λ key. (key, amount key)) ks)
 abbrev pub row_data : ℕ × ℕ → Data
 row_data row = array (item (number (unsigned row.0)) (item (number (unsigned row.1)) no_items))
 
--- `[[key,amount],..]`, over this many days
+-- `[[key,amount],..]`
+abbrev pub listed : List (ℕ × ℕ) → Data
+listed rows = array (items_of (map row_data rows))
+
+-- the rows of a dimension, over this many days
 abbrev pub rows_data : (Dim → ℕ → ℕ) → ℕ → Dim → Data
-rows_data amount days dim = array (items_of (map row_data (rows_of (amount dim) (keys days dim))))
+rows_data amount days dim = listed (rows_of (amount dim) (keys days dim))
 
 -- `{"cause":[..],"day":[..],"feeder":[..],"total":amount}`
 abbrev pub totals_data : (Dim → ℕ → ℕ) → ℕ → ℕ → Data
