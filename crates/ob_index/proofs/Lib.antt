@@ -11,4 +11,5 @@ pub mod Computed
 pub mod Example
 pub mod Decimals
 mod Lines
+mod TableExample
 mod Short
