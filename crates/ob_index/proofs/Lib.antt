@@ -5,3 +5,4 @@ pub mod Kept
 pub mod Tallied
 pub mod Summed
 pub mod Sections
+pub mod Worked
