@@ -29,13 +29,21 @@ abbrev pub rows_data : (Dim → ℕ → ℕ) → ℕ → Dim → Data
 rows_data amount days dim = listed (rows_of (amount dim) (keys days dim))
 
 -- `{"cause":[..],"day":[..],"feeder":[..],"total":amount}`
-abbrev pub totals_data : (Dim → ℕ → ℕ) → ℕ → ℕ → Data
-totals_data amount days total = object
-    (member (codes "cause") (rows_data amount days Cause)
-    (member (codes "day") (rows_data amount days Day)
-    (member (codes "feeder") (rows_data amount days Feeder)
+abbrev pub totals_object : Data → Data → Data → ℕ → Data
+totals_object causes days feeders total = object
+    (member (codes "cause") causes
+    (member (codes "day") days
+    (member (codes "feeder") feeders
     (member (codes "total") (number (unsigned total)) no_members))))
 
--- the totals of amounts by dimension and key with no space in them
+-- the same with no space in it
+abbrev pub object_text : Data → Data → Data → ℕ → List ℕ
+object_text causes days feeders total = compact_text (totals_object causes days feeders total)
+
+-- the totals of amounts by dimension and key
+abbrev pub totals_data : (Dim → ℕ → ℕ) → ℕ → ℕ → Data
+totals_data amount days total = totals_object (rows_data amount days Cause) (rows_data amount days Day) (rows_data amount days Feeder) total
+
+-- their text
 abbrev pub totals_text : (Dim → ℕ → ℕ) → ℕ → ℕ → List ℕ
-totals_text amount days total = compact_text (totals_data amount days total)
+totals_text amount days total = object_text (rows_data amount days Cause) (rows_data amount days Day) (rows_data amount days Feeder) total

@@ -1,8 +1,7 @@
-use Rattle.std.proofs.Common.{◌≡◌, sym, subst}
+use Rattle.std.proofs.Common.{sym, subst}
 use Rattle.ob_net.specs.Network.{Network}
 use Rattle.ob_sweep.specs.Timeline.{AreRuns}
 use Rattle.ob_time.specs.Calendar.{Calendar, first_second_of, end_second_of}
-use Rattle.ob_book.specs.State.{BookState}
 use Rattle.ob_book.specs.declared.plan.Retiming.{Retiming}
 use Rattle.ob_book.specs.declared.plan.Retiming.TheVariants.{By}
 use Rattle.ob_book.specs.Plans.{LeadsTo}

@@ -1,4 +1,4 @@
-use Rattle.std.proofs.Common.{◌≡◌, ◌∙◌, ap, ℕ}
+use Rattle.std.proofs.Common.{◌≡◌, ◌∙◌, ap}
 use Rattle.std.proofs.lemmas.Result.{IfOk-weaker}
 use Rattle.ob_index.specs.Counts.{seconds_in_service}
 use Rattle.ob_index.specs.declared.figures.Which.TheVariants.{All, Unmarked}

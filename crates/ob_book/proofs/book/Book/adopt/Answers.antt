@@ -1,8 +1,7 @@
 use Rattle.std.proofs.Common.{◌≡◌, ◌∙◌, sym, ap, subst}
-use Rattle.ob_time.specs.Calendar.{Calendar, day_count}
+use Rattle.ob_time.specs.Calendar.{day_count}
 use Rattle.ob_post.specs.Keys.{IsKey}
 use Rattle.ob_post.specs.MoveLaws.{LeadTo}
-use Rattle.ob_post.specs.declared.Moved.{Moved}
 use Rattle.ob_command.specs.declared.command.Command.{Command}
 use Rattle.ob_book.specs.Amounts.{amount, moves}
 use Rattle.ob_book.specs.Next.{next}

@@ -1,5 +1,4 @@
-use Rattle.std.proofs.Common.{◌≡◌, ◌∙◌, sym, ap, subst, []}
-use Rattle.ob_time.specs.Calendar.{day_count}
+use Rattle.std.proofs.Common.{◌≡◌, ◌∙◌, sym, subst, []}
 use Rattle.ob_net.specs.Network.{grid_alone}
 use Rattle.ob_book.specs.Amounts.{days_of_book}
 use Rattle.ob_book.specs.State.{BookState, empty_book}
