@@ -80,6 +80,28 @@ impl Example {
         }
     }
 
+    /// The indices are these as JSON, over all interruptions and over the unmarked ones.
+    pub fn has_indices(&self, rt: &impl Abort, all: &str, unmarked: &str) -> Result<(), Fail> {
+        let wanted = format!(in self.alloc; "{{\"all\":{all},\"unmarked\":{unmarked}}}")?;
+        let text = self.book.indices_text()?;
+        assert_eq!(rt; text.as_slice(), wanted.as_bytes());
+        Ok(())
+    }
+
+    /// The totals are these as JSON.
+    pub fn has_totals_text(&self, rt: &impl Abort, wanted: &str) -> Result<(), Fail> {
+        let text = self.book.totals_text()?;
+        assert_eq!(rt; text.as_slice(), wanted.as_bytes());
+        Ok(())
+    }
+
+    /// The annual table is this one.
+    pub fn has_table(&self, rt: &impl Abort, wanted: &str) -> Result<(), Fail> {
+        let text = self.book.annual_text()?;
+        assert_eq!(rt; text.as_slice(), wanted.as_bytes());
+        Ok(())
+    }
+
     fn has_totals(&self, rt: &impl Abort, total: u64) {
         for dim in [Dim::Cause, Dim::Feeder, Dim::Day] {
             assert_eq!(rt; self.book.postings().total(dim), total);
