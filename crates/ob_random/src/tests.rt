@@ -153,7 +153,7 @@ fn act_list(
 fn books_move_as_the_plain_count_does(rt: HostRuntime) -> Result<(), Fail> {
     let mut random = Random::new(19_700_102);
     let mut seen = Seen::new();
-    for _ in 0..60 {
+    for _ in 0..200 {
         let mut pair = Pair::new(rt.alloc())?;
         act_list(&rt, &mut pair, &mut random, &mut seen)?;
     }
