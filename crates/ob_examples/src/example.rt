@@ -2,6 +2,7 @@
 use crate::views::show_the_same;
 use ob_book::{Book, Command, replay};
 use ob_command::read_body;
+use ob_index::{Which, reduced};
 use ob_net::{Refusal, Stop};
 use ob_post::{Dim, Moved};
 use ob_time::Period;
@@ -86,6 +87,23 @@ impl Example {
         let text = self.book.indices_text()?;
         assert_eq!(rt; text.as_slice(), wanted.as_bytes());
         Ok(())
+    }
+
+    /// The indices over all interruptions are these quotients, SAIFI, SAIDI, CAIDI, CAIFI, ASAI and CEMI-1, undefined where a
+    /// denominator is 0.
+    pub fn has_quotients(&self, rt: &impl Abort, wanted: [(u128, u128); 6]) {
+        let view = self.book.index_view(Which::All);
+        let found = [
+            view.saifi,
+            view.saidi,
+            view.caidi,
+            view.caifi,
+            view.asai,
+            view.cemi[0],
+        ];
+        for (place, (num, den)) in wanted.iter().enumerate() {
+            assert_eq!(rt; found[place], reduced(*num, *den), "{place}");
+        }
     }
 
     /// The totals are these as JSON.
