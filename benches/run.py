@@ -24,6 +24,7 @@ PROGRAM = ROOT / "crates/outagebook/out/outagebook"
 LIBRARY = ROOT / "crates/bench_calls/out"
 SEARCH = DATA / "search"
 BUILD = DATA / "build"
+COUNTS = DATA / "counts"
 PLAIN_TOTAL = DATA / "total"
 FIRST_RUN = ROOT / "examples/first-run.csv"
 LARGE = DATA / "large.csv"
@@ -32,6 +33,9 @@ TOTAL_RUNS = 5
 SHEETS = [5_000, 10_000, 20_000]
 BUILD_CALLS = 7
 BUILD_TURNS = 5
+ROLLS = [(5_300, 50_000), (5_300, 100_000), (10_700, 100_000)]
+COUNT_CALLS = 11
+COUNT_TURNS = 3
 
 
 def run_tool(words, folder):
@@ -48,7 +52,7 @@ def build():
     rustc = ["rustc", "--edition", "2024", "-O"]
     library = ["-L", LIBRARY, "-l", "static=bench_calls"]
     c_library = ["-L", toolchain / "c", "-l", "static=libc_c"]
-    for source, program in [("search.rs", SEARCH), ("build.rs", BUILD)]:
+    for source, program in [("search.rs", SEARCH), ("build.rs", BUILD), ("counts.rs", COUNTS)]:
         run_tool([*rustc, BENCHES / source, "-o", program, *library, *c_library], ROOT)
     run_tool([*rustc, BENCHES / "total.rs", "-o", PLAIN_TOTAL], ROOT)
 
@@ -88,6 +92,30 @@ def show_builds():
         first = first or (least, peak)
         columns = [f"{entries:,}", f"{entries + 1:,}", f"{median(makings):.3f}", f"{median(builds):.3f}"]
         columns += [f"{least:.3f}", f"{least / first[0]:.2f}", f"{peak:.1f}", f"{peak / first[1]:.2f}"]
+        print(f"| {' | '.join(columns)} |")
+
+
+def measure_counts(entries, customers):
+    """What a process prints: the runs, the seconds of making, of counts and indices and of a plain count, and the
+    peak in MB."""
+    words = [COUNTS, str(entries), str(customers), str(COUNT_CALLS)]
+    done = subprocess.run(words, stdout=subprocess.PIPE, text=True)
+    if done.returncode:
+        sys.exit(1)
+    runs, _, making, counts, plain, peak, _ = map(float, done.stdout.split("\t"))
+    return runs, making, counts, plain, peak / 1024
+
+
+def show_counts():
+    """The table of counts and indices over a year, each time the least of several medians; the sizes take turns."""
+    turns = [[measure_counts(*sizes) for sizes in ROLLS] for _ in range(COUNT_TURNS)]
+    print("| Customers | runs | all made, s | counts and indices, s | plain Rust, s | ratio | peak, MB |")
+    print("|---|---|---|---|---|---|---|")
+    for (_, customers), measured in zip(ROLLS, zip(*turns)):
+        runs, makings, counts, plains, peaks = zip(*measured)
+        counts, plain = min(counts), min(plains)
+        columns = [f"{customers:,}", f"{runs[0]:,.0f}", f"{min(makings):.3f}", f"{counts:.3f}"]
+        columns += [f"{plain:.3f}", f"{counts / plain:.2f}", f"{median(peaks):.1f}"]
         print(f"| {' | '.join(columns)} |")
 
 
@@ -190,6 +218,8 @@ def main():
     show_searches(words.repeats)
     print()
     show_builds()
+    print()
+    show_counts()
     print()
     show_totals()
     print(f"\nload {os.getloadavg()[0]:.1f} on {os.cpu_count()} processors")

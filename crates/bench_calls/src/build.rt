@@ -1,24 +1,21 @@
 //! The runs of one network under one sheet, built many times.
-ghost use Rattle.std.specs.Prelude.{◌≡◌, ◌<◌, ◌≤◌, ◌+◌, ◌*◌, ◌⊎◌, length, IfSome};
+ghost use Rattle.std.specs.Prelude.{◌≡◌, ◌<◌, ◌*◌, ◌⊎◌, length, IfSome};
 ghost use Rattle.std.specs.List.{All};
 ghost use Rattle.ob_sheet.specs.Sheet.{NameDevices};
 ghost use Rattle.ob_sweep.specs.Timeline.{LieBetween};
 ghost use Rattle.ob_time.specs.Calendar.{first_second_of, end_second_of};
-ghost use Rattle.bench_calls.specs.Builds.{AddsUpBuilds, Gains, Switch, all_section_seconds, seconds_in_runs};
+ghost use Rattle.bench_calls.specs.Builds.{AddsUpBuilds, all_section_seconds, seconds_in_runs};
 ghost use Rattle.bench_calls.specs.Networks.{AreSections};
 
-use crate::network::{network, position};
-use ob_net::{Crew, Net};
+use crate::made::make;
+use ob_net::Net;
 use ob_sheet::Sheet;
 use ob_sweep::{Run, Scratch};
 use ob_time::Period;
 use std::alloc::Global;
 
-/// Builds a network as `bench_search` does, whose devices are normally open where their mark in
-/// `closed` is 0, and a sheet over the 366 days from 2024-01-01 in UTC with one entry for each place of
-/// `devices`: that device is opened where its mark in `closes` is 0, else closed, so many seconds after
-/// the first one. Then it computes the runs of all sections `rounds` times by `Scratch::build`, and
-/// answers the seconds in them, added up over sections and rounds.
+/// Makes a network, a sheet and the year by `make`. Then it computes the runs of all sections `rounds`
+/// times by `Scratch::build`, and answers the seconds in them, added up over sections and rounds.
 ///
 /// It answers 0 where memory is refused, where lists of one kind differ in length, where they say no
 /// network or no sheet over these days, or where the sum doesn't fit.
@@ -36,22 +33,10 @@ pub extern "C" fn bench_build(
 ) -> u64
     ensures { (result ≡ 0) ⊎ AddsUpBuilds nodes from.now to.now closed.now devices.now closes.now seconds.now rounds result }
 {
-    if nodes == 0 || from.len() != to.len() || from.len() != closed.len() {
-        return 0;
-    }
-    if devices.len() != closes.len() || devices.len() != seconds.len() {
-        return 0;
-    }
-    let Some(mut net) = network(alloc, nodes, from, to, closed) else {
+    let Some(mut made) = make(alloc, nodes, from, to, closed, devices, closes, seconds) else {
         return 0;
     };
-    let Ok(year) = Period::from_text(alloc, b"2024-01-01", 366, b"UTC0") else {
-        return 0;
-    };
-    let Some(sheet) = sheet(alloc, &year, net.devices(), devices, closes, seconds) else {
-        return 0;
-    };
-    match built(alloc, &mut net, &sheet, &year, rounds) {
+    match built(alloc, &mut made.net, &made.sheet, &made.year, rounds) {
         Some(sum) => sum,
         None => 0,
     }
@@ -99,45 +84,4 @@ fn seconds_in(runs: &[Run]) -> Option<u64>
         sum = sum.checked_add(run.until - run.since)?;
     }
     Some(sum)
-}
-
-/// The sheet of these switchings, each of one of so many devices and at a second of the period.
-fn sheet(
-    alloc: Global,
-    period: &Period,
-    device_count: u16,
-    devices: &[u16],
-    closes: &[u8],
-    seconds: &[u32],
-) -> Option<Sheet>
-    requires places { length devices.now ≡ length closes.now }
-    requires times { length devices.now ≡ length seconds.now }
-    ensures between { IfSome result (λ sheet. LieBetween (first_second_of period.now) (end_second_of period.now) sheet.entries) }
-    ensures devices { IfSome result (λ sheet. NameDevices device_count sheet.entries) }
-    ensures switched { IfSome result (λ sheet. Switch sheet.entries (first_second_of period.now) devices.now closes.now seconds.now) }
-{
-    let mut sheet = Sheet::new(alloc);
-    for place in 0..devices.len() {
-        let device = devices[place];
-        if device >= device_count {
-            return None;
-        }
-        enter(&mut sheet, period, device, closes[place], seconds[place])?;
-    }
-    Some(sheet)
-}
-
-/// Enters a switching so many seconds after the period's first one.
-fn enter(sheet: &mut Sheet, period: &Period, device: u16, closes: u8, after: u32) -> Option<()>
-    ensures entered { IfSome result (λ _. Gains sheet.old.entries device closes (first_second_of period.now + after) sheet.new.entries) }
-    ensures inside { IfSome result (λ _. first_second_of period.now + after < end_second_of period.now) }
-{
-    let crew = Crew::read(b"K1")?;
-    if u64::from(after) >= period.length() || sheet.is_full() {
-        return None;
-    }
-    let second = period.first_second() + u64::from(after);
-    sheet.reserve_one().ok()?;
-    sheet.enter(device, position(closes), second, 3, crew);
-    Some(())
 }
