@@ -1,0 +1,172 @@
+//! The numbers of the kept entries by device: places among them, and what the entries before a place leave.
+ghost use Rattle.std.specs.Prelude.{◌≡◌, ◌≢◌, ◌==◌, ◌<◌, ◌≤◌, ◌-◌, ℕ, None, Some, IfErr, IfOk, drop, length, map, not, option_map, slice_get, take};
+ghost use Rattle.std.specs.List.{All, filter, last_or, prefix_len};
+ghost use Rattle.ob_net.specs.Stop.{out_of_memory};
+ghost use Rattle.ob_sheet.specs.declared.Entry.{Entry as EntryOf};
+ghost use Rattle.ob_sheet.specs.ByDevice.{AreByDevice, IsByDevice, device_of, is_until, is_until_by_device};
+ghost use Rattle.ob_sheet.specs.Order.{in_order, is_before};
+ghost use Rattle.ob_sheet.specs.Positions.{positions};
+ghost use Rattle.ob_sheet.specs.Sheet.{AreNumbered, NameDevices};
+
+use crate::Entry;
+use crate::sheet::is_after;
+use ob_net::{Net, Pos, Second, Stop};
+use std::alloc::Global;
+
+/// A device, a second and a number: an entry of the device with them, and those before it.
+#[derive(Clone, Copy)]
+pub(crate) struct Until {
+    pub device: u16,
+    pub second: Second,
+    pub no: u32,
+}
+
+/// How many numbers by device are until there, where it is known of the first `from`.
+///
+/// Looks at a number of them that grows as the logarithm of how many are behind `from`.
+pub(crate) fn place_by_device(
+    entries: &[Entry],
+    by_device: &[u32],
+    from: usize,
+    until: Until,
+) -> usize
+    requires numbered { AreNumbered entries.now }
+    requires by_device { IsByDevice entries.now by_device.now }
+    requires from { from ≤ prefix_len (is_until_by_device entries.now until.device until.second until.«no») by_device.now }
+    ensures place { result ≡ prefix_len (is_until_by_device entries.now until.device until.second until.«no») by_device.now }
+{
+    let mut low = from;
+    let mut step = 1;
+    while step <= by_device.len() - low {
+        let last = low + step - 1;
+        if !is_number_until(entries, by_device[last], until) {
+            return place_between(entries, by_device, low, last, until);
+        }
+        low += step;
+        step *= 2;
+    }
+    place_between(entries, by_device, low, by_device.len(), until)
+}
+
+/// How many numbers by device are until there, where it is at least `from` and at most `to`.
+fn place_between(
+    entries: &[Entry],
+    by_device: &[u32],
+    from: usize,
+    to: usize,
+    until: Until,
+) -> usize
+    requires numbered { AreNumbered entries.now }
+    requires by_device { IsByDevice entries.now by_device.now }
+    requires from { from ≤ prefix_len (is_until_by_device entries.now until.device until.second until.«no») by_device.now }
+    requires to { prefix_len (is_until_by_device entries.now until.device until.second until.«no») by_device.now ≤ to }
+    requires within { to ≤ length by_device.now }
+    ensures place { result ≡ prefix_len (is_until_by_device entries.now until.device until.second until.«no») by_device.now }
+{
+    let mut low = from;
+    let mut high = to;
+    while low < high {
+        let middle = low + (high - low) / 2;
+        if is_number_until(entries, by_device[middle], until) {
+            low = middle + 1;
+        } else {
+            high = middle;
+        }
+    }
+    low
+}
+
+/// Whether the entry with a number is, by device, until there.
+fn is_number_until(entries: &[Entry], number: u32, until: Until) -> bool
+    requires numbered { AreNumbered entries.now }
+    requires some { 1 ≤ number }
+    requires within { number ≤ length entries.now }
+    ensures { result ≡ is_until_by_device entries.now until.device until.second until.«no» number }
+{
+    let entry = entries[number as usize - 1];
+    entry.device < until.device
+        || entry.device == until.device && !is_after(entry, until.second, until.no)
+}
+
+/// The last number of a device before a place by device, where no later device stands before it.
+pub(crate) fn last_before(
+    entries: &[Entry],
+    by_device: &[u32],
+    place: usize,
+    device: u16,
+) -> Option<u32>
+    requires numbered { AreNumbered entries.now }
+    requires by_device { IsByDevice entries.now by_device.now }
+    requires within { place ≤ length by_device.now }
+    requires before { All (λ number. device_of entries.now number ≤ device) (take place by_device.now) }
+    ensures last { result ≡ last_or None (filter (λ number. device_of entries.now number == device) (take place by_device.now)) }
+{
+    let number = by_device[place.checked_sub(1)?];
+    (entries[number as usize - 1].device == device).then_some(number)
+}
+
+/// The first number of a device from a place by device on, where no earlier device stands there or behind.
+pub(crate) fn first_from(
+    entries: &[Entry],
+    by_device: &[u32],
+    place: usize,
+    device: u16,
+) -> Option<u32>
+    requires numbered { AreNumbered entries.now }
+    requires by_device { IsByDevice entries.now by_device.now }
+    requires behind { All (λ number. device ≤ device_of entries.now number) (drop place by_device.now) }
+    ensures first { result ≡ slice_get (filter (λ number. device_of entries.now number == device) (drop place by_device.now)) 0 }
+{
+    let number = *by_device.get(place)?;
+    (entries[number as usize - 1].device == device).then_some(number)
+}
+
+/// The positions of the devices after the entries in order until a second and a number.
+pub(crate) fn positions_until(
+    alloc: Global,
+    entries: &[Entry],
+    by_device: &[u32],
+    second: Second,
+    no: u32,
+    net: &Net,
+) -> Result<Vec<Pos>, Stop>
+    requires numbered { AreNumbered entries.now }
+    requires by_device { IsByDevice entries.now by_device.now }
+    ensures positions { IfOk result (λ p. (e : EntryOf) → e.second ≡ second → e.«no» ≡ «no» → p.items ≡ positions net.now.network (take (prefix_len (λ f. not (is_before e f)) (in_order entries.now)) (in_order entries.now))) }
+    ensures err { IfErr result (λ stop. stop ≡ out_of_memory) }
+{
+    let mut positions = Vec::with_capacity(alloc, usize::from(net.devices()))?;
+    let mut first = 0;
+    for device in 0..net.devices() {
+        let until = Until { device, second, no };
+        let place = place_by_device(entries, by_device, first, until);
+        positions.push(position_until(entries, by_device, place, until, net))?;
+        let next = Until {
+            device: device + 1,
+            second: 0,
+            no: 0,
+        };
+        first = place_by_device(entries, by_device, place, next);
+    }
+    Ok(positions)
+}
+
+/// The position of a device after the entries in order until a second and a number, from their place by device.
+fn position_until(
+    entries: &[Entry],
+    by_device: &[u32],
+    place: usize,
+    until: Until,
+    net: &Net,
+) -> Pos
+    requires numbered { AreNumbered entries.now }
+    requires by_device { IsByDevice entries.now by_device.now }
+    requires place { place ≡ prefix_len (is_until_by_device entries.now until.device until.second until.«no») by_device.now }
+    requires device { until.device < length net.now.network.devices }
+    ensures position { (e : EntryOf) → e.second ≡ until.second → e.«no» ≡ until.«no» → slice_get (positions net.now.network (take (prefix_len (λ f. not (is_before e f)) (in_order entries.now)) (in_order entries.now))) until.device ≡ Some result }
+{
+    match last_before(entries, by_device, place, until.device) {
+        Some(number) => entries[number as usize - 1].pos,
+        None => net.normal(until.device),
+    }
+}
