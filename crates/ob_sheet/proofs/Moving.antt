@@ -1,10 +1,11 @@
 -- A number is put in the order and in that by device, or taken out of both.
-use Rattle.std.proofs.Common.{◌≡◌, ◌≢◌, ℕ, ◌+◌, ◌-◌, ◌<◌, ◌≤◌, ◌==◌, Bool, true, false, not, List, [], ◌∷◌, ◌++◌, Option, Some, None, map, set, refl, sym, ap, ◌∙◌, arith, length, get_or, take, subst, append-nil, length-append}
+use Rattle.std.proofs.Common.{◌≡◌, ◌≢◌, ℕ, ◌+◌, ◌-◌, ◌<◌, ◌≤◌, ◌==◌, Bool, true, false, not, List, [], ◌∷◌, ◌++◌, Option, Some, None, map, set, refl, sym, ap, ◌∙◌, arith, length, get_or, take, drop, subst, append-nil, length-append}
 use Rattle.std.specs.List.{All, AllPairs, filter, insert, last_or, prefix_len, remove}
 use Rattle.std.proofs.lemmas.List.{get_or_default, length-set}
 use Rattle.std.proofs.lemmas.List.Edits.{get_or-insert_at, length-insert}
 use Rattle.std.proofs.lemmas.List.Sums.{prefix_len-le-length}
 use Rattle.std.proofs.Math.ListN.{get_or-append}
+use Rattle.std.proofs.Math.Seq.{take-append_seam}
 use Rattle.ob_sheet.specs.declared.Entry.{Entry}
 use Rattle.ob_sheet.specs.declared.TheConstants.{MOST_ENTRIES}
 use Rattle.ob_sheet.specs.ByDevice.{AreByDevice, IsByDevice, device_of, is_until, is_until_by_device}
@@ -111,7 +112,7 @@ pub pushed : (entries entries' : List Entry) (order by_device : List ℕ) (left 
 pushed entries entries' order by_device left h few number gone is =
     let numbered : AreNumbered entries' = λ k d l. numbered_more entries left h.ordered.numbered number k d is l in
     let long : length entries' ≡ length entries + 1 = ap length is ∙ length-append entries (left ∷ []) in
-    let same : in_order entries' ≡ in_order entries = ap in_order is ∙ order_passed entries left [] gone ∙ ap in_order append-nil in
+    let same : in_order entries' ≡ in_order entries = ap in_order is ∙ order_passed entries left [] gone ∙ ap in_order (append-nil entries) in
     let ordered : IsOrdered entries' order = record { numbered = numbered; few = omega arith; ordered = h.ordered.ordered ∙ ap numbers (sym same) } in
     let stand : All (Stands entries) order = rw h.ordered.ordered (numbers_stand entries h.ordered.numbered) in
     is_sheet entries entries' order by_device ordered (in_terms entries order by_device h)
@@ -121,3 +122,10 @@ pushed entries entries' order by_device left h few number gone is =
     device_at entries' n (n - 1) left numbered (omega (arith, at.0, at.1)) (omega (arith, at.0))
     ∙ ap (λ (xs : List Entry). (get_or xs (n - 1) left).device) is ∙ ap (λ (x : Entry). x.device) (get_or-append entries (left ∷ []) left (n - 1) (omega (arith, at.0, at.1)))
     ∙ sym (device_at entries n (n - 1) left h.ordered.numbered (omega (arith, at.0, at.1)) (omega (arith, at.0))))
+
+pub as_many_by_device : (entries : List Entry) (order by_device : List ℕ) → IsSheet entries order by_device → length by_device ≡ length order
+as_many_by_device entries order by_device h = (in_terms entries order by_device h).as_many
+
+-- what is written back through a slice
+pub written : (new old : List Entry) (n : ℕ) → length new ≡ n → take n (new ++ drop (length new) old) ≡ new
+written new old n is = ap (λ (m : ℕ). take m (new ++ drop (length new) old)) (sym is) ∙ take-append_seam new (drop (length new) old)

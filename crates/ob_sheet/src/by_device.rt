@@ -132,7 +132,7 @@ pub(crate) fn positions_until(
 ) -> Result<Vec<Pos>, Stop>
     requires numbered { AreNumbered entries.now }
     requires by_device { IsByDevice entries.now by_device.now }
-    ensures positions { IfOk result (λ p. (e : EntryOf) → e.second ≡ second → e.«no» ≡ «no» → p.items ≡ positions net.now.network (take (prefix_len (λ f. not (is_before e f)) (in_order entries.now)) (in_order entries.now))) }
+    ensures positions { (e : EntryOf) → e.second ≡ second → e.«no» ≡ «no» → IfOk result (λ p. p.items ≡ positions net.now.network (take (prefix_len (λ f. not (is_before e f)) (in_order entries.now)) (in_order entries.now))) }
     ensures err { IfErr result (λ stop. stop ≡ out_of_memory) }
 {
     let mut positions = Vec::with_capacity(alloc, usize::from(net.devices()))?;
