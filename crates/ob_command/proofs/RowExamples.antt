@@ -1,12 +1,11 @@
 -- Worked examples of rows.
-use Rattle.std.proofs.Common.{◌≡◌, refl, ap, sym, ◌∙◌, inl, inr, ℕ, List, [], ◌∷◌, Some, Ok, Err, codes, arith}
+use Rattle.std.proofs.Common.{refl, inl, inr, [], ◌∷◌, Some, Ok, Err, codes, arith}
 use Rattle.ob_net.specs.declared.stop.Refusal.TheVariants.{BadField}
-use Rattle.ob_net.specs.declared.Pos.TheVariants.{Opened, Closed}
+use Rattle.ob_net.specs.declared.Pos.TheVariants.{Opened}
 use Rattle.ob_time.specs.Moment.{IsSecondText}
-use Rattle.ob_command.specs.Ranges.{end_names}
 use Rattle.ob_command.specs.Fields.{IsRow}
 use Rattle.ob_command.specs.Spellings.{Gives}
-use Rattle.ob_command.specs.declared.command.Command.TheVariants.{Cause, Device, Switch}
+use Rattle.ob_command.specs.declared.command.Command.TheVariants.{Cause, Switch}
 
 -- leading zeros are read
 a_cause : IsRow (codes "cause" ∷ codes "R1" ∷ codes "03" ∷ codes "STORM" ∷ [] ∷ [] ∷ [] ∷ [] ∷ []) (Ok (codes "R1", Cause 3 (codes "STORM")))

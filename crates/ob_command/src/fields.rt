@@ -32,8 +32,11 @@ pub(crate) fn read_fields(
     kind: Kind,
     fields: &Fields<'_>,
 ) -> Result<Command, Refusal>
-    ensures { AreFieldsOf spelling kind fields.now.f1.now fields.now.f2.now fields.now.f3.now fields.now.f4.now fields.now.f5.now fields.now.f6.now result }
+    ensures { AreFieldsOf spelling kind fields.now.f1.now fields.now.f2.now fields.now.f3.now
+        fields.now.f4.now fields.now.f5.now fields.now.f6.now result }
 {
+    // Texts of moments and dates are read first, whatever stands left of them: what they give is
+    // a relation, which the contract of each kind takes as known.
     match kind {
         Kind::Cause => cause(spelling, fields),
         Kind::Bus => bus(fields),
@@ -56,6 +59,8 @@ pub(crate) fn read_fields(
         Kind::Unmark => unmark(CivilDate::read(fields.f1), fields),
     }
 }
+
+// Each kind's columns from the left, then those that are empty.
 
 fn cause(spelling: Spelling, fields: &Fields<'_>) -> Result<Command, Refusal>
     ensures { result ≡ cause_of spelling fields.now.f1.now fields.now.f2.now (fields.now.f3.now ∷ fields.now.f4.now ∷ fields.now.f5.now ∷ fields.now.f6.now ∷ []) }

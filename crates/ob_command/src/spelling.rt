@@ -10,8 +10,8 @@ use ob_net::read_unix_second;
 /// How the fields of a command are spelled.
 #[derive(Clone, Copy)]
 pub(crate) enum Spelling {
-    /// As in a row or a JSON member: numbers may have leading zeros, a moment is Unix seconds or a civil moment,
-    /// and no end of service is an empty field.
+    /// As in a row or a JSON member: numbers may have leading zeros, a moment is Unix seconds or a
+    /// civil moment, and no end of service is an empty field.
     Free,
     /// As in a body text: numbers have no leading zeros, a moment is Unix seconds, and no end of
     /// service is `-`.

@@ -49,6 +49,19 @@ switch,R1,B1,open,3600,3,K1,x => 8
 correct,R1,1,1,open,0,3, => 8
 mark,R1,2024-02-30,,,,, => 3";
 
+fn service() -> Option<Command> {
+    Some(Command::Connect {
+        customer: Serial::new(11)?,
+        section: Name::read(b"S3")?,
+        since: Moment::new(7)?,
+        until: Moment::new(9),
+    })
+}
+
+fn ends(a: &[u8], b: &[u8]) -> Option<Ends> {
+    Ends::new(Name::read(a)?, Name::read(b)?)
+}
+
 // Each text is no body.
 fn are_no_bodies(rt: &impl Abort, texts: &[&[u8]]) {
     for text in texts {
@@ -167,12 +180,7 @@ fn bodies_of_other_kinds(rt: HostRuntime) {
 
 #[test]
 fn a_command_by_its_fields(rt: HostRuntime) -> Result<(), Fail> {
-    let command = Command::Connect {
-        customer: Serial::new(11).ok_or("a number")?,
-        section: Name::read(b"S3").ok_or("a name")?,
-        since: Moment::new(7).ok_or("a moment")?,
-        until: Moment::new(9),
-    };
+    let command = service().ok_or("a command")?;
     let text = body_text(rt.alloc(), &command)?;
     assert!(rt; text.as_slice() == b"connect 11 S3 7 9".as_slice());
     Ok(())
@@ -194,15 +202,18 @@ fn moments_and_dates(rt: HostRuntime) {
     assert!(rt; Moment::new(LAST_SECOND + 1).is_none());
     let date = Date::new(2024, 2, 29).ok().and_then(CivilDate::new);
     assert!(rt; date == CivilDate::read(b"2024-02-29"));
-    assert!(rt; Date::new(-1, 12, 31).ok().and_then(CivilDate::new).is_none());
+    assert!(rt;
+        Date::new(-1, 12, 31)
+            .ok()
+            .and_then(CivilDate::new)
+            .is_none()
+    );
 }
 
 #[test]
 fn ends_of_a_device(rt: HostRuntime) -> Result<(), Fail> {
-    let s1 = Name::read(b"S1").ok_or("a name")?;
-    let s2 = Name::read(b"S2").ok_or("a name")?;
-    assert!(rt; Ends::new(s1, s1).is_none());
-    let ends = Ends::new(s1, s2).ok_or("two ends")?;
+    assert!(rt; ends(b"S1", b"S1").is_none());
+    let ends = ends(b"S1", b"S2").ok_or("two ends")?;
     assert!(rt; ends.a().bytes() == b"S1".as_slice());
     assert!(rt; ends.b().bytes() == b"S2".as_slice());
     Ok(())
