@@ -1,8 +1,10 @@
 mod BodyLaws
 mod Cuts
-mod Days
 mod Examples
 mod Joins
-mod KindLaws
 mod Numbers
 mod Readings
+mod RowExamples
+mod RowLaws
+mod Splits
+mod Unused

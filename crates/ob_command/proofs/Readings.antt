@@ -1,5 +1,5 @@
--- Readings that take the one spelling of each value: fields and pairs of fields.
-use Rattle.std.proofs.Common.{◌≡◌, ◌∙◌, ◌⊎◌, inl, inr, ap, ap₂, sym, refl, rules, subst, ℕ, ◌<◌, ◌≤◌, ◌^◌, ◌==◌, Bool, true, false, true≢false, List, [], ◌∷◌, ◌++◌, length, get_or, codes, decimal, Option, Some, None, option_map, option_and_then, if◌then◌else◌, arith, bytes_eq}
+-- Readings that take the one spelling of each value: single fields.
+use Rattle.std.proofs.Common.{◌≡◌, ◌∙◌, ◌⊎◌, inl, inr, ap, sym, refl, rules, subst, ℕ, ◌<◌, ◌≤◌, ◌^◌, ◌==◌, Bool, true, false, true≢false, List, [], ◌∷◌, length, get_or, codes, decimal, Option, Some, None, option_map, option_and_then, if◌then◌else◌, arith, bytes_eq}
 use Rattle.std.specs.Prelude.{⊤}
 use Rattle.std.specs.Cmp.Derive.{both_true}
 use Rattle.std.specs.Int.{IsInRange}
@@ -11,12 +11,13 @@ use Rattle.std.proofs.lemmas.Str.Parse.{IsNumeralModel, numerals_by_fold}
 use Rattle.ob_net.specs.declared.Pos.{Pos}
 use Rattle.ob_net.specs.declared.Pos.TheVariants.{Opened, Closed}
 use Rattle.ob_net.specs.declared.TheConstants.{LAST_SECOND}
-use Rattle.ob_net.specs.Fields.{value_of, value_after, is_number, number_in, act_in, normal_in}
+use Rattle.ob_net.specs.Fields.{value_of, value_after, is_number, number_in, act_in, normal_in, cause_in, feeder_in, serial_in, unix_second_in}
 use Rattle.ob_net.specs.Identifier.{is_identifier, identifier_in}
 use Rattle.ob_command.specs.Commands.{act_text, normal_text, until_text, IsEnd}
 use Rattle.ob_command.specs.Ranges.{IsCauseCode, IsFeederNumber, IsSerial, IsMoment}
-use Rattle.ob_command.specs.Reading.{code_word_in, cut_in, feeder_word_in, front_in, leads_zero, moment_word_in, pair_in, plain_in, serial_word_in, until_word_in}
-use Rattle.ob_command.proofs.Cuts.{Lacks, cut-back, cut-found, decimal-lacks, same-some}
+use Rattle.ob_command.specs.Spellings.{leads_zero, end_as, number_as}
+use Rattle.ob_command.specs.declared.spelling.Spelling.TheVariants.{Body}
+use Rattle.ob_command.proofs.Cuts.{Lacks, decimal-lacks, same-some}
 use Rattle.ob_command.proofs.Numbers.{if-Some, number-found}
 
 -- a reading gives the values that are valid, each from its text alone
@@ -24,7 +25,7 @@ pub record IsReading {V : Type 0} (IsValid : V → Type 0) (text_of : V → List
   pub found : (text : List ℕ) (v : V) → read text ≡ Some v → IsValid v × (text ≡ text_of v)
   pub back : (v : V) → IsValid v → read (text_of v) ≡ Some v
 
--- pairs
+-- readings one after the other
 
 pub mapped : {A B : Type 0} (f : A → B) (o : Option A) (b : B) → option_map f o ≡ Some b → (a : A) × (o ≡ Some a) × (f a ≡ b)
 mapped f None b e = absurd (cc)
@@ -33,32 +34,6 @@ mapped f (Some a) b e = (a, refl, same-some (f a) b e)
 pub chained : {A B : Type 0} (f : A → Option B) (o : Option A) (b : B) → option_and_then f o ≡ Some b → (a : A) × (o ≡ Some a) × (f a ≡ Some b)
 chained f None b e = absurd (cc)
 chained f (Some a) b e = (a, refl, e)
-
-abbrev pub BothValid : {V W : Type 0} → (V → Type 0) → (W → Type 0) → V × W → Type 0
-BothValid P Q p = P p.0 × Q p.1
-
-abbrev pub pair_text : {V W : Type 0} → (V → List ℕ) → (W → List ℕ) → V × W → List ℕ
-pair_text f g p = f p.0 ++ 32 ∷ g p.1
-
-pub pair-reading : {V W : Type 0} (P : V → Type 0) (f : V → List ℕ) (read : List ℕ → Option V) (Q : W → Type 0) (g : W → List ℕ) (more : List ℕ → Option W)
-    → IsReading P f read → ((v : V) → P v → Lacks (f v)) → IsReading Q g more → IsReading (BothValid P Q) (pair_text f g) (pair_in read more)
-pair-reading {V} {W} P f read Q g more first lack second = record {
-  found = λ text v e.
-      let outer = chained (λ (p : V × List ℕ). option_map {U = V × W} (λ w. (p.0, w)) (more p.1)) (front_in read text) v e in
-      let inner = chained (λ (p : List ℕ × List ℕ). option_map {U = V × List ℕ} (λ x. (x, p.1)) (read p.0)) (cut_in text) outer.0 outer.1 in
-      let head = mapped {B = V × List ℕ} (λ x. (x, inner.0.1)) (read inner.0.0) outer.0 inner.2 in
-      let last = mapped {B = V × W} (λ w. (outer.0.0, w)) (more outer.0.1) v outer.2 in
-      let a : read inner.0.0 ≡ Some v.0 = head.1 ∙ ap (λ p. Some p.0) head.2 ∙ ap (λ p. Some p.0) last.2 in
-      let b : more inner.0.1 ≡ Some v.1 = ap (λ p. more p.1) head.2 ∙ last.1 ∙ ap (λ p. Some p.1) last.2 in
-      let one = first.found inner.0.0 v.0 a in
-      let two = second.found inner.0.1 v.1 b in
-      ((one.0, two.0), cut-found text inner.0.0 inner.0.1 inner.1 ∙ ap₂ (λ x y. x ++ 32 ∷ y) one.1 two.1);
-  back = λ v h.
-      ap (λ o. option_and_then (λ (p : V × List ℕ). option_map {U = V × W} (λ w. (p.0, w)) (more p.1))
-      (option_and_then (λ (p : List ℕ × List ℕ). option_map {U = V × List ℕ} (λ x. (x, p.1)) (read p.0)) o)) (cut-back (f v.0) (g v.1) (lack v.0 h.0))
-      ∙ ap (λ o. option_and_then (λ (p : V × List ℕ). option_map {U = V × W} (λ w. (p.0, w)) (more p.1)) (option_map {U = V × List ℕ} (λ x. (x, g v.1)) o)) (first.back v.0 h.0)
-      ∙ ap (λ o. option_map {U = V × W} (λ w. (v.0, w)) o) (second.back v.1 h.1);
-}
 
 -- numbers
 
@@ -104,7 +79,7 @@ plain-Some : (b : Bool) (o : Option ℕ) (n : ℕ) → (if b then None else o) �
 plain-Some true o n e = absurd (cc)
 plain-Some false o n e = (refl, e)
 
-plain-reading : (most least greatest : ℕ) → 0 < most → greatest < 10 ^ most → greatest < 2 ^ 60 → IsReading (IsInRange least greatest) decimal (plain_in (number_in most least greatest))
+plain-reading : (most least greatest : ℕ) → 0 < most → greatest < 10 ^ most → greatest < 2 ^ 60 → IsReading (IsInRange least greatest) decimal (number_as Body (number_in most least greatest))
 plain-reading most least greatest some short small = record {
   found = λ text n e.
       let plain = plain-Some (leads_zero text) (number_in most least greatest text) n e in
@@ -118,16 +93,20 @@ plain-reading most least greatest some short small = record {
       ap (λ b. if b then None else number_in most least greatest (decimal n)) (decimal-plain n wide) ∙ number-back most least greatest n some short (omega arith) h;
 }
 
-pub code-reading : IsReading IsCauseCode decimal code_word_in
+pub code-reading : IsReading IsCauseCode decimal (number_as Body cause_in)
 code-reading = plain-reading 2 1 63 (omega arith) (omega arith) (omega arith)
 
-pub feeder-reading : IsReading IsFeederNumber decimal feeder_word_in
+pub feeder-reading : IsReading IsFeederNumber decimal (number_as Body feeder_in)
 feeder-reading = plain-reading 3 1 255 (omega arith) (omega arith) (omega arith)
 
-pub serial-reading : IsReading IsSerial decimal serial_word_in
+pub serial-reading : IsReading IsSerial decimal (number_as Body serial_in)
 serial-reading = plain-reading 10 1 4_294_967_295 (omega arith) (omega arith) (omega arith)
 
-pub moment-reading : IsReading IsMoment decimal moment_word_in
+-- a moment in a body
+abbrev pub second_in : List ℕ → Option ℕ
+second_in text = number_as Body unix_second_in text
+
+pub moment-reading : IsReading IsMoment decimal second_in
 moment-reading = let r = plain-reading 11 0 LAST_SECOND (omega arith) (omega arith) (omega arith) in record {
   found = λ text s e. let f = r.found text s e in (f.0.1, f.1);
   back = λ s h. r.back s (omega arith, h);
@@ -188,11 +167,10 @@ normal-reading = record {
   back = λ p h. normal-back p;
 }
 
-pub act-lacks : (p : Pos) → Lacks (act_text p)
-act-lacks Opened = refl
-act-lacks Closed = refl
-
 -- ends of service
+
+abbrev until_in : List ℕ → Option (Option ℕ)
+until_in text = end_as Body text (second_in text)
 
 not-hyphen : (s : ℕ) → s < 2 ^ 64 → bytes_eq (decimal s) (codes "-") ≡ false
 not-hyphen s h = false_from_ne_true (bytes_eq (decimal s) (codes "-")) (λ e.
@@ -203,22 +181,22 @@ until-none text v e h =
     let none = same-some None v h in
     (subst IsEnd none tt, same-bytes text (codes "-") e ∙ ap until_text none)
 
-until-some : (text : List ℕ) (v : Option ℕ) → option_map (λ s. Some s) (moment_word_in text) ≡ Some v → IsEnd v × (text ≡ until_text v)
+until-some : (text : List ℕ) (v : Option ℕ) → option_map (λ s. Some s) (second_in text) ≡ Some v → IsEnd v × (text ≡ until_text v)
 until-some text v h =
-    let m = mapped {B = Option ℕ} (λ s. Some s) (moment_word_in text) v h in
+    let m = mapped {B = Option ℕ} (λ s. Some s) (second_in text) v h in
     let f = moment-reading.found text m.0 m.1 in
     (subst IsEnd m.2 f.0, f.1 ∙ ap until_text m.2)
 
-until-back : (v : Option ℕ) → IsEnd v → until_word_in (until_text v) ≡ Some v
+until-back : (v : Option ℕ) → IsEnd v → until_in (until_text v) ≡ Some v
 until-back None h = refl
 until-back (Some s) h =
-    ap (λ b. if b then Some None else option_map {U = Option ℕ} (λ t. Some t) (moment_word_in (decimal s))) (not-hyphen s (omega arith))
+    ap (λ b. if b then Some None else option_map {U = Option ℕ} (λ t. Some t) (second_in (decimal s))) (not-hyphen s (omega arith))
     ∙ ap (λ o. option_map {U = Option ℕ} (λ t. Some t) o) (moment-reading.back s h)
 
-pub until-reading : IsReading IsEnd until_text until_word_in
+pub until-reading : IsReading IsEnd until_text until_in
 until-reading = record {
   found = λ text v e.
-      elim (if-cases (bytes_eq text (codes "-")) (Some None) (option_map (λ s. Some s) (moment_word_in text)) v e) [
+      elim (if-cases (bytes_eq text (codes "-")) (Some None) (option_map (λ s. Some s) (second_in text)) v e) [
         | inl h ↦ until-none text v h.0 h.1
         | inr h ↦ until-some text v h.1
       ];

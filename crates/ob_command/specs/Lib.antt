@@ -1,4 +1,6 @@
 pub mod Ranges
 pub mod Commands
 pub mod Words
-pub mod Reading
+pub mod Spellings
+pub mod Fields
+pub mod Splits

@@ -1,20 +1,24 @@
-//! The commands of the book, and their one text.
+//! The commands of the book, and their texts.
 //!
 //! Keeps the eleven kinds of command, with fields that hold what their readings give and nothing
-//! else. Promises the body text of each command, that two commands have two texts, and that a body
-//! text is read back as its command and no other text is read. Above it stand the book, which acts
-//! by commands, and its store, which keeps their texts.
+//! else. Promises the body text of each command, that two commands have two texts, that a body
+//! text is read back as its command and no other text is read, and that a row is read as its
+//! reference and its command or refused for its leftmost bad column. Above it stand the book, which
+//! acts by commands, its store, which keeps their texts, and the readers of rows and requests.
 #![tactic(auto)]
 
 mod body;
 mod civil;
 mod command;
 mod ends;
-mod field;
+mod fields;
 mod kind;
 mod moment;
 mod number;
 mod read;
+mod row;
+mod spelling;
+mod split;
 mod word;
 
 pub use body::body_text;
@@ -24,6 +28,7 @@ pub use ends::Ends;
 pub use moment::Moment;
 pub use number::{CauseCode, FeederNumber, Serial};
 pub use read::{bodies_law, read_body};
+pub use row::{read_row, rows_law};
 
 #[cfg(test)]
 mod tests;

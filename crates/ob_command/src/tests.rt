@@ -1,200 +1,220 @@
-//! Expected texts are written by hand from the form of body texts; the bounds are those of the
-//! fields.
+//! Expected texts are written by hand from the form of rows and of body texts; the bounds are
+//! those of the fields.
 use super::*;
 use jiff::civil::Date;
-use ob_net::{Crew, LAST_SECOND, Name, Pos};
+use ob_net::{LAST_SECOND, Name, Refusal};
+use std::alloc::Global;
+use std::process::Abort;
 use std::test::Fail;
 
-// A command of each kind beside its body text.
-fn commands() -> Option<[(Command, &'static [u8]); 13]> {
-    let (b1, s1, s3) = (Name::read(b"B1")?, Name::read(b"S1")?, Name::read(b"S3")?);
-    let k1 = Crew::read(b"K1")?;
-    let (code, entry, revision) = (CauseCode::new(3)?, Serial::new(4)?, Serial::new(1)?);
-    let (customer, greatest) = (Serial::new(11)?, Serial::new(4_294_967_295)?);
-    let since = Moment::new(1_704_072_600)?;
-    let date = CivilDate::read(b"2024-02-29")?;
-    Some([
-        (
-            Command::Cause {
-                code,
-                name: Name::read(b"STORM")?,
-            },
-            b"cause 3 STORM",
-        ),
-        (
-            Command::Bus {
-                name: Name::read(b"BUS-A")?,
-            },
-            b"bus BUS-A",
-        ),
-        (
-            Command::Section {
-                name: s1,
-                feeder: FeederNumber::new(255)?,
-            },
-            b"section S1 255",
-        ),
-        (
-            Command::Device {
-                name: b1,
-                ends: Ends::new(Name::read(b"GRID")?, s1)?,
-                normal: Pos::Closed,
-            },
-            b"device B1 GRID S1 closed",
-        ),
-        (
-            Command::Connect {
-                customer,
-                section: s3,
-                since,
-                until: None,
-            },
-            b"connect 11 S3 1704072600 -",
-        ),
-        (
-            Command::Connect {
-                customer: greatest,
-                section: s3,
-                since: Moment::new(0)?,
-                until: Moment::new(LAST_SECOND),
-            },
-            b"connect 4294967295 S3 0 99999999999",
-        ),
-        (
-            Command::Revise {
-                customer,
-                since,
-                until: Some(since),
-            },
-            b"revise 11 1704072600 1704072600",
-        ),
-        (
-            Command::Switch {
-                device: b1,
-                act: Pos::Opened,
-                second: Moment::read(b"2024-01-01T01:00:00Z")?,
-                cause: code,
-                crew: k1,
-            },
-            b"switch B1 open 1704070800 3 K1",
-        ),
-        (
-            Command::Correct {
-                entry,
-                revision,
-                act: Pos::Closed,
-                second: Moment::new(1_704_073_800)?,
-                cause: code,
-                crew: k1,
-            },
-            b"correct 4 1 close 1704073800 3 K1",
-        ),
-        (Command::Withdraw { entry, revision }, b"withdraw 4 1"),
-        (Command::Mark { date, engineer: k1 }, b"mark 2024-02-29 K1"),
-        (
-            Command::Unmark { date, engineer: k1 },
-            b"unmark 2024-02-29 K1",
-        ),
-        (
-            Command::Mark {
-                date: CivilDate::read(b"0000-02-29")?,
-                engineer: k1,
-            },
-            b"mark 0000-02-29 K1",
-        ),
-    ])
+// A body of each kind, and bounds of its fields.
+const BODIES: &'static str = "cause 3 STORM
+bus BUS-A
+section S1 255
+device B1 GRID S1 closed
+connect 11 S3 1704072600 -
+connect 4294967295 S3 0 99999999999
+revise 11 1704072600 1704072600
+switch B1 open 1704070800 3 K1
+correct 4 1 close 1704073800 3 K1
+withdraw 4 1
+mark 2024-02-29 K1
+unmark 2024-02-29 K1
+mark 0000-02-29 K1";
+
+// Rows without quotes; what each says, the reference and the body, or the column that is bad.
+const ROWS: &'static str = "cause,R1,03,STORM,,,, => R1 cause 3 STORM
+section,R2,S1,007,,,, => R2 section S1 7
+device,R3,B1,GRID,S1,closed,, => R3 device B1 GRID S1 closed
+connect,R4,0011,S3,2024-01-01T01:30:00Z,,, => R4 connect 11 S3 1704072600 -
+revise,R4,11,0,00,,, => R4 revise 11 0 0
+switch,R5,B1,open,2024-01-01T02:00:00+01:00,3,K1, => R5 switch B1 open 1704070800 3 K1
+correct,R6,4,1,close,01704073800,3,K1 => R6 correct 4 1 close 1704073800 3 K1
+unmark,R7,2024-02-29,K1,,,, => R7 unmark 2024-02-29 K1
+fuse,,,,,,, => 1
+,R1,,,,,, => 1
+bus,r1,,,,,,x => 2
+bus,R1,,,,,,x => 3
+bus,R1,B1, ,,,,x => 4
+bus,R1,B1,,,,,x => 8
+cause,R1,64,STORM,,,, => 3
+cause,R1,3,AAAAAAAAAAAAAAAAAAAAAAAAA,,,, => 4
+device,R1,X1,S1,S1,open,, => 5
+device,R1,B1,s1,S1,shut,, => 4
+device,R1,B1,S1,S2,shut,, => 6
+connect,R1,1,S1,,-,, => 5
+connect,R1,1,S1,0,-,, => 6
+revise,R1,0,x,-,,, => 3
+switch,R1,B1,open,3600,3,K1,x => 8
+correct,R1,1,1,open,0,3, => 8
+mark,R1,2024-02-30,,,,, => 3";
+
+fn service() -> Option<Command> {
+    Some(Command::Connect {
+        customer: Serial::new(11)?,
+        section: Name::read(b"S3")?,
+        since: Moment::new(7)?,
+        until: Moment::new(9),
+    })
+}
+
+fn ends(a: &[u8], b: &[u8]) -> Option<Ends> {
+    Ends::new(Name::read(a)?, Name::read(b)?)
+}
+
+// Each text is no body.
+fn are_no_bodies(rt: &impl Abort, texts: &[&[u8]]) {
+    for text in texts {
+        assert!(rt; read_body(text).is_none());
+    }
+}
+
+// The eight fields of a row.
+fn row_of(line: &str) -> [&[u8]; 8] {
+    let mut row: [&[u8]; 8] = [b""; 8];
+    for (place, field) in line.split(',').enumerate() {
+        if let Some(slot) = row.get_mut(place) {
+            *slot = field.as_bytes();
+        }
+    }
+    row
+}
+
+// What a row says.
+fn said(alloc: Global, line: &str) -> Result<Vec<u8>, Fail> {
+    match read_row(&row_of(line)) {
+        Ok((reference, command)) => {
+            let mut text = Vec::from_slice(alloc, reference.bytes())?;
+            text.push(b' ')?;
+            text.extend_from_slice(body_text(alloc, &command)?.as_slice())?;
+            Ok(text)
+        }
+        Err(Refusal::BadField(column)) => {
+            let text = format!(in alloc; "{column}")?;
+            Ok(Vec::from_slice(alloc, text.as_bytes())?)
+        }
+        Err(_) => Err("another refusal".into()),
+    }
 }
 
 #[test]
 fn bodies_and_back(rt: HostRuntime) -> Result<(), Fail> {
-    let Some(table) = commands() else {
-        return Err(Fail::new("fields out of their ranges"));
-    };
-    for (command, body) in table {
+    for body in BODIES.lines() {
+        let command = read_body(body.as_bytes()).ok_or("a command")?;
         let text = body_text(rt.alloc(), &command)?;
-        assert_eq!(rt; text.as_slice(), body);
-        assert_eq!(rt; read_body(body), Some(command), "{body:?}");
+        assert!(rt; text.as_slice() == body.as_bytes());
     }
     bodies_law();
     Ok(())
 }
 
 #[test]
-fn texts_that_are_no_body(rt: HostRuntime) {
-    let table: [&[u8]; 40] = [
-        b"",
-        b" ",
-        b"cause",
-        b"cause 3",
-        b"cause  STORM",
-        b"cause 3 ",
-        b"cause 3 STORM ",
-        b" cause 3 STORM",
-        b"cause  3 STORM",
-        b"cause 3  STORM",
-        b"cause 3\tSTORM",
-        b"cause 03 STORM",
-        b"cause 0 STORM",
-        b"cause 64 STORM",
-        b"cause +3 STORM",
-        b"cause 3 storm",
-        b"Cause 3 STORM",
-        b"causes 3 STORM",
-        b"cause 3 STORM\n",
-        b"bus A23456789-123456789-12345",
-        b"section S1 256",
-        b"section S1 0",
-        b"section S1 007",
-        b"device B1 GRID GRID closed",
-        b"device B1 GRID S1 close",
-        b"device B1 GRID closed",
-        b"device B1 GRID S1 S2 closed",
-        b"connect 11 S3 1704072600",
-        b"connect 11 S3 1704072600 ",
-        b"connect 11 S3 - -",
-        b"connect 011 S3 1704072600 -",
-        b"connect 4294967296 S3 1704072600 -",
-        b"connect 11 S3 2024-01-01T01:30:00Z -",
-        b"connect 11 S3 100000000000 -",
-        b"connect 11 S3 00 -",
-        b"switch B1 opened 1704070800 3 K1",
-        b"switch B1 closed 1704070800 3 K1",
-        b"correct 4 close 1704073800 3 K1",
-        b"mark 2024-02-30 K1",
-        b"mark 24-02-29 K1",
-    ];
-    for text in table {
-        assert_eq!(rt; read_body(text), None, "{text:?}");
+fn rows(rt: HostRuntime) -> Result<(), Fail> {
+    for line in ROWS.lines() {
+        let (row, wanted) = line.split_once(" => ").unwrap_or((line, ""));
+        let text = said(rt.alloc(), row)?;
+        assert!(rt; text.as_slice() == wanted.as_bytes());
     }
+    rows_law();
+    Ok(())
 }
 
 #[test]
-fn values_of_fields(rt: HostRuntime) {
-    assert_eq!(rt; CauseCode::read(b"63").map(CauseCode::get), Some(63));
-    assert_eq!(rt; CauseCode::new(64), None);
-    assert_eq!(rt; FeederNumber::read(b"007").map(FeederNumber::get), Some(7));
-    assert_eq!(rt; FeederNumber::new(0), None);
-    assert_eq!(rt;
-        Serial::read(b"4294967295").map(Serial::get),
-        Some(4_294_967_295)
+fn bodies_of_causes(rt: HostRuntime) {
+    are_no_bodies(
+        &rt,
+        &[
+            b"",
+            b" ",
+            b"cause",
+            b"cause 3",
+            b"cause  STORM",
+            b"cause 3 ",
+            b"cause 3 STORM ",
+            b" cause 3 STORM",
+            b"cause  3 STORM",
+            b"cause 3  STORM",
+            b"cause 3\tSTORM",
+            b"cause 03 STORM",
+            b"cause 0 STORM",
+            b"cause 64 STORM",
+            b"cause +3 STORM",
+            b"cause 3 storm",
+            b"Cause 3 STORM",
+            b"causes 3 STORM",
+            b"cause 3 STORM\n",
+        ],
     );
-    assert_eq!(rt; Serial::new(0), None);
-    assert_eq!(rt;
-        Moment::read(b"1970-01-01T00:00:07Z").map(Moment::second),
-        Some(7)
+}
+
+#[test]
+fn bodies_of_other_kinds(rt: HostRuntime) {
+    are_no_bodies(
+        &rt,
+        &[
+            b"bus A23456789-123456789-12345",
+            b"section S1 256",
+            b"section S1 0",
+            b"section S1 007",
+            b"device B1 GRID GRID closed",
+            b"device B1 GRID S1 close",
+            b"device B1 GRID closed",
+            b"device B1 GRID S1 S2 closed",
+            b"connect 11 S3 1704072600",
+            b"connect 11 S3 1704072600 ",
+            b"connect 11 S3 - -",
+            b"connect 011 S3 1704072600 -",
+            b"connect 4294967296 S3 1704072600 -",
+            b"connect 11 S3 2024-01-01T01:30:00Z -",
+            b"connect 11 S3 100000000000 -",
+            b"connect 11 S3 00 -",
+            b"switch B1 opened 1704070800 3 K1",
+            b"switch B1 closed 1704070800 3 K1",
+            b"correct 4 close 1704073800 3 K1",
+            b"correct 4 1 close 1704073800 3 K1 K1",
+            b"mark 2024-02-30 K1",
+            b"mark 24-02-29 K1",
+        ],
     );
-    assert_eq!(rt; Moment::new(LAST_SECOND + 1), None);
+}
+
+#[test]
+fn a_command_by_its_fields(rt: HostRuntime) -> Result<(), Fail> {
+    let command = service().ok_or("a command")?;
+    let text = body_text(rt.alloc(), &command)?;
+    assert!(rt; text.as_slice() == b"connect 11 S3 7 9".as_slice());
+    Ok(())
+}
+
+#[test]
+fn numbers(rt: HostRuntime) {
+    assert!(rt; CauseCode::read(b"63").map(CauseCode::get) == Some(63));
+    assert!(rt; CauseCode::new(64).is_none());
+    assert!(rt; FeederNumber::read(b"007").map(FeederNumber::get) == Some(7));
+    assert!(rt; FeederNumber::new(0).is_none());
+    assert!(rt; Serial::read(b"4294967295").map(Serial::get) == Some(4_294_967_295));
+    assert!(rt; Serial::new(0).is_none());
+}
+
+#[test]
+fn moments_and_dates(rt: HostRuntime) {
+    assert!(rt; Moment::read(b"1970-01-01T00:00:07Z").map(Moment::second) == Some(7));
+    assert!(rt; Moment::new(LAST_SECOND + 1).is_none());
     let date = Date::new(2024, 2, 29).ok().and_then(CivilDate::new);
-    assert_eq!(rt; date, CivilDate::read(b"2024-02-29"));
-    assert_eq!(rt; Date::new(-1, 12, 31).ok().and_then(CivilDate::new), None);
-    let (s1, s2) = (Name::read(b"S1"), Name::read(b"S2"));
-    if let (Some(s1), Some(s2)) = (s1, s2) {
-        assert_eq!(rt; Ends::new(s1, s1), None);
-        if let Some(ends) = Ends::new(s1, s2) {
-            assert_eq!(rt;
-                (ends.a().bytes(), ends.b().bytes()),
-                (b"S1".as_slice(), b"S2".as_slice())
-            );
-        }
-    }
+    assert!(rt; date == CivilDate::read(b"2024-02-29"));
+    assert!(rt;
+        Date::new(-1, 12, 31)
+            .ok()
+            .and_then(CivilDate::new)
+            .is_none()
+    );
+}
+
+#[test]
+fn ends_of_a_device(rt: HostRuntime) -> Result<(), Fail> {
+    assert!(rt; ends(b"S1", b"S1").is_none());
+    let ends = ends(b"S1", b"S2").ok_or("two ends")?;
+    assert!(rt; ends.a().bytes() == b"S1".as_slice());
+    assert!(rt; ends.b().bytes() == b"S2".as_slice());
+    Ok(())
 }
