@@ -1,10 +1,9 @@
-use Rattle.std.proofs.Common.{◌≡◌, ◌==◌, ◌-◌, ◌<◌, ◌≤◌, ℕ, List, length, get_or, map, not, option_map, refl, sym, ap, ◌∙◌, arith, None, Some, take}
-use Rattle.std.specs.List.{filter, last_or, prefix_len, slice_get}
+use Rattle.std.proofs.Common.{◌==◌, ℕ, List, get_or, not, refl, sym, ap, ◌∙◌, arith, Some, take}
+use Rattle.std.specs.List.{filter, prefix_len, slice_get}
 use Rattle.std.proofs.lemmas.List.Sums.{prefix_len-le-length}
-use Rattle.ob_net.specs.declared.net.Device.{Device}
 use Rattle.ob_sheet.specs.declared.Entry.{Entry}
 use Rattle.ob_sheet.specs.ByDevice.{device_of, is_until, is_until_by_device}
-use Rattle.ob_sheet.specs.Order.{greatest, in_order, is_before}
+use Rattle.ob_sheet.specs.Order.{in_order, is_before}
 use Rattle.ob_sheet.specs.Positions.{positions}
 use Rattle.ob_sheet.proofs.Grouped.{none_later}
 use Rattle.ob_sheet.proofs.Listed.{last_is, latest, no_latest, same_place}

@@ -1,4 +1,4 @@
-use Rattle.std.proofs.Common.{◌≡◌, ◌-◌, ◌+◌, ◌<◌, ◌≤◌, ℕ, List, length, not, refl, sym, ap, ◌∙◌, arith, take}
+use Rattle.std.proofs.Common.{◌+◌, ◌≤◌, ℕ, List, length, not, refl, sym, ap, ◌∙◌, arith, take}
 use Rattle.std.specs.List.{prefix_len}
 use Rattle.std.proofs.lemmas.List.{take_all}
 use Rattle.ob_net.specs.declared.Pos.{Pos}
