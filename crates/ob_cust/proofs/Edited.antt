@@ -162,11 +162,6 @@ inserted_later bs ss at b s h l k d m n later e f =
           })
     ]
 
-pub inserted_from : (bs : List SectionBlock) (at : ℕ) (b : SectionBlock) → AreServices (insert bs at b) → at ≤ length bs → AllWithin (λ a. b.section ≤ a.section) (insert bs at b) at (length (insert bs at b))
-inserted_from bs at b h l k d m n =
-    let own = ap (λ (a : SectionBlock). a.section) (get_or-insert_at bs at b d l) in
-    omega (arith, own, sections_rise (insert bs at b) h.ordered at k d m n)
-
 -- one block less
 
 abbrev no_block : SectionBlock

@@ -184,12 +184,6 @@ none_of_section bs s x n d h p l below ne k e lo hi q =
     let rise = sections_rise bs h.ordered k (n - 1) e (omega arith) (omega arith) in
     ne (omega (arith, own, less, rise, q))
 
-times_le : (n m x : ℕ) → n ≤ m → n * x ≤ m * x
-times_le n m x l = mul-le n x m x l (omega arith)
-
-pub passed_small : (n x : ℕ) → n ≤ 100000 → x < 2 ^ 64 → n * x < 2 ^ 128
-passed_small n x l m = omega (arith, times_le n 100000 x l)
-
 -- the blocks from the first of a section up to the first of a later one
 pub sum_of_part : (w : SectionBlock → ℕ) (bs : List SectionBlock) (first end : ℕ) → first ≤ end → end ≤ length bs → AllWithin (λ b. w b ≡ 0) bs 0 first → AllWithin (λ b. w b ≡ 0) bs end (length bs) → sum_by w (take (end - first) (drop first bs)) ≡ sum_by w bs
 sum_of_part w bs first end l m below above =

@@ -4,11 +4,11 @@ use Rattle.std.specs.List.{All, insert, remove, sum_by}
 use Rattle.std.proofs.lemmas.Bool.{cases_eq, cases_lt}
 use Rattle.std.proofs.lemmas.Bool.Decides.{nat_tests}
 use Rattle.std.proofs.lemmas.List.{length-set, get_or-set_same, get_or-set_other, nil_from_length}
-use Rattle.std.proofs.lemmas.List.Sums.{sum_by-le, sum_by-le-sum_by, sum_by-insert, sum_by-set, sum_by-remove, get_or-le-sum_by}
+use Rattle.std.proofs.lemmas.List.Sums.{sum_by-le, sum_by-le-sum_by, sum_by-insert, sum_by-set, sum_by-remove}
 use Rattle.ob_cust.specs.declared.Customer.{Customer}
 use Rattle.ob_cust.specs.declared.shelf.Shelf.{Shelf}
 use Rattle.ob_cust.specs.Services.{sum_of, customers_of}
-use Rattle.ob_cust.specs.Shelves.{at_end, IsShelfOf, AreShelves, IsRoomier, HasRoom, IsEmpty}
+use Rattle.ob_cust.specs.Shelves.{at_end, IsShelfOf, AreShelves}
 use Rattle.ob_cust.proofs.Running.{same, apart}
 
 -- a number for a customer that is on shelf k of n
@@ -65,17 +65,6 @@ ends_fit n k room at c cs s l is e h =
     let a = sym (ap (on_shelf n k (by_end one)) is) ∙ on_it n k (by_end one) c e in
     let b = sym (ap (on_shelf n k (by_service one)) is) ∙ on_it n k (by_service one) c e in
     omega (arith, h.counted, h.services one, h.ends one, ends, services, a, b, fewer_ends n k (remove cs at))
-
--- the services and the ends of a customer are among those of its shelf
-pub service_there : (n k room at : ℕ) (c : Customer) (cs : List Customer) (s : Shelf) → at < length cs → c ≡ get_or cs at c → c.section % n ≡ k → IsShelfOf n k room cs s → (f : ℕ → ℕ → Option ℕ → ℕ) → f c.section c.since c.until ≤ sum_of f s.services.blocks
-service_there n k room at c cs s l is e h f =
-    let a = sym (ap (on_shelf n k (by_service f)) is) ∙ on_it n k (by_service f) c e in
-    omega (arith, h.services f, a, get_or-le-sum_by (on_shelf n k (by_service f)) cs at c l)
-
-pub end_there : (n k room at : ℕ) (c : Customer) (cs : List Customer) (s : Shelf) → at < length cs → c ≡ get_or cs at c → c.section % n ≡ k → IsShelfOf n k room cs s → (f : ℕ → ℕ → Option ℕ → ℕ) → at_end f c.section c.until ≤ sum_of f s.ends.blocks
-end_there n k room at c cs s l is e h f =
-    let a = sym (ap (on_shelf n k (by_end f)) is) ∙ on_it n k (by_end f) c e in
-    omega (arith, h.ends f, a, get_or-le-sum_by (on_shelf n k (by_end f)) cs at c l)
 
 -- a customer more
 
@@ -158,52 +147,8 @@ shelves_changed cs room at k old new ss s t h l there section m e is w =
       ]);
     }
 
--- more room
-
-roomier : (n k room : ℕ) (cs : List Customer) (s t : Shelf) → IsShelfOf n k room cs s → IsRoomier s t → IsShelfOf n k room cs t
-roomier n k room cs s t h w = record {
-  services = λ f. rw (w.services) (h.services f);
-  ends = λ f. rw (w.ends) (h.ends f);
-  counted = rw (w.services, w.customers) h.counted;
-  room_of_services = omega (arith, h.room_of_services, w.customers, w.capacity);
-  room_of_ends = omega (arith, h.room_of_ends, w.customers, w.capacity_of_ends);
-}
-
-pub shelves_roomier : (cs : List Customer) (room : ℕ) (ss ts : List Shelf) → AreShelves cs room ss → length ts ≡ length ss → ((k : ℕ) (d : Shelf) → IsRoomier (get_or ss k d) (get_or ts k d)) → AreShelves cs room ts
-shelves_roomier cs room ss ts h n w = record {
-  some = λ q. rw n (h.some q);
-  each = λ k d l. rw n (roomier (length ss) k room cs (get_or ss k d) (get_or ts k d) (h.each k d (omega (arith, l, n))) (w k d));
-}
-
-pub shelves_with_room : (cs : List Customer) (ss : List Shelf) → AreShelves cs 0 ss → 0 < length ss → All HasRoom ss → AreShelves cs 1 ss
-shelves_with_room cs ss h p w = record {
-  some = λ q. p;
-  each = λ k d l. let s = h.each k d l in record {
-    services = s.services;
-    ends = s.ends;
-    counted = s.counted;
-    room_of_services = (w k d l).services;
-    room_of_ends = (w k d l).ends;
-  };
-}
-
 pub few_on_shelves : (cs : List Customer) (room : ℕ) (ss : List Shelf) → AreShelves cs room ss → length cs ≤ 100000 → All (λ s. s.customers ≤ 100000) ss
 few_on_shelves cs room ss h few k d l = omega (arith, few_customers (length ss) k room cs (get_or ss k d) (h.each k d l))
-
-empty_shelf : (n k : ℕ) (s : Shelf) → IsEmpty s → IsShelfOf n k 0 [] s
-empty_shelf n k s h = record {
-  services = λ f. rw (h.services) refl;
-  ends = λ f. rw (h.ends) refl;
-  counted = rw (h.services, h.customers) refl;
-  room_of_services = omega (arith, h.customers);
-  room_of_ends = omega (arith, h.customers);
-}
-
-pub empty_are : (ss : List Shelf) → All IsEmpty ss → AreShelves [] 0 ss
-empty_are ss h = record {
-  some = λ q. absurd (omega arith);
-  each = λ k d l. empty_shelf (length ss) k (get_or ss k d) (h k d l);
-}
 
 -- without shelves there is no customer
 is_zero : (n : ℕ) → (n == 0) ≡ true → n ≡ 0

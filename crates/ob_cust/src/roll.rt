@@ -69,9 +69,11 @@ impl Roll {
         ensures roll { IfOk result (λ roll. roll.customers ≡ customer ∷ []) }
         ensures err { IfErr result (λ stop. stop ≡ out_of_memory) }
     {
+        let customers = Vec::new(alloc);
+        let shelves = empty_shelves(alloc, 1)?;
         let mut roll = Roll {
-            customers: Vec::new(alloc),
-            shelves: empty_shelves(alloc, 1)?,
+            customers,
+            shelves,
             room: 0,
         };
         roll.reserve_one()?;
@@ -331,6 +333,8 @@ mod tests {
         assert_eq!(rt; roll.customer(5), Some(five));
         assert_eq!(rt; roll.customer(6), None);
         assert!(rt; !roll.is_full());
+        let one = Roll::of_one(rt.alloc(), seven)?;
+        assert!(rt; one.customers() == [seven].as_slice());
         Ok(())
     }
 
@@ -388,6 +392,8 @@ mod tests {
             (1, 20, 25, 5),
             (1, 25, 18, 0),
             (2, 5, 30, 2),
+            (1, 2, 9, 0),
+            (2, 8, 30, 0),
             (3, 0, 100, 0),
         ] {
             assert_eq!(rt;
@@ -432,6 +438,11 @@ mod tests {
             .as_slice()
         );
         assert_eq!(rt; roll.blocks(3)?.as_slice(), [].as_slice());
+        let later = SectionBlock {
+            section: 4,
+            block: block(7, None, 1),
+        };
+        assert!(rt; roll.section_blocks(4) == [later].as_slice());
         Ok(())
     }
 }
