@@ -1,7 +1,13 @@
+pub mod Edited
 pub mod Example
+pub mod Held
+pub mod Keyed
+pub mod Order
 pub mod Ranges
 pub mod Revised
 pub mod Rolls
+pub mod Running
 pub mod Searched
-pub mod Services
+pub mod Served
+pub mod Shelved
 pub mod Totals

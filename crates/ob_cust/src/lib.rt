@@ -6,9 +6,10 @@
 //! seconds that are without supply.
 #![tactic(auto)]
 
-mod blocks;
 mod roll;
 mod service;
+mod services;
+mod shelf;
 
 use ob_net::Second;
 pub use roll::Roll;
@@ -35,6 +36,15 @@ pub struct Block {
     pub until: Option<Second>,
     /// How many they are.
     pub count: u32,
+}
+
+/// Customers of one section with equal service, counted together, and the section.
+#[derive(Clone, Copy, Debug, PartialEq, Eq)]
+pub struct SectionBlock {
+    /// The section of the customers.
+    pub section: u16,
+    /// Their service, and how many they are.
+    pub block: Block,
 }
 
 /// How many customers there may be.

@@ -1,46 +1,55 @@
 //! The roll: the customers by number.
-ghost use Rattle.std.specs.Prelude.{◌≡◌, ◌<◌, ◌≤◌, ◌==◌, IfOk, IfErr, length, nat_lt, slice_get};
-ghost use Rattle.std.specs.List.{AllPairs, count_by, find};
+ghost use Rattle.std.specs.Prelude.{◌≡◌, ◌<◌, ◌≤◌, ◌==◌, ◌%◌, ℕ, List, IfOk, IfErr, OnOk, length, map, nat_lt, slice_get, slice_index_or};
+ghost use Rattle.std.specs.List.{All, AllPairs, count_by, find};
 ghost use Rattle.std.specs.Result.{is_ok};
 ghost use Rattle.ob_cust.specs.Roll.{has_number};
+ghost use Rattle.ob_cust.specs.Shelves.{AreShelves, HasRoom, IsEmpty, IsRoomier};
 
-use crate::blocks::blocks_of;
-use crate::service::{is_bad_service, served_of};
-use crate::{Block, Customer, MOST_CUSTOMERS};
+use crate::service::is_bad_service;
+use crate::shelf::Shelf;
+use crate::{Block, Customer, MOST_CUSTOMERS, SectionBlock};
 use ob_net::{Refusal, Second, Stop};
-use std::alloc::Global;
+use std::alloc::{AllocError, Global};
 use std::marker::Model;
 
 /// The customers of the network.
 #[derive(Drop)]
 pub struct Roll {
     customers: Vec<Customer>,
+    // A section's customers are counted on the shelf `section % shelves.len()`.
+    shelves: Vec<Shelf>,
+    // For so many customers more of any section there is room on every shelf.
+    room: usize,
 }
 
+// How many shelves a roll has that customers of many sections are connected to.
+const SHELVES: usize = 64;
+
 impl Model for Roll {
-    ghost use Rattle.std.specs.Prelude.{◌-◌, vec_len};
+    ghost use Rattle.std.specs.Prelude.{◌≤◌, ◌+◌, length};
     ghost use Rattle.std.specs.Vec.{vec_capacity};
     ghost use Rattle.ob_cust.specs.Roll.{RollState, IsRoll};
+    ghost use Rattle.ob_cust.specs.Shelves.{AreShelves};
 
     ghost Value = { RollState };
 
     ghost view = { λ r. record {
       customers = r.customers.items;
-      room = vec_capacity r.customers - vec_len r.customers;
+      room = r.room;
     } };
 
-    ghost invariant = { λ r. IsRoll r.customers.items };
+    ghost invariant = { λ r. IsRoll r.customers.items × AreShelves r.customers.items r.room r.shelves.items × (length r.customers.items + r.room ≤ vec_capacity r.customers) };
 }
 
 impl Roll {
-    ghost use Rattle.std.specs.Prelude.{◌≡◌, ◌≢◌, ◌<◌, ◌≤◌, ◌+◌, ◌==◌, ℕ, Option, [], length, IfSome, IfOk, OnOk, OnErr, IfErr};
+    ghost use Rattle.std.specs.Prelude.{◌≡◌, ◌≢◌, ◌<◌, ◌≤◌, ◌+◌, ◌==◌, ℕ, Option, false, [], ◌∷◌, length, map, IfSome, IfOk, OnOk, OnErr, IfErr};
     ghost use Rattle.std.specs.List.{All, AllPairs, Any, count_by, find, sum_by};
     ghost use Rattle.std.specs.declared.cmp.Ordering.TheVariants.{Less};
     ghost use Rattle.std.specs.Result.{result_err};
     ghost use Rattle.ob_net.specs.declared.TheConstants.{LAST_SECOND};
     ghost use Rattle.ob_net.specs.Stop.{out_of_memory};
     ghost use Rattle.ob_cust.specs.Blocks.{has_service, service_cmp, service_of, sum_over_blocks, sum_over_customers};
-    ghost use Rattle.ob_cust.specs.Roll.{connect_refusal, revise_refusal, with_customer, with_service};
+    ghost use Rattle.ob_cust.specs.Roll.{connect_refusal, is_bad_service, revise_refusal, with_customer, with_service};
     ghost use Rattle.ob_cust.specs.Service.{served_seconds as served};
 
     /// A roll of no customer.
@@ -49,6 +58,28 @@ impl Roll {
     {
         Roll {
             customers: Vec::new(alloc),
+            shelves: Vec::new(alloc),
+            room: 0,
+        }
+    }
+
+    /// A roll of one customer, for whom alone it takes memory.
+    pub fn of_one(alloc: Global, customer: Customer) -> Result<Roll, Stop>
+        requires service { is_bad_service customer ≡ false }
+        ensures roll { IfOk result (λ roll. roll.customers ≡ customer ∷ []) }
+        ensures err { IfErr result (λ stop. stop ≡ out_of_memory) }
+    {
+        let customers = Vec::new(alloc);
+        let shelves = empty_shelves(alloc, 1)?;
+        let mut roll = Roll {
+            customers,
+            shelves,
+            room: 0,
+        };
+        roll.reserve_one()?;
+        match roll.connect(customer) {
+            Ok(()) => Ok(roll),
+            Err(_) => unreachable!(),
         }
     }
 
@@ -58,13 +89,21 @@ impl Roll {
         ensures err { IfErr result (λ stop. stop ≡ out_of_memory) }
         ensures customers { self.new.customers ≡ self.old.customers }
     {
+        if self.room > 0 {
+            return Ok(());
+        }
+        let alloc = *self.customers.allocator();
+        make_shelves(&mut self.shelves, alloc)?;
         self.customers.reserve(1)?;
+        reserve_each(&mut self.shelves)?;
+        self.room = 1;
         Ok(())
     }
 
     /// Connects a customer. It is refused with `NameTaken` where its number is in use, else with
     /// `BadService` where its service ends no later than it begins, else with `Full` where there are
-    /// `MOST_CUSTOMERS`.
+    /// `MOST_CUSTOMERS`. It moves the customers of greater numbers, and the services behind its own on
+    /// one shelf.
     pub fn connect(&mut self, customer: Customer) -> Result<(), Refusal>
         requires room { 0 < self.old.room }
         ensures refused { result_err result ≡ connect_refusal self.old.customers customer }
@@ -81,6 +120,9 @@ impl Roll {
         if self.customers.len() == MOST_CUSTOMERS {
             return Err(Refusal::Full(MOST_CUSTOMERS as u32));
         }
+        let shelf = shelf_of(customer.section, self.shelves.len());
+        self.shelves[shelf].add(&customer);
+        self.room -= 1;
         match self.customers.insert(place, customer) {
             Ok(()) => Ok(()),
             Err(_) => unreachable!(),
@@ -107,6 +149,8 @@ impl Roll {
         if is_bad_service(&revised) {
             return Err(Refusal::BadService);
         }
+        let shelf = shelf_of(customer.section, self.shelves.len());
+        self.shelves[shelf].revise(&customer, &revised);
         self.customers[place] = revised;
         Ok(())
     }
@@ -144,7 +188,29 @@ impl Roll {
         requires { b ≤ LAST_SECOND }
         ensures { result ≡ served self.now.customers section a b }
     {
-        served_of(&self.customers, section, a, b)
+        if b <= a || self.shelves.is_empty() {
+            return 0;
+        }
+        let shelf = &self.shelves[shelf_of(section, self.shelves.len())];
+        let begun = shelf.services.passed(section, b) + shelf.ends.passed(section, a);
+        let over = shelf.services.passed(section, a) + shelf.ends.passed(section, b);
+        (begun - over) as u64
+    }
+
+    /// The blocks of a section, each service of its customers once, by `since` and then by `until`,
+    /// where a service without end comes first; takes no memory.
+    pub fn section_blocks(&self, section: u16) -> &[SectionBlock]
+        ensures of_section { All (λ b. b.section ≡ section) result.now }
+        ensures positive { All (λ b. 0 < b.block.count) result.now }
+        ensures sums { (f : ℕ → Option ℕ → ℕ) → sum_over_blocks f (map (λ b. b.block) result.now) ≡ sum_over_customers f section self.now.customers }
+        ensures ordered { AllPairs (λ a b. service_cmp (service_of a.block) (service_of b.block) ≡ Less) result.now }
+        ensures few { sum_by (λ b. b.block.count) result.now ≤ MOST_CUSTOMERS }
+    {
+        if self.shelves.is_empty() {
+            return &[];
+        }
+        let shelf = &self.shelves[shelf_of(section, self.shelves.len())];
+        shelf.services.of_section(section)
     }
 
     /// The blocks of a section, each service of its customers once, by `since` and then by `until`,
@@ -159,8 +225,66 @@ impl Roll {
         ensures few { IfOk result (λ blocks. sum_by (λ b. b.count) blocks.items ≤ MOST_CUSTOMERS) }
         ensures err { IfErr result (λ stop. stop ≡ out_of_memory) }
     {
-        blocks_of(*self.customers.allocator(), &self.customers, section)
+        let blocks = without_section(*self.customers.allocator(), self.section_blocks(section))?;
+        Ok(blocks)
     }
+}
+
+// The blocks without their section.
+fn without_section(alloc: Global, blocks: &[SectionBlock]) -> Result<Vec<Block>, AllocError>
+    ensures blocks { IfOk result (λ v. v.items ≡ map (λ b. b.block) blocks.now) }
+{
+    let mut plain = Vec::new(alloc);
+    for b in blocks {
+        plain.push(b.block)?;
+    }
+    Ok(plain)
+}
+
+// Makes the shelves where there are none.
+fn make_shelves(shelves: &mut Vec<Shelf>, alloc: Global) -> Result<(), AllocError>
+    ensures some { OnOk result (0 < length shelves.new.items) }
+    ensures shelves { (customers : List Customer) (room : ℕ) → AreShelves customers room shelves.old.items → AreShelves customers room shelves.new.items }
+{
+    if !shelves.is_empty() {
+        return Ok(());
+    }
+    *shelves = empty_shelves(alloc, SHELVES)?;
+    Ok(())
+}
+
+// Shelves of no customer.
+fn empty_shelves(alloc: Global, count: usize) -> Result<Vec<Shelf>, AllocError>
+    ensures len { IfOk result (λ v. length v.items ≡ count) }
+    ensures empty { IfOk result (λ v. All IsEmpty v.items) }
+{
+    let mut shelves = Vec::new(alloc);
+    for _ in 0..count {
+        shelves.push(Shelf::new(alloc))?;
+    }
+    Ok(shelves)
+}
+
+// Makes room for one customer more on each shelf.
+fn reserve_each(shelves: &mut [Shelf]) -> Result<(), AllocError>
+    requires few { All (λ s. s.customers ≤ MOST_CUSTOMERS) shelves.old }
+    ensures len { length shelves.new ≡ length shelves.old }
+    ensures kept { (k : ℕ) (d : Shelf) → IsRoomier (slice_index_or shelves.old k d) (slice_index_or shelves.new k d) }
+    ensures ok { OnOk result (All HasRoom shelves.new) }
+{
+    for shelf in 0..shelves.len() {
+        shelves[shelf].reserve_one()?;
+    }
+    Ok(())
+}
+
+// The shelf of a section.
+fn shelf_of(section: u16, shelves: usize) -> usize
+    requires { 0 < shelves }
+    ensures within { result < shelves }
+    ensures is { result ≡ section % shelves }
+{
+    section as usize % shelves
 }
 
 // Where the customer with the number stands, or where it would.
@@ -209,6 +333,8 @@ mod tests {
         assert_eq!(rt; roll.customer(5), Some(five));
         assert_eq!(rt; roll.customer(6), None);
         assert!(rt; !roll.is_full());
+        let one = Roll::of_one(rt.alloc(), seven)?;
+        assert!(rt; one.customers() == [seven].as_slice());
         Ok(())
     }
 
@@ -266,6 +392,8 @@ mod tests {
             (1, 20, 25, 5),
             (1, 25, 18, 0),
             (2, 5, 30, 2),
+            (1, 2, 9, 0),
+            (2, 8, 30, 0),
             (3, 0, 100, 0),
         ] {
             assert_eq!(rt;
@@ -310,6 +438,11 @@ mod tests {
             .as_slice()
         );
         assert_eq!(rt; roll.blocks(3)?.as_slice(), [].as_slice());
+        let later = SectionBlock {
+            section: 4,
+            block: block(7, None, 1),
+        };
+        assert!(rt; roll.section_blocks(4) == [later].as_slice());
         Ok(())
     }
 }

@@ -1,9 +1,13 @@
-use Rattle.std.proofs.Common.{◌≡◌, ◌≢◌, ℕ, List, length, false, ap, ◌∙◌, sym}
+use Rattle.std.proofs.Common.{◌≡◌, ◌≢◌, ◌<◌, ◌%◌, ℕ, List, length, false, ap, subst, ◌∙◌, sym, arith}
 use Rattle.std.specs.List.{insert}
+use Rattle.std.proofs.lemmas.List.Edits.{length-insert}
 use Rattle.ob_cust.specs.declared.Customer.{Customer}
+use Rattle.ob_cust.specs.declared.shelf.Shelf.{Shelf}
 use Rattle.ob_cust.specs.declared.TheConstants.{MOST_CUSTOMERS}
-use Rattle.ob_cust.specs.Roll.{IsRoll, with_customer, has_number}
+use Rattle.ob_cust.specs.Roll.{IsRoll, RollState, with_customer, has_number}
+use Rattle.ob_cust.specs.Shelves.{IsShelfOf}
 use Rattle.ob_cust.proofs.Rolls.{IsRoll-with_customer, with_customer_is, smaller}
+use Rattle.ob_cust.proofs.Shelved.{few_customers, few_ends, shelves_with}
 use Rattle.ob_cust.proofs.roll.Roll.connect.Goals as goal
 
 -- where the new customer is inserted is its place
@@ -14,19 +18,42 @@ inserted customer customers customers' place roll new at is =
 pub returns-clause-ok : goal.returns-clause-ok
 returns-clause-ok c =
     rw (← c.self.view_is)
-    (inserted c.args.customer c.self.inside.customers.items c.insert.new.self.items c.in-Err.place c.self.invariant
+    (inserted c.args.customer c.self.inside.customers.items c.insert.new.self.items c.in-Err.place c.self.invariant.0
     (rw c.deref.ensures.value at c.in-Err.ensures.known)
     (rw c.deref.ensures.value at c.in-Err.ensures.place)
     c.in-Ok.ensures.items)
 
+-- the shelf that the customer is added to
+here : (c : goal.After-customer-2-1) → IsShelfOf (length c.self.inside.shelves.items) c.shelf_of-shelf.result c.self.inside.room c.self.inside.customers.items c.index_mut.result.now
+here c =
+    subst (λ (s : Shelf). IsShelfOf (length c.self.inside.shelves.items) c.shelf_of-shelf.result c.self.inside.room c.self.inside.customers.items s) (sym c.index_mut.ensures.value)
+    (c.self.invariant.1.each c.shelf_of-shelf.result c.index_mut.result.now (omega (arith, c.shelf_of-shelf.ensures.within, c.len-2.ensures, c.self.inside.shelves.ok.0)))
+
+pub add-requires-clause-ends : goal.add-requires-clause-ends
+add-requires-clause-ends c = few_ends (length c.self.inside.shelves.items) c.shelf_of-shelf.result c.self.inside.room c.self.inside.customers.items c.index_mut.result.now (here c)
+
+pub add-requires-clause-few : goal.add-requires-clause-few
+add-requires-clause-few c =
+    omega (arith, few_customers (length c.self.inside.shelves.items) c.shelf_of-shelf.result c.self.inside.room c.self.inside.customers.items c.index_mut.result.now (here c), c.self.invariant.0.few, c.if-len-eq-MOST_CUSTOMERS.false, c.len.ensures, c.self.inside.customers.ok.0)
+
 pub invariant_of-self : goal.invariant_of-self
 invariant_of-self c =
-    let is : c.insert.new.self.items ≡ with_customer c.args.customer c.self.inside.customers.items =
-    inserted c.args.customer c.self.inside.customers.items c.insert.new.self.items c.in-Err.place c.self.invariant
+    let cs = c.self.inside.customers.items in
+    let ss = c.self.inside.shelves.items in
+    let is : c.insert.new.self.items ≡ with_customer c.args.customer cs = inserted c.args.customer cs c.insert.new.self.items c.in-Err.place c.self.invariant.0
     (rw c.deref.ensures.value at c.in-Err.ensures.known)
     (rw c.deref.ensures.value at c.in-Err.ensures.place)
     c.in-Ok.ensures.items in
-    let few : length c.self.inside.customers.items ≢ MOST_CUSTOMERS = λ e. c.if-len-eq-MOST_CUSTOMERS.false (c.len.ensures ∙ c.self.inside.customers.ok.0 ∙ e) in
-    rw is (IsRoll-with_customer c.args.customer c.self.inside.customers.items c.self.invariant
-    (sym (rw c.deref.ensures.value at c.in-Err.ensures.known))
-    (sym c.is_bad_service.ensures ∙ c.if-is_bad_service.false) few)
+    let few : length cs ≢ MOST_CUSTOMERS = λ e. c.if-len-eq-MOST_CUSTOMERS.false (c.len.ensures ∙ c.self.inside.customers.ok.0 ∙ e) in
+    let n : c.len-2.result ≡ length ss = c.len-2.ensures ∙ c.self.inside.shelves.ok.0 in
+    let room : 0 < c.self.inside.room = subst (λ (v : RollState). 0 < v.room) (sym c.self.view_is) c.requires.room in
+    let within = rw c.deref.ensures.value at c.in-Err.ensures.bound in (
+      rw is (IsRoll-with_customer c.args.customer cs c.self.invariant.0
+          (sym (rw c.deref.ensures.value at c.in-Err.ensures.known))
+          (sym c.is_bad_service.ensures ∙ c.if-is_bad_service.false) few),
+      rw (c.in-Ok.ensures.items) (shelves_with cs c.self.inside.room c.in-Err.place c.shelf_of-shelf.result c.args.customer ss c.index_mut.result.now c.add.new.self c.self.invariant.1 within
+          (omega (arith, c.shelf_of-shelf.ensures.within, n))
+          (c.shelf_of-shelf.ensures.is ∙ ap (λ (k : ℕ). c.args.customer.section % k) n) room c.index_mut.ensures.value
+          (record { services = c.add.ensures.services; ends = c.add.ensures.ends; customers = c.add.ensures.customers; capacity = c.add.ensures.capacity; capacity_of_ends = c.add.ensures.capacity_of_ends })),
+      rw (c.in-Ok.ensures.items) (omega (arith, length-insert cs c.in-Err.place c.args.customer within, c.self.invariant.2, c.insert.ensures.capacity, room)),
+    )
