@@ -156,7 +156,7 @@ class Sheet:
             cut_off = set(self.network.cut_off(node))
             ties = [tie for name in cut_off for tie in ties_of.get(name, ()) if not cut_off.issuperset(tie[1:])]
             if ties:
-                tie = min(ties) if len(ties) == 1 else rng.choice(sorted(ties))
+                tie = rng.choice(sorted(ties))
                 closed = rng.randrange(opened, opened + length)
                 back = max(closed + 1, opened + length + rng.randint(-60, 120))
                 steps += [(tie[0], "close", closed), (tie[0], "open", back)]

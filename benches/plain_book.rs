@@ -179,7 +179,12 @@ impl Book {
             }
             ["correct", number, _, act, second, cause, _] => {
                 let second = second.parse().ok()?;
-                self.correct(number.parse().ok()?, act == "close", second, cause.parse().ok()?);
+                self.correct(
+                    number.parse().ok()?,
+                    act == "close",
+                    second,
+                    cause.parse().ok()?,
+                );
             }
             ["withdraw", number, _] => {
                 let number: usize = number.parse().ok()?;
@@ -411,7 +416,9 @@ impl Book {
             *self.by_day.entry(day).or_default() += sign * (next - last);
             last = next;
         }
-        let cause = run.cutter.map_or(0, |number| self.entries[number - 1].cause);
+        let cause = run
+            .cutter
+            .map_or(0, |number| self.entries[number - 1].cause);
         *self.by_cause.entry(u64::from(cause)).or_default() += sign * (last - start);
         if let Some(feeder) = self.feeder_of[node] {
             *self.by_feeder.entry(feeder).or_default() += sign * (last - start);
@@ -431,7 +438,11 @@ impl Book {
     /// The customer-seconds without supply, by cause, feeder and day too.
     pub fn amount_lines(&self) -> Vec<String> {
         let mut lines = vec![format!("W {}", self.total())];
-        let dimensions = [("cause", &self.by_cause), ("feeder", &self.by_feeder), ("day", &self.by_day)];
+        let dimensions = [
+            ("cause", &self.by_cause),
+            ("feeder", &self.by_feeder),
+            ("day", &self.by_day),
+        ];
         for (word, amounts) in dimensions {
             let some = amounts.iter().filter(|(_, amount)| **amount != 0);
             lines.extend(some.map(|(key, amount)| format!("{word} {key} {amount}")));
@@ -442,7 +453,11 @@ impl Book {
     /// The customer-seconds in service, and counts and indices over all interruptions and over the unmarked ones.
     pub fn index_lines(&self) -> Vec<String> {
         let seconds = |service: &Service| (service.before(END) - service.before(FIRST)) as u128;
-        let s = self.customers.values().map(|(_, service)| seconds(service)).sum();
+        let s = self
+            .customers
+            .values()
+            .map(|(_, service)| seconds(service))
+            .sum();
         let mut lines = vec![format!("S {s}")];
         for (word, counts) in [("all", self.counts(false)), ("unmarked", self.counts(true))] {
             let p = u128::from(END - FIRST);
@@ -467,7 +482,9 @@ impl Book {
             let mut sustained = 0;
             for run in &self.runs[*section] {
                 let since = run.since.max(service.since);
-                let until = service.until.map_or(run.until, |until| until.min(run.until));
+                let until = service
+                    .until
+                    .map_or(run.until, |until| until.min(run.until));
                 if since >= until || unmarked && self.marked.contains(&((since - FIRST) / DAY)) {
                     continue;
                 }
