@@ -1,20 +1,23 @@
 """The benchmarks: builds what they need, compares what is computed, takes the time, prints the tables.
 
-    python3 benches/run.py [--repeats N] [--no-build]
+    python3 benches/run.py [--repeats N] [--no-build] [--only PART]
 
 Everything that it makes lies in bench-data/. It ends with status 1 where the program and a model of
-it differ; the least text on which they do is then bench-data/difference.csv.
+it differ; the least text on which they do is then bench-data/difference.csv, or the year bench-data/difference.txt.
 """
 
 import argparse
 import os
+import re
 import shutil
 import subprocess
 import sys
+from datetime import date
 from pathlib import Path
 from statistics import median
 
 from make_data import large_text, small_text
+from make_year import year_lines
 from reference import customer_seconds, read_book
 
 ROOT = Path(__file__).resolve().parent.parent
@@ -25,6 +28,8 @@ LIBRARY = ROOT / "crates/bench_calls/out"
 SEARCH = DATA / "search"
 BUILD = DATA / "build"
 COUNTS = DATA / "counts"
+YEAR = DATA / "year"
+PYTHON_YEAR = BENCHES / "year.py"
 PLAIN_TOTAL = DATA / "total"
 FIRST_RUN = ROOT / "examples/first-run.csv"
 LARGE = DATA / "large.csv"
@@ -36,6 +41,16 @@ BUILD_TURNS = 5
 ROLLS = [(5_300, 50_000), (5_300, 100_000), (10_700, 100_000)]
 COUNT_CALLS = 11
 COUNT_TURNS = 3
+YEARS = [10_000, 50_000]
+PYTHON_ENTRIES = 10_000
+YEAR_CALLS = 2
+YEAR_TURNS = 2
+SMALL_YEARS = 20
+LATE_PAIRS = 500
+LATE_SHEETS = [5_000, 10_000, 20_000, 49_000]
+ORDERS = ["rising", "falling", "random"]
+ORDER_CALLS = 5
+YEAR_SEED = 1
 
 
 def run_tool(words, folder):
@@ -52,7 +67,8 @@ def build():
     rustc = ["rustc", "--edition", "2024", "-O"]
     library = ["-L", LIBRARY, "-l", "static=bench_calls"]
     c_library = ["-L", toolchain / "c", "-l", "static=libc_c"]
-    for source, program in [("search.rs", SEARCH), ("build.rs", BUILD), ("counts.rs", COUNTS)]:
+    programs = [("search.rs", SEARCH), ("build.rs", BUILD), ("counts.rs", COUNTS), ("year.rs", YEAR)]
+    for source, program in programs:
         run_tool([*rustc, BENCHES / source, "-o", program, *library, *c_library], ROOT)
     run_tool([*rustc, BENCHES / "total.rs", "-o", PLAIN_TOTAL], ROOT)
 
@@ -117,6 +133,133 @@ def show_counts():
         columns = [f"{customers:,}", f"{runs[0]:,.0f}", f"{min(makings):.3f}", f"{counts:.3f}"]
         columns += [f"{plain:.3f}", f"{counts / plain:.2f}", f"{median(peaks):.1f}"]
         print(f"| {' | '.join(columns)} |")
+
+
+def year_text(entries, seed=YEAR_SEED, customers=100_000, order="rising", late=0):
+    """A made year in a file."""
+    path = DATA / f"year-{entries}-{seed}-{customers}-{order}-{late}.txt"
+    lines = year_lines(entries, seed, customers, order, late)
+    path.write_text("".join(line + "\n" for line in lines), encoding="ascii")
+    return path
+
+
+def measure_year(book, path, calls):
+    """The least processor seconds of a call, the peak in MB, the searches and the customer-seconds of a year."""
+    done = subprocess.run([YEAR, book, path, str(calls)], stdout=subprocess.PIPE, text=True)
+    if done.returncode:
+        sys.exit(1)
+    seconds, peak, searches, total = done.stdout.split("\t")
+    return float(seconds), int(peak) / 1024, int(searches), int(total)
+
+
+def measure_years(book, path, calls=YEAR_CALLS):
+    """The same, the least of several processes."""
+    turns = [measure_year(book, path, calls) for _ in range(YEAR_TURNS)]
+    return min(turns)
+
+
+def measure_python_year(path):
+    """The processor seconds and the peak in MB of one run of the year in Python, and what it prints."""
+    child = subprocess.Popen([sys.executable, PYTHON_YEAR, path], stdout=subprocess.PIPE, text=True)
+    output = child.stdout.read()
+    _, status, usage = os.wait4(child.pid, 0)
+    child.returncode = os.waitstatus_to_exitcode(status)
+    if child.returncode:
+        sys.exit(1)
+    return usage.ru_utime + usage.ru_stime, usage.ru_maxrss / 1024, output
+
+
+def lines_of_table(table):
+    """The amounts and indices of an annual table, as the plain books print them."""
+    lines = []
+    for line in table.splitlines():
+        words = line.split()
+        if words[0] == "P":
+            lines += [f"W {words[5]}", f"S {words[3]}"]
+        elif words[0] in ["cause", "feeder"]:
+            lines.append(f"{words[0]} {words[1]} {words[-1]}")
+        elif words[0] == "day":
+            number = (date.fromisoformat(words[1]) - date(2024, 1, 1)).days
+            lines.append(f"day {number} {words[2]}")
+        elif words[0] != "OUTAGE":
+            lines.append(" ".join(words[:3]))
+    return {line for line in lines if not re.fullmatch("(cause|feeder|day) [0-9]+ 0", line)}
+
+
+def year_lines_of(*words):
+    done = subprocess.run(words, stdout=subprocess.PIPE, text=True)
+    if done.returncode:
+        sys.exit(1)
+    return done.stdout
+
+
+def compare_year(path):
+    """Compares the annual table of the proved book with the lines of both plain ones."""
+    proved = lines_of_table(year_lines_of(YEAR, "proved", path, "table"))
+    plain = set(year_lines_of(YEAR, "plain", path, "table").splitlines())
+    python = set(year_lines_of(sys.executable, PYTHON_YEAR, path, "--indices").splitlines())
+    if not proved == plain == python:
+        shutil.copy(path, DATA / "difference.txt")
+        sys.exit("the proved book and the plain ones differ: bench-data/difference.txt")
+    return len(proved)
+
+
+def compare_years():
+    """Compares whole years, and small ones whose network has few customers."""
+    count = compare_year(year_text(PYTHON_ENTRIES))
+    for seed in range(1, SMALL_YEARS + 1):
+        count += compare_year(year_text(200, seed, 300, ORDERS[seed % 3], 20))
+    print(f"{SMALL_YEARS + 1} years, {count} amounts, counts and indices are those of both plain books")
+
+
+def show_years():
+    """The table of whole years."""
+    print("| Entries | searches | proved, s | plain Rust, s | ratio | Python, s | ratio | proved, MB | plain Rust, MB | Python, MB |")
+    print("|---|---|---|---|---|---|---|---|---|---|")
+    for entries in YEARS:
+        path = year_text(entries)
+        proved, proved_peak, searches, total = measure_years("proved", path)
+        plain, plain_peak, _, plain_total = measure_years("plain", path)
+        columns = [f"{entries:,}", f"{searches:,}", f"{proved:.2f}", f"{plain:.2f}", f"{proved / plain:.2f}"]
+        python_peak = "-"
+        if entries <= PYTHON_ENTRIES:
+            python, python_peak, output = measure_python_year(path)
+            python_peak = f"{python_peak:.1f}"
+            columns += [f"{python:.1f}", f"{proved / python:.3f}"]
+        else:
+            output = f"W {plain_total}\n"
+            columns += ["-", "-"]
+        if not total == plain_total == int(output.split()[1]):
+            sys.exit(f"{path}: the customer-seconds differ")
+        columns += [f"{proved_peak:.1f}", f"{plain_peak:.1f}", python_peak]
+        print(f"| {' | '.join(columns)} |", flush=True)
+
+
+def show_late():
+    """The table of short outages that are entered after all others, by the differences to the year without them."""
+    print("| Entries before | searches a command | proved, ms a command | plain Rust, ms a command |")
+    print("|---|---|---|---|")
+    for entries in LATE_SHEETS:
+        paths = [year_text(entries), year_text(entries, late=LATE_PAIRS)]
+        proved, plain = (
+            [measure_years(book, path) for path in paths] for book in ["proved", "plain"]
+        )
+        commands = 2 * LATE_PAIRS
+        columns = [f"{entries:,}", f"{(proved[1][2] - proved[0][2]) / commands:.0f}"]
+        columns += [f"{(after[0] - before[0]) / commands * 1e3:.3f}" for before, after in [proved, plain]]
+        print(f"| {' | '.join(columns)} |", flush=True)
+
+
+def show_connections():
+    """The table of a network and 100,000 customers, in three orders of their numbers."""
+    print("| Order of the numbers | proved, s | plain Rust, s | ratio | proved, MB | plain Rust, MB |")
+    print("|---|---|---|---|---|---|")
+    for order in ORDERS:
+        path = year_text(0, order=order)
+        proved, plain = (measure_years(book, path, ORDER_CALLS) for book in ["proved", "plain"])
+        columns = [order, f"{proved[0]:.3f}", f"{plain[0]:.3f}", f"{proved[0] / plain[0]:.2f}"]
+        columns += [f"{proved[1]:.1f}", f"{plain[1]:.1f}"]
+        print(f"| {' | '.join(columns)} |", flush=True)
 
 
 def output_of(program, data):
@@ -203,26 +346,45 @@ def show_totals():
         print(f"| {name} | {' | '.join(columns)} |")
 
 
+def measure_totals(_):
+    LARGE.write_bytes(large_text())
+    compare_totals()
+    show_totals()
+
+
+def measure_a_year(_):
+    compare_years()
+    show_years()
+    print()
+    show_late()
+    print()
+    show_connections()
+
+
+PARTS = {
+    "totals": measure_totals,
+    "searches": show_searches,
+    "builds": lambda _: show_builds(),
+    "counts": lambda _: show_counts(),
+    "year": measure_a_year,
+}
+
+
 def main():
     words = argparse.ArgumentParser(description="Runs the benchmarks.")
     words.add_argument("--repeats", type=int, default=100, help="timed calls for each search (100)")
     words.add_argument("--no-build", action="store_true", help="take what an earlier run has built")
+    words.add_argument("--only", choices=PARTS, help="one part alone")
     words = words.parse_args()
     DATA.mkdir(exist_ok=True)
     if not words.no_build:
         print("building: the first time this proves each crate below", flush=True)
         build()
-    LARGE.write_bytes(large_text())
-    compare_totals()
-    print()
-    show_searches(words.repeats)
-    print()
-    show_builds()
-    print()
-    show_counts()
-    print()
-    show_totals()
-    print(f"\nload {os.getloadavg()[0]:.1f} on {os.cpu_count()} processors")
+    for name, part in PARTS.items():
+        if words.only in [None, name]:
+            part(words.repeats)
+            print()
+    print(f"load {os.getloadavg()[0]:.1f} on {os.cpu_count()} processors")
 
 
 if __name__ == "__main__":

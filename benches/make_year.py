@@ -1,0 +1,263 @@
+"""A made year as body texts of commands, one a line, the same on every machine: it comes from a seed.
+
+    python3 benches/make_year.py 10000 1 > bench-data/year.txt
+    python3 benches/make_year.py 0 1 --order falling        # network and customers alone
+
+The book that it is for has the 366 days from 2024-01-01, zone UTC0. Each command is accepted in its turn.
+"""
+
+import argparse
+import heapq
+import random
+import sys
+from datetime import date, timedelta
+
+FIRST = 1_704_067_200
+DAYS = 366
+DAY = 86_400
+END = FIRST + DAYS * DAY
+FIRST_DATE = date(2024, 1, 1)
+FEEDERS = 20
+SECTIONS = 900
+BUSES = 99
+DEVICES = 1_500
+MOST_ENTRIES = 50_000
+MARKED_DAYS = 6
+CAUSES = [
+    "STORM", "LIGHTNING", "TREE", "ANIMAL", "VEHICLE", "DIGGING", "EQUIPMENT", "OVERLOAD", "PLANNED",
+    "SWITCHING", "SUPPLIER", "UNKNOWN",
+]  # fmt: skip
+CREWS = [f"CREW-{number}" for number in range(1, 13)]
+
+
+class Network:
+    """Feeders as trees below GRID, which branch, and ties between them that are normally open.
+
+    A node is a name. `above` is the node that it hangs on, `below` those that hang on it.
+    """
+
+    def __init__(self, rng):
+        self.feeder_of = {}
+        self.above = {}
+        self.below = {"GRID": []}
+        self.breaker_of = {}
+        self.ties = []
+        self.add_feeders(rng)
+        self.add_ties(rng)
+
+    def add_feeders(self, rng):
+        buses, sections = 0, 0
+        for feeder in range(1, FEEDERS + 1):
+            trunk = ["GRID"]
+            last_bus = BUSES * feeder // FEEDERS
+            last_section = SECTIONS * feeder // FEEDERS
+            kinds = ["bus"] * (last_bus - buses - 1) + ["section"] * (last_section - sections)
+            rng.shuffle(kinds)
+            for kind in ["bus", *kinds]:
+                if kind == "bus":
+                    buses += 1
+                    name = f"BUS-{buses}"
+                else:
+                    sections += 1
+                    name = f"SECTION-{sections}"
+                    self.feeder_of[name] = feeder
+                self.hang(name, trunk[0] if len(trunk) == 1 else rng.choice(trunk[1:][-6:]))
+                trunk.append(name)
+
+    def hang(self, name, above):
+        self.above[name] = above
+        self.below[above].append(name)
+        self.below[name] = []
+        self.breaker_of[name] = f"BREAKER-{len(self.above)}"
+
+    def add_ties(self, rng):
+        nodes = list(self.above)
+        while len(self.above) + len(self.ties) < DEVICES:
+            a, b = rng.sample(nodes, 2)
+            if self.above[a] != b and self.above[b] != a:
+                self.ties.append((f"TIE-{len(self.ties) + 1}", a, b))
+
+    def cut_off(self, name):
+        """The nodes that hang on a node, itself among them."""
+        found = [name]
+        for node in found:
+            found += self.below[node]
+        return found
+
+    def lines(self):
+        for name in self.above:
+            if name in self.feeder_of:
+                yield f"section {name} {self.feeder_of[name]}"
+            else:
+                yield f"bus {name}"
+        for name, above in self.above.items():
+            yield f"device {self.breaker_of[name]} {above} {name} closed"
+        for tie, a, b in self.ties:
+            yield f"device {tie} {a} {b} open"
+
+
+def customer_lines(rng, network, customers, order):
+    """Customers of any sections: one in ten begins its service within the year, and one in ten ends it there."""
+    sections = list(network.feeder_of)
+    numbers = list(range(1, customers + 1))
+    if order == "falling":
+        numbers.reverse()
+    elif order == "random":
+        rng.shuffle(numbers)
+    for number in numbers:
+        begins = END - rng.randrange(1, DAYS) * DAY if rng.random() < 0.1 else rng.randrange(FIRST // DAY) * DAY
+        ends = rng.randrange(max(FIRST, begins) // DAY, END // DAY) * DAY + DAY if rng.random() < 0.1 else "-"
+        yield f"connect {number} {rng.choice(sections)} {begins} {ends}"
+
+
+class Entry:
+    """A switching, and the moment at which it is entered."""
+
+    def __init__(self, device, act, second, cause, crew, moment):
+        self.device = device
+        self.act = act
+        self.second = second
+        self.cause = cause
+        self.crew = crew
+        self.moment = moment
+        self.number = None
+        self.revision = 1
+
+
+class Sheet:
+    """The switchings of a year by outages, with what is corrected and withdrawn of them later."""
+
+    def __init__(self, rng, network, entries):
+        self.rng = rng
+        self.network = network
+        self.outages = []
+        self.marks = []
+        wanted = entries
+        nodes = list(network.above)
+        ties_of = {}
+        for tie in network.ties:
+            for node in tie[1:]:
+                ties_of.setdefault(node, []).append(tie)
+        while wanted >= 2:
+            outage = self.outage(rng.choice(nodes), ties_of, wanted)
+            self.outages.append(outage)
+            wanted -= len(outage)
+
+    def outage(self, node, ties_of, wanted):
+        """A breaker is opened and closed again; sometimes a tie supplies a part of what is cut off meanwhile."""
+        rng = self.rng
+        cause = rng.randint(1, len(CAUSES))
+        crew = rng.choice(CREWS)
+        length = rng.randint(20, 300) if rng.random() < 0.2 else rng.randint(301, 5 * 3_600)
+        opened = rng.randrange(FIRST, END - 6 * 3_600)
+        breaker = self.network.breaker_of[node]
+        steps = [(breaker, "open", opened), (breaker, "close", opened + length)]
+        if wanted >= 4 and rng.random() < 0.15:
+            cut_off = set(self.network.cut_off(node))
+            ties = [tie for name in cut_off for tie in ties_of.get(name, ()) if not cut_off.issuperset(tie[1:])]
+            if ties:
+                tie = rng.choice(sorted(ties))
+                closed = rng.randrange(opened, opened + length)
+                back = max(closed + 1, opened + length + rng.randint(-60, 120))
+                steps += [(tie[0], "close", closed), (tie[0], "open", back)]
+        return [Entry(*step, cause, crew, self.entered(step[2])) for step in steps]
+
+    def entered(self, second):
+        """The moment at which a switching is entered: at once, or late by hours, days or weeks."""
+        if self.rng.random() < 0.05:
+            return second + self.rng.choice([3_600, DAY, 7 * DAY, 28 * DAY]) * self.rng.random()
+        return second
+
+    def later(self, moment):
+        return moment + 1 + self.rng.choice([3_600, DAY, 14 * DAY]) * self.rng.random()
+
+    def acts(self):
+        """What is done, each with its moment: entries, corrections and withdrawals."""
+        for outage in self.outages:
+            for entry in outage:
+                yield entry.moment, "enter", entry
+            entered = max(entry.moment for entry in outage)
+            if self.rng.random() < 0.01:
+                withdrawn = self.later(entered)
+                for entry in self.rng.sample(outage, len(outage)):
+                    withdrawn += 60
+                    yield withdrawn, "withdraw", entry
+                continue
+            for place, entry in enumerate(outage):
+                if self.rng.random() < 0.03:
+                    yield self.later(entered), "correct", (entry, outage[place ^ 1])
+
+    def lines(self):
+        """The commands in the order of their moments."""
+        acts = [(moment, place, kind, what) for place, (moment, kind, what) in enumerate(self.acts())]
+        heapq.heapify(acts)
+        number = 0
+        while acts:
+            _, _, kind, what = heapq.heappop(acts)
+            if kind == "enter":
+                number += 1
+                what.number = number
+                yield f"switch {what.device} {what.act} {what.second} {what.cause} {what.crew}"
+            elif kind == "withdraw":
+                yield f"withdraw {what.number} {what.revision}"
+            else:
+                yield self.correction(*what)
+
+    def correction(self, entry, other):
+        """Another second, which doesn't pass that of the same device's other switching, and sometimes another cause."""
+        second = entry.second + self.rng.randint(-900, 900)
+        second = min(max(second, FIRST), END - 1)
+        if entry.second < other.second:
+            second = min(second, other.second - 1)
+        elif entry.second > other.second:
+            second = max(second, other.second + 1)
+        entry.second = second
+        if self.rng.random() < 0.3:
+            entry.cause = self.rng.randint(1, len(CAUSES))
+        revision = entry.revision
+        entry.revision += 1
+        return f"correct {entry.number} {revision} {entry.act} {second} {entry.cause} {entry.crew}"
+
+
+def late_lines(rng, network, pairs):
+    """Short outages of a minute at any second of the year, each entered after all others."""
+    breakers = list(network.breaker_of.values())
+    for _ in range(pairs):
+        breaker = rng.choice(breakers)
+        cause = rng.randint(1, len(CAUSES))
+        opened = rng.randrange(FIRST, END - 60)
+        yield f"switch {breaker} open {opened} {cause} CREW-1"
+        yield f"switch {breaker} close {opened + 60} {cause} CREW-1"
+
+
+def year_lines(entries, seed, customers, order, late):
+    """The lines of a year; those of two years that differ only in `late` begin alike."""
+    network = Network(random.Random(f"network {seed}"))
+    for code, name in enumerate(CAUSES, 1):
+        yield f"cause {code} {name}"
+    yield from network.lines()
+    yield from customer_lines(random.Random(f"customers {seed}"), network, customers, order)
+    if entries:
+        rng = random.Random(f"marks {seed}")
+        for day in sorted(rng.sample(range(DAYS), MARKED_DAYS)):
+            yield f"mark {FIRST_DATE + timedelta(days=day)} ENGINEER-1"
+    yield from Sheet(random.Random(f"sheet {seed}"), network, entries).lines()
+    yield from late_lines(random.Random(f"late {seed}"), network, late)
+
+
+def main():
+    words = argparse.ArgumentParser(description="Writes a made year to standard output.")
+    words.add_argument("entries", type=int, help="the number of entries of the sheet, even")
+    words.add_argument("seed", type=int)
+    words.add_argument("--customers", type=int, default=100_000)
+    words.add_argument("--order", choices=["rising", "falling", "random"], default="rising", help="of their numbers")
+    words.add_argument("--late", type=int, default=0, help="short outages that are entered after all others")
+    words = words.parse_args()
+    if words.entries % 2 or words.entries + 2 * words.late > MOST_ENTRIES:
+        sys.exit("the entries are even, and with the late ones 50,000 at most")
+    for line in year_lines(words.entries, words.seed, words.customers, words.order, words.late):
+        print(line)
+
+
+if __name__ == "__main__":
+    main()

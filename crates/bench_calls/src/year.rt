@@ -1,0 +1,99 @@
+//! A book's year, replayed from the body texts of its commands.
+ghost use Rattle.std.specs.Prelude.{◌≡◌, ◌⊎◌, ◌∷◌, ◌++◌, IfSome, take};
+ghost use Rattle.ob_book.specs.State.{BookState};
+ghost use Rattle.ob_book.specs.Views.{annual_table_of_book};
+ghost use Rattle.bench_calls.specs.Years.{customer_seconds_of, IsStep, IsYear};
+
+use ob_book::Book;
+use ob_command::read_body;
+use ob_post::Dim;
+use ob_post::laws::total_laws;
+use ob_sweep::Windowed;
+use ob_time::Period;
+use std::alloc::Global;
+
+/// Replays a year on a book of the 366 days from 2024-01-01 in UTC, whose runs are kept up by windows. The text has the body
+/// texts of its commands, each with a line feed behind it. It answers the customer-seconds without supply of all causes, and
+/// writes how often the network was searched.
+///
+/// It answers 0 where memory is refused, where a line is no command, or where a command isn't accepted in its turn.
+#[unsafe(no_mangle)]
+pub extern "C" fn bench_year(alloc: Global, text: &[u8], searches: &mut u64) -> u64
+    ensures { (result ≡ 0) ⊎ ((b : BookState) × IsYear text.now b × (result ≡ customer_seconds_of b)) }
+{
+    let Some(book) = book_of(alloc, text) else {
+        return 0;
+    };
+    total_laws();
+    *searches = u64::try_from(book.net().searches()).unwrap_or(u64::MAX);
+    book.postings().total(Dim::Cause)
+}
+
+/// Replays a year as `bench_year` does, writes its annual table at the front of `table` and answers how long it is.
+///
+/// It answers 0 where there is no such year, where memory is refused, or where the table is too short for it.
+#[unsafe(no_mangle)]
+pub extern "C" fn bench_year_table(alloc: Global, text: &[u8], table: &mut [u8]) -> usize
+    ensures { (result ≡ 0) ⊎ ((b : BookState) × IsYear text.now b × (take result table.new ≡ annual_table_of_book b)) }
+{
+    let Some(book) = book_of(alloc, text) else {
+        return 0;
+    };
+    match book.annual_text() {
+        Ok(shown) => copied(&shown, table),
+        Err(_) => 0,
+    }
+}
+
+/// Copies a text to the front of a place, and answers its length; 0 where it doesn't fit.
+fn copied(text: &[u8], place: &mut [u8]) -> usize
+    ensures { (result ≡ 0) ⊎ (take result place.new ≡ text.now) }
+{
+    if text.len() > place.len() {
+        return 0;
+    }
+    place[..text.len()].copy_from_slice(text);
+    text.len()
+}
+
+/// The book after the commands of these lines.
+fn book_of(alloc: Global, text: &[u8]) -> Option<Book<Windowed>>
+    ensures { IfSome result (λ b. IsYear text.now b.state) }
+{
+    let Ok(year) = Period::from_text(alloc, b"2024-01-01", 366, b"UTC0") else {
+        return None;
+    };
+    let Ok(mut book) = Book::new(alloc, year) else {
+        return None;
+    };
+    let mut rest = text;
+    for _ in 0..text.len() {
+        let Some((line, more)) = cut_line(rest) else {
+            break;
+        };
+        act(&mut book, line)?;
+        rest = more;
+    }
+    if rest.is_empty() { Some(book) } else { None }
+}
+
+/// The line that a text begins with, and what stands behind its line feed.
+#[tactic(auto, using(crate::proofs::Lines::cut_at))]
+fn cut_line(text: &[u8]) -> Option<(&[u8], &[u8])>
+    ensures { IfSome result (λ p. text.now ≡ p.0.now ++ 10 ∷ p.1.now) }
+{
+    let end = text.iter().position(|byte| *byte == b'\n')?;
+    Some((&text[..end], &text[end + 1..]))
+}
+
+/// Acts the command of a line.
+fn act(book: &mut Book<Windowed>, line: &[u8]) -> Option<()>
+    ensures { IfSome result (λ _. IsStep line.now book.old.state book.new.state) }
+{
+    let command = read_body(line)?;
+    let Ok(plan) = book.decide(&command) else {
+        return None;
+    };
+    book.adopt(plan);
+    Some(())
+}
