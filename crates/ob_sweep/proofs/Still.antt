@@ -1,8 +1,8 @@
 -- The runs of sections whose supply doesn't change: where nothing is switched, and of a section that no device joins.
-use Rattle.std.proofs.Common.{◌≡◌, ◌≢◌, ◌⊎◌, ◌==◌, ◌&&◌, ◌||◌, ℕ, zero, suc, ◌+◌, ◌<◌, ◌≤◌, Bool, true, false, not, cond, List, [], ◌∷◌, ◌++◌, Option, Some, None, IsSome, length, map, get_or, slice_get, slice_index_or, refl, sym, ◌∙◌, ap, arith, subst, inl, inr}
-use Rattle.std.specs.List.{All, AllByRecursion, filter, range_with_len, zip}
+use Rattle.std.proofs.Common.{◌≡◌, ◌≢◌, ◌⊎◌, ◌==◌, ◌&&◌, ℕ, zero, suc, ◌<◌, Bool, true, false, not, cond, List, [], ◌∷◌, ◌++◌, Option, Some, None, IsSome, length, map, get_or, slice_get, slice_index_or, refl, sym, ◌∙◌, ap, arith, subst, inl, inr}
+use Rattle.std.specs.List.{AllByRecursion, filter, zip}
 use Rattle.std.specs.Option.{option_and_then, option_map}
-use Rattle.std.proofs.lemmas.Bool.{cases_eq, cases_lt, cond-true, cond-false, eq-eqb, ne_eqb, and_right}
+use Rattle.std.proofs.lemmas.Bool.{cases_eq, cond-true, cond-false, eq-eqb, ne_eqb, and_right}
 use Rattle.std.proofs.lemmas.List.{length-append}
 use Rattle.std.proofs.lemmas.List.Elements.{recursion_from_All}
 use Rattle.std.proofs.lemmas.List.FromFn.{get_or-map-range_with_len}
@@ -10,7 +10,7 @@ use Rattle.std.proofs.lemmas.Option.{same_Some, none-some}
 use Rattle.ob_net.specs.declared.Pos.{Pos}
 use Rattle.ob_net.specs.declared.net.Device.{Device}
 use Rattle.ob_net.specs.declared.net.Node.{Node}
-use Rattle.ob_net.specs.Network.{Network, IsNetwork, JoinsTwo, home_feeder, with_node}
+use Rattle.ob_net.specs.Network.{Network, IsNetwork, JoinsTwo, with_node}
 use Rattle.ob_net.specs.Walk.{closed_among, is_closed, is_connected, is_supplied}
 use Rattle.ob_sheet.specs.declared.Entry.{Entry}
 use Rattle.ob_sheet.specs.Order.{before, greatest, through}

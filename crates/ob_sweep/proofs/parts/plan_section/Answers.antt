@@ -1,7 +1,7 @@
-use Rattle.std.proofs.Common.{◌≡◌, ◌≢◌, ◌⊎◌, ◌<◌, ◌+◌, ◌∷◌, ℕ, false, List, [], length, sym, ◌∙◌, ap, ap₂, arith, subst}
+use Rattle.std.proofs.Common.{◌≡◌, ◌≢◌, ◌⊎◌, ◌<◌, ◌+◌, ◌∷◌, ℕ, false, List, [], length, ◌∙◌, ap, ap₂, arith, subst}
 use Rattle.ob_sweep.specs.declared.Run.{Run}
 use Rattle.ob_sweep.specs.Steps.{still_run}
-use Rattle.ob_sweep.specs.Timeline.{AreRuns, runs_at}
+use Rattle.ob_sweep.specs.Timeline.{runs_at}
 use Rattle.ob_time.specs.Calendar.{end_second_of, first_second_of}
 use Rattle.ob_sweep.proofs.Still.{apart_delta}
 use Rattle.ob_sweep.proofs.parts.plan_section.Goals as goal
