@@ -145,28 +145,17 @@ module _ (net : Network) (node : Node) (kept : IsNetwork net) where
     not_given : (whole : List Run) (v : ℕ) → new_runs ((n, whole) ∷ []) v ≡ None → v ≡ n → ⊥
     not_given whole v none e = none-some whole (sym none ∙ cond-true (n == v) (Some whole) None (eq-eqb n v (sym e)))
 
-    nothing_new : (whole : List Run) → whole ≡ now n → whole ≡ runs_at lists n → IsDelta more [] lists now
-    nothing_new whole is same = record {
-      sections = λ v rs found. absurd (none-some rs found);
-      named = λ v rs found. absurd (none-some rs found);
-      others = λ v section none.
-          elim (cases_eq v n) as (λ _. now v ≡ runs_at lists v) [
-            | inl e ↦ subst (λ w. now w ≡ runs_at lists w) (sym e) (sym is ∙ same)
-            | inr o ↦ stays v section o
-          ];
-    }
-
-    one_new : (whole : List Run) → IsSome node.feeder → whole ≡ now n → whole ≢ runs_at lists n → IsDelta more ((n, whole) ∷ []) lists now
-    one_new whole some is differs = record {
-      sections = λ v rs found. subst (IsSection more) (given whole rs v found).0 (new_section some);
-      named = λ v rs found.
-          let at = given whole rs v found in
-          (sym at.1 ∙ is ∙ ap now at.0, λ e. differs (is ∙ subst (λ w. now w ≡ runs_at lists w) (sym at.0) e));
-      others = λ v section none. stays v section (not_given whole v none);
-    }
-
-    -- the new section's run alone is new, where its place doesn't hold it already
-    pub apart_delta : (delta : List (ℕ × List Run)) (whole : List Run) → IsSome node.feeder → whole ≡ still_run n false first end
-        → ((whole ≡ runs_at lists n) × (delta ≡ [])) ⊎ ((whole ≢ runs_at lists n) × (delta ≡ (n, whole) ∷ [])) → IsDelta more delta lists now
-    apart_delta delta whole some run (inl h) = subst (λ (d : List (ℕ × List Run)). IsDelta more d lists now) (sym h.1) (nothing_new whole (run ∙ sym (apart entries first end l)) h.0)
-    apart_delta delta whole some run (inr h) = subst (λ (d : List (ℕ × List Run)). IsDelta more d lists now) (sym h.1) (one_new whole some (run ∙ sym (apart entries first end l)) h.0)
+    -- the new section's run alone is new
+    pub apart_delta : (delta : List (ℕ × List Run)) (whole : List Run) → IsSome node.feeder → whole ≡ still_run n false first end → delta ≡ (n, whole) ∷ [] → IsDelta more delta lists now
+    apart_delta delta whole some run is =
+        let whole_is : whole ≡ now n = run ∙ sym (apart entries first end l) in
+        let differs : whole ≢ runs_at lists n = λ e. absurd (omega (arith, ap length (sym run ∙ e ∙ were.empty n (omega arith)))) in
+        subst (λ (d : List (ℕ × List Run)). IsDelta more d lists now) (sym is) (
+        record {
+          sections = λ v rs found. subst (IsSection more) (given whole rs v found).0 (new_section some);
+          named = λ v rs found.
+              let at = given whole rs v found in
+              (sym at.1 ∙ whole_is ∙ ap now at.0, λ e. differs (whole_is ∙ subst (λ w. now w ≡ runs_at lists w) (sym at.0) e));
+          others = λ v section none. stays v section (not_given whole v none);
+        }
+        )

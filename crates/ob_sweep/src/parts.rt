@@ -4,6 +4,7 @@ ghost use Rattle.ob_net.specs.Stop.{out_of_memory};
 ghost use Rattle.ob_net.specs.Network.{with_node};
 ghost use Rattle.ob_net.specs.declared.net.Node.{Node};
 ghost use Rattle.ob_sheet.specs.declared.Entry.{Entry};
+ghost use Rattle.ob_sweep.specs.declared.Run.{Run as ARun};
 ghost use Rattle.ob_sweep.specs.Deltas.{Fits, IsDelta};
 ghost use Rattle.ob_sweep.specs.Runs.{history, runs_between};
 ghost use Rattle.ob_sweep.specs.Timeline.{AreRuns};
@@ -18,21 +19,15 @@ use std::alloc::Global;
 
 /// What one section more alters, of which no device is an end yet: it has one run, the whole period, without a cutter, and
 /// the runs of all others stay. The network is the one without it; nothing is searched. The error is that memory was refused.
-pub fn plan_section<T: Timeline>(
-    alloc: Global,
-    timeline: &T,
-    net: &Net,
-    period: &Period,
-) -> Result<Delta, Stop>
-    requires { length net.now.network.nodes < length (T.content timeline.now) }
-    ensures delta { (section : Node) (entries : List Entry) → IsSome section.feeder → AreRuns net.now.network entries (first_second_of period.now) (end_second_of period.now) (T.content timeline.now) → IfOk result (λ delta. IsDelta (with_node net.now.network section) delta (T.content timeline.now) (λ v. runs_between v (history (with_node net.now.network section) entries v) (first_second_of period.now) (end_second_of period.now))) }
-    ensures fits { IfOk result (λ delta. Fits (T.content timeline.now) delta) }
+pub fn plan_section(alloc: Global, net: &Net, period: &Period) -> Result<Delta, Stop>
+    ensures delta { (section : Node) (entries : List Entry) (lists : List (List ARun)) → IsSome section.feeder → AreRuns net.now.network entries (first_second_of period.now) (end_second_of period.now) lists → IfOk result (λ delta. IsDelta (with_node net.now.network section) delta lists (λ v. runs_between v (history (with_node net.now.network section) entries v) (first_second_of period.now) (end_second_of period.now))) }
+    ensures fits { (lists : List (List ARun)) → length net.now.network.nodes < length lists → IfOk result (λ delta. Fits lists delta) }
     ensures err { IfErr result (λ stop. stop ≡ out_of_memory) }
 {
     let section = net.nodes();
     let first = period.first_second();
     let runs = still(alloc, section, false, first, first + period.length())?;
-    Ok(Delta::of_section(alloc, section, timeline.runs_of(section), runs)?)
+    Ok(Delta::of_section(alloc, section, runs)?)
 }
 
 /// What leads from the runs of a timeline to those of a network in which nothing is switched, by one search of it. The error is

@@ -7,10 +7,9 @@ use Rattle.ob_sweep.proofs.Still.{apart_delta}
 use Rattle.ob_sweep.proofs.parts.plan_section.Goals as goal
 
 pub returns-clause-delta : goal.returns-clause-delta
-returns-clause-delta g c = λ section entries some were.
+returns-clause-delta c = λ section entries lists some were.
     let net = c.args.net.now.network in
     let period = c.args.period.now in
-    let lists : List (List Run) = g.T.Timeline.content c.args.timeline.now in
     let delta = c.in_ok-of_section.field-0 in
     let whole : List Run = c.in_ok-runs.runs.items in
     let count : c.nodes-section.result ≡ length net.nodes = c.nodes-section.ensures.count in
@@ -21,6 +20,5 @@ returns-clause-delta g c = λ section entries some were.
     c.in_ok-runs.ensures
     ∙ ap (λ k. still_run k false c.first_second-first.result (c.first_second-first.result + c.length.result)) count
     ∙ ap₂ (still_run (length net.nodes) false) first end in
-    let told = subst (λ (rs : List Run). ((whole ≡ rs) × (delta ≡ [])) ⊎ ((whole ≢ rs) × (delta ≡ (c.nodes-section.result, whole) ∷ []))) c.runs_of.ensures.runs c.in_ok-of_section.ensures in
-    let here = subst (λ (k : ℕ). ((whole ≡ runs_at lists k) × (delta ≡ [])) ⊎ ((whole ≢ runs_at lists k) × (delta ≡ (k, whole) ∷ []))) count told in
-    apart_delta net section c.nodes-section.ensures.kept entries (first_second_of period) (end_second_of period) some_second lists were delta whole some run here
+    let is : delta ≡ (length net.nodes, whole) ∷ [] = c.in_ok-of_section.ensures ∙ ap (λ (k : ℕ). let one : List (ℕ × List Run) = (k, whole) ∷ [] in one) count in
+    apart_delta net section c.nodes-section.ensures.kept entries (first_second_of period) (end_second_of period) some_second lists were delta whole some run is
