@@ -1,8 +1,8 @@
 -- One part more in the network: what stays, what it moves, and what leads to the runs with it.
-use Rattle.std.proofs.Common.{◌≡◌, ◌∙◌, sym, ap, ap₂, subst, refl, ℕ, ◌+◌, ◌-◌, ◌<◌, ◌≤◌, ◌==◌, ◌&&◌, ◌↔◌, zero, suc, Bool, true, false, cond, get_or, List, [], ◌∷◌, ◌++◌, length, take, sum_by, Option, Some, None, IsSome, slice_get, inl, inr, length-append, arith, not, is_none, is_some, unwrap_or, ◌||◌}
+use Rattle.std.proofs.Common.{◌≡◌, ◌∙◌, sym, ap, ap₂, subst, refl, ℕ, ◌+◌, ◌-◌, ◌<◌, ◌==◌, ◌&&◌, Bool, true, false, cond, get_or, List, [], ◌∷◌, ◌++◌, length, take, sum_by, Option, Some, None, IsSome, slice_get, inl, inr, length-append, arith, is_some, unwrap_or}
 use Rattle.std.specs.List.{All, AllPairs, Contains}
 use Rattle.std.specs.Option.{option_and_then, option_map_or}
-use Rattle.std.proofs.lemmas.Bool.{cases_eq, cases_lt, cases_Bool, eq-eqb, false≢true}
+use Rattle.std.proofs.lemmas.Bool.{cases_eq, cases_lt, eq-eqb, false≢true}
 use Rattle.std.proofs.Math.Seq.{take-append_seam}
 use Rattle.std.proofs.lemmas.List.Elements.{All-head, All-tail}
 use Rattle.std.proofs.lemmas.List.Sums.{sum_by-cons}
@@ -12,18 +12,16 @@ use Rattle.ob_net.specs.declared.net.Node.{Node}
 use Rattle.ob_net.specs.declared.stop.Refusal.{Refusal}
 use Rattle.ob_net.specs.declared.stop.Refusal.TheVariants.{Full, NameTaken}
 use Rattle.ob_net.specs.declared.TheConstants.{MOST_NODES}
-use Rattle.ob_net.specs.Network.{Network, IsNetwork, home_feeder, node_of, node_refusal, with_device, with_node}
+use Rattle.ob_net.specs.Network.{IsNetwork, home_feeder, node_of, node_refusal, with_device, with_node}
 use Rattle.ob_net.specs.Seconds.{seconds}
 use Rattle.ob_net.specs.Walk.{is_supplied}
-use Rattle.ob_sheet.specs.declared.Entry.{Entry}
 use Rattle.ob_sheet.specs.Supply.{is_deenergized}
 use Rattle.ob_cust.specs.declared.Customer.{Customer}
 use Rattle.ob_cust.specs.WithoutSupply.{is_without_supply}
 use Rattle.ob_sweep.specs.declared.Run.{Run}
-use Rattle.ob_sweep.specs.Deltas.{new_runs, sections_of, IsDelta}
-use Rattle.ob_sweep.specs.Runs.{history, runs_between, IsRun}
-use Rattle.ob_sweep.specs.Timeline.{AreRuns, IsSection, runs_at}
-use Rattle.ob_time.specs.Calendar.{day_count, days_of, end_second_of, first_second_of}
+use Rattle.ob_sweep.specs.Deltas.{sections_of, IsDelta}
+use Rattle.ob_sweep.specs.Timeline.{IsSection}
+use Rattle.ob_time.specs.Calendar.{day_count}
 use Rattle.ob_post.specs.CustomerSeconds.{Days, has_key}
 use Rattle.ob_post.specs.SectionLaws.{AreOnSections, ByRuns}
 use Rattle.ob_post.specs.declared.Dim.{Dim}
