@@ -6,7 +6,7 @@ ghost use Rattle.ob_sweep.specs.Changed.{changed, Applies};
 ghost use Rattle.ob_sweep.specs.Timeline.{LieBetween};
 ghost use Rattle.ob_time.specs.Calendar.{first_second_of, end_second_of};
 
-use ob_command::{Command, read_body};
+use ob_command::Command;
 use ob_net::{Crew, Net, Pos, Second};
 use ob_sheet::{Entry, Sheet};
 use ob_sweep::Change;
@@ -21,15 +21,15 @@ struct Act {
     crew: Crew,
 }
 
-/// The change of a sheet by the command with a body text; None where it makes none.
-pub fn change_by(net: &Net, sheet: &Sheet, period: &Period, body: &str) -> Option<Change>
+/// The change of a sheet by a command; None where it makes none.
+pub fn change_by(net: &Net, sheet: &Sheet, period: &Period, command: &Command) -> Option<Change>
     requires devices { NameDevices (length net.now.network.devices) sheet.now.entries }
     requires all { All (λ e. (first_second_of period.now ≤ e.second) × (e.second < end_second_of period.now)) sheet.now.entries }
     ensures applies { IfSome result (λ c. Applies c sheet.now.entries) }
     ensures devices { IfSome result (λ c. NameDevices (length net.now.network.devices) (changed c sheet.now.entries)) }
     ensures between { IfSome result (λ c. LieBetween (first_second_of period.now) (end_second_of period.now) (changed c sheet.now.entries)) }
 {
-    match read_body(body.as_bytes())? {
+    match command {
         Command::Switch {
             device,
             act,
@@ -38,12 +38,12 @@ pub fn change_by(net: &Net, sheet: &Sheet, period: &Period, body: &str) -> Optio
             crew,
         } => {
             let act = Act {
-                pos: act,
+                pos: *act,
                 second: second.second(),
                 cause: cause.get(),
-                crew,
+                crew: *crew,
             };
-            entered(net, sheet, period, net.device_of(&device)?, &act)
+            entered(net, sheet, period, net.device_of(device)?, &act)
         }
         Command::Correct {
             entry,
@@ -54,10 +54,10 @@ pub fn change_by(net: &Net, sheet: &Sheet, period: &Period, body: &str) -> Optio
             ..
         } => {
             let act = Act {
-                pos: act,
+                pos: *act,
                 second: second.second(),
                 cause: cause.get(),
-                crew,
+                crew: *crew,
             };
             corrected(net, sheet, period, entry.get(), &act)
         }

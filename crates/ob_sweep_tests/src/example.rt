@@ -5,6 +5,7 @@ ghost use Rattle.ob_sweep.specs.Deltas.{Fits};
 use crate::change::change_by;
 use crate::feeders::{NODES, feeders};
 use crate::sheet::sheet_of;
+use ob_command::read_body;
 use ob_net::Second;
 use ob_sweep::{Delta, Run, Scratch, Timeline, Windowed};
 use ob_time::Period;
@@ -153,9 +154,8 @@ fn change<T: Timeline>(
     let period = Period::from_text(alloc, script.0, 1, b"UTC0")?;
     let sheet = sheet_of(alloc, &net, &period, script.1)?;
     let mut timeline = T::build(alloc, &mut net, &sheet, &period)?;
-    let Some(change) = change_by(&net, &sheet, &period, body) else {
-        return Err("no change".into());
-    };
+    let command = read_body(body.as_bytes()).ok_or("a command")?;
+    let change = change_by(&net, &sheet, &period, &command).ok_or("a change")?;
     assert!(rt; net.nodes() == 6);
     let before = net.searches();
     let delta = timeline.plan(alloc, &mut net, &sheet, &period, &change)?;

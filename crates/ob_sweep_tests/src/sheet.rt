@@ -20,31 +20,30 @@ pub fn sheet_of(alloc: Global, net: &Net, period: &Period, script: &str) -> Resu
 {
     let mut sheet = Sheet::new(alloc);
     for line in script.lines() {
-        enter(&mut sheet, net, period, line)?;
+        let command = read_body(line.as_bytes()).ok_or("a command")?;
+        enter(&mut sheet, net, period, &command)?;
     }
     Ok(sheet)
 }
 
-// Enters the switching of a body text.
-fn enter(sheet: &mut Sheet, net: &Net, period: &Period, body: &str) -> Result<(), Fail>
+// Enters a switching.
+fn enter(sheet: &mut Sheet, net: &Net, period: &Period, command: &Command) -> Result<(), Fail>
     requires devices { NameDevices (length net.now.network.devices) sheet.old.entries }
     requires all { All (λ e. (first_second_of period.now ≤ e.second) × (e.second < end_second_of period.now)) sheet.old.entries }
     ensures devices { OnOk result (NameDevices (length net.now.network.devices) sheet.new.entries) }
     ensures all { OnOk result (All (λ e. (first_second_of period.now ≤ e.second) × (e.second < end_second_of period.now)) sheet.new.entries) }
 {
-    let Some(
-        Command::Switch {
-            device,
-            act,
-            second,
-            cause,
-            crew,
-        },
-    ) = read_body(body.as_bytes())
+    let Command::Switch {
+        device,
+        act,
+        second,
+        cause,
+        crew,
+    } = command
     else {
         return Err("no switching".into());
     };
-    let Some(device) = net.device_of(&device) else {
+    let Some(device) = net.device_of(device) else {
         return Err("no device".into());
     };
     let second = second.second();
@@ -52,6 +51,6 @@ fn enter(sheet: &mut Sheet, net: &Net, period: &Period, body: &str) -> Result<()
         return Err("no entry".into());
     }
     sheet.reserve_one()?;
-    sheet.enter(device, act, second, cause.get(), crew);
+    sheet.enter(device, *act, second, cause.get(), *crew);
     Ok(())
 }
