@@ -1,0 +1,115 @@
+//! A section with 100,000 customers in three blocks, against the sum over its customers one by one.
+use crate::sums::sum_of;
+use ob_cust::{Customer, Roll};
+use ob_net::Second;
+use ob_post::{Dim, Moved, amounts};
+use ob_sweep::Run;
+use ob_time::Period;
+use std::alloc::Global;
+use std::test::Fail;
+
+// The service of a customer: without bounds that matter, up to noon of 1970-01-02, or from a hundred seconds after it.
+fn service_of(no: u32) -> (Second, Option<Second>) {
+    if no <= 30_000 {
+        (0, None)
+    } else if no <= 65_000 {
+        (86_400, Some(129_600))
+    } else {
+        (129_700, None)
+    }
+}
+
+fn three_blocks(alloc: Global) -> Result<Roll, Fail> {
+    let mut roll = Roll::new(alloc);
+    for no in 1..100_001u32 {
+        let (since, until) = service_of(no);
+        roll.reserve_one()?;
+        roll.connect(Customer {
+            no,
+            section: 1,
+            since,
+            until,
+        })?;
+    }
+    Ok(roll)
+}
+
+// The seconds of service in a run, summed over the customers one by one.
+fn plain_sum(customers: &[Customer], run: &Run) -> u64 {
+    let mut sum: u64 = 0;
+    for customer in customers {
+        let until = customer.until.unwrap_or(run.until).min(run.until);
+        let seconds = until.saturating_sub(customer.since.max(run.since));
+        sum = sum.saturating_add(seconds);
+    }
+    sum
+}
+
+// The amounts of a run in 1970-01-02, by cause 3 on feeder 7.
+fn amounts_in(alloc: Global, run: &Run, roll: &Roll) -> Result<Vec<Moved>, Fail> {
+    let day = Period::from_text(alloc, b"1970-01-02", 1, b"UTC0")?;
+    if run.since < day.first_second() || run.until <= run.since || day.end_second() < run.until {
+        return Err("a run out of place".into());
+    }
+    let rows = amounts(alloc, run, 3, 7, roll, &day)?;
+    Ok(rows)
+}
+
+// A run across the end of a block and the beginning of another.
+const ACROSS: Run = Run {
+    section: 1,
+    since: 129_500,
+    until: 129_801,
+    cutter: None,
+};
+
+#[test]
+fn a_run_across_the_end_of_a_block(rt: HostRuntime) -> Result<(), Fail> {
+    let roll = three_blocks(rt.alloc())?;
+    let rows = amounts_in(rt.alloc(), &ACROSS, &roll)?;
+    assert!(rt; roll.blocks(1)?.len() == 3);
+    assert!(rt; plain_sum(roll.customers(), &ACROSS) == 16_065_000);
+    for (dim, key) in [(Dim::Cause, 3), (Dim::Feeder, 7), (Dim::Day, 0)] {
+        assert!(rt; sum_of(&rows, dim, Some(key))? == 16_065_000);
+    }
+    Ok(())
+}
+
+const WHOLE_DAY: Run = Run {
+    section: 1,
+    since: 86_400,
+    until: 172_800,
+    cutter: None,
+};
+
+fn roll_of(alloc: Global, services: &[(u32, Second, Option<Second>)]) -> Result<Roll, Fail> {
+    let mut roll = Roll::new(alloc);
+    for (no, since, until) in services {
+        roll.reserve_one()?;
+        roll.connect(Customer {
+            no: *no,
+            section: 1,
+            since: *since,
+            until: *until,
+        })?;
+    }
+    Ok(roll)
+}
+
+// One begins after the day, one at its end, and two are over before its first second.
+#[test]
+fn services_out_of_the_day_add_nothing(rt: HostRuntime) -> Result<(), Fail> {
+    let roll = roll_of(
+        rt.alloc(),
+        &[
+            (1, 172_801, None),
+            (2, 172_800, Some(172_900)),
+            (3, 0, Some(86_399)),
+            (4, 10, Some(86_400)),
+        ],
+    )?;
+    let rows = amounts_in(rt.alloc(), &WHOLE_DAY, &roll)?;
+    assert!(rt; sum_of(&rows, Dim::Cause, Some(3))? == 0);
+    assert!(rt; sum_of(&rows, Dim::Day, Some(0))? == 0);
+    Ok(())
+}

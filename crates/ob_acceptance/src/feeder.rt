@@ -1,0 +1,222 @@
+//! Worked outages of two feeders with a tie, by the amounts of their runs and by the plain count.
+use crate::made::Made;
+use crate::sums::{by_runs, by_seconds, sum_of};
+use ob_net::Pos;
+use ob_post::Dim;
+use std::alloc::Global;
+use std::process::Abort;
+use std::test::Fail;
+
+fn add_sections(alloc: Global, made: &mut Made, sections: &[u16]) -> Result<(), Fail> {
+    for number in sections {
+        made.add_section(alloc, *number, if *number < 3 { 1 } else { 2 })?;
+    }
+    Ok(())
+}
+
+fn add_devices(
+    alloc: Global,
+    made: &mut Made,
+    devices: &[(u16, (u16, u16), Pos)],
+) -> Result<(), Fail> {
+    for (number, ends, normal) in devices {
+        made.add_device(alloc, *number, *ends, *normal)?;
+    }
+    Ok(())
+}
+
+// Connects a customer to each section that is named, for good.
+fn connect_to(alloc: Global, made: &mut Made, sections: &[u16]) -> Result<(), Fail> {
+    for (place, section) in sections.iter().enumerate() {
+        let no = u32::try_from(place)?.saturating_add(1);
+        made.connect(alloc, no, *section, 0, None)?;
+    }
+    Ok(())
+}
+
+// The bus is section 4, and has no customers. Devices 0 to 4 are the incomer, the breakers of sections 1 and 3 (1 and 3), the
+// switch between 1 and 2, and the open tie.
+fn feeder_with_a_tie(alloc: Global, days: u16) -> Result<Made, Fail> {
+    let mut made = Made::new(alloc, b"2024-01-01", days, b"UTC0")?;
+    add_sections(alloc, &mut made, &[1, 2, 3, 4])?;
+    add_devices(
+        alloc,
+        &mut made,
+        &[
+            (0, (0, 4), Pos::Closed),
+            (1, (4, 1), Pos::Closed),
+            (2, (1, 2), Pos::Closed),
+            (3, (4, 3), Pos::Closed),
+            (4, (2, 3), Pos::Opened),
+        ],
+    )?;
+    connect_to(alloc, &mut made, &[1, 1, 2, 2, 2, 3, 3, 3, 3, 3])?;
+    Ok(made)
+}
+
+// A device, whether it is opened, how long after the period's first second, and the cause.
+type Switching = (u16, bool, u64, u8);
+
+// What is wanted under a dimension and key.
+type Wanted = (Dim, u16, u64);
+
+fn enter(alloc: Global, made: &mut Made, sheet: &[Switching]) -> Result<(), Fail> {
+    for (device, opens, after, cause) in sheet {
+        let pos = if *opens { Pos::Opened } else { Pos::Closed };
+        let second = made
+            .period
+            .first_second()
+            .checked_add(*after)
+            .ok_or("a second")?;
+        made.switch(alloc, *device, pos, second, *cause)?;
+    }
+    Ok(())
+}
+
+// Enters the switchings, and compares the amounts and the plain count.
+fn check(
+    rt: &impl Abort,
+    alloc: Global,
+    mut made: Made,
+    sheet: &[Switching],
+    wanted: &[Wanted],
+) -> Result<(), Fail> {
+    enter(alloc, &mut made, sheet)?;
+    let rows = by_runs(alloc, &mut made)?;
+    for (dim, key, amount) in wanted {
+        assert!(rt; sum_of(&rows, *dim, Some(*key))? == *amount);
+    }
+    assert!(rt; sum_of(&rows, Dim::Cause, None)? == by_seconds(alloc, &made)?);
+    Ok(())
+}
+
+// The same on the feeder with the tie, over one day.
+fn check_a_day(
+    rt: &impl Abort,
+    alloc: Global,
+    sheet: &[Switching],
+    wanted: &[Wanted],
+) -> Result<(), Fail> {
+    let made = feeder_with_a_tie(alloc, 1)?;
+    check(rt, alloc, made, sheet, wanted)
+}
+
+#[test]
+fn an_outage_that_a_tie_shortens(rt: HostRuntime) -> Result<(), Fail> {
+    check_a_day(
+        &rt,
+        rt.alloc(),
+        &[
+            (1, true, 3600, 3),
+            (2, true, 4200, 3),
+            (4, false, 4200, 3),
+            (1, false, 7200, 3),
+        ],
+        &[
+            (Dim::Cause, 3, 9000),
+            (Dim::Feeder, 1, 9000),
+            (Dim::Feeder, 2, 0),
+            (Dim::Day, 0, 9000),
+        ],
+    )
+}
+
+#[test]
+fn opened_and_closed_in_one_second(rt: HostRuntime) -> Result<(), Fail> {
+    let sheet = &[(3, true, 3600, 3), (3, false, 3600, 3)];
+    check_a_day(&rt, rt.alloc(), sheet, &[(Dim::Cause, 3, 0)])
+}
+
+#[test]
+fn closed_and_opened_in_one_second(rt: HostRuntime) -> Result<(), Fail> {
+    let sheet = &[(3, false, 3600, 3), (3, true, 3600, 3)];
+    let wanted = &[(Dim::Cause, 3, 414_000), (Dim::Feeder, 2, 414_000)];
+    check_a_day(&rt, rt.alloc(), sheet, wanted)
+}
+
+#[test]
+fn two_feeders_opened_in_one_second(rt: HostRuntime) -> Result<(), Fail> {
+    check_a_day(
+        &rt,
+        rt.alloc(),
+        &[
+            (1, true, 3600, 3),
+            (3, true, 3600, 4),
+            (1, false, 4200, 3),
+            (3, false, 4200, 4),
+        ],
+        &[
+            (Dim::Cause, 3, 3000),
+            (Dim::Cause, 4, 3000),
+            (Dim::Feeder, 1, 3000),
+            (Dim::Feeder, 2, 3000),
+        ],
+    )
+}
+
+#[test]
+fn opened_at_the_first_second(rt: HostRuntime) -> Result<(), Fail> {
+    let sheet = &[(3, true, 0, 3), (3, false, 600, 3)];
+    check_a_day(
+        &rt,
+        rt.alloc(),
+        sheet,
+        &[(Dim::Cause, 3, 3000), (Dim::Cause, 0, 0)],
+    )
+}
+
+// Closed and opened again in one second by another cause: one run, of the first.
+#[test]
+fn closed_and_opened_by_another_cause(rt: HostRuntime) -> Result<(), Fail> {
+    check_a_day(
+        &rt,
+        rt.alloc(),
+        &[
+            (3, true, 3600, 3),
+            (3, false, 4000, 3),
+            (3, true, 4000, 4),
+            (3, false, 5000, 4),
+        ],
+        &[(Dim::Cause, 3, 7000), (Dim::Cause, 4, 0)],
+    )
+}
+
+#[test]
+fn over_midnight(rt: HostRuntime) -> Result<(), Fail> {
+    let made = feeder_with_a_tie(rt.alloc(), 2)?;
+    let sheet = &[(3, true, 85_800, 3), (3, false, 87_600, 3)];
+    let wanted = &[
+        (Dim::Cause, 3, 9000),
+        (Dim::Day, 0, 3000),
+        (Dim::Day, 1, 6000),
+    ];
+    check(&rt, rt.alloc(), made, sheet, wanted)
+}
+
+#[test]
+fn a_section_without_a_device(rt: HostRuntime) -> Result<(), Fail> {
+    let mut made = Made::new(rt.alloc(), b"2024-01-01", 1, b"UTC0")?;
+    made.add_section(rt.alloc(), 9, 9)?;
+    made.connect(rt.alloc(), 11, 9, 1_704_067_200, None)?;
+    let wanted = &[
+        (Dim::Cause, 0, 86_400),
+        (Dim::Feeder, 9, 86_400),
+        (Dim::Day, 0, 86_400),
+    ];
+    check(&rt, rt.alloc(), made, &[], wanted)
+}
+
+#[test]
+fn a_day_that_loses_an_hour(rt: HostRuntime) -> Result<(), Fail> {
+    let mut made = Made::new(rt.alloc(), b"2024-03-10", 2, b"EST5EDT,M3.2.0,M11.1.0")?;
+    made.add_section(rt.alloc(), 1, 1)?;
+    made.add_device(rt.alloc(), 0, (0, 1), Pos::Closed)?;
+    made.connect(rt.alloc(), 1, 1, 0, None)?;
+    let sheet = &[(0, true, 0, 3), (0, false, 86_400, 3)];
+    let wanted = &[
+        (Dim::Cause, 3, 86_400),
+        (Dim::Day, 0, 82_800),
+        (Dim::Day, 1, 3600),
+    ];
+    check(&rt, rt.alloc(), made, sheet, wanted)
+}

@@ -1,0 +1,73 @@
+//! The timeline of a book adopts each change of the sheet: the book keeps no other one in its place.
+use crate::counting::Counting;
+use crate::example::act_on;
+use crate::feeders::{OUTAGE, TWO_FEEDERS};
+use crate::runs::{OPENED_BEFORE, RELABELLED};
+use ob_book::Book;
+use ob_command::read_body;
+use ob_time::Period;
+use std::alloc::Global;
+use std::process::Abort;
+use std::test::Fail;
+
+fn take(rt: &impl Abort, alloc: Global, book: &mut Book<Counting>, line: &str) -> Result<(), Fail> {
+    let (body, wanted) = line.split_once(" => ").unwrap_or((line, ""));
+    let command = read_body(body.as_bytes()).ok_or("a command")?;
+    let (found, _) = act_on(alloc, book, &command, &mut 0)?;
+    assert!(rt; found.as_str() == wanted);
+    Ok(())
+}
+
+// A book of the two feeders.
+fn counting_book(rt: &impl Abort, alloc: Global) -> Result<Book<Counting>, Fail> {
+    let period = Period::from_text(alloc, b"2024-01-01", 1, b"UTC0")?;
+    let mut book = Book::new(alloc, period)?;
+    for line in TWO_FEEDERS.lines() {
+        take(rt, alloc, &mut book, line)?;
+    }
+    Ok(book)
+}
+
+// Takes the lines of a script, each of which is adopted once.
+fn adopts(
+    rt: &impl Abort,
+    alloc: Global,
+    book: &mut Book<Counting>,
+    script: &str,
+) -> Result<(), Fail> {
+    for line in script.lines() {
+        let before = book.timeline().adopted;
+        take(rt, alloc, book, line)?;
+        assert!(rt; before.checked_add(1) == Some(book.timeline().adopted));
+    }
+    Ok(())
+}
+
+#[test]
+fn an_opening_entered_late(rt: HostRuntime) -> Result<(), Fail> {
+    let mut book = counting_book(&rt, rt.alloc())?;
+    adopts(&rt, rt.alloc(), &mut book, OUTAGE)?;
+    adopts(&rt, rt.alloc(), &mut book, OPENED_BEFORE)
+}
+
+#[test]
+fn a_closing_corrected(rt: HostRuntime) -> Result<(), Fail> {
+    let mut book = counting_book(&rt, rt.alloc())?;
+    adopts(&rt, rt.alloc(), &mut book, OUTAGE)?;
+    let line = "correct 4 1 close 1704073800 3 K1 => cause 3 -1200, feeder 1 -1200, day 0 -1200";
+    adopts(&rt, rt.alloc(), &mut book, line)
+}
+
+#[test]
+fn a_run_that_goes_on_past_the_next_entry(rt: HostRuntime) -> Result<(), Fail> {
+    let mut book = counting_book(&rt, rt.alloc())?;
+    adopts(&rt, rt.alloc(), &mut book, RELABELLED)
+}
+
+#[test]
+fn a_closing_withdrawn(rt: HostRuntime) -> Result<(), Fail> {
+    let mut book = counting_book(&rt, rt.alloc())?;
+    adopts(&rt, rt.alloc(), &mut book, OUTAGE)?;
+    let line = "withdraw 3 1 => cause 3 246600, feeder 1 246600, day 0 246600";
+    adopts(&rt, rt.alloc(), &mut book, line)
+}

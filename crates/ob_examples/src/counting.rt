@@ -1,0 +1,44 @@
+//! A timeline that counts what it adopts.
+use ob_net::{Net, Stop};
+use ob_sheet::Sheet;
+use ob_sweep::{Change, Delta, Run, Timeline, Windowed};
+use ob_time::Period;
+use std::alloc::Global;
+
+/// A timeline to which every call is handed on, and how many deltas it adopted.
+#[derive(Drop)]
+pub struct Counting {
+    inner: Windowed,
+    pub adopted: u64,
+}
+
+impl Timeline for Counting {
+    ghost content = { λ c. ⟦<Windowed as Timeline>⟧.content c.inner };
+
+    ghost bound = { ⟦<Windowed as Timeline>⟧.bound };
+
+    fn build(alloc: Global, net: &mut Net, sheet: &Sheet, period: &Period) -> Result<Self, Stop> {
+        let inner = Windowed::build(alloc, net, sheet, period)?;
+        Ok(Counting { inner, adopted: 0 })
+    }
+
+    fn runs_of(&self, section: u16) -> &[Run] {
+        self.inner.runs_of(section)
+    }
+
+    fn plan(
+        &self,
+        alloc: Global,
+        net: &mut Net,
+        sheet: &Sheet,
+        period: &Period,
+        change: &Change,
+    ) -> Result<Delta, Stop> {
+        self.inner.plan(alloc, net, sheet, period, change)
+    }
+
+    fn adopt(&mut self, delta: Delta) {
+        self.adopted = self.adopted.saturating_add(1);
+        self.inner.adopt(delta);
+    }
+}

@@ -1,0 +1,134 @@
+//! The change of a sheet that a command makes.
+ghost use Rattle.std.specs.Prelude.{◌≤◌, ◌<◌, IfSome, IsFalse, length};
+ghost use Rattle.std.specs.List.{All};
+ghost use Rattle.ob_sheet.specs.Sheet.{NameDevices};
+ghost use Rattle.ob_sweep.specs.Changed.{changed, Applies};
+ghost use Rattle.ob_sweep.specs.Timeline.{LieBetween};
+ghost use Rattle.ob_time.specs.Calendar.{first_second_of, end_second_of};
+
+use ob_command::Command;
+use ob_net::{Crew, Net, Pos, Second};
+use ob_sheet::{Entry, Sheet};
+use ob_sweep::Change;
+use ob_time::Period;
+
+// What is done: a position from a second on, with its cause and crew.
+#[derive(Clone, Copy)]
+struct Act {
+    pos: Pos,
+    second: Second,
+    cause: u8,
+    crew: Crew,
+}
+
+/// The change of a sheet by a command; None where it makes none.
+pub fn change_by(net: &Net, sheet: &Sheet, period: &Period, command: &Command) -> Option<Change>
+    requires devices { NameDevices (length net.now.network.devices) sheet.now.entries }
+    requires all { All (λ e. (first_second_of period.now ≤ e.second) × (e.second < end_second_of period.now)) sheet.now.entries }
+    ensures applies { IfSome result (λ c. Applies c sheet.now.entries) }
+    ensures devices { IfSome result (λ c. NameDevices (length net.now.network.devices) (changed c sheet.now.entries)) }
+    ensures between { IfSome result (λ c. LieBetween (first_second_of period.now) (end_second_of period.now) (changed c sheet.now.entries)) }
+{
+    match command {
+        Command::Switch {
+            device,
+            act,
+            second,
+            cause,
+            crew,
+        } => {
+            let act = Act {
+                pos: *act,
+                second: second.second(),
+                cause: cause.get(),
+                crew: *crew,
+            };
+            entered(net, sheet, period, net.device_of(device)?, &act)
+        }
+        Command::Correct {
+            entry,
+            act,
+            second,
+            cause,
+            crew,
+            ..
+        } => {
+            let act = Act {
+                pos: *act,
+                second: second.second(),
+                cause: cause.get(),
+                crew: *crew,
+            };
+            corrected(net, sheet, period, entry.get(), &act)
+        }
+        Command::Withdraw { entry, .. } => withdrawn(net, sheet, period, entry.get()),
+        _ => None,
+    }
+}
+
+fn is_outside(period: &Period, second: Second) -> bool
+    ensures inside { IsFalse result → (first_second_of period.now ≤ second) × (second < end_second_of period.now) }
+{
+    second < period.first_second() || period.end_second() <= second
+}
+
+fn entered(net: &Net, sheet: &Sheet, period: &Period, device: u16, act: &Act) -> Option<Change>
+    requires device { device < length net.now.network.devices }
+    requires devices { NameDevices (length net.now.network.devices) sheet.now.entries }
+    requires all { All (λ e. (first_second_of period.now ≤ e.second) × (e.second < end_second_of period.now)) sheet.now.entries }
+    ensures applies { IfSome result (λ c. Applies c sheet.now.entries) }
+    ensures devices { IfSome result (λ c. NameDevices (length net.now.network.devices) (changed c sheet.now.entries)) }
+    ensures between { IfSome result (λ c. LieBetween (first_second_of period.now) (end_second_of period.now) (changed c sheet.now.entries)) }
+{
+    if is_outside(period, act.second) {
+        return None;
+    }
+    Some(Change::Entered(Entry {
+        no: sheet.len() as u32 + 1,
+        rev: 1,
+        device,
+        pos: act.pos,
+        second: act.second,
+        cause: act.cause,
+        crew: act.crew,
+        kept: true,
+    }))
+}
+
+fn corrected(net: &Net, sheet: &Sheet, period: &Period, no: u32, act: &Act) -> Option<Change>
+    requires devices { NameDevices (length net.now.network.devices) sheet.now.entries }
+    requires all { All (λ e. (first_second_of period.now ≤ e.second) × (e.second < end_second_of period.now)) sheet.now.entries }
+    ensures applies { IfSome result (λ c. Applies c sheet.now.entries) }
+    ensures devices { IfSome result (λ c. NameDevices (length net.now.network.devices) (changed c sheet.now.entries)) }
+    ensures between { IfSome result (λ c. LieBetween (first_second_of period.now) (end_second_of period.now) (changed c sheet.now.entries)) }
+{
+    let old = sheet.entry(no)?;
+    if old.no != no || !old.kept || net.devices() <= old.device || is_outside(period, act.second) {
+        return None;
+    }
+    Some(Change::Corrected {
+        old,
+        new: Entry {
+            rev: old.rev.saturating_add(1),
+            pos: act.pos,
+            second: act.second,
+            cause: act.cause,
+            crew: act.crew,
+            ..old
+        },
+    })
+}
+
+fn withdrawn(net: &Net, sheet: &Sheet, period: &Period, no: u32) -> Option<Change>
+    requires devices { NameDevices (length net.now.network.devices) sheet.now.entries }
+    requires all { All (λ e. (first_second_of period.now ≤ e.second) × (e.second < end_second_of period.now)) sheet.now.entries }
+    ensures applies { IfSome result (λ c. Applies c sheet.now.entries) }
+    ensures devices { IfSome result (λ c. NameDevices (length net.now.network.devices) (changed c sheet.now.entries)) }
+    ensures between { IfSome result (λ c. LieBetween (first_second_of period.now) (end_second_of period.now) (changed c sheet.now.entries)) }
+{
+    let old = sheet.entry(no)?;
+    if old.no != no || !old.kept {
+        return None;
+    }
+    Some(Change::Withdrawn(old))
+}

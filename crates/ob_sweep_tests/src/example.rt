@@ -1,0 +1,180 @@
+//! Examples on a timeline: what is built, and what a change of the sheet does.
+ghost use Rattle.std.specs.Prelude.{◌≡◌, ◌≤◌, length};
+ghost use Rattle.ob_sweep.specs.Deltas.{Fits};
+
+use crate::change::change_by;
+use crate::feeders::{NODES, feeders};
+use crate::sheet::sheet_of;
+use ob_command::read_body;
+use ob_net::Second;
+use ob_sweep::{Delta, Run, Scratch, Timeline, Windowed};
+use ob_time::Period;
+use std::alloc::Global;
+use std::process::Abort;
+use std::test::Fail;
+
+/// A date and the switchings of its sheet, one a line.
+pub type Script = (&'static [u8], &'static str);
+
+// A line for a run: its section, its first second, the one after its last, and the number of its cutter or `-`.
+fn line_of(alloc: Global, run: &Run) -> Result<String, Fail> {
+    let name = NODES
+        .get(usize::from(run.section))
+        .copied()
+        .ok_or("a node")?;
+    let (since, until) = (run.since, run.until);
+    let line = match run.cutter {
+        Some(cutter) => format!(in alloc; "{name} {since} {until} {cutter}\n"),
+        None => format!(in alloc; "{name} {since} {until} -\n"),
+    };
+    Ok(line?)
+}
+
+fn push_lines(alloc: Global, text: &mut String, runs: &[Run]) -> Result<(), Fail> {
+    for run in runs {
+        text.push_str(line_of(alloc, run)?.as_str())?;
+    }
+    Ok(())
+}
+
+// The runs of some of the network's nodes, one node after another.
+fn lines_of<T: Timeline>(alloc: Global, timeline: &T, nodes: &[u16]) -> Result<String, Fail>
+    requires { 6 ≤ length (T.content timeline.now) }
+{
+    let mut text = String::new(alloc);
+    for node in nodes {
+        if *node < 6 {
+            push_lines(alloc, &mut text, timeline.runs_of(*node))?;
+        }
+    }
+    Ok(text)
+}
+
+// The new runs of the touched sections, one section after another.
+fn new_lines(alloc: Global, delta: &Delta) -> Result<String, Fail> {
+    let mut text = String::new(alloc);
+    for section in delta.touched() {
+        push_lines(alloc, &mut text, delta.runs(*section))?;
+    }
+    Ok(text)
+}
+
+// The names of nodes, each with a space behind it.
+fn names_of(alloc: Global, nodes: &[u16]) -> Result<String, Fail> {
+    let mut text = String::new(alloc);
+    for node in nodes {
+        text.push_str(NODES.get(usize::from(*node)).copied().ok_or("a node")?)?;
+        text.push_str(" ")?;
+    }
+    Ok(text)
+}
+
+// The sections S1 to S3 have these runs, and S4 one of the whole day.
+fn shows<T: Timeline>(
+    rt: &impl Abort,
+    alloc: Global,
+    timeline: &T,
+    day: (Second, Second),
+    wanted: &str,
+) -> Result<(), Fail>
+    requires { 6 ≤ length (T.content timeline.now) }
+{
+    let (first, end) = day;
+    let wanted = format!(in alloc; "{wanted}S4 {first} {end} -\n")?;
+    let found = lines_of(alloc, timeline, &[2, 3, 4, 5])?;
+    assert!(rt; found.as_str() == wanted.as_str());
+    Ok(())
+}
+
+fn build<T: Timeline>(
+    rt: &impl Abort,
+    alloc: Global,
+    script: Script,
+    searches: u128,
+    wanted: &str,
+) -> Result<(), Fail> {
+    let mut net = feeders(alloc)?;
+    let period = Period::from_text(alloc, script.0, 1, b"UTC0")?;
+    let sheet = sheet_of(alloc, &net, &period, script.1)?;
+    let timeline = T::build(alloc, &mut net, &sheet, &period)?;
+    assert!(rt; net.nodes() == 6 && net.searches() == searches);
+    let day = (period.first_second(), period.end_second());
+    shows(rt, alloc, &timeline, day, wanted)
+}
+
+/// Under the script the sections have these runs, which took so many searches.
+pub fn builds(
+    rt: &impl Abort,
+    alloc: Global,
+    script: Script,
+    searches: u128,
+    wanted: &str,
+) -> Result<(), Fail> {
+    build::<Scratch>(rt, alloc, script, searches, wanted)?;
+    build::<Windowed>(rt, alloc, script, searches, wanted)
+}
+
+/// What a change is to do: the sections that it touches, and the runs of all sections after it.
+#[derive(Drop)]
+pub struct Effect {
+    pub touched: &'static str,
+    pub runs: &'static str,
+}
+
+fn adopt<T: Timeline>(
+    rt: &impl Abort,
+    alloc: Global,
+    timeline: &mut T,
+    delta: Delta,
+    touched: &str,
+) -> Result<(), Fail>
+    requires count { 6 ≤ length (T.content timeline.old) }
+    requires fits { Fits (T.content timeline.old) delta }
+    ensures count { length (T.content timeline.new) ≡ length (T.content timeline.old) }
+{
+    let mut sections = Vec::new(alloc);
+    sections.extend_from_slice(delta.touched())?;
+    let new = new_lines(alloc, &delta)?;
+    timeline.adopt(delta);
+    let names = names_of(alloc, &sections)?;
+    let found = lines_of(alloc, timeline, &sections)?;
+    assert!(rt; names.as_str() == touched && found.as_str() == new.as_str());
+    Ok(())
+}
+
+fn change<T: Timeline>(
+    rt: &impl Abort,
+    alloc: Global,
+    script: Script,
+    body: &str,
+    searches: u128,
+    effect: &Effect,
+) -> Result<(), Fail> {
+    let mut net = feeders(alloc)?;
+    let period = Period::from_text(alloc, script.0, 1, b"UTC0")?;
+    let sheet = sheet_of(alloc, &net, &period, script.1)?;
+    let mut timeline = T::build(alloc, &mut net, &sheet, &period)?;
+    let command = read_body(body.as_bytes()).ok_or("a command")?;
+    let change = change_by(&net, &sheet, &period, &command).ok_or("a change")?;
+    assert!(rt; net.nodes() == 6);
+    let before = net.searches();
+    let delta = timeline.plan(alloc, &mut net, &sheet, &period, &change)?;
+    assert!(rt; net.searches().checked_sub(before) == Some(searches));
+    adopt(rt, alloc, &mut timeline, delta, effect.touched)?;
+    let day = (period.first_second(), period.end_second());
+    shows(rt, alloc, &timeline, day, effect.runs)
+}
+
+/// After the script, the command with a body text has this effect: on runs that are found from scratch by so many searches,
+/// and in windows by as many as the second number says.
+pub fn changes(
+    rt: &impl Abort,
+    alloc: Global,
+    script: Script,
+    body: &str,
+    searches: (u128, u128),
+    effect: &Effect,
+) -> Result<(), Fail> {
+    change::<Scratch>(rt, alloc, script, body, searches.0, effect)?;
+    change::<Windowed>(rt, alloc, script, body, searches.1, effect)
+}

@@ -1,0 +1,45 @@
+//! The network of the examples.
+use ob_command::{Command, read_body};
+use ob_net::Net;
+use std::alloc::Global;
+use std::test::Fail;
+
+// A feeder S1, S2 from the breaker B1, with a tie T1 to S3 of another feeder, and a section S4 that no device joins.
+const FEEDERS: &'static str = "\
+bus BUS-A
+section S1 1
+section S2 1
+section S3 2
+section S4 2
+device I1 GRID BUS-A closed
+device B1 BUS-A S1 closed
+device W1 S1 S2 closed
+device B2 BUS-A S3 closed
+device T1 S2 S3 open
+";
+
+/// The nodes of the network, by number.
+pub const NODES: [&'static str; 6] = ["GRID", "BUS-A", "S1", "S2", "S3", "S4"];
+
+/// The two feeders.
+pub fn feeders(alloc: Global) -> Result<Net, Fail> {
+    let mut net = Net::new(alloc)?;
+    for line in FEEDERS.lines() {
+        let command = read_body(line.as_bytes()).ok_or("a command")?;
+        add_part(&mut net, &command)?;
+    }
+    Ok(net)
+}
+
+fn add_part(net: &mut Net, command: &Command) -> Result<(), Fail> {
+    net.reserve_one()?;
+    match command {
+        Command::Bus { name } => net.add_bus(*name)?,
+        Command::Section { name, feeder } => net.add_section(*name, feeder.get())?,
+        Command::Device { name, ends, normal } => {
+            net.add_device(*name, *ends.a(), *ends.b(), *normal)?
+        }
+        _ => return Err("no part of a network".into()),
+    }
+    Ok(())
+}
