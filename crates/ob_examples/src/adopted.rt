@@ -13,7 +13,7 @@ use std::test::Fail;
 fn take(rt: &impl Abort, alloc: Global, book: &mut Book<Counting>, line: &str) -> Result<(), Fail> {
     let (body, wanted) = line.split_once(" => ").unwrap_or((line, ""));
     let command = read_body(body.as_bytes()).ok_or("a command")?;
-    let (found, _) = act_on(alloc, book, &command, &mut 0)?;
+    let (found, _) = act_on(alloc, book, &command)?;
     assert!(rt; found.as_str() == wanted);
     Ok(())
 }
