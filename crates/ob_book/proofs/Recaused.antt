@@ -1,5 +1,5 @@
 -- Which runs keep their cause where an entry is corrected: all that don't begin at its second.
-use Rattle.std.proofs.Common.{◌≡◌, ◌≢◌, ◌∙◌, sym, ap, refl, ℕ, suc, ◌+◌, ◌<◌, ◌≤◌, ◌==◌, ◌&&◌, nat_eq, Bool, true, false, not, cond, List, [], ◌∷◌, length, get_or, Option, Some, None, Result, Ok, Err, option_map, inl, inr, arith}
+use Rattle.std.proofs.Common.{◌≡◌, ◌∙◌, sym, ap, refl, ℕ, suc, ◌+◌, ◌<◌, ◌≤◌, ◌==◌, ◌&&◌, nat_eq, Bool, true, false, not, cond, List, [], ◌∷◌, length, get_or, Option, Some, None, Result, Ok, Err, option_map, inl, inr, arith}
 use Rattle.std.specs.List.{All, AllPairs, filter}
 use Rattle.std.specs.List.Sorted.{IsSearchInRange, IsBinarySearchResult}
 use Rattle.std.specs.Option.{IfSome, option_eq}
@@ -44,12 +44,8 @@ not_after runs i j d some rising l m =
       | inr from ↦ (let e : i ≡ j = omega (arith, l, from) in let same = ap (λ (k : ℕ). (get_or runs k d).since) e in omega (arith, same))
     ]
 
-pub ok_within : (runs : List Run) (r : Result ℕ ℕ) → IsSearchInRange r (length runs) → IfSome (result_ok r) (λ place. place < length runs)
-ok_within runs (Ok i) h = h
-ok_within runs (Err i) h = tt
-
 -- a run at another place begins at another second
-pub elsewhere : (runs : List Run) (second : ℕ) (r : Result ℕ ℕ) (k : ℕ) (d : Run) → All (λ r. r.since < r.until) runs → AllPairs (λ r s. r.until < s.since) runs
+elsewhere : (runs : List Run) (second : ℕ) (r : Result ℕ ℕ) (k : ℕ) (d : Run) → All (λ r. r.since < r.until) runs → AllPairs (λ r s. r.until < s.since) runs
     → IsSearchInRange r (length runs) → IsBinarySearchResult (λ s. nat_cmp s.since second) runs r → k < length runs → (result_ok r ≡ Some k → ⊥) → second ≡ (get_or runs k d).since → ⊥
 elsewhere runs second (Ok i) k d some rising range here l ne e =
     let range' : i < length runs = range in
