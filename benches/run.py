@@ -48,6 +48,7 @@ YEAR_TURNS = 2
 SMALL_YEARS = 20
 LATE_PAIRS = 500
 LATE_SHEETS = [5_000, 10_000, 20_000, 49_000]
+LATE_TURNS = 3
 ORDERS = ["rising", "falling", "random"]
 ORDER_CALLS = 5
 YEAR_SEED = 1
@@ -152,10 +153,10 @@ def measure_year(book, path, calls):
     return float(seconds), int(peak) / 1024, int(searches), int(total)
 
 
-def measure_years(book, path, calls=YEAR_CALLS):
-    """The same, the least of several processes."""
-    turns = [measure_year(book, path, calls) for _ in range(YEAR_TURNS)]
-    return min(turns)
+def measure_years(book, paths, calls=YEAR_CALLS, turns=YEAR_TURNS):
+    """The same of some years, each the least of several processes; the years take turns."""
+    measured = [[measure_year(book, path, calls) for path in paths] for _ in range(turns)]
+    return [min(of_year) for of_year in zip(*measured)]
 
 
 def measure_python_year(path):
@@ -218,8 +219,8 @@ def show_years():
     print("|---|---|---|---|---|---|---|---|---|---|")
     for entries in YEARS:
         path = year_text(entries)
-        proved, proved_peak, searches, total = measure_years("proved", path)
-        plain, plain_peak, _, plain_total = measure_years("plain", path)
+        [(proved, proved_peak, searches, total)] = measure_years("proved", [path])
+        [(plain, plain_peak, _, plain_total)] = measure_years("plain", [path])
         columns = [f"{entries:,}", f"{searches:,}", f"{proved:.2f}", f"{plain:.2f}", f"{proved / plain:.2f}"]
         python_peak = "-"
         if entries <= PYTHON_ENTRIES:
@@ -241,9 +242,7 @@ def show_late():
     print("|---|---|---|---|")
     for entries in LATE_SHEETS:
         paths = [year_text(entries), year_text(entries, late=LATE_PAIRS)]
-        proved, plain = (
-            [measure_years(book, path) for path in paths] for book in ["proved", "plain"]
-        )
+        proved, plain = (measure_years(book, paths, turns=LATE_TURNS) for book in ["proved", "plain"])
         commands = 2 * LATE_PAIRS
         columns = [f"{entries:,}", f"{(proved[1][2] - proved[0][2]) / commands:.0f}"]
         columns += [f"{(after[0] - before[0]) / commands * 1e3:.3f}" for before, after in [proved, plain]]
@@ -256,7 +255,7 @@ def show_connections():
     print("|---|---|---|---|---|---|")
     for order in ORDERS:
         path = year_text(0, order=order)
-        proved, plain = (measure_years(book, path, ORDER_CALLS) for book in ["proved", "plain"])
+        proved, plain = (measure_years(book, [path], ORDER_CALLS)[0] for book in ["proved", "plain"])
         columns = [order, f"{proved[0]:.3f}", f"{plain[0]:.3f}", f"{proved[0] / plain[0]:.2f}"]
         columns += [f"{proved[1]:.1f}", f"{plain[1]:.1f}"]
         print(f"| {' | '.join(columns)} |", flush=True)
