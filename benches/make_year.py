@@ -163,13 +163,13 @@ class Sheet:
         return [Entry(*step, cause, crew, self.entered(step[2])) for step in steps]
 
     def entered(self, second):
-        """The moment at which a switching is entered: at once, or late by hours, days or weeks."""
-        if self.rng.random() < 0.05:
-            return second + self.rng.choice([3_600, DAY, 7 * DAY, 28 * DAY]) * self.rng.random()
-        return second
+        """The moment at which a switching is entered: at once, or one in twenty late."""
+        return second + self.delay() if self.rng.random() < 0.05 else second
 
-    def later(self, moment):
-        return moment + 1 + self.rng.choice([3_600, DAY, 14 * DAY]) * self.rng.random()
+    def delay(self):
+        """Most that is late comes within hours, some within two days, one in ten within three weeks."""
+        (longest,) = self.rng.choices([4 * 3_600, 2 * DAY, 21 * DAY], weights=[6, 3, 1])
+        return 1 + longest * self.rng.random()
 
     def acts(self):
         """What is done, each with its moment: entries, corrections and withdrawals."""
@@ -178,14 +178,14 @@ class Sheet:
                 yield entry.moment, "enter", entry
             entered = max(entry.moment for entry in outage)
             if self.rng.random() < 0.01:
-                withdrawn = self.later(entered)
+                withdrawn = entered + self.delay()
                 for entry in self.rng.sample(outage, len(outage)):
                     withdrawn += 60
                     yield withdrawn, "withdraw", entry
                 continue
             for place, entry in enumerate(outage):
                 if self.rng.random() < 0.03:
-                    yield self.later(entered), "correct", (entry, outage[place ^ 1])
+                    yield entered + self.delay(), "correct", (entry, outage[place ^ 1])
 
     def lines(self):
         """The commands in the order of their moments."""
