@@ -102,8 +102,8 @@ impl Roll {
 
     /// Connects a customer. It is refused with `NameTaken` where its number is in use, else with
     /// `BadService` where its service ends no later than it begins, else with `Full` where there are
-    /// `MOST_CUSTOMERS`. It moves the customers of greater numbers, and the services behind its own on
-    /// one shelf.
+    /// `MOST_CUSTOMERS`. It moves the customers of greater numbers, at most 3.2 MB, and on one shelf
+    /// the services behind its own.
     pub fn connect(&mut self, customer: Customer) -> Result<(), Refusal>
         requires room { 0 < self.old.room }
         ensures refused { result_err result ≡ connect_refusal self.old.customers customer }

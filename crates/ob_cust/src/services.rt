@@ -1,6 +1,6 @@
 //! Services of sections in order, each once with how many have it, and the sums of those before it.
-ghost use Rattle.std.specs.Prelude.{◌≡◌, ◌<◌, ◌≤◌, ◌+◌, ◌*◌, ◌^◌, ℕ, Option, true, false, nat_lt, nat_le, length, take, slice_index_or, vec_len, IfOk, IfErr};
-ghost use Rattle.std.specs.List.{All, AllWithin};
+ghost use Rattle.std.specs.Prelude.{◌≡◌, ◌<◌, ◌≤◌, ◌+◌, ◌*◌, ◌^◌, ℕ, Option, true, false, nat_lt, nat_le, length, take, slice_index_or, IfOk, IfErr};
+ghost use Rattle.std.specs.List.{AllWithin};
 ghost use Rattle.std.specs.Vec.{vec_capacity};
 ghost use Rattle.std.specs.declared.cmp.Ordering.TheVariants.{Less, Greater};
 ghost use Rattle.ob_cust.specs.Services.{key, key_cmp, begins_before as is_begun, sum_of, customers_of, AreServices, IsServices, IsBefore, IsBeforeAt};
