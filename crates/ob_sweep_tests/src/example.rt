@@ -1,12 +1,17 @@
 //! Examples on a timeline: what is built, and what a change of the sheet does.
-ghost use Rattle.std.specs.Prelude.{◌≡◌, ◌≤◌, length};
+ghost use Rattle.std.specs.Prelude.{◌≡◌, ◌<◌, ◌≤◌, IfOk, length};
+ghost use Rattle.std.specs.List.{All};
+ghost use Rattle.ob_sheet.specs.Sheet.{NameDevices};
 ghost use Rattle.ob_sweep.specs.Deltas.{Fits};
+ghost use Rattle.ob_sweep.specs.Timeline.{AreRuns, LieBetween};
+ghost use Rattle.ob_time.specs.Calendar.{first_second_of, end_second_of};
 
 use crate::change::change_by;
 use crate::feeders::{NODES, feeders};
 use crate::sheet::sheet_of;
 use ob_command::read_body;
-use ob_net::Second;
+use ob_net::{Net, Second};
+use ob_sheet::Sheet;
 use ob_sweep::{Delta, Run, Scratch, Timeline, Windowed};
 use ob_time::Period;
 use std::alloc::Global;
@@ -86,6 +91,18 @@ fn shows<T: Timeline>(
     Ok(())
 }
 
+// The network, a day and its sheet.
+fn day_of(alloc: Global, script: Script) -> Result<(Net, Period, Sheet), Fail>
+    ensures devices { IfOk result (λ d. NameDevices (length d.0.network.devices) d.2.entries) }
+    ensures all { IfOk result (λ d. All (λ e. (first_second_of d.1 ≤ e.second) × (e.second < end_second_of d.1)) d.2.entries) }
+    ensures between { IfOk result (λ d. LieBetween (first_second_of d.1) (end_second_of d.1) d.2.entries) }
+{
+    let net = feeders(alloc)?;
+    let period = Period::from_text(alloc, script.0, 1, b"UTC0")?;
+    let sheet = sheet_of(alloc, &net, &period, script.1)?;
+    Ok((net, period, sheet))
+}
+
 fn build<T: Timeline>(
     rt: &impl Abort,
     alloc: Global,
@@ -93,9 +110,7 @@ fn build<T: Timeline>(
     searches: u128,
     wanted: &str,
 ) -> Result<(), Fail> {
-    let mut net = feeders(alloc)?;
-    let period = Period::from_text(alloc, script.0, 1, b"UTC0")?;
-    let sheet = sheet_of(alloc, &net, &period, script.1)?;
+    let (mut net, period, sheet) = day_of(alloc, script)?;
     let timeline = T::build(alloc, &mut net, &sheet, &period)?;
     assert!(rt; net.nodes() == 6 && net.searches() == searches);
     let day = (period.first_second(), period.end_second());
@@ -142,6 +157,27 @@ fn adopt<T: Timeline>(
     Ok(())
 }
 
+// What the command with a body text alters.
+fn plan_asked<T: Timeline>(
+    alloc: Global,
+    net: &mut Net,
+    sheet: &Sheet,
+    period: &Period,
+    timeline: &T,
+    body: &str,
+) -> Result<Delta, Fail>
+    requires runs { AreRuns net.old.network sheet.now.entries (first_second_of period.now) (end_second_of period.now) (T.content timeline.now) }
+    requires devices { NameDevices (length net.old.network.devices) sheet.now.entries }
+    requires all { All (λ e. (first_second_of period.now ≤ e.second) × (e.second < end_second_of period.now)) sheet.now.entries }
+    requires between { LieBetween (first_second_of period.now) (end_second_of period.now) sheet.now.entries }
+    ensures fits { IfOk result (λ delta. Fits (T.content timeline.now) delta) }
+{
+    let command = read_body(body.as_bytes()).ok_or("a command")?;
+    let change = change_by(net, sheet, period, &command).ok_or("a change")?;
+    let delta = timeline.plan(alloc, net, sheet, period, &change)?;
+    Ok(delta)
+}
+
 fn change<T: Timeline>(
     rt: &impl Abort,
     alloc: Global,
@@ -150,15 +186,11 @@ fn change<T: Timeline>(
     searches: u128,
     effect: &Effect,
 ) -> Result<(), Fail> {
-    let mut net = feeders(alloc)?;
-    let period = Period::from_text(alloc, script.0, 1, b"UTC0")?;
-    let sheet = sheet_of(alloc, &net, &period, script.1)?;
+    let (mut net, period, sheet) = day_of(alloc, script)?;
     let mut timeline = T::build(alloc, &mut net, &sheet, &period)?;
-    let command = read_body(body.as_bytes()).ok_or("a command")?;
-    let change = change_by(&net, &sheet, &period, &command).ok_or("a change")?;
     assert!(rt; net.nodes() == 6);
     let before = net.searches();
-    let delta = timeline.plan(alloc, &mut net, &sheet, &period, &change)?;
+    let delta = plan_asked(alloc, &mut net, &sheet, &period, &timeline, body)?;
     assert!(rt; net.searches().checked_sub(before) == Some(searches));
     adopt(rt, alloc, &mut timeline, delta, effect.touched)?;
     let day = (period.first_second(), period.end_second());
