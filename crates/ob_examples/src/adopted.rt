@@ -18,13 +18,22 @@ fn take(rt: &impl Abort, alloc: Global, book: &mut Book<Counting>, line: &str) -
     Ok(())
 }
 
-// A book of the two feeders.
-fn counting_book(rt: &impl Abort, alloc: Global) -> Result<Book<Counting>, Fail> {
-    let period = Period::from_text(alloc, b"2024-01-01", 1, b"UTC0")?;
-    let mut book = Book::new(alloc, period)?;
-    for line in TWO_FEEDERS.lines() {
-        take(rt, alloc, &mut book, line)?;
+fn take_all(
+    rt: &impl Abort,
+    alloc: Global,
+    book: &mut Book<Counting>,
+    script: &str,
+) -> Result<(), Fail> {
+    for line in script.lines() {
+        take(rt, alloc, book, line)?;
     }
+    Ok(())
+}
+
+// A book of one day.
+fn counting_book(alloc: Global) -> Result<Book<Counting>, Fail> {
+    let period = Period::from_text(alloc, b"2024-01-01", 1, b"UTC0")?;
+    let book = Book::new(alloc, period)?;
     Ok(book)
 }
 
@@ -43,31 +52,42 @@ fn adopts(
     Ok(())
 }
 
+// The same for the lines of two scripts, one after the other, on the two feeders.
+fn adopts_both(
+    rt: &impl Abort,
+    alloc: Global,
+    book: &mut Book<Counting>,
+    first: &str,
+    then: &str,
+) -> Result<(), Fail> {
+    take_all(rt, alloc, book, TWO_FEEDERS)?;
+    adopts(rt, alloc, book, first)?;
+    adopts(rt, alloc, book, then)
+}
+
+fn adopts_after(rt: &impl Abort, alloc: Global, first: &str, then: &str) -> Result<(), Fail> {
+    let mut book = counting_book(alloc)?;
+    adopts_both(rt, alloc, &mut book, first, then)
+}
+
 #[test]
 fn an_opening_entered_late(rt: HostRuntime) -> Result<(), Fail> {
-    let mut book = counting_book(&rt, rt.alloc())?;
-    adopts(&rt, rt.alloc(), &mut book, OUTAGE)?;
-    adopts(&rt, rt.alloc(), &mut book, OPENED_BEFORE)
+    adopts_after(&rt, rt.alloc(), OUTAGE, OPENED_BEFORE)
 }
 
 #[test]
 fn a_closing_corrected(rt: HostRuntime) -> Result<(), Fail> {
-    let mut book = counting_book(&rt, rt.alloc())?;
-    adopts(&rt, rt.alloc(), &mut book, OUTAGE)?;
     let line = "correct 4 1 close 1704073800 3 K1 => cause 3 -1200, feeder 1 -1200, day 0 -1200";
-    adopts(&rt, rt.alloc(), &mut book, line)
+    adopts_after(&rt, rt.alloc(), OUTAGE, line)
 }
 
 #[test]
 fn a_run_that_goes_on_past_the_next_entry(rt: HostRuntime) -> Result<(), Fail> {
-    let mut book = counting_book(&rt, rt.alloc())?;
-    adopts(&rt, rt.alloc(), &mut book, RELABELLED)
+    adopts_after(&rt, rt.alloc(), "", RELABELLED)
 }
 
 #[test]
 fn a_closing_withdrawn(rt: HostRuntime) -> Result<(), Fail> {
-    let mut book = counting_book(&rt, rt.alloc())?;
-    adopts(&rt, rt.alloc(), &mut book, OUTAGE)?;
     let line = "withdraw 3 1 => cause 3 246600, feeder 1 246600, day 0 246600";
-    adopts(&rt, rt.alloc(), &mut book, line)
+    adopts_after(&rt, rt.alloc(), OUTAGE, line)
 }
