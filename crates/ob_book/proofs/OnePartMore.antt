@@ -6,14 +6,14 @@ use Rattle.std.proofs.lemmas.Bool.{cases_eq, cases_lt, eq-eqb, false≢true}
 use Rattle.std.proofs.Math.Seq.{take-append_seam}
 use Rattle.std.proofs.lemmas.List.Elements.{All-head, All-tail}
 use Rattle.std.proofs.lemmas.List.Sums.{sum_by-cons}
-use Rattle.ob_net.specs.declared.Pos.{Pos}
+use Rattle.ob_base.specs.declared.Pos.{Pos}
 use Rattle.ob_net.specs.declared.net.Device.{Device}
 use Rattle.ob_net.specs.declared.net.Node.{Node}
-use Rattle.ob_net.specs.declared.stop.Refusal.{Refusal}
-use Rattle.ob_net.specs.declared.stop.Refusal.TheVariants.{Full, NameTaken}
+use Rattle.ob_base.specs.declared.stop.Refusal.{Refusal}
+use Rattle.ob_base.specs.declared.stop.Refusal.TheVariants.{Full, NameTaken}
 use Rattle.ob_net.specs.declared.TheConstants.{MOST_NODES}
 use Rattle.ob_net.specs.Network.{IsNetwork, home_feeder, node_of, node_refusal, with_device, with_node}
-use Rattle.ob_net.specs.Seconds.{seconds}
+use Rattle.ob_base.specs.Seconds.{seconds}
 use Rattle.ob_net.specs.Walk.{is_supplied}
 use Rattle.ob_sheet.specs.Supply.{is_deenergized}
 use Rattle.ob_cust.specs.declared.Customer.{Customer}

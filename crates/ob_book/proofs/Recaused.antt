@@ -10,8 +10,8 @@ use Rattle.std.proofs.lemmas.Bool.Decides.{nat_tests}
 use Rattle.std.proofs.lemmas.Cmp.{ranked}
 use Rattle.std.proofs.lemmas.List.Elements.{All-cons, All-filter, All-head, All-map, All-tail, filter_passes}
 use Rattle.ob_net.specs.Network.{Network}
-use Rattle.ob_net.specs.declared.interval.Interval.{Interval}
-use Rattle.ob_net.specs.Seconds.{intervals}
+use Rattle.ob_base.specs.declared.interval.Interval.{Interval}
+use Rattle.ob_base.specs.Seconds.{intervals}
 use Rattle.ob_sheet.specs.declared.Entry.{Entry}
 use Rattle.ob_sheet.specs.Order.{before, entry_of, greatest, through}
 use Rattle.ob_sheet.specs.Sheet.{AreNumbered}

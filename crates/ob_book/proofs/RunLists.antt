@@ -7,7 +7,7 @@ use Rattle.std.proofs.lemmas.Bool.{cases_lt}
 use Rattle.std.proofs.lemmas.List.{get_or_append_left, get_or-append-add, get_or_default}
 use Rattle.std.proofs.lemmas.List.Sorted.{searched}
 use Rattle.std.proofs.lemmas.List.Sums.{sum_by-append, sum_by-cons}
-use Rattle.ob_net.specs.declared.interval.Interval.{Interval}
+use Rattle.ob_base.specs.declared.interval.Interval.{Interval}
 use Rattle.ob_sheet.specs.declared.Entry.{Entry}
 use Rattle.ob_cust.specs.declared.Customer.{Customer}
 use Rattle.ob_sweep.specs.declared.Run.{Run}

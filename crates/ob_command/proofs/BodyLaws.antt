@@ -11,13 +11,13 @@ use Rattle.jiff.specs.Types.{Date}
 use Rattle.jiff.specs.Words.{date_parts, date_text}
 use Rattle.jiff_fmt.specs.Temporal.{DateParts}
 use Rattle.jiff_fmt.specs.Text.{pad2, year_text}
-use Rattle.ob_net.specs.declared.Pos.{Pos}
-use Rattle.ob_net.specs.declared.Pos.TheVariants.{Opened, Closed}
-use Rattle.ob_net.specs.declared.TheConstants.{LAST_SECOND}
-use Rattle.ob_net.specs.declared.stop.Refusal.{Refusal}
-use Rattle.ob_net.specs.declared.stop.Refusal.TheVariants.{BadField}
-use Rattle.ob_net.specs.Fields.{act_in, normal_in, cause_in, serial_in}
-use Rattle.ob_net.specs.Identifier.{is_identifier, is_identifier_byte}
+use Rattle.ob_base.specs.declared.Pos.{Pos}
+use Rattle.ob_base.specs.declared.Pos.TheVariants.{Opened, Closed}
+use Rattle.ob_base.specs.declared.TheConstants.{LAST_SECOND}
+use Rattle.ob_base.specs.declared.stop.Refusal.{Refusal}
+use Rattle.ob_base.specs.declared.stop.Refusal.TheVariants.{BadField}
+use Rattle.ob_base.specs.Fields.{act_in, normal_in, cause_in, serial_in}
+use Rattle.ob_base.specs.Identifier.{is_identifier, is_identifier_byte}
 use Rattle.ob_time.specs.Moment.{IsDateText}
 use Rattle.ob_command.specs.Ranges.{EndNames, end_names, IsCauseCode, IsFeederNumber, IsSerial, IsMoment, IsCivilDate}
 use Rattle.ob_command.specs.Commands.{BodiesDiffer, act_text, normal_text, until_text, words, body_text, AreEndsOfDevice, IsName, IsCrew, IsEnd, IsCommand}

@@ -8,11 +8,11 @@ use Rattle.std.proofs.lemmas.Bool.{false_from_ne_true, ne_eqb, lt-ltb, le-leb, c
 use Rattle.std.proofs.lemmas.Fmt.{decimal_digit, decimal_nonempty, length-decimal-le, first_decimal, digits_decimal, digits_value-decimal, decimal-digits_value}
 use Rattle.std.proofs.lemmas.Slice.Eq.{bytes_eq-Decides}
 use Rattle.std.proofs.lemmas.Str.Parse.{IsNumeralModel, numerals_by_fold}
-use Rattle.ob_net.specs.declared.Pos.{Pos}
-use Rattle.ob_net.specs.declared.Pos.TheVariants.{Opened, Closed}
-use Rattle.ob_net.specs.declared.TheConstants.{LAST_SECOND}
-use Rattle.ob_net.specs.Fields.{value_of, value_after, is_number, number_in, act_in, normal_in, cause_in, feeder_in, serial_in, unix_second_in}
-use Rattle.ob_net.specs.Identifier.{is_identifier, identifier_in}
+use Rattle.ob_base.specs.declared.Pos.{Pos}
+use Rattle.ob_base.specs.declared.Pos.TheVariants.{Opened, Closed}
+use Rattle.ob_base.specs.declared.TheConstants.{LAST_SECOND}
+use Rattle.ob_base.specs.Fields.{value_of, value_after, is_number, number_in, act_in, normal_in, cause_in, feeder_in, serial_in, unix_second_in}
+use Rattle.ob_base.specs.Identifier.{is_identifier, identifier_in}
 use Rattle.ob_command.specs.Commands.{act_text, normal_text, until_text, IsEnd}
 use Rattle.ob_command.specs.Ranges.{IsCauseCode, IsFeederNumber, IsSerial, IsMoment}
 use Rattle.ob_command.specs.Spellings.{leads_zero, end_as, number_as}

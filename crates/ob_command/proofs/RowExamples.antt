@@ -1,7 +1,7 @@
 -- Worked examples of rows.
 use Rattle.std.proofs.Common.{refl, inl, inr, [], ◌∷◌, Some, Ok, Err, codes, arith}
-use Rattle.ob_net.specs.declared.stop.Refusal.TheVariants.{BadField}
-use Rattle.ob_net.specs.declared.Pos.TheVariants.{Opened}
+use Rattle.ob_base.specs.declared.stop.Refusal.TheVariants.{BadField}
+use Rattle.ob_base.specs.declared.Pos.TheVariants.{Opened}
 use Rattle.ob_time.specs.Moment.{IsSecondText}
 use Rattle.ob_command.specs.Fields.{IsRow}
 use Rattle.ob_command.specs.Spellings.{Gives}

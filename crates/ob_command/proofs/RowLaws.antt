@@ -1,8 +1,8 @@
 -- A row says one thing.
 use Rattle.std.proofs.Common.{◌≡◌, ◌∙◌, ap, ap₂, sym, refl, ℕ, List, [], ◌∷◌, Option, Some, None, Result, Err}
-use Rattle.ob_net.specs.Identifier.{identifier_in}
-use Rattle.ob_net.specs.declared.stop.Refusal.{Refusal}
-use Rattle.ob_net.specs.declared.stop.Refusal.TheVariants.{BadField}
+use Rattle.ob_base.specs.Identifier.{identifier_in}
+use Rattle.ob_base.specs.declared.stop.Refusal.{Refusal}
+use Rattle.ob_base.specs.declared.stop.Refusal.TheVariants.{BadField}
 use Rattle.ob_time.specs.Moment.{IsDateText, IsSecondText}
 use Rattle.ob_command.specs.Fields.{connect_of, revise_of, switch_of, correct_of, mark_of, unmark_of, kind_in, referred, AreFieldsOf, IsOfKind, IsReferred, RowsSayOneThing}
 use Rattle.ob_command.specs.Spellings.{end_as, Gives, IsMomentAs}

@@ -2,10 +2,10 @@
 use Rattle.std.specs.Prelude.{◌≡◌, ℕ, ◌+◌, List, [], ◌∷◌, Option, Some, None, Result, Ok, Err, codes, if◌then◌else◌}
 use Rattle.std.specs.Str.{bytes_eq}
 use Rattle.jiff.specs.Types.{Date}
-use Rattle.ob_net.specs.Fields.{act_in, cause_in, feeder_in, normal_in, serial_in}
-use Rattle.ob_net.specs.Identifier.{identifier_in}
-use Rattle.ob_net.specs.declared.stop.Refusal.{Refusal}
-use Rattle.ob_net.specs.declared.stop.Refusal.TheVariants.{BadField}
+use Rattle.ob_base.specs.Fields.{act_in, cause_in, feeder_in, normal_in, serial_in}
+use Rattle.ob_base.specs.Identifier.{identifier_in}
+use Rattle.ob_base.specs.declared.stop.Refusal.{Refusal}
+use Rattle.ob_base.specs.declared.stop.Refusal.TheVariants.{BadField}
 use Rattle.ob_time.specs.Moment.{IsDateText}
 use Rattle.ob_command.specs.Spellings.{crew_in, end_as, ends_from, name_in, number_as, Gives, IsMomentAs}
 use Rattle.ob_command.specs.declared.command.Command.{Command}

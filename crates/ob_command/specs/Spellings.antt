@@ -1,8 +1,8 @@
 -- Single fields as texts: what a row may spell freely has one spelling in a body.
 use Rattle.std.specs.Prelude.{◌≡◌, ◌↔◌, ℕ, ◌==◌, Bool, false, List, [], ◌∷◌, Option, Some, None, option_map, option_and_then, codes, if◌then◌else◌}
 use Rattle.std.specs.Str.{bytes_eq}
-use Rattle.ob_net.specs.Fields.{unix_second_in}
-use Rattle.ob_net.specs.Identifier.{identifier_in}
+use Rattle.ob_base.specs.Fields.{unix_second_in}
+use Rattle.ob_base.specs.Identifier.{identifier_in}
 use Rattle.ob_time.specs.Moment.{IsSecondText}
 use Rattle.ob_command.specs.Ranges.{EndNames, end_names}
 use Rattle.ob_command.specs.declared.spelling.Spelling.{Spelling}

@@ -6,7 +6,7 @@ ghost use Rattle.ob_command.specs.Spellings.{end_as, ends_from};
 use crate::kind::Kind;
 use crate::spelling::Spelling;
 use crate::{CivilDate, Command, Ends, Moment};
-use ob_net::{Crew, Name, Refusal, read_act, read_normal};
+use ob_base::{Crew, Name, Refusal, read_act, read_normal};
 
 /// The six fields after the kind, columns 3 to 8; those that a kind doesn't name are empty.
 #[derive(Clone, Copy)]

@@ -6,7 +6,7 @@ use crate::Command;
 use crate::fields::{Fields, read_fields};
 use crate::kind::Kind;
 use crate::spelling::Spelling;
-use ob_net::{Ref, Refusal};
+use ob_base::{Ref, Refusal};
 
 /// Reads the reference and the command of a row's eight fields: the kind, the reference and the
 /// kind's fields, where those that the kind doesn't name are empty. The refusal is `BadField` of

@@ -1,11 +1,11 @@
 //! Reading single fields: what a row may spell freely has one spelling in a body.
 ghost use Rattle.std.specs.Prelude.{◌≡◌};
-ghost use Rattle.ob_net.specs.Fields.{cause_in, feeder_in, serial_in, unix_second_in};
+ghost use Rattle.ob_base.specs.Fields.{cause_in, feeder_in, serial_in, unix_second_in};
 ghost use Rattle.ob_command.specs.Spellings.{end_as, is_misspelled, leads_zero, number_as, no_end, IsMomentAs};
 ghost use Rattle.ob_command.specs.declared.spelling.Spelling.TheVariants.{Body};
 
 use crate::{CauseCode, FeederNumber, Moment, Serial};
-use ob_net::read_unix_second;
+use ob_base::read_unix_second;
 
 /// How the fields of a command are spelled.
 #[derive(Clone, Copy)]

@@ -2,7 +2,7 @@
 //! those of the fields.
 use super::*;
 use jiff::civil::Date;
-use ob_net::{LAST_SECOND, Name, Refusal};
+use ob_base::{LAST_SECOND, Name, Refusal};
 use std::alloc::Global;
 use std::process::Abort;
 use std::test::Fail;

@@ -11,7 +11,7 @@ mod service;
 mod services;
 mod shelf;
 
-use ob_net::Second;
+use ob_base::Second;
 pub use roll::Roll;
 
 /// A customer of a section, in service from `since` up to `until`, or without end.

@@ -8,7 +8,7 @@ ghost use Rattle.ob_cust.specs.Shelves.{AreShelves, HasRoom, IsEmpty, IsRoomier}
 use crate::service::is_bad_service;
 use crate::shelf::Shelf;
 use crate::{Block, Customer, MOST_CUSTOMERS, SectionBlock};
-use ob_net::{Refusal, Second, Stop};
+use ob_base::{Refusal, Second, Stop};
 use std::alloc::{AllocError, Global};
 use std::marker::Model;
 
@@ -46,8 +46,8 @@ impl Roll {
     ghost use Rattle.std.specs.List.{All, AllPairs, Any, count_by, find, sum_by};
     ghost use Rattle.std.specs.declared.cmp.Ordering.TheVariants.{Less};
     ghost use Rattle.std.specs.Result.{result_err};
-    ghost use Rattle.ob_net.specs.declared.TheConstants.{LAST_SECOND};
-    ghost use Rattle.ob_net.specs.Stop.{out_of_memory};
+    ghost use Rattle.ob_base.specs.declared.TheConstants.{LAST_SECOND};
+    ghost use Rattle.ob_base.specs.Stop.{out_of_memory};
     ghost use Rattle.ob_cust.specs.Blocks.{has_service, service_cmp, service_of, sum_over_blocks, sum_over_customers};
     ghost use Rattle.ob_cust.specs.Roll.{connect_refusal, is_bad_service, revise_refusal, with_customer, with_service};
     ghost use Rattle.ob_cust.specs.Service.{served_seconds as served};
@@ -302,7 +302,7 @@ fn place_of(customers: &[Customer], no: u32) -> Result<usize, usize>
 #[cfg(test)]
 mod tests {
     use super::*;
-    use ob_net::LAST_SECOND;
+    use ob_base::LAST_SECOND;
     use std::test::Fail;
 
     fn service(no: u32, section: u16, since: Second, until: Option<Second>) -> Customer {

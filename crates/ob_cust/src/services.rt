@@ -6,7 +6,7 @@ ghost use Rattle.std.specs.declared.cmp.Ordering.TheVariants.{Less, Greater};
 ghost use Rattle.ob_cust.specs.Services.{key, key_cmp, begins_before as is_begun, sum_of, customers_of, AreServices, IsServices, IsBefore, IsBeforeAt};
 
 use crate::{Block, MOST_CUSTOMERS, SectionBlock};
-use ob_net::Second;
+use ob_base::Second;
 use std::alloc::{AllocError, Global};
 use std::marker::Model;
 

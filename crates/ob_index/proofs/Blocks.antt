@@ -2,7 +2,7 @@
 use Rattle.std.proofs.Common.{◌≡◌, ℕ, ◌+◌, ◌*◌, ◌^◌, ◌<◌, ◌≤◌, cond, Bool, true, false, List, [], ◌∷◌, Option, length, get_or, take, map, slice_index, refl, sym, ◌∙◌, ap, mul-le-mul, arith}
 use Rattle.std.specs.List.{All, count_by, sum_by}
 use Rattle.std.proofs.lemmas.List.Sums.{sum_by-cons, sum_by_more, sum_by_more_le, sum_by-le-sum_by}
-use Rattle.ob_net.specs.Seconds.{seconds}
+use Rattle.ob_base.specs.Seconds.{seconds}
 use Rattle.ob_cust.specs.Blocks.{sum_over_blocks}
 use Rattle.ob_cust.specs.declared.Block.{Block}
 use Rattle.ob_cust.specs.declared.Customer.{Customer}

@@ -1,7 +1,7 @@
 -- What the customers of a section's blocks add to the counts.
 use Rattle.std.specs.Prelude.{ℕ, ◌*◌, List, Option}
 use Rattle.std.specs.List.{count_by, sum_by}
-use Rattle.ob_net.specs.Seconds.{seconds}
+use Rattle.ob_base.specs.Seconds.{seconds}
 use Rattle.ob_cust.specs.declared.Customer.{Customer}
 use Rattle.ob_cust.specs.declared.SectionBlock.{SectionBlock}
 use Rattle.ob_cust.specs.Service.{in_service}

@@ -1,13 +1,13 @@
 //! The reliability indices, over all interruptions and over the unmarked ones.
 ghost use Rattle.std.specs.Prelude.{◌≡◌, map, IfOk, IfErr};
-ghost use Rattle.ob_net.specs.Stop.{out_of_memory};
+ghost use Rattle.ob_base.specs.Stop.{out_of_memory};
 ghost use Rattle.serde_json.specs.Data.{array};
 ghost use Rattle.serde_json.specs.View.{view, items_of};
 ghost use Rattle.ob_json.specs.Indices.{index_data, indices_data, both_data};
 ghost use Rattle.ob_json.specs.Indices as definition;
 
 use ob_index::{Fraction, Indices};
-use ob_net::Stop;
+use ob_base::Stop;
 use serde_json::{Value, json};
 use std::alloc::{AllocError, Global};
 

@@ -1,7 +1,7 @@
 //! The totals: the customer-seconds without supply by cause, day and home feeder.
 ghost use Rattle.std.specs.Prelude.{◌≡◌, ◌≤◌, ◌<◌, ◌-◌, ℕ, [], ◌∷◌, ◌++◌, map, IfOk, IfErr, OnOk};
 ghost use Rattle.std.specs.List.{filter, range_with_len};
-ghost use Rattle.ob_net.specs.Stop.{out_of_memory};
+ghost use Rattle.ob_base.specs.Stop.{out_of_memory};
 ghost use Rattle.ob_post.specs.Keys.{IsKey, keys};
 ghost use Rattle.ob_post.specs.Postings.{amount_of, day_count, total_of};
 ghost use Rattle.ob_post.specs.declared.Dim.TheVariants.{Day as Total};
@@ -9,7 +9,7 @@ ghost use Rattle.serde_json.specs.View.{view};
 ghost use Rattle.ob_json.specs.Totals.{has_amount, row_data, rows_data, totals_data};
 ghost use Rattle.ob_json.specs.Totals as definition;
 
-use ob_net::Stop;
+use ob_base::Stop;
 use ob_post::{Dim, Postings};
 use serde_json::{Value, json};
 use std::alloc::{AllocError, Global};

@@ -1,5 +1,5 @@
 -- A network stays one where the last node is taken back, which no device joins.
-use Rattle.std.proofs.Common.{◌≡◌, ◌≢◌, ℕ, ◌-◌, ◌<◌, ◌≤◌, List, [], ◌∷◌, Some, length, take, slice_get, zero, suc, arith, length-take}
+use Rattle.std.proofs.Common.{◌≡◌, ◌≢◌, ℕ, ◌-◌, ◌<◌, List, [], ◌∷◌, Some, length, take, slice_get, zero, suc, arith, length-take}
 use Rattle.std.specs.List.{All, AllPairs}
 use Rattle.std.proofs.lemmas.List.{get_or-take}
 use Rattle.std.proofs.lemmas.List.Elements.{All-take}

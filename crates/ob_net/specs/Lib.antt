@@ -1,10 +1,4 @@
-pub mod Fields
 pub mod Forest
-pub mod Identifier
 pub mod Network
 pub mod Reach
-pub mod Seconds
-pub mod Stop
-pub mod Streams
 pub mod Walk
-pub mod Watching

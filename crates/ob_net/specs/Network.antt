@@ -5,10 +5,9 @@ use Rattle.std.specs.Str.{bytes_eq}
 use Rattle.std.specs.Option.{option_and_then}
 use Rattle.ob_net.specs.declared.net.Node.{Node}
 use Rattle.ob_net.specs.declared.net.Device.{Device}
-use Rattle.ob_net.specs.declared.Pos.{Pos}
-use Rattle.ob_net.specs.declared.stop.Refusal.{Refusal}
-use Rattle.ob_net.specs.declared.stop.Refusal.TheVariants.{UnknownName, NameTaken, Full}
-use Rattle.ob_net.specs.declared.TheConstants.{MOST_NODES, MOST_DEVICES}
+use Rattle.ob_base.specs.declared.Pos.{Pos}
+use Rattle.ob_base.specs.declared.stop.Refusal.{Refusal}
+use Rattle.ob_base.specs.declared.stop.Refusal.TheVariants.{UnknownName, NameTaken, Full}
 
 -- a node's number is its place among the nodes, and a device's its place among the devices; GRID is node 0
 pub record Network : Type 0 where
@@ -40,8 +39,8 @@ pub record IsNetwork (net : Network) : Type 0 where
   pub distinct_devices : AllPairs (λ c d. c.name ≢ d.name) net.devices
   pub feeders : All HasFeederOrNone net.nodes
   pub joins : All (JoinsTwo (length net.nodes)) net.devices
-  pub few_nodes : length net.nodes ≤ MOST_NODES
-  pub few_devices : length net.devices ≤ MOST_DEVICES
+  pub few_nodes : length net.nodes ≤ 1024
+  pub few_devices : length net.devices ≤ 2048
 
 -- the network, how often it was searched, and how many nodes and devices it takes without memory
 pub record NetState : Type 0 where
@@ -61,7 +60,7 @@ device_of net name = position (λ d. bytes_eq d.name name) net.devices
 -- why no node with the name can be added
 abbrev pub node_refusal : Network → List ℕ → Option Refusal
 node_refusal net name =
-    if is_some (node_of net name) then Some NameTaken else if length net.nodes == MOST_NODES then Some (Full MOST_NODES) else None
+    if is_some (node_of net name) then Some NameTaken else if length net.nodes == 1024 then Some (Full 1024) else None
 
 -- the network with one more node
 abbrev pub with_node : Network → Node → Network
@@ -76,7 +75,7 @@ abbrev pub device_refusal : Network → List ℕ → List ℕ → List ℕ → O
 device_refusal net name a b =
     if is_none (node_of net a) || is_none (node_of net b) then Some UnknownName else
     if is_some (device_of net name) then Some NameTaken else
-    if length net.devices == MOST_DEVICES then Some (Full MOST_DEVICES) else None
+    if length net.devices == 2048 then Some (Full 2048) else None
 
 -- the network with one more device between the named nodes
 abbrev pub with_device : Network → List ℕ → List ℕ → List ℕ → Pos → Network

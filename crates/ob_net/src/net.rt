@@ -3,19 +3,20 @@ ghost use Rattle.std.specs.List.{position};
 ghost use Rattle.std.specs.Str.{bytes_eq};
 
 use crate::search::connected;
-use crate::{MOST_DEVICES, MOST_NODES, Name, Pos, Refusal, Stop};
+use crate::{MOST_DEVICES, MOST_NODES};
+use ob_base::{Name, Pos, Refusal, Stop};
 use std::alloc::{AllocError, Global};
 use std::marker::Model;
 
 /// A node by its name, and its home feeder where it is a section.
-#[derive(Clone, Copy, Debug)]
+#[derive(Clone, Copy)]
 pub struct Node {
     pub name: Name,
     pub feeder: Option<u8>,
 }
 
 /// A switching device by its two ends.
-#[derive(Clone, Copy, Debug)]
+#[derive(Clone, Copy)]
 pub struct Device {
     pub name: Name,
     pub a: u16,
@@ -55,7 +56,7 @@ impl Net {
     ghost use Rattle.std.specs.Prelude.{◌≤◌, ◌≢◌, OnErr, slice_get};
     ghost use Rattle.std.specs.Result.{result_err};
     ghost use Rattle.ob_net.specs.Network.{HasFeederOrNone, IsNetwork, JoinsTwo, grid_alone, home_feeder, node_of, device_of, node_refusal, with_node, without_last_node, device_refusal, with_device, without_last_device};
-    ghost use Rattle.ob_net.specs.Stop.{out_of_memory};
+    ghost use Rattle.ob_base.specs.Stop.{out_of_memory};
     ghost use Rattle.ob_net.specs.Walk.{is_supplied, IsSupplied};
 
     /// A network of GRID alone.

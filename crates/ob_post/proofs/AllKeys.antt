@@ -9,8 +9,8 @@ use Rattle.std.proofs.lemmas.List.FromFn.{length-range_with_len, get_or-range_wi
 use Rattle.std.proofs.lemmas.List.Sums.{sum_by-cons, sum_by-le, count_by-le-length}
 use Rattle.std.proofs.lemmas.Option.{get_or_from_slice_get, slice_get_within}
 use Rattle.ob_net.specs.Network.{Network, IsNetwork, HasFeederOrNone, home_feeder}
-use Rattle.ob_net.specs.Seconds.{seconds}
-use Rattle.ob_net.specs.declared.interval.Interval.{Interval}
+use Rattle.ob_base.specs.Seconds.{seconds}
+use Rattle.ob_base.specs.declared.interval.Interval.{Interval}
 use Rattle.ob_net.specs.declared.net.Node.{Node}
 use Rattle.ob_sheet.specs.declared.Entry.{Entry}
 use Rattle.ob_sheet.specs.Order.{cause_of}

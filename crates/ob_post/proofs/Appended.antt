@@ -4,7 +4,7 @@ use Rattle.std.proofs.Math.Seq.{take-append_seam}
 use Rattle.std.proofs.lemmas.Int.{ints}
 use Rattle.std.proofs.lemmas.List.{append_assoc, append-nil, take-append-drop, get_or-map, take_all}
 use Rattle.std.proofs.lemmas.List.Sums.{sum_by_more}
-use Rattle.ob_net.specs.declared.interval.Interval.{Interval}
+use Rattle.ob_base.specs.declared.interval.Interval.{Interval}
 use Rattle.ob_sheet.specs.declared.Entry.{Entry}
 use Rattle.ob_cust.specs.declared.Customer.{Customer}
 use Rattle.ob_sweep.specs.declared.Run.{Run}

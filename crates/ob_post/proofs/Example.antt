@@ -1,12 +1,12 @@
 -- The worked feeder with a tie, at a hundredth of its times: 100 seconds, B1 open at 36, W1 open and T1 closed at 42,
 -- B1 closed at 72. S1, where two customers are, is without supply from 36 up to 72; S2, where three are, until 42.
 use Rattle.std.proofs.Common.{◌≡◌, ℕ, List, [], ◌∷◌, refl, Option, Some, None, true, codes}
-use Rattle.ob_net.specs.declared.Pos.{Pos}
-use Rattle.ob_net.specs.declared.Pos.TheVariants.{Opened, Closed}
+use Rattle.ob_base.specs.declared.Pos.{Pos}
+use Rattle.ob_base.specs.declared.Pos.TheVariants.{Opened, Closed}
 use Rattle.ob_net.specs.declared.net.Node.{Node}
 use Rattle.ob_net.specs.declared.net.Device.{Device}
 use Rattle.ob_net.specs.Network.{Network}
-use Rattle.ob_net.specs.Seconds.{seconds}
+use Rattle.ob_base.specs.Seconds.{seconds}
 use Rattle.ob_net.specs.Walk.{is_supplied, is_connected}
 use Rattle.ob_sheet.specs.Supply.{is_deenergized}
 use Rattle.ob_sheet.specs.declared.Entry.{Entry}

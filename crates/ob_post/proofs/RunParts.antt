@@ -5,8 +5,8 @@ use Rattle.std.proofs.lemmas.Bool.{cases_Bool, cases_lt, and_right, ne_eqb, true
 use Rattle.std.proofs.lemmas.List.FromFn.{length-range_with_len, get_or-range_with_len}
 use Rattle.std.proofs.lemmas.List.Folds.{list_all_at}
 use Rattle.std.proofs.lemmas.List.Sums.{sum_by-cons, prefix_len-le-length, prefix_len_passes, list_all-from_AllPass}
-use Rattle.ob_net.specs.Seconds.{seconds, starts_at, interval_from, intervals}
-use Rattle.ob_net.specs.declared.interval.Interval.{Interval}
+use Rattle.ob_base.specs.Seconds.{seconds, starts_at, interval_from, intervals}
+use Rattle.ob_base.specs.declared.interval.Interval.{Interval}
 use Rattle.ob_post.proofs.Sums.{sum_by-map}
 
 -- the sum over the interval from s on

@@ -9,7 +9,7 @@ use Rattle.std.proofs.lemmas.List.Elements.{All-append, All-push, All-cons, All-
 use Rattle.std.proofs.lemmas.List.FromFn.{get_or-map-range_with_len, length-map-range_with_len}
 use Rattle.std.proofs.lemmas.List.Kept.{AllPairs-from_increasing}
 use Rattle.std.proofs.lemmas.Option.{slice_get-get_or, slice_get_cases}
-use Rattle.ob_net.specs.declared.interval.Interval.{Interval}
+use Rattle.ob_base.specs.declared.interval.Interval.{Interval}
 use Rattle.ob_cust.specs.declared.Customer.{Customer}
 use Rattle.ob_cust.specs.Service.{served_seconds}
 use Rattle.ob_sweep.specs.declared.Run.{Run}

@@ -8,7 +8,7 @@ use Rattle.std.proofs.lemmas.List.Elements.{All-nil, All-cons, All-tail, All-map
 use Rattle.std.proofs.lemmas.List.FromFn.{length-range_with_len, get_or-range_with_len}
 use Rattle.std.proofs.lemmas.Option.{slice_get_cases}
 use Rattle.ob_net.specs.Network.{Network, home_feeder}
-use Rattle.ob_net.specs.Seconds.{seconds, starts_at, interval_from, intervals}
+use Rattle.ob_base.specs.Seconds.{seconds, starts_at, interval_from, intervals}
 use Rattle.ob_net.specs.declared.net.Node.{Node}
 use Rattle.ob_sheet.specs.declared.Entry.{Entry}
 use Rattle.ob_sheet.specs.Order.{cause_of}

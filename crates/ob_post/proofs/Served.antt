@@ -7,9 +7,9 @@ use Rattle.std.proofs.Math.Nat.{mul-le-mul_right}
 use Rattle.std.proofs.lemmas.Bool.{cases_lt, le-leb, lt-leb, lt-ltb, le-ltb, and_right}
 use Rattle.std.proofs.lemmas.List.FromFn.{length-range_with_len}
 use Rattle.std.proofs.lemmas.List.Sums.{sum_by-cons, sum_by-le, count_by-le-length, length-filter}
-use Rattle.ob_net.specs.Seconds.{seconds}
-use Rattle.ob_net.specs.declared.interval.Interval.{Interval}
-use Rattle.ob_net.specs.declared.TheConstants.{LAST_SECOND}
+use Rattle.ob_base.specs.Seconds.{seconds}
+use Rattle.ob_base.specs.declared.interval.Interval.{Interval}
+use Rattle.ob_base.specs.declared.TheConstants.{LAST_SECOND}
 use Rattle.ob_cust.specs.declared.Customer.{Customer}
 use Rattle.ob_cust.specs.Service.{in_service, served_seconds}
 use Rattle.ob_cust.specs.WithoutSupply.{customer_seconds}

@@ -2,8 +2,8 @@
 use Rattle.std.specs.Prelude.{◌≡◌, ℕ, ◌<◌, ◌≤◌, ◌==◌, ◌&&◌, Bool, IsTrue, List, Some, max, min, slice_get, if◌then◌else◌}
 use Rattle.std.specs.Option.{option_map_or}
 use Rattle.ob_net.specs.Network.{Network, home_feeder}
-use Rattle.ob_net.specs.Seconds.{seconds}
-use Rattle.ob_net.specs.declared.interval.Interval.{Interval}
+use Rattle.ob_base.specs.Seconds.{seconds}
+use Rattle.ob_base.specs.declared.interval.Interval.{Interval}
 use Rattle.ob_sheet.specs.declared.Entry.{Entry}
 use Rattle.ob_sheet.specs.Supply.{is_deenergized}
 use Rattle.ob_cust.specs.declared.Customer.{Customer}

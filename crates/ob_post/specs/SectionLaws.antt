@@ -2,8 +2,8 @@
 use Rattle.std.specs.Prelude.{◌≡◌, ℕ, ◌+◌, ◌<◌, ◌==◌, List, [], ◌∷◌, Some, IsSome, length}
 use Rattle.std.specs.List.{All, AllPairs, find, range_with_len, sum_by}
 use Rattle.ob_net.specs.Network.{Network, home_feeder}
-use Rattle.ob_net.specs.Seconds.{seconds}
-use Rattle.ob_net.specs.declared.interval.Interval.{Interval}
+use Rattle.ob_base.specs.Seconds.{seconds}
+use Rattle.ob_base.specs.declared.interval.Interval.{Interval}
 use Rattle.ob_sheet.specs.declared.Entry.{Entry}
 use Rattle.ob_cust.specs.declared.Customer.{Customer}
 use Rattle.ob_cust.specs.Roll.{with_customer}

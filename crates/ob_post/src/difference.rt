@@ -2,7 +2,7 @@
 ghost use Rattle.std.specs.Prelude.{◌≡◌, ◌^◌, ◌<◌, ◌-ℤ◌, ℕ, ℤ, IfOk, IfErr, length, slice_index_or, pos};
 ghost use Rattle.std.specs.Prelude.{FitsSigned};
 ghost use Rattle.std.specs.Int.{int_wrap, w64};
-ghost use Rattle.ob_net.specs.Stop.{out_of_memory};
+ghost use Rattle.ob_base.specs.Stop.{out_of_memory};
 ghost use Rattle.ob_post.specs.Keys.{IsKey};
 ghost use Rattle.ob_post.specs.MoveLaws.{AreOfChange};
 ghost use Rattle.ob_post.specs.Moved.{delta_of, HaveKeys, HaveNoZero, AreInOrder, moves_by};

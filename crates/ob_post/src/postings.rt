@@ -26,7 +26,7 @@ impl Model for Postings {
 
 impl Postings {
     ghost use Rattle.std.specs.Prelude.{◌≡◌, ◌<◌, ◌≤◌, ◌^◌, ◌≤ℤ◌, ℕ, pos, sum, IfOk, IfErr};
-    ghost use Rattle.ob_net.specs.Stop.{out_of_memory};
+    ghost use Rattle.ob_base.specs.Stop.{out_of_memory};
     ghost use Rattle.ob_post.specs.Keys.{IsKey};
     ghost use Rattle.ob_post.specs.MoveLaws.{LeadTo};
     ghost use Rattle.ob_post.specs.Moved.{HaveKeys};

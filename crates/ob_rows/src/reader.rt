@@ -1,12 +1,12 @@
 //! A reader of the rows of a CSV text.
 ghost use Rattle.std.specs.Prelude.{◌≡◌, true, false, Ok, IfOk, OnOk, IfErr, option_map};
-ghost use Rattle.ob_net.specs.Stop.{out_of_memory};
+ghost use Rattle.ob_base.specs.Stop.{out_of_memory};
 ghost use Rattle.ob_rows.specs.CsvSetup.{ReadsUnlessFailed};
 ghost use Rattle.ob_rows.specs.Rows.{rows_of, TakesRow};
 
 use crate::Row;
 use csv::{Reader, ReaderBuilder};
-use ob_net::{Fault, Stop};
+use ob_base::{Fault, Stop};
 use std::alloc::Global;
 use std::io::Read;
 

@@ -1,6 +1,6 @@
 //! What the clauses take from `csv`, against RFC 4180 and the rules of `RowReader`, by hand.
 use crate::{Row, RowReader};
-use ob_net::{Fault, Stop};
+use ob_base::{Fault, Stop};
 use std::alloc::Global;
 use std::io;
 use std::io::{ErrorKind, Read};

@@ -1,7 +1,7 @@
 //! The numbers of the kept entries by device: places among them, and what the entries before a place leave.
 ghost use Rattle.std.specs.Prelude.{◌≡◌, ◌==◌, ◌<◌, ◌≤◌, None, Some, IfErr, IfOk, drop, length, not, slice_get, take};
 ghost use Rattle.std.specs.List.{All, filter, last_or, prefix_len};
-ghost use Rattle.ob_net.specs.Stop.{out_of_memory};
+ghost use Rattle.ob_base.specs.Stop.{out_of_memory};
 ghost use Rattle.ob_sheet.specs.declared.Entry.{Entry as EntryOf};
 ghost use Rattle.ob_sheet.specs.ByDevice.{IsByDevice, device_of, is_until_by_device};
 ghost use Rattle.ob_sheet.specs.Order.{in_order, is_before};

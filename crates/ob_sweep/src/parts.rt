@@ -1,6 +1,6 @@
 //! What a part more of the network alters in the runs that a timeline holds.
 ghost use Rattle.std.specs.Prelude.{◌≡◌, ◌≤◌, ◌<◌, ◌+◌, List, [], IfOk, IfErr, IsSome, length};
-ghost use Rattle.ob_net.specs.Stop.{out_of_memory};
+ghost use Rattle.ob_base.specs.Stop.{out_of_memory};
 ghost use Rattle.ob_net.specs.Network.{with_node};
 ghost use Rattle.ob_net.specs.declared.net.Node.{Node};
 ghost use Rattle.ob_sheet.specs.declared.Entry.{Entry};

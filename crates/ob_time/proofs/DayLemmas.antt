@@ -5,7 +5,7 @@ use Rattle.std.proofs.lemmas.List.FromFn.{get_or-map-range_with_len, length-map-
 use Rattle.std.proofs.lemmas.List.Sums.{sum_by-cons}
 use Rattle.std.proofs.lemmas.Option.{slice_get-get_or}
 use Rattle.std.specs.List.{count_by, range_with_len, sum_by}
-use Rattle.ob_net.specs.declared.interval.Interval.{Interval}
+use Rattle.ob_base.specs.declared.interval.Interval.{Interval}
 use Rattle.ob_time.specs.Calendar.{Calendar, IsCalendar, PartSeconds, bound_of, day_at, day_count, days_of, end_second_of, first_second_of, holds, seconds_in}
 
 -- the days from one on part the seconds from its bound on

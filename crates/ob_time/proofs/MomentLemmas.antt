@@ -8,8 +8,8 @@ use Rattle.jiff_fmt.specs.Text.{pad2, pad4}
 use Rattle.jiff.proofs.SpanFacts.{signed_arith}
 use Rattle.jiff.specs.Types.{Date, DateTime, Time}
 use Rattle.jiff.specs.Words.{date_text, iso_datetime_text}
-use Rattle.ob_net.specs.Fields.{unix_second_in}
-use Rattle.ob_net.specs.declared.TheConstants.{LAST_SECOND}
+use Rattle.ob_base.specs.Fields.{unix_second_in}
+use Rattle.ob_base.specs.declared.TheConstants.{LAST_SECOND}
 use Rattle.ob_time.specs.Moment.{IsDateText, IsTimeText, IsHourMinuteText, IsOffsetText, IsCivilText, IsSecondText, IsUtcText, civil_second}
 use Rattle.ob_time.specs.Moment.IsOffsetText.{utc, east, west}
 use Rattle.ob_time.proofs.PeriodLemmas.{IsDateText-day, year-nonnegative}

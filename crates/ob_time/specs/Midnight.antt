@@ -1,6 +1,6 @@
 -- The seconds of midnights, by the offsets that `jiff` gives.
 use Rattle.std.specs.Prelude.{◌≡◌, ℕ, ℤ, pos, ◌≤◌}
-use Rattle.ob_net.specs.declared.TheConstants.{LAST_SECOND}
+use Rattle.ob_base.specs.declared.TheConstants.{LAST_SECOND}
 use Rattle.jiff.specs.Types.{AmbiguousOffset, DateTime, Fold, Gap, Offset, TimeZone, Unambiguous}
 use Rattle.jiff.specs.Words.{ambiguous_at, earlier_offset, epoch_day, instant_of, nanos_of_seconds, time_nanos}
 

@@ -2,14 +2,14 @@
 ghost use Rattle.std.specs.Prelude.{◌≡◌, ℕ, pos, ◌<◌, ◌≤◌, ◌-◌, ◌+◌, ◌+ℤ◌, ◌↔◌, List, length, slice_index, Err, IsTrue, IfSome, IfNone, IfOk, IfErr};
 ghost use Rattle.std.specs.List.Sorted.{IsStrictlyIncreasing};
 ghost use Rattle.jiff.specs.Words.{plain_zone, epoch_day, IsEpochDay};
-ghost use Rattle.ob_net.specs.Stop.{IsRefusedOrNoMemory};
+ghost use Rattle.ob_base.specs.Stop.{IsRefusedOrNoMemory};
 ghost use Rattle.ob_time.specs.Midnight.{IsMidnight};
 ghost use Rattle.ob_time.specs.Period.{AreMidnights};
 
 use crate::midnight::midnight;
 use jiff::civil::Date;
 use jiff::tz::TimeZone;
-use ob_net::{Refusal, Second, Stop};
+use ob_base::{Refusal, Second, Stop};
 use std::alloc::Global;
 
 // The date that many days later.

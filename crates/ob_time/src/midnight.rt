@@ -6,7 +6,7 @@ ghost use Rattle.ob_time.specs.Midnight.{IsMidnight, counted_offset};
 use jiff::civil::{Date, DateTime, Time};
 use jiff::tz::TimeZone;
 use jiff::{Error, Timestamp};
-use ob_net::{LAST_SECOND, Second};
+use ob_base::{LAST_SECOND, Second};
 
 /// The second that the zone picks for the midnight that begins the date, if it is one of the
 /// seconds that there are. In a gap the offset before it counts, in a fold the earlier instant.

@@ -3,7 +3,7 @@ ghost use Rattle.std.specs.Prelude.{◌≡◌, ℕ, pos, ◌<◌, ◌+◌, ◌^�
 ghost use Rattle.std.specs.List.{count_by, sum_by};
 ghost use Rattle.jiff.specs.Types.{Date as PlainDate, TimeZone as PlainZone};
 ghost use Rattle.jiff.specs.Words.{plain_zone, epoch_day};
-ghost use Rattle.ob_net.specs.Stop.{IsRefusedOrNoMemory, out_of_memory};
+ghost use Rattle.ob_base.specs.Stop.{IsRefusedOrNoMemory, out_of_memory};
 ghost use Rattle.ob_time.specs.Calendar.{Calendar, IsCalendar, IsDayOn, IsInDay, IsInPeriod, PartSeconds, bound_of, calendar, day_at, day_count, day_on, days_of, end_second_of, first_second_of, holds, seconds_in};
 ghost use Rattle.ob_time.specs.Dates.{day_text};
 ghost use Rattle.ob_time.specs.Moment.{IsDateText, IsTextOfDay};
@@ -13,7 +13,7 @@ use crate::bounds::{bounds_up_to, day_bounds_from};
 use crate::date::read_date;
 use jiff::civil::Date;
 use jiff::tz::TimeZone;
-use ob_net::{Refusal, Second, Stop};
+use ob_base::{Refusal, Second, Stop};
 use std::alloc::Global;
 use std::marker::Model;
 

@@ -4,7 +4,7 @@
 use super::*;
 use jiff::civil::Date;
 use jiff::tz::TimeZone;
-use ob_net::{Fault, Refusal, Second, Stop};
+use ob_base::{Fault, Refusal, Second, Stop};
 use std::test::Fail;
 
 const EASTERN: &[u8] = b"EST5EDT,M3.2.0,M11.1.0";

@@ -6,9 +6,9 @@ use Rattle.std.proofs.lemmas.List.Elements.{recursion_from_All}
 use Rattle.std.proofs.lemmas.List.FromFn.{get_or-map-range_with_len, length-range_with_len, length-enumerate_from, sum_by-map-range_with_len_more}
 use Rattle.std.proofs.lemmas.List.Sums.{sum_by-cons}
 use Rattle.ob_net.specs.Network.{Network}
-use Rattle.ob_net.specs.Seconds.{seconds}
+use Rattle.ob_base.specs.Seconds.{seconds}
 use Rattle.ob_net.specs.Walk.{is_supplied}
-use Rattle.ob_net.specs.declared.Pos.{Pos}
+use Rattle.ob_base.specs.declared.Pos.{Pos}
 use Rattle.ob_sheet.specs.Order.{upto}
 use Rattle.ob_sheet.specs.Positions.{position_of, positions as positions_under}
 use Rattle.ob_sheet.specs.Supply.{is_deenergized}

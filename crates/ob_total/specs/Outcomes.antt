@@ -1,9 +1,9 @@
 -- What a run answers of what a definition says.
 use Rattle.std.specs.Io.KnownBytes.{Appends}
 use Rattle.std.specs.Prelude.{ℕ, ◌≡◌, ◌≤◌, List, length, take, Option, Some, None, Result, Ok, Err}
-use Rattle.ob_net.specs.declared.stop.Fault.TheVariants as faults
-use Rattle.ob_net.specs.declared.stop.Stop.{Stop}
-use Rattle.ob_net.specs.declared.stop.Stop.TheVariants as stops
+use Rattle.ob_base.specs.declared.stop.Fault.TheVariants as faults
+use Rattle.ob_base.specs.declared.stop.Stop.{Stop}
+use Rattle.ob_base.specs.declared.stop.Stop.TheVariants as stops
 use Rattle.ob_total.specs.Totals.{Refused, total_of, total_line}
 use Rattle.ob_total.specs.declared.total.TotalStop.{TotalStop}
 

@@ -1,9 +1,9 @@
 -- What a step answers of what a definition says, memory aside.
 use Rattle.std.specs.Prelude.{ℕ, ◌≡◌, Option, Some, None, Result, Ok, Err}
-use Rattle.ob_net.specs.declared.stop.Fault.TheVariants.{OutOfMemory}
-use Rattle.ob_net.specs.declared.stop.Refusal.{Refusal}
-use Rattle.ob_net.specs.declared.stop.Stop.{Stop}
-use Rattle.ob_net.specs.declared.stop.Stop.TheVariants as stops
+use Rattle.ob_base.specs.declared.stop.Fault.TheVariants.{OutOfMemory}
+use Rattle.ob_base.specs.declared.stop.Refusal.{Refusal}
+use Rattle.ob_base.specs.declared.stop.Stop.{Stop}
+use Rattle.ob_base.specs.declared.stop.Stop.TheVariants as stops
 use Rattle.ob_total.specs.Worlds.{WorldState}
 
 -- the refusal is the one that is said, or memory was refused

@@ -1,8 +1,8 @@
 -- The total of a text: its rows taken in order, up to the first refusal.
 use Rattle.std.specs.Prelude.{ℕ, ◌+◌, List, [], ◌∷◌, ◌++◌, Result, Ok, Err, nat_lt, codes, if◌then◌else◌}
 use Rattle.std.specs.Fmt.{decimal}
-use Rattle.ob_net.specs.declared.stop.Refusal.{Refusal}
-use Rattle.ob_net.specs.declared.stop.Refusal.TheVariants.{BadField, Full}
+use Rattle.ob_base.specs.declared.stop.Refusal.{Refusal}
+use Rattle.ob_base.specs.declared.stop.Refusal.TheVariants.{BadField, Full}
 use Rattle.ob_rows.specs.Header.{is_header}
 use Rattle.ob_rows.specs.Rows.{Fields, rows_of}
 use Rattle.ob_rows.specs.declared.TheConstants.{MOST_ROWS}

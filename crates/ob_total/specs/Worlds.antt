@@ -2,9 +2,9 @@
 use Rattle.std.specs.Prelude.{ℕ, ◌<◌, ◌==◌, ◌||◌, List, [], ◌∷◌, ◌++◌, length, nat_lt, nat_le, Option, Some, None, Result, Ok, Err, is_some, if◌then◌else◌, option_and_then}
 use Rattle.std.specs.List.{All}
 use Rattle.ob_net.specs.Network.{Network, device_of, device_refusal, grid_alone, home_feeder, node_of, node_refusal, with_device, with_node}
-use Rattle.ob_net.specs.declared.stop.Refusal.{Refusal}
-use Rattle.ob_net.specs.declared.stop.Refusal.TheVariants.{Full, OutOfPeriod, Sealed, UnknownName}
-use Rattle.ob_net.specs.Seconds.{seconds}
+use Rattle.ob_base.specs.declared.stop.Refusal.{Refusal}
+use Rattle.ob_base.specs.declared.stop.Refusal.TheVariants.{Full, OutOfPeriod, Sealed, UnknownName}
+use Rattle.ob_base.specs.Seconds.{seconds}
 use Rattle.ob_sheet.specs.Sheet.{NameDevices, new_entry}
 use Rattle.ob_sheet.specs.Supply.{is_deenergized}
 use Rattle.ob_sheet.specs.declared.Entry.{Entry}

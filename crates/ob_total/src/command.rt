@@ -1,6 +1,6 @@
 //! What the rows of a text say. The leftmost bad column is refused.
 ghost use Rattle.std.specs.Prelude.{◌≡◌, ◌≢◌, ◌≤◌, ◌<◌, ◌+◌, [], ◌∷◌, length, map, IfOk, IfSome};
-ghost use Rattle.ob_net.specs.Fields.{unix_second_in, until_in};
+ghost use Rattle.ob_base.specs.Fields.{unix_second_in, until_in};
 ghost use Rattle.ob_rows.specs.RowFields.{fields_in};
 ghost use Rattle.ob_total.specs.Commands.{IsCommand, IsSpan, with_unused, span_end_in, span_of, cause_of, bus_of, section_of, device_of, other_node_in, connect_of, switch_of, kind_in, command_by, command_of};
 

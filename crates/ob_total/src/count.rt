@@ -1,8 +1,8 @@
 //! The plain count: one search for each second, one for each customer without supply.
 ghost use Rattle.std.specs.Prelude.{◌≡◌, ◌<◌, ◌≤◌, [], not, false, length, slice_index_or, IfOk, IfErr};
 ghost use Rattle.std.specs.List.{All, count_by};
-ghost use Rattle.ob_net.specs.Seconds.{seconds};
-ghost use Rattle.ob_net.specs.Stop.{out_of_memory};
+ghost use Rattle.ob_base.specs.Seconds.{seconds};
+ghost use Rattle.ob_base.specs.Stop.{out_of_memory};
 ghost use Rattle.ob_net.specs.Walk.{is_supplied};
 ghost use Rattle.ob_sheet.specs.Positions.{positions as positions_under};
 ghost use Rattle.ob_sheet.specs.Sheet.{NameDevices};

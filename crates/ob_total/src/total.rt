@@ -1,9 +1,9 @@
 //! The run over a text: from the bytes that are read to the line that is written.
 ghost use Rattle.std.specs.Prelude.{◌≡◌, ◌≢◌, ◌⊎◌, string_bytes, None, Some, Ok, true, IfOk, IfErr, OnOk};
 ghost use Rattle.std.specs.Io.KnownBytes.{Appends, Keeps};
-ghost use Rattle.ob_net.specs.Stop.{out_of_memory};
-ghost use Rattle.ob_net.specs.Streams.{Passes};
-ghost use Rattle.ob_net.specs.Watching.{watched_bytes, watched_failed};
+ghost use Rattle.ob_base.specs.Stop.{out_of_memory};
+ghost use Rattle.ob_stream.specs.Streams.{Passes};
+ghost use Rattle.ob_stream.specs.Watching.{watched_bytes, watched_failed};
 ghost use Rattle.ob_rows.specs.Rows.{TakesRow};
 ghost use Rattle.ob_rows.specs.RowReading.{rows_left};
 ghost use Rattle.ob_total.specs.Commands.{command_of, span_of};

@@ -30,7 +30,7 @@ impl Model for World {
 
 impl World {
     ghost use Rattle.std.specs.Prelude.{◌≡◌, ◌<◌, ◌≤◌, ◌≢◌, ◌+◌, ◌^◌, [], length, IfOk, IfErr, IfSome, OnErr, OnOk};
-    ghost use Rattle.ob_net.specs.Stop.{out_of_memory};
+    ghost use Rattle.ob_base.specs.Stop.{out_of_memory};
     ghost use Rattle.ob_total.specs.Commands.{IsCommand, IsSpan};
     ghost use Rattle.ob_total.specs.Worlds.{empty_world, next, section_named, customer_seconds_of};
     ghost use Rattle.ob_total.specs.Steps.{StepsAs};

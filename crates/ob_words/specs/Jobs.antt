@@ -4,7 +4,7 @@ use Rattle.std.specs.Str.{bytes_eq}
 use Rattle.clap.specs.Words.{IsAmong, Kinds, Text, fault_of, subcommand_of}
 use Rattle.clap.specs.declared.error.kind.ErrorKind.{ErrorKind}
 use Rattle.clap.specs.declared.error.kind.ErrorKind.TheVariants as kind
-use Rattle.ob_net.specs.declared.stop.Fault.TheVariants.{OutOfMemory}
+use Rattle.ob_base.specs.declared.stop.Fault.TheVariants.{OutOfMemory}
 use Rattle.ob_words.specs.Commands.{outagebook_app}
 use Rattle.ob_words.specs.declared.job.Job.{Job}
 use Rattle.ob_words.specs.declared.job.Job.TheVariants.{Total}

@@ -7,7 +7,7 @@ use crate::command::outagebook_command;
 use crate::job::Job;
 use clap::error::ErrorKind;
 use clap::{ArgMatches, Error};
-use ob_net::Fault;
+use ob_base::Fault;
 use std::alloc::{AllocError, Global};
 
 /// Why the words name no job.

@@ -1,11 +1,11 @@
 -- What the program tells of a stop: a line on standard error, and the status that it ends with.
 use Rattle.std.specs.Prelude.{ℕ, List, ◌∷◌, ◌++◌, Option, Some, None, codes}
 use Rattle.std.specs.Fmt.{decimal}
-use Rattle.ob_net.specs.declared.stop.Fault.{Fault}
-use Rattle.ob_net.specs.declared.stop.Refusal.{Refusal}
-use Rattle.ob_net.specs.declared.stop.Stop.{Stop}
-use Rattle.ob_net.specs.declared.stop.Stop.TheVariants as stops
-use Rattle.ob_net.specs.Stop.{fault_name, fault_number, refusal_detail, refusal_name, refusal_number}
+use Rattle.ob_base.specs.declared.stop.Fault.{Fault}
+use Rattle.ob_base.specs.declared.stop.Refusal.{Refusal}
+use Rattle.ob_base.specs.declared.stop.Stop.{Stop}
+use Rattle.ob_base.specs.declared.stop.Stop.TheVariants as stops
+use Rattle.ob_base.specs.Stop.{fault_name, fault_number, refusal_detail, refusal_name, refusal_number}
 
 -- the name, and then the detail and the row, where there are these
 abbrev pub with_detail : List ℕ → Option ℕ → Option ℕ → List ℕ

@@ -1,6 +1,6 @@
 use super::{WrongWords, read_words};
 use crate::job::Job;
-use ob_net::Fault;
+use ob_base::Fault;
 use std::alloc::Global;
 
 fn is_refused(alloc: Global, words: &[&str]) -> bool {

@@ -1,7 +1,7 @@
 use Rattle.std.proofs.Common.{◌+◌, ◌≤◌, ℕ, List, length, not, refl, sym, ap, ◌∙◌, arith, take}
 use Rattle.std.specs.List.{prefix_len}
 use Rattle.std.proofs.lemmas.List.{take_all}
-use Rattle.ob_net.specs.declared.Pos.{Pos}
+use Rattle.ob_base.specs.declared.Pos.{Pos}
 use Rattle.ob_sheet.specs.declared.Entry.{Entry}
 use Rattle.ob_sheet.specs.Order.{in_order, is_before}
 use Rattle.ob_sheet.specs.Positions.{positions}

@@ -4,7 +4,7 @@ use Rattle.ob_sheet.specs.Positions.{positions}
 use Rattle.ob_sheet.specs.Supply.{is_deenergized}
 use Rattle.std.specs.List.{count_by}
 use Rattle.ob_net.specs.Network.{Network}
-use Rattle.ob_net.specs.Seconds.{seconds}
+use Rattle.ob_base.specs.Seconds.{seconds}
 use Rattle.ob_net.specs.Walk.{is_supplied}
 use Rattle.ob_cust.specs.WithoutSupply.{is_without_supply, seconds_without_supply}
 use Rattle.ob_total.proofs.Counting.{fits, more_fits, none_yet, second_more, positions_long}

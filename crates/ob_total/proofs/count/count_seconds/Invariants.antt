@@ -1,6 +1,6 @@
 -- The total over the seconds so far, and the positions that the entries before the place leave.
 use Rattle.std.proofs.Common.{◌≡◌, ◌-◌, ◌*◌, ◌≤◌, ℕ, length, take}
-use Rattle.ob_net.specs.Seconds.{seconds}
+use Rattle.ob_base.specs.Seconds.{seconds}
 use Rattle.ob_sheet.specs.Order.{in_order, upto}
 use Rattle.ob_sheet.specs.Positions.{positions}
 use Rattle.ob_sheet.specs.Supply.{is_deenergized}

@@ -1,4 +1,4 @@
-use Rattle.std.proofs.Common.{◌≡◌, ◌-◌, ◌<◌, length, take, ap, ◌∙◌}
+use Rattle.std.proofs.Common.{◌-◌, ◌<◌, length, take, ap, ◌∙◌}
 use Rattle.std.specs.List.{All}
 use Rattle.ob_net.specs.Network.{JoinsTwo}
 use Rattle.ob_net.proofs.Removed.{without_last_is}

@@ -1,0 +1,4 @@
+pub mod Fields
+pub mod Identifier
+pub mod Seconds
+pub mod Stop

@@ -1,0 +1,29 @@
+-- What a clause sees of a `Watched`.
+use Rattle.std.specs.Prelude.{ℕ, Bool, true, false, ◌==◌, ◌&&◌, not, List, [], ◌∷◌, Option, Result, Ok, Err}
+use Rattle.ob_stream.specs.declared.watched.Watched.{Watched}
+
+-- the reader or writer that is watched
+abbrev pub watched_inner : {D : Type 0} → Watched D → D
+watched_inner w = w.inner
+
+-- a call of it answered an error or, as a write, took no byte of some
+abbrev pub watched_failed : {D : Type 0} → Watched D → Bool
+watched_failed w = w.failed
+
+-- its last call did
+abbrev pub watched_last_failed : {D : Type 0} → Watched D → Bool
+watched_last_failed w = w.last_failed
+
+-- the bytes of the reader or writer that is watched
+abbrev pub watched_bytes : {D : Type 0} → (D → Option (List ℕ)) → Watched D → Option (List ℕ)
+watched_bytes bytes w = bytes w.inner
+
+-- whether a list is empty
+abbrev pub is_nil : List ℕ → Bool
+is_nil [] = true
+is_nil (x ∷ xs) = false
+
+-- a write answered an error, or took no byte of some
+abbrev pub took_none : {E : Type 0} → Result ℕ E → List ℕ → Bool
+took_none (Ok count) buf = (count == 0) && not (is_nil buf)
+took_none (Err e) buf = true

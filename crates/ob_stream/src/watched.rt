@@ -1,0 +1,107 @@
+//! `Watched`: a reader or writer that remembers whether it ever failed, and whether its last call did.
+ghost use Rattle.std.specs.Prelude.{◌≡◌, ◌≢◌, ◌||◌, ◌≤◌, length, false, true, IfErr, OnErr};
+ghost use Rattle.std.specs.Result.{is_err};
+ghost use Rattle.std.specs.Io.{ReadsAtMost, WritesAtMost};
+ghost use Rattle.std.specs.Io.KnownBytes.{Keeps, ReadConsumes, WriteAppends};
+
+use std::io;
+use std::io::{Read, Write};
+
+/// A reader or writer `D` with a note of whether a call of it ever failed, and whether the last one did.
+#[derive(Drop)]
+pub struct Watched<D> {
+    inner: D,
+    failed: bool,
+    last_failed: bool,
+}
+
+impl<D> Watched<D> {
+    ghost use Rattle.ob_stream.specs.Watching.{watched_inner, watched_failed, watched_last_failed};
+
+    /// Watches `inner`, of which no call was seen yet.
+    pub fn new(inner: D) -> Watched<D>
+        ensures inner { watched_inner result ≡ inner }
+        ensures fresh { watched_failed result ≡ false }
+        ensures fresh_last { watched_last_failed result ≡ false }
+    {
+        Watched {
+            inner,
+            failed: false,
+            last_failed: false,
+        }
+    }
+
+    /// Whether a call answered an error or, as a write, took no byte of some.
+    pub fn has_failed(&self) -> bool
+        ensures { result ≡ watched_failed self.now }
+    {
+        self.failed
+    }
+
+    /// The reader or writer that was watched, and whether it has failed.
+    pub fn into_parts(self) -> (D, bool)
+        ensures inner { result.0 ≡ watched_inner self }
+        ensures failed { result.1 ≡ watched_failed self }
+    {
+        (self.inner, self.failed)
+    }
+}
+
+impl<D: Read> Read for Watched<D> {
+    ghost use Rattle.ob_stream.specs.Watching.{watched_inner, watched_failed, watched_last_failed, watched_bytes};
+
+    ghost remaining = { watched_bytes D.remaining };
+
+    fn read(&mut self, buf: &mut [u8]) -> io::Result<usize>
+        ensures bound { ReadsAtMost result buf.new }
+        ensures bytes { ReadConsumes (watched_bytes D.remaining self.old) (watched_bytes D.remaining self.new) result buf.new }
+        ensures failed { watched_failed self.new ≡ (watched_failed self.old || is_err result) }
+        ensures last { watched_last_failed self.new ≡ is_err result }
+    {
+        let answer = self.inner.read(buf);
+        self.last_failed = answer.is_err();
+        self.failed = self.failed || self.last_failed;
+        answer
+    }
+}
+
+impl<D: Write> Write for Watched<D> {
+    ghost use Rattle.ob_stream.specs.Watching.{watched_inner, watched_failed, watched_last_failed, watched_bytes, took_none};
+
+    ghost contents = { watched_bytes D.contents };
+
+    fn write(&mut self, buf: &[u8]) -> io::Result<usize>
+        ensures bound { WritesAtMost result buf.now }
+        ensures bytes { WriteAppends (watched_bytes D.contents self.old) (watched_bytes D.contents self.new) result buf.now }
+        ensures failed { watched_failed self.new ≡ (watched_failed self.old || took_none result buf.now) }
+        ensures last { watched_last_failed self.new ≡ took_none result buf.now }
+    {
+        let answer = self.inner.write(buf);
+        self.last_failed = refuses(&answer, buf);
+        self.failed = self.failed || self.last_failed;
+        answer
+    }
+
+    fn flush(&mut self) -> io::Result<()>
+        ensures bytes { Keeps (watched_bytes D.contents self.old) (watched_bytes D.contents self.new) }
+        ensures failed { watched_failed self.new ≡ (watched_failed self.old || is_err result) }
+        ensures last { watched_last_failed self.new ≡ is_err result }
+    {
+        let answer = self.inner.flush();
+        self.last_failed = answer.is_err();
+        self.failed = self.failed || self.last_failed;
+        answer
+    }
+}
+
+// Whether a write answered an error, or took no byte of some.
+fn refuses(answer: &io::Result<usize>, buf: &[u8]) -> bool
+    ensures { result ≡ took_none answer.now buf.now }
+{
+    match answer {
+        Ok(count) => *count == 0 && !buf.is_empty(),
+        Err(_) => true,
+    }
+}
+
+ghost use Rattle.ob_stream.specs.Watching.{took_none};
