@@ -57,6 +57,3 @@ pub const MOST_DEVICES: usize = 2048;
 
 /// The last moment that there is.
 pub const LAST_SECOND: Second = 99_999_999_999;
-
-#[cfg(test)]
-mod tests;
