@@ -29,6 +29,3 @@ pub use moment::Moment;
 pub use number::{CauseCode, FeederNumber, Serial};
 pub use read::{bodies_law, read_body};
 pub use row::{read_row, rows_law};
-
-#[cfg(test)]
-mod tests;

@@ -16,6 +16,3 @@ mod reader;
 pub use date::read_date;
 pub use moment::{read_second, second_text};
 pub use period::Period;
-
-#[cfg(test)]
-mod tests;

@@ -1,8 +1,11 @@
-//! Expected texts are written by hand from the form of rows and of body texts; the bounds are
-//! those of the fields.
-use super::*;
+//! Commands and their texts. Expected texts are written by hand from the form of rows and of body texts; the bounds are those
+//! of the fields.
 use jiff::civil::Date;
-use ob_base::{LAST_SECOND, Name, Refusal};
+use ob_command::{
+    CauseCode, CivilDate, Command, Ends, FeederNumber, Moment, Serial, bodies_law, body_text,
+    read_body, read_row, rows_law,
+};
+use ob_net::{LAST_SECOND, Name, Refusal};
 use std::alloc::Global;
 use std::process::Abort;
 use std::test::Fail;

@@ -1,0 +1,164 @@
+//! Names, numbers and words as texts.
+use ob_net::Pos::{Closed, Opened};
+use ob_net::{
+    Crew, Name, Pos, Ref, Second, read_act, read_cause, read_feeder, read_normal, read_number,
+    read_serial, read_unix_second, read_until,
+};
+use std::process::Abort;
+
+fn are_names(rt: &impl Abort, texts: &[&[u8]]) {
+    for text in texts {
+        match Name::read(text) {
+            Some(name) => assert!(rt; name.bytes() == *text),
+            None => assert!(rt; false),
+        }
+    }
+}
+
+fn are_no_names(rt: &impl Abort, texts: &[&[u8]]) {
+    for text in texts {
+        assert!(rt; Name::read(text).is_none());
+    }
+}
+
+#[test]
+fn identifiers(rt: HostRuntime) {
+    are_names(
+        &rt,
+        &[
+            b"A",
+            b"T1-2_Z",
+            b"ABCDEFGHIJKLMNOPQRSTUVWX",
+            b"0123456789-_AZ",
+        ],
+    );
+    are_no_names(
+        &rt,
+        &[
+            b"",
+            b"ABCDEFGHIJKLMNOPQRSTUVWXY",
+            b"a",
+            b"Tz",
+            b" T1",
+            b"T 1",
+            b"T/",
+            b"T:",
+            b"T@",
+            b"T[",
+            b"T.1",
+            b"T\xC3\x84",
+        ],
+    );
+}
+
+#[test]
+fn longest_references_and_crews(rt: HostRuntime) {
+    let long = [b'R'; 41];
+    assert!(rt; Ref::read(&long[..40]).is_some());
+    assert!(rt; Ref::read(&long).is_none());
+    assert!(rt; Crew::read(&long[..16]).is_some());
+    assert!(rt; Crew::read(&long[..17]).is_none());
+}
+
+// A text, and what it is as a cause, a feeder, a serial number and a second.
+type NumberRow<'t> = (
+    &'t [u8],
+    Option<u8>,
+    Option<u8>,
+    Option<u32>,
+    Option<Second>,
+);
+
+fn are_numbers(rt: &impl Abort, rows: &[NumberRow<'_>]) {
+    for (text, cause, feeder, serial, second) in rows {
+        assert!(rt; read_cause(text) == *cause);
+        assert!(rt; read_feeder(text) == *feeder);
+        assert!(rt; read_serial(text) == *serial);
+        assert!(rt; read_unix_second(text) == *second);
+    }
+}
+
+#[test]
+fn numbers(rt: HostRuntime) {
+    are_numbers(
+        &rt,
+        &[
+            (b"", None, None, None, None),
+            (b"0", None, None, None, Some(0)),
+            (b"1", Some(1), Some(1), Some(1), Some(1)),
+            (b"07", Some(7), Some(7), Some(7), Some(7)),
+            (b"007", None, Some(7), Some(7), Some(7)),
+            (b"63", Some(63), Some(63), Some(63), Some(63)),
+            (b"64", None, Some(64), Some(64), Some(64)),
+            (b"255", None, Some(255), Some(255), Some(255)),
+            (b"256", None, None, Some(256), Some(256)),
+            (b"0000000009", None, None, Some(9), Some(9)),
+            (
+                b"4294967295",
+                None,
+                None,
+                Some(4_294_967_295),
+                Some(4_294_967_295),
+            ),
+            (b"4294967296", None, None, None, Some(4_294_967_296)),
+            (b"99999999999", None, None, None, Some(99_999_999_999)),
+            (b"000000000001", None, None, None, None),
+            (b"100000000000", None, None, None, None),
+            (b"+1", None, None, None, None),
+            (b"1 ", None, None, None, None),
+        ],
+    );
+}
+
+// Each text as a number of at most four digits from 5 to 9.
+fn are_5_to_9(rt: &impl Abort, rows: &[(&[u8], Option<u64>)]) {
+    for (text, number) in rows {
+        assert!(rt; read_number(text, 4, 5, 9) == *number);
+    }
+}
+
+#[test]
+fn numbers_in_a_range(rt: HostRuntime) {
+    are_5_to_9(
+        &rt,
+        &[
+            (b"0004", None),
+            (b"0005", Some(5)),
+            (b"0009", Some(9)),
+            (b"0010", None),
+            (b"00009", None),
+        ],
+    );
+}
+
+// A text, and the position that it names as an act and as a normal position.
+type PositionRow<'t> = (&'t [u8], Option<Pos>, Option<Pos>);
+
+fn are_positions(rt: &impl Abort, rows: &[PositionRow<'_>]) {
+    for (text, act, normal) in rows {
+        assert!(rt; read_act(text) == *act && read_normal(text) == *normal);
+    }
+}
+
+#[test]
+fn words_of_positions(rt: HostRuntime) {
+    are_positions(
+        &rt,
+        &[
+            (b"open", Some(Opened), Some(Opened)),
+            (b"close", Some(Closed), None),
+            (b"closed", None, Some(Closed)),
+            (b"Open", None, None),
+            (b"opened", None, None),
+            (b"", None, None),
+        ],
+    );
+}
+
+#[test]
+fn ends_of_service(rt: HostRuntime) {
+    assert!(rt; read_until(b"", None) == Some(None));
+    assert!(rt; read_until(b"", Some(5)) == Some(None));
+    assert!(rt; read_until(b"12", Some(12)) == Some(Some(12)));
+    assert!(rt; read_until(b"x", None) == None);
+}

@@ -1,0 +1,31 @@
+//! Tests of the lowest crates: names, fields, refusals, streams and the network of `ob_net`, the periods and moments of
+//! `ob_time`, and the commands and their texts of `ob_command`.
+//!
+//! It holds tests alone. Expected values are worked out by hand from the definitions, or come from the programs that stand
+//! beside them.
+#![tactic(auto)]
+
+#[cfg(test)]
+mod commands;
+#[cfg(test)]
+mod dates;
+#[cfg(test)]
+mod fields;
+#[cfg(test)]
+mod intervals;
+#[cfg(test)]
+mod moments;
+#[cfg(test)]
+mod networks;
+#[cfg(test)]
+mod periods;
+#[cfg(test)]
+mod sink;
+#[cfg(test)]
+mod source;
+#[cfg(test)]
+mod stops;
+#[cfg(test)]
+mod streams;
+#[cfg(test)]
+mod watched;

@@ -1,0 +1,131 @@
+//! Moments as texts. Expected seconds are those of GNU `date` and of Python's `zoneinfo`, or are worked out by hand.
+use ob_net::{Fault, LAST_SECOND, Second, Stop};
+use ob_time::{read_second, second_text};
+use std::alloc::Global;
+use std::process::Abort;
+use std::test::Fail;
+
+fn are_moments(rt: &impl Abort, rows: &[(&[u8], Second)]) {
+    for (text, second) in rows {
+        assert!(rt; read_second(text) == Some(*second));
+    }
+}
+
+fn are_no_moments(rt: &impl Abort, texts: &[&[u8]]) {
+    for text in texts {
+        assert!(rt; read_second(text).is_none());
+    }
+}
+
+#[test]
+fn moments(rt: HostRuntime) {
+    are_moments(
+        &rt,
+        &[
+            (b"2024-01-01T00:00:00Z", 1_704_067_200),
+            (b"2024-01-01T01:00:00+01:00", 1_704_067_200),
+            (b"99999999999", 99_999_999_999),
+            // The ends of the range; GNU `date -u -d @99999999999` prints the last one.
+            (b"0", 0),
+            (b"00000000007", 7),
+            (b"1970-01-01T00:00:00Z", 0),
+            (b"5138-11-16T09:46:39Z", 99_999_999_999),
+            // The offsets farthest from UTC.
+            (b"1970-01-01T23:59:00+23:59", 0),
+            (b"1969-12-31T00:01:00-23:59", 0),
+            (b"5138-11-17T09:45:39+23:59", 99_999_999_999),
+            (b"2024-01-01T00:00:00-00:00", 1_704_067_200),
+            // As GNU `date` reads them.
+            (b"2024-02-29T12:34:56-05:00", 1_709_228_096),
+            (b"2024-02-29T12:34:56+23:59", 1_709_123_756),
+            (b"2024-02-29T12:34:56-23:59", 1_709_296_436),
+            (b"2000-12-31T23:59:59Z", 978_307_199),
+        ],
+    );
+}
+
+#[test]
+fn outside_the_range(rt: HostRuntime) {
+    are_no_moments(
+        &rt,
+        &[
+            b"100000000000",
+            b"1970-01-01T00:30:00+01:00",
+            b"1969-12-31T23:59:59Z",
+            b"5138-11-16T09:46:40Z",
+            b"1970-01-01T23:58:59+23:59",
+            b"0000-02-29T00:00:00Z",
+            b"9999-12-31T23:59:59Z",
+        ],
+    );
+}
+
+#[test]
+fn no_such_moments(rt: HostRuntime) {
+    are_no_moments(
+        &rt,
+        &[
+            b"2024-02-30T00:00:00Z",
+            b"2023-02-29T00:00:00Z",
+            b"2024-13-01T00:00:00Z",
+            b"2024-00-01T00:00:00Z",
+            b"2024-04-31T00:00:00Z",
+            b"2024-01-01T24:00:00Z",
+            b"2024-01-01T00:60:00Z",
+            b"2024-01-01T00:00:60Z",
+            b"2024-01-01T00:00:00+24:00",
+            b"2024-01-01T00:00:00+00:60",
+        ],
+    );
+}
+
+#[test]
+fn other_forms(rt: HostRuntime) {
+    are_no_moments(
+        &rt,
+        &[
+            b"",
+            b"+1",
+            b"1 ",
+            b"2024-01-01T00:00:00",
+            b"2024-01-01t00:00:00Z",
+            b"2024-01-01T00:00:00z",
+            b"2024-01-01 00:00:00Z",
+            b"2024-01-01T00:00:00.0Z",
+            b"2024-01-01T00:00:00+0100",
+            b"2024-01-01T00:00:00Z ",
+        ],
+    );
+}
+
+fn have_texts(rt: &impl Abort, alloc: Global, rows: &[(Second, &str)]) -> Result<(), Fail> {
+    for (second, wanted) in rows {
+        assert!(rt; *second <= LAST_SECOND);
+        let text = second_text(alloc, *second)?;
+        assert!(rt; text.as_str() == *wanted);
+    }
+    Ok(())
+}
+
+#[test]
+fn texts_of_seconds(rt: HostRuntime) -> Result<(), Fail> {
+    have_texts(
+        &rt,
+        rt.alloc(),
+        &[
+            (0, "1970-01-01T00:00:00Z"),
+            (978_307_199, "2000-12-31T23:59:59Z"),
+            (1_704_067_200, "2024-01-01T00:00:00Z"),
+            (99_999_999_999, "5138-11-16T09:46:39Z"),
+        ],
+    )
+}
+
+// With each allocation refused in turn the call either has its value or says that memory is refused.
+#[test]
+fn refused_memory(rt: HostRuntime) {
+    match second_text(rt.alloc(), 1_704_067_200) {
+        Ok(text) => assert!(rt; text.as_str() == "2024-01-01T00:00:00Z"),
+        Err(stop) => assert!(rt; stop == Stop::Fault(Fault::OutOfMemory)),
+    }
+}

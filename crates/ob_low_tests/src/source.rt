@@ -1,0 +1,93 @@
+//! A reader for tests.
+use ob_net::Watched;
+use std::io;
+use std::io::{ErrorKind, Read};
+
+/// Which calls are interrupted, by their number from 0.
+#[derive(Clone, Copy)]
+pub enum Interrupted {
+    Never,
+    Once(usize),
+    EachOther,
+}
+
+impl Interrupted {
+    /// Whether the call of this number is interrupted.
+    pub fn at(self, call: usize) -> bool {
+        match self {
+            Interrupted::Never => false,
+            Interrupted::Once(number) => call == number,
+            Interrupted::EachOther => call % 2 == 0,
+        }
+    }
+}
+
+/// Gives at most `step` bytes a read. Behind its bytes it fails where `fails`, and else ends once and goes on with the next
+/// bytes.
+#[derive(Drop)]
+pub struct Source<'b> {
+    pub rest: &'b [u8],
+    pub next: &'b [u8],
+    pub step: usize,
+    pub fails: bool,
+    pub interrupted: Interrupted,
+    pub calls: usize,
+}
+
+/// A source of one text.
+pub fn source_of(rest: &[u8], step: usize, interrupted: Interrupted) -> Watched<Source<'_>> {
+    Watched::new(Source {
+        rest,
+        next: b"",
+        step,
+        fails: false,
+        interrupted,
+        calls: 0,
+    })
+}
+
+/// A source that fails behind its bytes.
+pub fn failing(rest: &[u8], step: usize) -> Watched<Source<'_>> {
+    Watched::new(Source {
+        rest,
+        next: b"",
+        step,
+        fails: true,
+        interrupted: Interrupted::Never,
+        calls: 0,
+    })
+}
+
+/// A source of two texts, with an end behind each, of which one read is interrupted.
+pub fn two_texts<'b>(rest: &'b [u8], next: &'b [u8], call: usize) -> Watched<Source<'b>> {
+    Watched::new(Source {
+        rest,
+        next,
+        step: 3,
+        fails: false,
+        interrupted: Interrupted::Once(call),
+        calls: 0,
+    })
+}
+
+impl Read for Source<'_> {
+    fn read(&mut self, buf: &mut [u8]) -> io::Result<usize> {
+        let call = self.calls;
+        self.calls = call.saturating_add(1);
+        if self.interrupted.at(call) {
+            return Err(io::Error::from(ErrorKind::Interrupted));
+        }
+        if self.rest.is_empty() {
+            if self.fails {
+                return Err(io::Error::from(ErrorKind::Other));
+            }
+            self.rest = self.next;
+            self.next = b"";
+            return Ok(0);
+        }
+        let count = self.rest.len().min(self.step).min(buf.len());
+        buf[..count].copy_from_slice(&self.rest[..count]);
+        self.rest = &self.rest[count..];
+        Ok(count)
+    }
+}
