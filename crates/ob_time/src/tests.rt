@@ -242,6 +242,19 @@ fn no_periods(rt: HostRuntime) {
     }
 }
 
+// Looked at before memory is asked for: no day, too many, and a last day that ends past the last
+// date there is.
+#[test]
+fn no_periods_of_days(rt: HostRuntime) -> Result<(), Fail> {
+    let first = Date::new(2024, 1, 1)?;
+    let last = Date::new(9999, 12, 31)?;
+    for &(date, days) in &[(first, 0), (first, 367), (last, 1)] {
+        let answer = Period::new(rt.alloc(), date, days, &TimeZone::UTC);
+        assert!(rt; answer.err() == Some(BAD_PERIOD));
+    }
+    Ok(())
+}
+
 // With each allocation refused in turn a call either has its value or says that memory is refused.
 #[test]
 fn refused_memory(rt: HostRuntime) {
