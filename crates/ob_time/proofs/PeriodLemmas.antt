@@ -1,8 +1,8 @@
 -- Lists of midnights, and the calendars that they make.
-use Rattle.std.proofs.Common.{◌≡◌, ◌∙◌, sym, ap, ℕ, ℤ, pos, neg_ℤ, ◌+◌, ◌-◌, ◌^◌, ◌<◌, ◌≤◌, ◌+ℤ◌, ◌≤ℤ◌, List, [], ◌∷◌, ◌++◌, length, get_or, slice_index, arith, below_more, inl, inr, Result, Ok, Err, IfOk}
+use Rattle.std.proofs.Common.{◌≡◌, ◌∙◌, refl, sym, ap, take, ℕ, ℤ, pos, neg_ℤ, ◌+◌, ◌-◌, ◌^◌, ◌<◌, ◌≤◌, ◌+ℤ◌, ◌≤ℤ◌, List, [], ◌∷◌, ◌++◌, length, get_or, slice_index, arith, below_more, inl, inr, Result, Ok, Err, IfOk}
 use Rattle.std.proofs.lemmas.Bool.{cases_lt}
 use Rattle.std.proofs.lemmas.Grind.{common_steps}
-use Rattle.std.proofs.lemmas.List.{length_push, get_or_push, get_or_append_left}
+use Rattle.std.proofs.lemmas.List.{length_push, get_or-take, get_or_push, get_or_append_left}
 use Rattle.std.proofs.lemmas.Int.{by_lt_z}
 use Rattle.std.specs.Int.{IsInRange}
 use Rattle.std.proofs.lemmas.Grind.{get_or_default_zero}
@@ -93,6 +93,26 @@ IsCalendar-midnights zone first days b text in_range h short =
       last_date = rw same (omega (arith, signed_arith, IsMidnight-day zone _ _ last));
     }
 
+-- and the period that it is the calendar of
+pub IsPeriod-midnights : (zone : TimeZone) (first : ℤ) (days : ℕ) (b text : List ℕ) → IsInRange 1 366 days → AreMidnights zone first (days + 1) b
+    → slice_index b days < slice_index b 0 + 2 ^ 25 → IsPeriod zone first days (calendar first b text)
+IsPeriod-midnights zone first days b text in_range h short =
+    let len = h.count in
+    let same : length b - 1 ≡ days = omega arith in
+    record { first = refl; days_in = in_range; midnights = h; short = rw same short }
+
+-- the midnights at the front of an array are those that it has there
+pub at-front : (xs : List ℕ) (n i : ℕ) → i ≤ n → slice_index xs i ≡ slice_index (take (n + 1) xs) i
+at-front xs n i le = sym (get_or-take (n + 1) xs i 0 (omega arith))
+
+-- so there is a period where an array has such midnights at its front
+pub HasNoPeriod-front : (zone : TimeZone) (first : ℤ) (days : ℕ) (xs : List ℕ) → IsInRange 1 366 days → AreMidnights zone first (days + 1) (take (days + 1) xs)
+    → slice_index xs days - slice_index xs 0 < 2 ^ 25 → ¬ (HasNoPeriod zone first days)
+HasNoPeriod-front zone first days xs in_range h short none =
+    let low = at-front xs days 0 (omega arith) in
+    let high = at-front xs days days (omega arith) in
+    none _ (IsPeriod-midnights zone first days (take (days + 1) xs) [] in_range h (omega (arith, low, high)))
+
 -- a list of midnights that is too long has no period
 pub HasNoPeriod-long : (zone : TimeZone) (first : ℤ) (days : ℕ) (b : List ℕ) → AreMidnights zone first (days + 1) b
     → slice_index b 0 + 2 ^ 25 ≤ slice_index b days → HasNoPeriod zone first days
@@ -145,6 +165,18 @@ IsPeriodText-period first days zone c d tz date rule h =
       midnights = AreMidnights-zone h.rule tz (λ dt. IsPosixZone-picked zone h.rule tz dt h.rule_is.rule rule.rule) (epoch_day d) (days + 1) c.bounds p.midnights;
       short = p.short;
     }
+
+-- a period of the date and the rule that the texts name is, with the zone's text, theirs
+pub IsPeriodText-made : (first : List ℕ) (days : ℕ) (zone : List ℕ) (c : Calendar) (d : Date) (tz : TimeZone)
+    → IsDateText first d → IsZoneText zone tz → IsPeriod tz (epoch_day d) days c → IsPeriodText first days zone (calendar c.first_day c.bounds zone)
+IsPeriodText-made first days zone c d tz date rule p = record {
+  date = d;
+  date_is = date;
+  rule = tz;
+  rule_is = rule;
+  period = record { first = p.first; days_in = p.days_in; midnights = p.midnights; short = p.short };
+  zone_is = refl;
+}
 
 pub IsPeriodText-unique : (first : List ℕ) (days : ℕ) (zone : List ℕ) (c c' : Calendar)
     → IsPeriodText first days zone c → IsPeriodText first days zone c' → c ≡ c'

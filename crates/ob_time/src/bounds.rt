@@ -1,16 +1,17 @@
 //! The bounds of the days that follow a date.
-ghost use Rattle.std.specs.Prelude.{◌≡◌, ℕ, pos, ◌<◌, ◌≤◌, ◌-◌, ◌+◌, ◌+ℤ◌, ◌↔◌, List, length, slice_index, Err, IsTrue, IfSome, IfNone, IfOk, IfErr};
+ghost use Rattle.std.specs.Prelude.{◌≡◌, ℕ, pos, take, ◌<◌, ◌≤◌, ◌-◌, ◌+◌, ◌+ℤ◌, ◌↔◌, List, length, slice_index, Err, IsTrue, IfSome, IfNone, IfOk, IfErr};
 ghost use Rattle.std.specs.List.Sorted.{IsStrictlyIncreasing};
 ghost use Rattle.jiff.specs.Words.{plain_zone, epoch_day, IsEpochDay};
-ghost use Rattle.ob_base.specs.Stop.{IsRefusedOrNoMemory};
 ghost use Rattle.ob_time.specs.Midnight.{IsMidnight};
 ghost use Rattle.ob_time.specs.Period.{AreMidnights};
 
 use crate::midnight::midnight;
 use jiff::civil::Date;
 use jiff::tz::TimeZone;
-use ob_base::{Refusal, Second, Stop};
-use std::alloc::Global;
+use ob_base::Second;
+
+// A period has at most 366 days: where each begins, and where the last one ends.
+const MOST_BOUNDS: usize = 367;
 
 // The date that many days later.
 fn date_after(first: Date, days: u16) -> Option<Date>
@@ -25,31 +26,28 @@ fn date_after(first: Date, days: u16) -> Option<Date>
 }
 
 /// The bounds of that many days from the first date on: their midnights and the next date's, if
-/// each is there and they rise.
+/// each is there and they rise. They stand at the front of the array.
 pub(crate) fn day_bounds_from(
-    alloc: Global,
     first: Date,
     days: u16,
     zone: &TimeZone<'_>,
-) -> Result<Vec<Second>, Stop>
+) -> Option<[Second; MOST_BOUNDS]>
     requires { days ≤ 366 }
-    ensures ok { IfOk result (λ v.
-        AreMidnights (plain_zone zone.now) (epoch_day first) (days + 1) v.items) }
-    ensures refused { result ≡ Err (Stop.Refused Refusal.BadPeriod) → (bounds : List ℕ)
-        → ¬ (AreMidnights (plain_zone zone.now) (epoch_day first) (days + 1) bounds) }
-    ensures errors { IfErr result (IsRefusedOrNoMemory Refusal.BadPeriod) }
+    ensures found { IfSome result (λ bounds.
+        AreMidnights (plain_zone zone.now) (epoch_day first) (days + 1) (take (days + 1) bounds)) }
+    ensures none { IfNone result ((bounds : List ℕ)
+        → ¬ (AreMidnights (plain_zone zone.now) (epoch_day first) (days + 1) bounds)) }
 {
-    let mut bounds = Vec::with_capacity(alloc, usize::from(days) + 1)?;
+    let mut bounds = [0; MOST_BOUNDS];
     for k in 0..days + 1 {
-        let Some(bound) = bound_after(first, k, zone) else {
-            return Err(Stop::Refused(Refusal::BadPeriod));
-        };
-        if !rises_to(&bounds, bound) {
-            return Err(Stop::Refused(Refusal::BadPeriod));
+        let place = usize::from(k);
+        let bound = bound_after(first, k, zone)?;
+        if !rises_to(&bounds[..place], bound) {
+            return None;
         }
-        bounds.push(bound)?;
+        bounds[place] = bound;
     }
-    Ok(bounds)
+    Some(bounds)
 }
 
 // The midnight of the date that many days later.

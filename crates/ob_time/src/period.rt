@@ -46,13 +46,14 @@ impl Period {
     /// The period of that many days from the first date on, in the zone. A day begins at the
     /// instant of its midnight: in a gap by the offset before it, in a fold at the earlier instant.
     ///
-    /// Refused as no period where `days` isn't 1 to 366, a bound isn't one of the seconds from 0 to
-    /// `LAST_SECOND` or isn't above the one before it, or there are 2^25 seconds or more.
+    /// Refused as no period exactly where `days` isn't 1 to 366, a bound isn't one of the seconds
+    /// from 0 to `LAST_SECOND` or isn't above the one before it, or there are 2^25 seconds or more:
+    /// all this is looked at before memory is asked for.
     pub fn new(alloc: Global, first: Date, days: u16, zone: &TimeZone<'_>) -> Result<Period, Stop>
         ensures ok { IfOk result (IsPeriod (plain_zone zone.now) (epoch_day first) days) }
         ensures zone { IfOk result (λ p. p.zone ≡ codes "-") }
         ensures refused { result ≡ Err (Stop.Refused Refusal.BadPeriod)
-            → HasNoPeriod (plain_zone zone.now) (epoch_day first) days }
+            ↔ HasNoPeriod (plain_zone zone.now) (epoch_day first) days }
         ensures errors { IfErr result (IsRefusedOrNoMemory Refusal.BadPeriod) }
     {
         Period::named(alloc, first, days, zone, b"-")
@@ -61,13 +62,13 @@ impl Period {
     /// The period of that many days from the date `YYYY-MM-DD` on, in the zone of a POSIX rule of
     /// 1 to 64 ASCII bytes, such as `EST5EDT,M3.2.0,M11.1.0`.
     ///
-    /// Refused as no period where `new` refuses it, or a text is no date or no such rule.
+    /// Refused as no period exactly where `new` refuses it, or a text is no date or no such rule.
     pub fn from_text(alloc: Global, first: &[u8], days: u16, zone: &[u8]) -> Result<Period, Stop>
         ensures ok { IfOk result (IsPeriodText first.now days zone.now) }
         ensures only { IfOk result (λ p. (c : Calendar)
             → IsPeriodText first.now days zone.now c → c ≡ p) }
         ensures refused { result ≡ Err (Stop.Refused Refusal.BadPeriod)
-            → (c : Calendar) → ¬ (IsPeriodText first.now days zone.now c) }
+            ↔ ((c : Calendar) → ¬ (IsPeriodText first.now days zone.now c)) }
         ensures errors { IfErr result (IsRefusedOrNoMemory Refusal.BadPeriod) }
     {
         let Some(date) = read_date(first) else {
@@ -91,15 +92,21 @@ impl Period {
         ensures zone { IfOk result (λ p. p.zone ≡ text.now) }
         ensures refused { result ≡ Err (Stop.Refused Refusal.BadPeriod)
             → HasNoPeriod (plain_zone zone.now) (epoch_day first) days }
+        ensures always { HasNoPeriod (plain_zone zone.now) (epoch_day first) days
+            → result ≡ Err (Stop.Refused Refusal.BadPeriod) }
         ensures errors { IfErr result (IsRefusedOrNoMemory Refusal.BadPeriod) }
     {
         if days < 1 || days > MOST_DAYS {
             return Err(BAD_PERIOD);
         }
-        let bounds = day_bounds_from(alloc, first, days, zone)?;
-        if bounds[usize::from(days)] - bounds[0] >= TOO_LONG {
+        let Some(bounds) = day_bounds_from(first, days, zone) else {
+            return Err(BAD_PERIOD);
+        };
+        let last = usize::from(days);
+        if bounds[last] - bounds[0] >= TOO_LONG {
             return Err(BAD_PERIOD);
         }
+        let bounds = Vec::from_slice(alloc, &bounds[..last + 1])?;
         let zone = Vec::from_slice(alloc, text)?;
         Ok(Period {
             first,

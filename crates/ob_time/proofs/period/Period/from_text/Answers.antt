@@ -1,6 +1,6 @@
 use Rattle.std.proofs.lemmas.Result.{IfOk-weaker}
 use Rattle.ob_time.specs.Period.{IsPeriodText}
-use Rattle.ob_time.proofs.PeriodLemmas.{IsPeriodText-period, IsPeriodText-unique, IfOk-both}
+use Rattle.ob_time.proofs.PeriodLemmas.{IsPeriodText-made, IsPeriodText-period, IsPeriodText-unique, IfOk-both}
 use Rattle.jiff.specs.Words.{plain_zone}
 use Rattle.ob_time.proofs.period.Period.from_text.Goals as goal
 
@@ -22,6 +22,9 @@ returns-clause-only c =
     IfOk-weaker c.named.result _ _ (λ p h k other. IsPeriodText-unique c.args.first.now c.args.days c.args.zone.now k p other h) (returns-clause-ok c)
 
 pub returns-clause-refused : goal.returns-clause-refused
-returns-clause-refused c = λ e k h.
-    c.named.ensures.refused e k
-    (IsPeriodText-period _ _ _ k c.in-Some.date (plain_zone c.in-Some-read_zone.rule) c.in-Some.ensures.found c.in-Some-read_zone.ensures.found h)
+returns-clause-refused c =
+    let date = c.in-Some.ensures.found in
+    let rule = c.in-Some-read_zone.ensures.found in (
+      λ e k h. c.named.ensures.refused e k (IsPeriodText-period _ _ _ k c.in-Some.date _ date rule h),
+      λ none. c.named.ensures.always (λ k p. none _ (IsPeriodText-made _ _ _ k c.in-Some.date _ date rule p)),
+    )

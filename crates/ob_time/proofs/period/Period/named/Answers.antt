@@ -1,31 +1,48 @@
-use Rattle.std.proofs.Common.{arith, refl}
+use Rattle.std.proofs.Common.{arith, take, ◌+◌}
 use Rattle.jiff.specs.Words.{plain_zone, epoch_day}
-use Rattle.ob_time.proofs.PeriodLemmas.{bound-at-most, index-value, HasNoPeriod-long, IsCalendar-midnights}
+use Rattle.ob_time.proofs.PeriodLemmas.{at-front, bound-at-most, HasNoPeriod-front, HasNoPeriod-long, IsCalendar-midnights}
 use Rattle.ob_time.proofs.period.Period.named.Goals as goal
 
-pub overflow_sub-index : goal.overflow_sub-index
-overflow_sub-index c =
-    let b = c.in_ok-bounds.bounds.items in
-    let ok = c.in_ok-bounds.ensures.ok in
+pub overflow_sub-bounds : goal.overflow_sub-bounds
+overflow_sub-bounds c =
+    let days = c.args.days in
+    let b = take (days + 1) c.in-Some.bounds in
+    let ok = c.in-Some.ensures.found in
     let len = ok.count in
-    let first = index-value b 0 0 _ c.index-2.ensures refl (omega arith) in
-    let last = index-value b c.from.result c.args.days _ c.index.ensures c.from.ensures (omega arith) in
-    omega (arith, bound-at-most b 0 c.args.days ok.rising (omega arith) (omega arith), first, last)
+    let first = at-front c.in-Some.bounds days 0 (omega arith) in
+    let last = at-front c.in-Some.bounds days days (omega arith) in
+    rw c.from-last.ensures (omega (arith, bound-at-most b 0 days ok.rising (omega arith) (omega arith), first, last))
 
-pub returns-then-index-ge-TOO_LONG-clause-refused : goal.returns-then-index-ge-TOO_LONG-clause-refused
-returns-then-index-ge-TOO_LONG-clause-refused c =
-    let b = c.in_ok-bounds.bounds.items in
-    let ok = c.in_ok-bounds.ensures.ok in
-    let len = ok.count in
-    let first = index-value b 0 0 _ c.index-2.ensures refl (omega arith) in
-    let last = index-value b c.from.result c.args.days _ c.index.ensures c.from.ensures (omega arith) in
-    λ _. HasNoPeriod-long (plain_zone c.args.zone.now) (epoch_day c.args.first) c.args.days b ok (omega (arith, first, last))
+pub returns-then-bounds-last-ge-TOO_LONG-clause-refused : goal.returns-then-bounds-last-ge-TOO_LONG-clause-refused
+returns-then-bounds-last-ge-TOO_LONG-clause-refused c =
+    let days = c.args.days in
+    let b = take (days + 1) c.in-Some.bounds in
+    let ok = c.in-Some.ensures.found in
+    let long = rw c.from-last.ensures at c.if-bounds-last-ge-TOO_LONG.true in
+    let first = at-front c.in-Some.bounds days 0 (omega arith) in
+    let last = at-front c.in-Some.bounds days days (omega arith) in
+    λ _. HasNoPeriod-long (plain_zone c.args.zone.now) (epoch_day c.args.first) days b ok (omega (arith, first, last, long))
+
+pub returns-in_err-bounds-clause-always : goal.returns-in_err-bounds-clause-always
+returns-in_err-bounds-clause-always c = λ none.
+    let short = rw c.from-last.ensures at c.if-bounds-last-ge-TOO_LONG.false in
+    absurd (HasNoPeriod-front (plain_zone c.args.zone.now) (epoch_day c.args.first) c.args.days c.in-Some.bounds (omega arith, omega arith) c.in-Some.ensures.found (omega (arith, short)) none)
+
+pub returns-in_err-zone-clause-always : goal.returns-in_err-zone-clause-always
+returns-in_err-zone-clause-always c = λ none.
+    let short = rw c.from-last.ensures at c.if-bounds-last-ge-TOO_LONG.false in
+    absurd (HasNoPeriod-front (plain_zone c.args.zone.now) (epoch_day c.args.first) c.args.days c.in-Some.bounds (omega arith, omega arith) c.in-Some.ensures.found (omega (arith, short)) none)
+
+pub returns-clause-always : goal.returns-clause-always
+returns-clause-always c = λ none.
+    let short = rw c.from-last.ensures at c.if-bounds-last-ge-TOO_LONG.false in
+    absurd (HasNoPeriod-front (plain_zone c.args.zone.now) (epoch_day c.args.first) c.args.days c.in-Some.bounds (omega arith, omega arith) c.in-Some.ensures.found (omega (arith, short)) none)
 
 pub invariant_of-result : goal.invariant_of-result
 invariant_of-result c =
-    let b = c.in_ok-bounds.bounds.items in
-    let ok = c.in_ok-bounds.ensures.ok in
-    let len = ok.count in
-    let first = index-value b 0 0 _ c.index-2.ensures refl (omega arith) in
-    let last = index-value b c.from.result c.args.days _ c.index.ensures c.from.ensures (omega arith) in
-    IsCalendar-midnights (plain_zone c.args.zone.now) (epoch_day c.args.first) c.args.days b _ (omega arith, omega arith) ok (omega (arith, first, last))
+    let days = c.args.days in
+    let short = rw c.from-last.ensures at c.if-bounds-last-ge-TOO_LONG.false in
+    let low = at-front c.in-Some.bounds days 0 (omega arith) in
+    let high = at-front c.in-Some.bounds days days (omega arith) in
+    let items = rw c.from-last.ensures at c.in_ok-bounds.ensures.items in
+    rw items (IsCalendar-midnights (plain_zone c.args.zone.now) (epoch_day c.args.first) days (take (days + 1) c.in-Some.bounds) _ (omega arith, omega arith) c.in-Some.ensures.found (omega (arith, short, low, high)))
