@@ -16,6 +16,3 @@ pub const MOST_ROWS: u32 = 1_000_000;
 
 /// How many bytes a text may have.
 pub const MOST_BYTES: usize = 268_435_456;
-
-#[cfg(test)]
-mod tests;

@@ -11,6 +11,3 @@ mod total;
 mod world;
 
 pub use total::{TotalStop, run_total};
-
-#[cfg(test)]
-mod tests;

@@ -1,2 +1,4 @@
 pub mod Commands
+pub mod Complaints
 pub mod Jobs
+pub mod Statuses

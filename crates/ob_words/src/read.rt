@@ -96,6 +96,3 @@ pub fn read_words(alloc: Global, words: &[&str]) -> Result<Job, WrongWords>
         None => Err(WrongWords::Wrong(String::from_str(alloc, "no subcommand")?)),
     }
 }
-
-#[cfg(test)]
-mod tests;

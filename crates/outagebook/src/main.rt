@@ -5,33 +5,31 @@
 //! contracts say what they do; nothing stands above this crate.
 #![tactic(auto)]
 
-mod complaint;
-
-use complaint::{complaint_of, status_of_stop};
 use ob_net::{Fault, Stop, Watched};
 pub use ob_total::{TotalStop, run_total};
-pub use ob_words::{Job, WrongWords, read_words};
+pub use ob_words::{Job, Unfinished, WrongWords, complaint_of, read_words, status_of_run};
 use std::alloc::{AllocError, Global};
 use std::env::{self, Env};
 use std::io;
 use std::process::ExitCode;
 
 fn main(rt: HostRuntime) -> ExitCode {
-    ExitCode::from(run(&rt))
+    let run = run(&rt);
+    ExitCode::from(status_of_run(&told(&rt, run)))
 }
 
-/// Runs the job that the words name, and answers the status to end with.
-fn run<R: Env + Input + Print + Eprint + AllocGlobal>(rt: &R) -> u8 {
+/// Runs the job that the words name.
+fn run<R: Env + Input + Print + AllocGlobal>(rt: &R) -> Result<(), Unfinished> {
     let words = match words_of(rt) {
         Ok(words) => words,
-        Err(error) => return tell_unread_words(rt, &error),
+        Err(error) => return Err(Unfinished::Words(unread_words(rt.alloc(), &error))),
     };
     let Ok(texts) = texts_of(rt.alloc(), &words) else {
-        return tell_stop(rt, &Stop::Fault(Fault::OutOfMemory), None);
+        return Err(faulty(Fault::OutOfMemory));
     };
     match read_words(rt.alloc(), &texts) {
         Ok(Job::Total) => total(rt),
-        Err(wrong) => tell_wrong_words(rt, &wrong),
+        Err(wrong) => Err(Unfinished::Words(wrong)),
     }
 }
 
@@ -44,45 +42,59 @@ fn texts_of(alloc: Global, words: &[String]) -> Result<Vec<&str>, AllocError> {
     words.iter().map(|word| word.as_str()).collect(alloc)
 }
 
+/// Why the words can't be read: they are no texts, or there was no memory for them.
+fn unread_words(alloc: Global, error: &io::Error) -> WrongWords {
+    if error.kind() == io::ErrorKind::OutOfMemory {
+        return WrongWords::Fault(Fault::OutOfMemory);
+    }
+    match String::from_str(alloc, "error: the words are not UTF-8\n") {
+        Ok(text) => WrongWords::Wrong(text),
+        Err(_) => WrongWords::Fault(Fault::OutOfMemory),
+    }
+}
+
 /// Prints the total of the text on standard input.
-fn total<R: Input + Print + Eprint + AllocGlobal>(rt: &R) -> u8 {
+fn total<R: Input + Print + AllocGlobal>(rt: &R) -> Result<(), Unfinished> {
     let mut reader = Watched::new(rt.reader());
     let mut writer = Watched::new(io::writer(rt));
     match run_total(rt.alloc(), &mut reader, &mut writer) {
-        Ok(_) => 0,
-        Err(stop) => tell_stop(rt, &stop.stop, stop.row),
+        Ok(_) => Ok(()),
+        Err(stop) => Err(Unfinished::Stopped(stop.stop, stop.row)),
     }
+}
+
+/// Tells help on standard output, or on standard error why the job wasn't done. It answers the run as it
+/// was, but help that can't be printed is a fault.
+fn told<R: Print + Eprint + AllocGlobal>(
+    rt: &R,
+    run: Result<(), Unfinished>,
+) -> Result<(), Unfinished> {
+    match &run {
+        Ok(()) => {}
+        Err(Unfinished::Words(WrongWords::Help(text))) => {
+            if print!(rt; "{text}").is_err() {
+                tell_stop(rt, &Stop::Fault(Fault::Output), None);
+                return Err(faulty(Fault::Output));
+            }
+        }
+        Err(Unfinished::Words(WrongWords::Wrong(text))) => {
+            let _ = eprint!(rt; "{text}");
+        }
+        Err(Unfinished::Words(WrongWords::Fault(fault))) => {
+            tell_stop(rt, &Stop::Fault(*fault), None);
+        }
+        Err(Unfinished::Stopped(stop, row)) => tell_stop(rt, stop, *row),
+    }
+    run
 }
 
 /// Tells why a job stopped.
-fn tell_stop<R: Eprint + AllocGlobal>(rt: &R, stop: &Stop, row: Option<u32>) -> u8 {
+fn tell_stop<R: Eprint + AllocGlobal>(rt: &R, stop: &Stop, row: Option<u32>) {
     if let Ok(line) = complaint_of(rt.alloc(), stop, row) {
         let _ = eprintln!(rt; "{line}");
     }
-    status_of_stop(stop)
 }
 
-/// Tells help on standard output, or on standard error why the words name no job.
-fn tell_wrong_words<R: Print + Eprint + AllocGlobal>(rt: &R, wrong: &WrongWords) -> u8 {
-    match wrong {
-        WrongWords::Help(text) => {
-            if print!(rt; "{text}").is_err() {
-                return tell_stop(rt, &Stop::Fault(Fault::Output), None);
-            }
-        }
-        WrongWords::Wrong(text) => {
-            let _ = eprint!(rt; "{text}");
-        }
-        WrongWords::Fault(fault) => return tell_stop(rt, &Stop::Fault(*fault), None),
-    }
-    wrong.status()
-}
-
-/// Tells that the words are no texts, or that there was no memory for them.
-fn tell_unread_words<R: Eprint + AllocGlobal>(rt: &R, error: &io::Error) -> u8 {
-    if error.kind() == io::ErrorKind::OutOfMemory {
-        return tell_stop(rt, &Stop::Fault(Fault::OutOfMemory), None);
-    }
-    let _ = eprintln!(rt; "error: the words are not UTF-8");
-    64
+fn faulty(fault: Fault) -> Unfinished {
+    Unfinished::Stopped(Stop::Fault(fault), None)
 }

@@ -1,7 +1,7 @@
 //! Runs over readers and writers that fail, are slow or give too much, and runs short of memory.
-use crate::tests::FIRST_RUN;
-use crate::{TotalStop, run_total};
+use crate::texts::FIRST_RUN;
 use ob_net::{Fault, Stop, Watched};
+use ob_total::{TotalStop, run_total};
 use std::alloc::Global;
 use std::io;
 use std::io::{ErrorKind, Read, Write};
@@ -13,16 +13,16 @@ section,A1,S1,1,,,,
 connect,C1,1,S1,0,,,
 ";
 
-// Gives one byte a read and is interrupted before each read; fails behind its bytes where `fails`.
+/// Gives one byte a read and is interrupted before each read; fails behind its bytes where `fails`.
 #[derive(Drop)]
-struct Source<'b> {
+pub struct Source<'b> {
     rest: &'b [u8],
     interrupted: bool,
     fails: bool,
 }
 
 impl<'b> Source<'b> {
-    fn new(rest: &'b [u8], fails: bool) -> Watched<Source<'b>> {
+    pub fn new(rest: &'b [u8], fails: bool) -> Watched<Source<'b>> {
         Watched::new(Source {
             rest,
             interrupted: false,
@@ -98,29 +98,35 @@ fn fault(fault: Fault) -> Result<u64, TotalStop> {
     })
 }
 
+// A run over a reader that stops for a failed input, and writes nothing.
+fn stops_for_input<R: Read + Drop>(alloc: Global, mut reader: Watched<R>) -> bool {
+    let mut writer = Watched::new(Vec::new(alloc));
+    let answer = run_total(alloc, &mut reader, &mut writer);
+    writer.into_parts().0.is_empty() && answer == fault(Fault::Input)
+}
+
 #[test]
 fn readers_that_fail(rt: HostRuntime) {
     for count in 0..=SMALL.len() {
-        let mut reader = Source::new(&SMALL[..count], true);
-        let mut writer = Watched::new(Vec::new(rt.alloc()));
-        let answer = run_total(rt.alloc(), &mut reader, &mut writer);
-        assert!(rt; answer == fault(Fault::Input), "{count}: {answer:?}");
-        assert!(rt; writer.into_parts().0.is_empty(), "{count}");
+        assert!(rt; stops_for_input(rt.alloc(), Source::new(&SMALL[..count], true)));
     }
+}
+
+// A run over a writer with room for so many bytes stops for a failed output when they are written.
+fn stops_for_output(alloc: Global, room: usize, full: Option<ErrorKind>) -> bool {
+    let line = b"W 10\n".as_slice();
+    let mut reader = Watched::new(SMALL);
+    let mut writer = Sink::new(alloc, room, full);
+    let answer = run_total(alloc, &mut reader, &mut writer);
+    let taken = writer.into_parts().0.taken;
+    line.starts_with(&taken) && taken.len() == room && answer == fault(Fault::Output)
 }
 
 #[test]
 fn writers_that_fail(rt: HostRuntime) {
-    let line = b"W 10\n".as_slice();
-    for room in 0..line.len() {
-        for full in [None, Some(ErrorKind::Other)] {
-            let mut reader = Watched::new(SMALL);
-            let mut writer = Sink::new(rt.alloc(), room, full);
-            let answer = run_total(rt.alloc(), &mut reader, &mut writer);
-            assert!(rt; answer == fault(Fault::Output), "{room}: {answer:?}");
-            let taken = writer.into_parts().0.taken;
-            assert!(rt; taken.as_slice() == &line[..room], "{room}");
-        }
+    for room in 0..5 {
+        assert!(rt; stops_for_output(rt.alloc(), room, None));
+        assert!(rt; stops_for_output(rt.alloc(), room, Some(ErrorKind::Other)));
     }
 }
 
@@ -129,7 +135,7 @@ fn slow_streams(rt: HostRuntime) {
     let mut reader = Source::new(SMALL, false);
     let mut writer = Sink::new(rt.alloc(), 5, None);
     let answer = run_total(rt.alloc(), &mut reader, &mut writer);
-    assert_eq!(rt; answer, Ok(10));
+    assert!(rt; answer == Ok(10));
     assert!(rt; writer.into_parts().0.taken.as_slice() == b"W 10\n".as_slice());
 }
 
@@ -146,18 +152,14 @@ impl Read for Endless {
 
 #[test]
 fn a_text_that_is_too_long(rt: HostRuntime) {
-    let mut reader = Watched::new(Endless);
-    let mut writer = Watched::new(Vec::new(rt.alloc()));
-    let answer = run_total(rt.alloc(), &mut reader, &mut writer);
-    assert_eq!(rt; answer, fault(Fault::Input));
-    assert!(rt; writer.into_parts().0.is_empty());
+    assert!(rt; stops_for_input(rt.alloc(), Watched::new(Endless)));
 }
 
 // Run with one allocation refused, it sees that a run that stops for it writes nothing. The writer's
 // own memory is among what may be refused.
 #[test]
 fn memory_refused(rt: HostRuntime) {
-    let mut reader = Watched::new(FIRST_RUN);
+    let mut reader = Watched::new(FIRST_RUN.as_bytes());
     let mut writer = Watched::new(Vec::new(rt.alloc()));
     let answer = run_total(rt.alloc(), &mut reader, &mut writer);
     let taken = writer.into_parts().0;

@@ -1,4 +1,4 @@
--- What the program tells of a stop: a line on standard error, and the status that it ends with.
+-- The line on standard error that the program tells of a stop.
 use Rattle.std.specs.Prelude.{ℕ, List, ◌∷◌, ◌++◌, Option, Some, None, codes}
 use Rattle.std.specs.Fmt.{decimal}
 use Rattle.ob_base.specs.declared.stop.Fault.{Fault}
@@ -26,8 +26,3 @@ fault_line fault = codes "fault " ++ (decimal (fault_number fault) ++ (32 ∷ fa
 abbrev pub complaint_line : Stop → Option ℕ → List ℕ
 complaint_line (stops.Refused refusal) row = refused_line refusal row
 complaint_line (stops.Fault fault) row = fault_line fault
-
--- 2 for a refusal, 1 for a fault
-abbrev pub status_of : Stop → ℕ
-status_of (stops.Refused refusal) = 2
-status_of (stops.Fault fault) = 1

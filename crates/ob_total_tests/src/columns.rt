@@ -1,0 +1,143 @@
+//! Spans, rows as a whole, and the bad column of a row.
+use crate::script::{bad_columns, script};
+use std::test::Fail;
+
+const SPANS: &'static str = "\
+span,A0,0,10000,,,, => W 0
+span,A0,0,100,,,,;section,A1,S1,1,,,,;connect,C1,1,S1,0,,, => W 100
+span,A0,5,5,,,, => refused 1 BadField 4 row 1
+span,A0,5,4,,,, => refused 1 BadField 4 row 1
+span,A0,7,33554439,,,, => refused 1 BadField 4 row 1
+# One second shorter is a span, and the next row is read.
+span,A0,7,33554438,,,,;bus,A1,,,,,, => refused 1 BadField 3 row 2
+span,A0,99999999998,99999999999,,,,;section,A1,S1,1,,,,;connect,C1,1,S1,99999999998,,, => W 1
+span,A0,99999999998,99999999999,,,,;section,A1,S1,1,,,,;connect,C1,1,S1,99999999999,,, => W 0
+span,A0,99999999999,100000000000,,,, => refused 1 BadField 4 row 1
+span,A0,100000000000,1,,,, => refused 1 BadField 3 row 1
+span,A0,000000000001,2,,,, => refused 1 BadField 3 row 1
+span,A0,,2,,,, => refused 1 BadField 3 row 1
+span,A0,1,x,,,, => refused 1 BadField 4 row 1
+span,a0,1,x,,,, => refused 1 BadField 2 row 1
+span,A0,1,1,9,,, => refused 1 BadField 4 row 1
+span,A0,1,2,,9,,9 => refused 1 BadField 6 row 1
+span,A0,1,2,,, => refused 1 BadField 0 row 1
+bus,A1,BUS-A,,,,, => refused 1 BadField 1 row 1
+Span,a0,x,x,,,, => refused 1 BadField 1 row 1
+";
+
+#[test]
+fn spans(rt: HostRuntime) -> Result<(), Fail> {
+    script(&rt, rt.alloc(), "", SPANS)
+}
+
+const SPAN: &'static str = "span,A0,100,200,,,,\n";
+
+const ROWS: &'static str = "\
+span,A1,100,200,,,, => refused 1 BadField 1 row 2
+trip,A1,B1,,,,, => refused 1 BadField 1 row 2
+Bus,A1,B1,,,,, => refused 1 BadField 1 row 2
+,A1,B1,,,,, => refused 1 BadField 1 row 2
+bus,A1,B1,,,, => refused 1 BadField 0 row 2
+bus,A1,B1,,,,,, => refused 1 BadField 0 row 2
+trip,A1,B1,,,, => refused 1 BadField 0 row 2
+trip,A1,B1,,,,,, => refused 1 BadField 0 row 2
+bus,a1,B1,,,,, => refused 1 BadField 2 row 2
+bus,,B1,,,,, => refused 1 BadField 2 row 2
+bus,ABCDEFGHIJKLMNOPQRSTUVWXYZ0123456789-_AB,B1,,,,, => W 0
+bus,ABCDEFGHIJKLMNOPQRSTUVWXYZ0123456789-_ABC,B1,,,,, => refused 1 BadField 2 row 2
+# References are not compared.
+bus,A0,B1,,,,,;bus,A0,B2,,,,, => W 0
+# The leftmost bad column counts.
+trip,a1,b1,x,x,x,x,x => refused 1 BadField 1 row 2
+bus,a1,b1,x,x,x,x,x => refused 1 BadField 2 row 2
+bus,A1,b1,x,x,x,x,x => refused 1 BadField 3 row 2
+bus,A1,B1,,x,,x,x => refused 1 BadField 5 row 2
+connect,A1,1,S1,x,x,x, => refused 1 BadField 5 row 2
+# A quote that is left open goes on to the end of the text.
+bus,A1,B1,,,,,\"x => refused 1 BadField 8 row 2
+bus,A1,\"B1,,,,,;bus,A2,B2,,,,, => refused 1 BadField 0 row 2
+";
+
+#[test]
+fn rows_as_a_whole(rt: HostRuntime) -> Result<(), Fail> {
+    script(&rt, rt.alloc(), SPAN, ROWS)
+}
+
+const CAUSES_AND_NODES: &'static str = "\
+cause,A1,0,STORM,,,, => 3
+cause,A1,64,STORM,,,, => 3
+cause,A1,007,STORM,,,, => 3
+cause,A1,,STORM,,,, => 3
+cause,A1,7,,,,, => 4
+cause,A1,7,ABCDEFGHIJKLMNOPQRSTUVWXY,,,, => 4
+cause,A1,7,STORM,x,,, => 5
+cause,A1,7,STORM,,x,, => 6
+cause,A1,7,STORM,,,x, => 7
+cause,A1,7,STORM,,,,x => 8
+bus,A1,,,,,, => 3
+bus,A1,ABCDEFGHIJKLMNOPQRSTUVWXY,,,,, => 3
+bus,A1,B1,x,,,, => 4
+bus,A1,B1,,x,,, => 5
+bus,A1,B1,,,x,, => 6
+bus,A1,B1,,,,x, => 7
+bus,A1,B1,,,,,x => 8
+section,A1,S 1,1,,,, => 3
+section,A1,SÜ,1,,,, => 3
+section,A1,S1,0,,,, => 4
+section,A1,S1,256,,,, => 4
+section,A1,S1,0001,,,, => 4
+section,A1,S1,-1,,,, => 4
+section,A1,S1,,,,, => 4
+section,A1,S1,1,x,,, => 5
+section,A1,S1,1,,x,, => 6
+section,A1,S1,1,,,x, => 7
+section,A1,S1,1,,,,x => 8
+";
+
+#[test]
+fn columns_of_causes_and_nodes(rt: HostRuntime) -> Result<(), Fail> {
+    bad_columns(&rt, rt.alloc(), SPAN, CAUSES_AND_NODES)
+}
+
+const DEVICES_AND_CUSTOMERS: &'static str = "\
+device,A1,b1,GRID,S1,closed,, => 3
+device,A1,B1,grid,S1,closed,, => 4
+device,A1,B1,GRID,s1,closed,, => 5
+device,A1,B1,GRID,,closed,, => 5
+device,A1,B1,S1,S1,closed,, => 5
+device,A1,B1,S1,S1,close,, => 5
+device,A1,B1,s1,s1,closed,, => 4
+device,A1,B1,GRID,S1,close,, => 6
+device,A1,B1,GRID,S1,,, => 6
+device,A1,B1,GRID,S1,open,x, => 7
+device,A1,B1,GRID,S1,open,,x => 8
+connect,A1,0,S1,0,,, => 3
+connect,A1,4294967296,S1,0,,, => 3
+connect,A1,00000000001,S1,0,,, => 3
+connect,A1,,S1,0,,, => 3
+connect,A1,1,,0,,, => 4
+connect,A1,1,S1,,,, => 5
+connect,A1,1,S1,000000000001,,, => 5
+connect,A1,1,S1,+1,,, => 5
+connect,A1,1,S1,0,x,, => 6
+connect,A1,1,S1,0,100000000000,, => 6
+connect,A1,1,S1,0,,x, => 7
+connect,A1,1,S1,0,,,x => 8
+switch,A1,b1,open,150,3,K1, => 3
+switch,A1,B1,closed,150,3,K1, => 4
+switch,A1,B1,,150,3,K1, => 4
+switch,A1,B1,open,,3,K1, => 5
+switch,A1,B1,open,1e2,3,K1, => 5
+switch,A1,B1,open,150,0,K1, => 6
+switch,A1,B1,open,150,64,K1, => 6
+switch,A1,B1,open,150,,K1, => 6
+switch,A1,B1,open,150,3,, => 7
+switch,A1,B1,open,150,3,k1, => 7
+switch,A1,B1,open,150,3,ABCDEFGHIJKLMNOPQ, => 7
+switch,A1,B1,open,150,3,K1,x => 8
+";
+
+#[test]
+fn columns_of_devices_and_customers(rt: HostRuntime) -> Result<(), Fail> {
+    bad_columns(&rt, rt.alloc(), SPAN, DEVICES_AND_CUSTOMERS)
+}

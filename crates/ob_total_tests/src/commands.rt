@@ -1,0 +1,92 @@
+//! Commands on a network without an entry, and on one that an entry seals.
+use crate::script::script;
+use std::test::Fail;
+
+/// A section that is supplied over a bus, and its one customer.
+pub const FEEDER: &'static str = "\
+span,A0,100,200,,,,
+bus,A1,BUS-A,,,,,
+section,A2,S1,1,,,,
+device,A3,I1,GRID,BUS-A,closed,,
+device,A4,B1,BUS-A,S1,closed,,
+connect,C1,1,S1,0,,,
+";
+
+const OPEN: &'static str = "\
+W 0
+cause,D1,3,STORM,,,,;cause,D1,3,STORM,,,,;cause,D2,3,ICE,,,, => W 0
+device,X,B2,NONE,S1,closed,, => refused 2 UnknownName row 7
+device,X,B2,S1,NONE,closed,, => refused 2 UnknownName row 7
+device,X,B2,S1,B1,closed,, => refused 2 UnknownName row 7
+device,X,B1,S1,NONE,closed,, => refused 2 UnknownName row 7
+device,X,B1,GRID,S1,open,, => refused 3 NameTaken row 7
+# Nodes and devices have names of their own.
+device,X,S1,GRID,S1,open,,;bus,X,B1,,,,, => W 0
+bus,X,BUS-A,,,,, => refused 3 NameTaken row 7
+bus,X,S1,,,,, => refused 3 NameTaken row 7
+bus,X,GRID,,,,, => refused 3 NameTaken row 7
+section,X,S1,2,,,, => refused 3 NameTaken row 7
+section,X,BUS-A,2,,,, => refused 3 NameTaken row 7
+section,X,GRID,2,,,, => refused 3 NameTaken row 7
+connect,X,2,NONE,0,,, => refused 2 UnknownName row 7
+connect,X,2,BUS-A,0,,, => refused 2 UnknownName row 7
+connect,X,2,GRID,0,,, => refused 2 UnknownName row 7
+connect,X,2,B1,0,,, => refused 2 UnknownName row 7
+connect,X,1,NONE,5,5,, => refused 2 UnknownName row 7
+connect,X,1,S1,0,,, => refused 3 NameTaken row 7
+connect,X,0000000001,S1,0,,, => refused 3 NameTaken row 7
+connect,X,1,S1,5,5,, => refused 3 NameTaken row 7
+connect,X,2,S1,5,5,, => refused 10 BadService row 7
+connect,X,2,S1,5,4,, => refused 10 BadService row 7
+connect,X,2,S1,5,6,,;connect,X,4294967295,S1,5,,, => W 0
+switch,X,NONE,open,150,3,K1, => refused 2 UnknownName row 7
+switch,X,S1,open,150,3,K1, => refused 2 UnknownName row 7
+switch,X,NONE,open,200,3,K1, => refused 2 UnknownName row 7
+switch,X,B1,open,200,3,K1, => refused 5 OutOfPeriod row 7
+switch,X,B1,open,99,3,K1, => refused 5 OutOfPeriod row 7
+switch,X,B1,open,99999999999,3,K1, => refused 5 OutOfPeriod row 7
+switch,X,B1,open,199,3,K1, => W 1
+switch,X,B1,open,100,3,ABCDEFGHIJKLMNOP, => W 100
+# The first refusal of a text counts.
+bus,X,S1,,,,,;trip,X,,,,,, => refused 3 NameTaken row 7
+";
+
+#[test]
+fn commands_of_an_open_network(rt: HostRuntime) -> Result<(), Fail> {
+    script(&rt, rt.alloc(), FEEDER, OPEN)
+}
+
+// The same, with an opening on the sheet.
+const OPENED: &'static str = "\
+span,A0,100,200,,,,
+bus,A1,BUS-A,,,,,
+section,A2,S1,1,,,,
+device,A3,I1,GRID,BUS-A,closed,,
+device,A4,B1,BUS-A,S1,closed,,
+connect,C1,1,S1,0,,,
+switch,E1,B1,open,150,3,K1,
+";
+
+const SEALED: &'static str = "\
+W 50
+bus,X,BUS-B,,,,, => refused 4 Sealed row 8
+section,X,S2,1,,,, => refused 4 Sealed row 8
+device,X,B2,GRID,S1,closed,, => refused 4 Sealed row 8
+# Sealed comes before names.
+bus,X,BUS-A,,,,, => refused 4 Sealed row 8
+section,X,S1,1,,,, => refused 4 Sealed row 8
+device,X,B1,GRID,S1,closed,, => refused 4 Sealed row 8
+device,X,B2,GRID,NONE,closed,, => refused 4 Sealed row 8
+# And fields before Sealed.
+section,X,S1,0,,,, => refused 1 BadField 4 row 8
+device,X,B2,S1,S1,closed,, => refused 1 BadField 5 row 8
+cause,X,3,STORM,,,, => W 50
+connect,X,2,S1,0,,, => W 100
+connect,X,1,S1,0,,, => refused 3 NameTaken row 8
+switch,X,B1,close,160,3,K1, => W 10
+";
+
+#[test]
+fn commands_of_a_sealed_network(rt: HostRuntime) -> Result<(), Fail> {
+    script(&rt, rt.alloc(), OPENED, SEALED)
+}

@@ -1,0 +1,104 @@
+//! The most rows, nodes, devices, customers and entries.
+use crate::commands::FEEDER;
+use crate::script::script;
+use std::alloc::{AllocError, Global};
+use std::ops::Range;
+use std::test::Fail;
+
+const SPAN: &'static str = "span,A0,100,200,,,,\n";
+
+// The rows of `base`, and so many more that are alike.
+fn repeated(alloc: Global, base: &str, row: &str, count: usize) -> Result<String, AllocError> {
+    let mut rows = String::from_str(alloc, base)?;
+    for _ in 0..count {
+        rows.push_str(row)?;
+    }
+    Ok(rows)
+}
+
+// The rows of `base`, and one for each of these numbers, which stands between `front` and `back`.
+fn numbered(
+    alloc: Global,
+    base: &str,
+    front: &str,
+    numbers: Range<usize>,
+    back: &str,
+) -> Result<String, AllocError> {
+    let mut rows = String::from_str(alloc, base)?;
+    for number in numbers {
+        let row = format!(in alloc; "{front}{number}{back}\n")?;
+        rows.push_str(row.as_str())?;
+    }
+    Ok(rows)
+}
+
+const ONE_ROW_MORE: &'static str = "\
+W 0
+# The row past the last is refused before its fields are read.
+x => refused 12 Full 1000000 row 1000001
+";
+
+#[test]
+fn the_most_rows(rt: HostRuntime) -> Result<(), Fail> {
+    let base = repeated(rt.alloc(), SPAN, "cause,A,3,S,,,,\n", 999_999)?;
+    script(&rt, rt.alloc(), base.as_str(), ONE_ROW_MORE)
+}
+
+const ONE_NODE_MORE: &'static str = "\
+W 0
+bus,A,ONE-MORE,,,,, => refused 12 Full 1024 row 1025
+section,A,ONE-MORE,1,,,, => refused 12 Full 1024 row 1025
+bus,A,N7,,,,, => refused 3 NameTaken row 1025
+bus,A,GRID,,,,, => refused 3 NameTaken row 1025
+";
+
+// With GRID they are 1,024.
+#[test]
+fn the_most_nodes(rt: HostRuntime) -> Result<(), Fail> {
+    let base = numbered(rt.alloc(), SPAN, "bus,A,N", 0..1023, ",,,,,")?;
+    script(&rt, rt.alloc(), base.as_str(), ONE_NODE_MORE)
+}
+
+const ONE_DEVICE_MORE: &'static str = "\
+W 0
+device,A,X,GRID,S1,open,, => refused 12 Full 2048 row 2053
+device,A,D9,GRID,S1,open,, => refused 3 NameTaken row 2053
+device,A,X,GRID,NONE,open,, => refused 2 UnknownName row 2053
+";
+
+// FEEDER has two of them.
+#[test]
+fn the_most_devices(rt: HostRuntime) -> Result<(), Fail> {
+    let base = numbered(rt.alloc(), FEEDER, "device,A,D", 0..2046, ",GRID,S1,open,,")?;
+    script(&rt, rt.alloc(), base.as_str(), ONE_DEVICE_MORE)
+}
+
+const ONE_CUSTOMER_MORE: &'static str = "\
+W 0
+connect,C,100001,S1,0,,, => refused 12 Full 100000 row 100006
+connect,C,100001,S1,5,5,, => refused 10 BadService row 100006
+connect,C,100000,S1,0,,, => refused 3 NameTaken row 100006
+connect,C,100001,S2,0,,, => refused 2 UnknownName row 100006
+";
+
+// FEEDER has the first of them.
+#[test]
+fn the_most_customers(rt: HostRuntime) -> Result<(), Fail> {
+    let base = numbered(rt.alloc(), FEEDER, "connect,C,", 2..100_001, ",S1,300,,,")?;
+    script(&rt, rt.alloc(), base.as_str(), ONE_CUSTOMER_MORE)
+}
+
+const ONE_ENTRY_MORE: &'static str = "\
+# 50,000 entries, the last of which opens: 40 seconds.
+switch,E,B1,open,160,3,K1, => W 40
+switch,E,B1,open,160,3,K1,;switch,E,B1,close,170,3,K1, => refused 12 Full 50000 row 50007
+switch,E,B1,open,160,3,K1,;switch,E,B1,close,200,3,K1, => refused 5 OutOfPeriod row 50007
+switch,E,B1,open,160,3,K1,;switch,E,B9,close,170,3,K1, => refused 2 UnknownName row 50007
+";
+
+// One fewer than the most.
+#[test]
+fn the_most_entries(rt: HostRuntime) -> Result<(), Fail> {
+    let base = repeated(rt.alloc(), FEEDER, "switch,E,B1,close,150,3,K1,\n", 49_999)?;
+    script(&rt, rt.alloc(), base.as_str(), ONE_ENTRY_MORE)
+}

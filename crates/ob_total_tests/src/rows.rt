@@ -1,0 +1,246 @@
+//! The rows of texts, against RFC 4180 and the rules of `RowReader`, by hand.
+use ob_net::{Fault, Stop};
+use ob_rows::{Row, RowReader};
+use std::alloc::Global;
+use std::io;
+use std::io::{ErrorKind, Read};
+use std::process::Abort;
+use std::test::Fail;
+
+// The rows of a text, each before a `;`.
+fn shown(alloc: Global, text: &[u8]) -> Result<Vec<u8>, Stop> {
+    let mut rows = RowReader::new(alloc, text);
+    let mut row = Row::new(alloc);
+    let mut out = Vec::new(alloc);
+    for _ in 0..text.len() {
+        if !rows.next_row(&mut row)? {
+            return Ok(out);
+        }
+        show(&row, &mut out)?;
+        out.push(b';')?;
+    }
+    Ok(out)
+}
+
+// A row of eight fields, each field in `<>`, an empty one as `.`; any other row as `-`.
+fn show(row: &Row, out: &mut Vec<u8>) -> Result<(), Stop> {
+    let Some(row) = row.fields() else {
+        out.push(b'-')?;
+        return Ok(());
+    };
+    for field in [row.kind, row.reference, row.f1, row.f2, row.f3, row.f4, row.f5, row.f6] {
+        show_field(field, out)?;
+    }
+    Ok(())
+}
+
+fn show_field(field: &[u8], out: &mut Vec<u8>) -> Result<(), Stop> {
+    if field.is_empty() {
+        out.push(b'.')?;
+        return Ok(());
+    }
+    out.push(b'<')?;
+    out.extend_from_slice(field)?;
+    out.push(b'>')?;
+    Ok(())
+}
+
+// Texts have these rows.
+fn show_rows(rt: &impl Abort, alloc: Global, table: &[(&[u8], &[u8])]) -> Result<(), Fail> {
+    for (text, wanted) in table {
+        let rows = shown(alloc, text)?;
+        assert!(rt; rows.as_slice() == *wanted, "{text:?}");
+    }
+    Ok(())
+}
+
+#[test]
+fn line_ends_and_marks(rt: HostRuntime) -> Result<(), Fail> {
+    show_rows(
+        &rt,
+        rt.alloc(),
+        &[
+            (b"", b""),
+            (b"\xEF\xBB\xBF", b""),
+            (b"\n\r\n\r", b""),
+            (b",,,,,,a,b\n,,,,,,c,d\n", b"......<a><b>;......<c><d>;"),
+            (b",,,,,,a,b\r\n,,,,,,c,d\r\n", b"......<a><b>;......<c><d>;"),
+            (b",,,,,,a,b\r,,,,,,c,d\r", b"......<a><b>;......<c><d>;"),
+            (
+                b"a,,,,,,,b\rc,,,,,,,d\ne,,,,,,,f\r\ng,,,,,,,h",
+                b"<a>......<b>;<c>......<d>;<e>......<f>;<g>......<h>;",
+            ),
+            (b",,,,,,a,b\n,,,,,,c,d", b"......<a><b>;......<c><d>;"),
+            (b",,,,,,a,", b"......<a>.;"),
+            (b",,,,,,,\n", b"........;"),
+            (b"\xEF\xBB\xBFa,,,,,,,\n", b"<a>.......;"),
+            (b"\xEF\xBB\xBF\xEF\xBB\xBFa,,,,,,,\n", b"<\xEF\xBB\xBFa>.......;"),
+            (b"a,,,,,,,\n\xEF\xBB\xBFb,,,,,,,\n", b"<a>.......;<\xEF\xBB\xBFb>.......;"),
+            (b"\xEF\xBBa,,,,,,,\n", b"<\xEF\xBBa>.......;"),
+            (b"\n\n,,,,,,,a\n\r\n\r,,,,,,,b\n\n", b".......<a>;.......<b>;"),
+        ],
+    )
+}
+
+#[test]
+fn quotes_and_other_bytes(rt: HostRuntime) -> Result<(), Fail> {
+    show_rows(
+        &rt,
+        rt.alloc(),
+        &[
+            (b",,,,,,,\"\"\n", b"........;"),
+            (b",,,,,,,\"\"", b"........;"),
+            (b",,,,,,, \n", b".......< >;"),
+            (b",,,,,, a , \"b\"\t\n", b"......< a >< \"b\"\t>;"),
+            (b",,,,,,\"a\",\"b\"\n", b"......<a><b>;"),
+            (b",,,,,,\"a,b\",c\n", b"......<a,b><c>;"),
+            (b",,,,,\"a\r\nb\",\"c\nd\",\"e\rf\"\n", b".....<a\r\nb><c\nd><e\rf>;"),
+            (b",,,,,,\"a\"\"b\",\"\"\"\"\n", b"......<a\"b><\">;"),
+            (b",,,,,,a\"b\",c\"\"\n", b"......<a\"b\"><c\"\">;"),
+            (b",,,,,,a,\"b\nc", b"......<a><b\nc>;"),
+            (b",,,,,,a,\"", b"......<a>.;"),
+            (b",,,,,,,a\n,,,,,,,\"b,\"\"", b".......<a>;.......<b,\">;"),
+            (b",,,,,,\xFF\x00,\xC3\n,,,,,,,\x80", b"......<\xFF\x00><\xC3>;.......<\x80>;"),
+            (b"#a;b\\,c,,,,,,\n", b"<#a;b\\><c>......;"),
+        ],
+    )
+}
+
+#[test]
+fn rows_of_other_lengths(rt: HostRuntime) -> Result<(), Fail> {
+    show_rows(
+        &rt,
+        rt.alloc(),
+        &[
+            (b"\"\"\n", b"-;"),
+            (b"\"\"", b"-;"),
+            (b" \n", b"-;"),
+            (b"a,\nb\n", b"-;-;"),
+            (b"a\n1,2,3,4,5,6,7,8\n", b"-;<1><2><3><4><5><6><7><8>;"),
+            (b"a\n1,2,3,4,5,6,7,8,9\n", b"-;-;"),
+        ],
+    )
+}
+
+// The first row of a text.
+fn first(alloc: Global, text: &[u8]) -> Result<Row, Stop> {
+    let mut rows = RowReader::new(alloc, text);
+    let mut row = Row::new(alloc);
+    rows.next_row(&mut row)?;
+    Ok(row)
+}
+
+#[test]
+fn eight_fields_stand_in_their_order(rt: HostRuntime) -> Result<(), Fail> {
+    let row = first(rt.alloc(), b"switch,R-1,\"a,b\",2,,4, 5,\xFF\r\n")?;
+    let Some(fields) = row.fields() else {
+        return Err(Fail::new("no eight fields"));
+    };
+    assert!(rt; fields.kind == b"switch".as_slice());
+    assert!(rt; fields.reference == b"R-1".as_slice());
+    assert!(rt; fields.f1 == b"a,b".as_slice());
+    assert!(rt; fields.f2 == b"2".as_slice());
+    assert!(rt; fields.f3 == b"".as_slice());
+    assert!(rt; fields.f4 == b"4".as_slice());
+    assert!(rt; fields.f5 == b" 5".as_slice());
+    assert!(rt; fields.f6 == b"\xFF".as_slice());
+    Ok(())
+}
+
+// The first rows of texts have eight fields, or have not.
+fn have_eight(rt: &impl Abort, alloc: Global, wanted: bool, texts: &[&[u8]]) -> Result<(), Fail> {
+    for text in texts {
+        let row = first(alloc, text)?;
+        assert!(rt; row.fields().is_some() == wanted, "{text:?}");
+    }
+    Ok(())
+}
+
+#[test]
+fn only_rows_of_eight_have_eight_fields(rt: HostRuntime) -> Result<(), Fail> {
+    have_eight(&rt, rt.alloc(), true, &[b"1,2,3,4,5,6,7,8\n", b",,,,,,,"])?;
+    have_eight(
+        &rt,
+        rt.alloc(),
+        false,
+        &[
+            b"",
+            b"\"\"\n",
+            b" \n",
+            b"1,2,3,4,5,6,7\n",
+            b"1,2,3,4,5,6,7,8,\n",
+            b"1,2,3,4,5,6,\"7,8\"\n",
+        ],
+    )
+}
+
+// The first rows of texts are headers, or are not.
+fn are_headers(rt: &impl Abort, alloc: Global, wanted: bool, texts: &[&[u8]]) -> Result<(), Fail> {
+    for text in texts {
+        let row = first(alloc, text)?;
+        assert!(rt; row.is_header() == wanted, "{text:?}");
+    }
+    Ok(())
+}
+
+#[test]
+fn headers(rt: HostRuntime) -> Result<(), Fail> {
+    are_headers(
+        &rt,
+        rt.alloc(),
+        true,
+        &[
+            b"kind,ref,f1,f2,f3,f4,f5,f6\n",
+            b"\xEF\xBB\xBF\r\nkind,ref,f1,f2,f3,f4,f5,f6",
+            b"\"kind\",\"ref\",f1,f2,f3,f4,f5,\"f6\"\r\n",
+        ],
+    )
+}
+
+#[test]
+fn other_rows_than_headers(rt: HostRuntime) -> Result<(), Fail> {
+    are_headers(
+        &rt,
+        rt.alloc(),
+        false,
+        &[
+            b"",
+            b"ref,kind,f1,f2,f3,f4,f5,f6\n",
+            b"kind,ref,f1,f2,f3,f4,f6,f5\n",
+            b"kind,ref,f1,f2,f3,f4,f5\n",
+            b"kind,ref,f1,f2,f3,f4,f5,f6,\n",
+            b"kind,ref,f1,f2,f3,f4,f5,f7\n",
+            b"Kind,ref,f1,f2,f3,f4,f5,f6\n",
+            b"kind, ref,f1,f2,f3,f4,f5,f6\n",
+        ],
+    )
+}
+
+// A reader that gives its bytes one by one, and then fails.
+#[derive(Drop)]
+struct Failing<'a> {
+    bytes: &'a [u8],
+}
+
+impl<'a> Read for Failing<'a> {
+    fn read(&mut self, buf: &mut [u8]) -> io::Result<usize> {
+        if self.bytes.is_empty() {
+            return Err(io::Error::from(ErrorKind::Other));
+        }
+        let mut front = &self.bytes[..buf.len().min(1)];
+        let count = front.read(buf)?;
+        self.bytes = &self.bytes[count.min(self.bytes.len())..];
+        Ok(count)
+    }
+}
+
+#[test]
+fn a_reader_that_fails_gives_no_further_row(rt: HostRuntime) {
+    let mut rows = RowReader::new(rt.alloc(), Failing { bytes: b"a,b\nc,d" });
+    let mut row = Row::new(rt.alloc());
+    let no_memory = Err(Stop::Fault(Fault::OutOfMemory));
+    assert!(rt; rows.next_row(&mut row) == Ok(true));
+    assert!(rt; rows.next_row(&mut row) == no_memory);
+    assert!(rt; rows.next_row(&mut row) == Ok(false));
+    assert!(rt; rows.next_row(&mut row) == Ok(false));
+}
