@@ -25,32 +25,22 @@ pub fn indices_text(alloc: Global, all: &Indices, unmarked: &Indices) -> Result<
 fn both(alloc: Global, all: &Indices, unmarked: &Indices) -> Result<Value, AllocError>
     ensures { IfOk result (λ v. view v ≡ both_data all.now unmarked.now) }
 {
-    let all = indices(alloc, all)?;
-    let unmarked = indices(alloc, unmarked)?;
-    json!(in alloc; {"all": all, "unmarked": unmarked})
+    json!(in alloc; {"all": indices(alloc, all)?, "unmarked": indices(alloc, unmarked)?})
 }
 
 // The indices as JSON.
 fn indices(alloc: Global, indices: &Indices) -> Result<Value, AllocError>
     ensures { IfOk result (λ v. view v ≡ indices_data indices.now) }
 {
-    let asai = index(alloc, indices.asai)?;
-    let caidi = index(alloc, indices.caidi)?;
-    let caifi = index(alloc, indices.caifi)?;
-    let cemi = list(alloc, &indices.cemi)?;
-    let momentary = indices.momentary;
-    let saidi = index(alloc, indices.saidi)?;
-    let saifi = index(alloc, indices.saifi)?;
-    let sustained = indices.sustained;
     json!(in alloc; {
-        "asai": asai,
-        "caidi": caidi,
-        "caifi": caifi,
-        "cemi": cemi,
-        "momentary": momentary,
-        "saidi": saidi,
-        "saifi": saifi,
-        "sustained": sustained
+        "asai": index(alloc, indices.asai)?,
+        "caidi": index(alloc, indices.caidi)?,
+        "caifi": index(alloc, indices.caifi)?,
+        "cemi": list(alloc, &indices.cemi)?,
+        "momentary": indices.momentary,
+        "saidi": index(alloc, indices.saidi)?,
+        "saifi": index(alloc, indices.saifi)?,
+        "sustained": indices.sustained
     })
 }
 

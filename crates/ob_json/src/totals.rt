@@ -30,11 +30,12 @@ fn totals(alloc: Global, postings: &Postings, days: u16) -> Result<Value, AllocE
     requires days { days ≡ day_count postings.now }
     ensures data { IfOk result (λ v. view v ≡ totals_data (amount_of postings.now) (day_count postings.now) (total_of postings.now Total)) }
 {
-    let causes = rows(alloc, postings, Dim::Cause, 0, 64)?;
-    let by_day = rows(alloc, postings, Dim::Day, 0, days)?;
-    let feeders = rows(alloc, postings, Dim::Feeder, 1, 256)?;
-    let total = postings.total(Dim::Day);
-    json!(in alloc; {"cause": causes, "day": by_day, "feeder": feeders, "total": total})
+    json!(in alloc; {
+        "cause": rows(alloc, postings, Dim::Cause, 0, 64)?,
+        "day": rows(alloc, postings, Dim::Day, 0, days)?,
+        "feeder": rows(alloc, postings, Dim::Feeder, 1, 256)?,
+        "total": postings.total(Dim::Day)
+    })
 }
 
 // The amounts that aren't 0 under the keys of a dimension, which are those from the first up to the end.
