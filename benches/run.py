@@ -25,6 +25,7 @@ BENCHES = ROOT / "benches"
 DATA = ROOT / "bench-data"
 PROGRAM = ROOT / "crates/outagebook/out/outagebook"
 LIBRARY = ROOT / "crates/bench_calls/out"
+WORKED = DATA / "worked"
 SEARCH = DATA / "search"
 BUILD = DATA / "build"
 COUNTS = DATA / "counts"
@@ -68,10 +69,18 @@ def build():
     rustc = ["rustc", "--edition", "2024", "-O"]
     library = ["-L", LIBRARY, "-l", "static=bench_calls"]
     c_library = ["-L", toolchain / "c", "-l", "static=libc_c"]
-    programs = [("search.rs", SEARCH), ("build.rs", BUILD), ("counts.rs", COUNTS), ("year.rs", YEAR)]
+    programs = [("worked.rs", WORKED), ("search.rs", SEARCH), ("build.rs", BUILD)]
+    programs += [("counts.rs", COUNTS), ("year.rs", YEAR)]
     for source, program in programs:
         run_tool([*rustc, BENCHES / source, "-o", program, *library, *c_library], ROOT)
     run_tool([*rustc, BENCHES / "total.rs", "-o", PLAIN_TOTAL], ROOT)
+
+
+def compare_worked():
+    """Compares what the calls of the library answer in worked cases."""
+    if subprocess.run([WORKED]).returncode:
+        sys.exit(1)
+    print("the calls of the library answer the worked cases")
 
 
 def show_searches(repeats):
@@ -361,6 +370,7 @@ def measure_a_year(_):
 
 
 PARTS = {
+    "worked": lambda _: compare_worked(),
     "totals": measure_totals,
     "searches": show_searches,
     "builds": lambda _: show_builds(),

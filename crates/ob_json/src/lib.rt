@@ -9,6 +9,3 @@ mod totals;
 
 pub use indices::indices_text;
 pub use totals::totals_text;
-
-#[cfg(test)]
-mod tests;

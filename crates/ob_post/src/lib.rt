@@ -55,6 +55,3 @@ pub struct Moved {
     pub key: u16,
     pub delta: i64,
 }
-
-#[cfg(test)]
-mod tests;

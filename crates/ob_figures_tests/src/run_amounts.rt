@@ -1,0 +1,197 @@
+//! The amounts of runs.
+ghost use Rattle.std.specs.Prelude.{◌≡◌};
+
+use crate::moved::{Row, are};
+use ob_cust::{Customer, Roll};
+use ob_net::Second;
+use ob_post::{Dim, Moved, amounts, post_run, post_runs};
+use ob_sweep::Run;
+use ob_time::Period;
+use std::alloc::Global;
+use std::process::Abort;
+use std::test::Fail;
+
+// 2024-01-01T00:00:00Z.
+const T: Second = 1_704_067_200;
+
+// The customers of these numbers, sections and beginnings of service.
+fn roll(alloc: Global, customers: &[(u32, u16, Second)]) -> Result<Roll, Fail> {
+    let mut roll = Roll::new(alloc);
+    for (no, section, since) in customers {
+        roll.reserve_one()?;
+        roll.connect(Customer {
+            no: *no,
+            section: *section,
+            since: *since,
+            until: None,
+        })?;
+    }
+    Ok(roll)
+}
+
+// Five customers on section 4 from T on, and one more on it and one on section 2 from `later` on.
+fn seven(alloc: Global, later: Second) -> Result<Roll, Fail> {
+    roll(
+        alloc,
+        &[
+            (6, 4, T),
+            (7, 4, T),
+            (8, 4, T),
+            (9, 4, T),
+            (10, 4, T),
+            (11, 4, later),
+            (12, 2, later),
+        ],
+    )
+}
+
+// The amounts of a run of the roll's section under cause 3 and feeder 2.
+fn have_amounts(
+    rt: &impl Abort,
+    alloc: Global,
+    run: &Run,
+    roll: &Roll,
+    period: &Period,
+    wanted: &[Row],
+) -> Result<(), Fail> {
+    assert!(rt; period.first_second() <= run.since);
+    assert!(rt; run.since < run.until && run.until <= period.end_second());
+    let moved = amounts(alloc, run, 3, 2, roll, period)?;
+    assert!(rt; are(&moved, wanted));
+    Ok(())
+}
+
+// A run of section 4.
+fn run(since: Second, until: Second, cutter: Option<u32>) -> Run
+    ensures { result ≡ record { section = 4; since = since; until = until; cutter = cutter } }
+{
+    Run {
+        section: 4,
+        since,
+        until,
+        cutter,
+    }
+}
+
+// The amounts of a run of section 4, so long after T.
+fn amounts_are(
+    rt: &impl Abort,
+    alloc: Global,
+    later: Second,
+    bounds: (Second, Second),
+    wanted: &[Row],
+) -> Result<(), Fail> {
+    let period = Period::from_text(alloc, b"2024-01-01", 2, b"UTC0")?;
+    let roll = seven(alloc, later)?;
+    have_amounts(rt, alloc, &run(bounds.0, bounds.1, Some(1)), &roll, &period, wanted)
+}
+
+// The worked example of a run across midnight: 3,000 and 6,000 customer-seconds.
+#[test]
+fn amounts_over_midnight(rt: HostRuntime) -> Result<(), Fail> {
+    amounts_are(
+        &rt,
+        rt.alloc(),
+        T + 100_000,
+        (T + 85_800, T + 87_600),
+        &[
+            (Dim::Cause, 3, 9_000),
+            (Dim::Feeder, 2, 9_000),
+            (Dim::Day, 0, 3_000),
+            (Dim::Day, 1, 6_000),
+        ],
+    )
+}
+
+// The worked example of a customer that joins during a run: five for an hour and one for half of it.
+#[test]
+fn amounts_where_a_customer_joins(rt: HostRuntime) -> Result<(), Fail> {
+    amounts_are(
+        &rt,
+        rt.alloc(),
+        T + 5_400,
+        (T + 3_600, T + 7_200),
+        &[
+            (Dim::Cause, 3, 19_800),
+            (Dim::Feeder, 2, 19_800),
+            (Dim::Day, 0, 19_800),
+        ],
+    )
+}
+
+// A run of one second at midnight.
+#[test]
+fn amounts_of_one_second(rt: HostRuntime) -> Result<(), Fail> {
+    amounts_are(
+        &rt,
+        rt.alloc(),
+        T + 100_000,
+        (T + 86_400, T + 86_401),
+        &[
+            (Dim::Cause, 3, 5),
+            (Dim::Feeder, 2, 5),
+            (Dim::Day, 1, 5),
+        ],
+    )
+}
+
+// The worked example of a zone that loses an hour: a run of one customer over the first day, of 82,800
+// seconds, and an hour of the second.
+#[test]
+fn amounts_of_a_short_day(rt: HostRuntime) -> Result<(), Fail> {
+    let period = Period::from_text(rt.alloc(), b"2024-03-10", 2, b"EST5EDT,M3.2.0,M11.1.0")?;
+    let roll = roll(rt.alloc(), &[(1, 4, 0)])?;
+    let run = run(1_710_046_800, 1_710_133_200, Some(1));
+    let wanted = &[
+        (Dim::Cause, 3, 86_400),
+        (Dim::Feeder, 2, 86_400),
+        (Dim::Day, 0, 82_800),
+        (Dim::Day, 1, 3_600),
+    ];
+    have_amounts(&rt, rt.alloc(), &run, &roll, &period, wanted)
+}
+
+// Appends what two runs of section 4 come to, ten minutes of cause 3 and then one of 300 seconds across midnight, which no
+// entry caused, and the first of them alone.
+fn post(
+    rt: &impl Abort,
+    roll: &Roll,
+    period: &Period,
+    rows: &mut Vec<Moved>,
+) -> Result<(), Fail> {
+    let first = run(T + 3_600, T + 4_200, Some(1));
+    let second = run(T + 86_200, T + 86_500, None);
+    assert!(rt; period.first_second() <= T);
+    assert!(rt; T + 86_500 <= period.end_second());
+    post_runs(&[first, second], &[3, 0], 2, roll, period, rows)?;
+    post_run(&first, 3, 2, roll, period, rows)?;
+    Ok(())
+}
+
+#[test]
+fn runs_are_appended(rt: HostRuntime) -> Result<(), Fail> {
+    let period = Period::from_text(rt.alloc(), b"2024-01-01", 2, b"UTC0")?;
+    let roll = seven(rt.alloc(), T + 100_000)?;
+    let mut rows = Vec::new(rt.alloc());
+    rows.push(Moved {
+        dim: Dim::Cause,
+        key: 3,
+        delta: -7,
+    })?;
+    post(&rt, &roll, &period, &mut rows)?;
+    let wanted = &[
+        (Dim::Cause, 3, -7),
+        (Dim::Cause, 3, 3_000),
+        (Dim::Feeder, 2, 3_000),
+        (Dim::Day, 0, 3_000),
+        (Dim::Cause, 0, 1_500),
+        (Dim::Feeder, 2, 1_500),
+        (Dim::Day, 0, 1_000),
+        (Dim::Day, 1, 500),
+        (Dim::Cause, 3, 3_000),
+        (Dim::Feeder, 2, 3_000),
+        (Dim::Day, 0, 3_000),
+    ];
+    assert!(rt; are(&rows, wanted));
+    Ok(())
+}

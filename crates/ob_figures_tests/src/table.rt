@@ -1,0 +1,138 @@
+//! The annual table.
+ghost use Rattle.ob_index.specs.Short.{AreShort};
+
+use ob_index::indices::indices;
+use ob_index::{Counts, Indices, Marks, annual_text};
+use ob_net::{Crew, Name};
+use ob_time::Period;
+use std::process::Abort;
+use std::test::Fail;
+
+fn name(rt: &impl Abort, text: &[u8]) -> Name {
+    Name::read(text).expect(rt, "a name")
+}
+
+// What ten customers in service for a day come to, five of them without supply for half an hour.
+fn half_an_hour() -> Indices
+    ensures { AreShort result }
+{
+    let counts = Counts {
+        ci: 5,
+        csi: 9000,
+        cn: 5,
+        cn_n: [5, 0, 0, 0, 0, 0, 0, 0, 0, 0],
+        mi: 0,
+    };
+    indices(&counts, 864_000, 86_400)
+}
+
+// What no customers come to over three days.
+fn nobody() -> Indices
+    ensures { AreShort result }
+{
+    let counts = Counts {
+        ci: 0,
+        csi: 0,
+        cn: 0,
+        cn_n: [0; 10],
+        mi: 7,
+    };
+    indices(&counts, 0, 259_200)
+}
+
+const ONE_DAY: &[u8] = b"OUTAGE BOOK 2024-01-01 days 1 zone UTC0
+P 86400 S 864000 W 9000
+cause   0 UNASSIGNED                             0
+cause   3 STORM                               9000
+cause   4 PLANNED                                0
+feeder   1                                    9000
+feeder   2                                       0
+day 2024-01-01                                9000
+SAIFI     all      1/2 0.500
+SAIDI     all      15/1 15.000
+CAIDI     all      30/1 30.000
+CAIFI     all      1/1 1.000
+ASAI      all      95/96 0.990
+CEMI-1    all      1/2 0.500
+CEMI-2    all      0/1 0.000
+CEMI-3    all      0/1 0.000
+CEMI-4    all      0/1 0.000
+CEMI-5    all      0/1 0.000
+CEMI-6    all      0/1 0.000
+CEMI-7    all      0/1 0.000
+CEMI-8    all      0/1 0.000
+CEMI-9    all      0/1 0.000
+CEMI-10   all      0/1 0.000
+SUSTAINED all      5
+MOMENTARY all      0
+SAIFI     unmarked 1/2 0.500
+SAIDI     unmarked 15/1 15.000
+CAIDI     unmarked 30/1 30.000
+CAIFI     unmarked 1/1 1.000
+ASAI      unmarked 95/96 0.990
+CEMI-1    unmarked 1/2 0.500
+CEMI-2    unmarked 0/1 0.000
+CEMI-3    unmarked 0/1 0.000
+CEMI-4    unmarked 0/1 0.000
+CEMI-5    unmarked 0/1 0.000
+CEMI-6    unmarked 0/1 0.000
+CEMI-7    unmarked 0/1 0.000
+CEMI-8    unmarked 0/1 0.000
+CEMI-9    unmarked 0/1 0.000
+CEMI-10   unmarked 0/1 0.000
+SUSTAINED unmarked 5
+MOMENTARY unmarked 0
+";
+
+#[test]
+fn table_of_one_day(rt: HostRuntime) -> Result<(), Fail> {
+    let period = Period::from_text(rt.alloc(), b"2024-01-01", 1, b"UTC0")?;
+    let marks = Marks::new(rt.alloc(), 1)?;
+    let x = half_an_hour();
+    let text = annual_text(
+        rt.alloc(),
+        &period,
+        864_000,
+        9000,
+        &[
+            (0, name(&rt, b"UNASSIGNED"), 0),
+            (3, name(&rt, b"STORM"), 9000),
+            (4, name(&rt, b"PLANNED"), 0),
+        ],
+        &[(1, 9000), (2, 0)],
+        &[9000],
+        &marks,
+        &x,
+        &x,
+    )?;
+    assert!(rt; text.as_slice() == ONE_DAY);
+    Ok(())
+}
+
+// The beginning of the table of three days without customers, two of them marked, and the last line.
+const DAYS: &[u8] = b"OUTAGE BOOK 2024-02-28 days 3 zone UTC0
+P 259200 S 0 W 1
+day 2024-02-28                                   0 marked
+day 2024-03-01                                   1 marked
+SAIFI     all      undefined
+";
+
+const END: &[u8] = b"CEMI-10   unmarked undefined
+SUSTAINED unmarked 0
+MOMENTARY unmarked 7
+";
+
+#[test]
+fn marked_days_and_undefined_indices(rt: HostRuntime) -> Result<(), Fail> {
+    let period = Period::from_text(rt.alloc(), b"2024-02-28", 3, b"UTC0")?;
+    let mut marks = Marks::new(rt.alloc(), 3)?;
+    let engineer = Crew::read(b"E-1").expect(&rt, "an engineer");
+    assert!(rt; marks.mark(0, engineer) == Ok(()));
+    assert!(rt; marks.mark(2, engineer) == Ok(()));
+    let x = nobody();
+    let days = &[0, 0, 1];
+    let text = annual_text(rt.alloc(), &period, 0, 1, &[], &[], days, &marks, &x, &x)?;
+    assert!(rt; text.starts_with(DAYS));
+    assert!(rt; text.ends_with(END));
+    Ok(())
+}
