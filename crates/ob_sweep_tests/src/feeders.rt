@@ -1,4 +1,4 @@
-//! The network of the examples.
+//! Networks by the body texts of commands.
 use ob_command::{Command, read_body};
 use ob_net::Net;
 use std::alloc::Global;
@@ -23,8 +23,13 @@ pub const NODES: [&'static str; 6] = ["GRID", "BUS-A", "S1", "S2", "S3", "S4"];
 
 /// The two feeders.
 pub fn feeders(alloc: Global) -> Result<Net, Fail> {
+    net_of(alloc, FEEDERS)
+}
+
+/// The network of the parts that a script's lines say.
+pub fn net_of(alloc: Global, script: &str) -> Result<Net, Fail> {
     let mut net = Net::new(alloc)?;
-    for line in FEEDERS.lines() {
+    for line in script.lines() {
         let command = read_body(line.as_bytes()).ok_or("a command")?;
         add_part(&mut net, &command)?;
     }

@@ -1,8 +1,9 @@
-//! Worked examples of timelines: a small network and a switching sheet by the body texts of commands, the runs that are
-//! built, and for a change of the sheet the sections that it touches, their new runs and the searches that it takes. Each
-//! example is taken on every timeline, through the trait alone.
+//! Tests of the crates between the commands and the postings: the switching sheet of `ob_sheet`, the roll of `ob_cust`, and
+//! worked examples of the timelines of `ob_sweep`. An example is a small network and a switching sheet by the body texts of
+//! commands, the runs that are built, and for a change of the sheet the sections that it touches, their new runs and the
+//! searches that it takes. Each is taken on every timeline, through the trait alone.
 //!
-//! It holds tests alone. The runs are worked out by hand from the definition.
+//! It holds tests alone. Expected values are worked out by hand from the definitions.
 #![tactic(auto)]
 
 #[cfg(test)]
@@ -16,4 +17,8 @@ mod example;
 #[cfg(test)]
 mod feeders;
 #[cfg(test)]
+mod rolls;
+#[cfg(test)]
 mod sheet;
+#[cfg(test)]
+mod sheets;

@@ -1,0 +1,189 @@
+//! The roll: customers by number, why one is refused, seconds of service, and equal services.
+use ob_cust::{Block, Customer, Roll, SectionBlock};
+use ob_net::{LAST_SECOND, Refusal, Second};
+use std::alloc::Global;
+use std::process::Abort;
+use std::test::Fail;
+
+fn service(no: u32, section: u16, since: Second, until: Option<Second>) -> Customer {
+    Customer {
+        no,
+        section,
+        since,
+        until,
+    }
+}
+
+// The roll of these customers, connected one after another.
+fn roll_of(alloc: Global, customers: &[Customer]) -> Result<Roll, Fail> {
+    let mut roll = Roll::new(alloc);
+    for customer in customers {
+        roll.reserve_one()?;
+        roll.connect(*customer)?;
+    }
+    Ok(roll)
+}
+
+fn has_customers(rt: &impl Abort, roll: &Roll, customers: &[Customer]) {
+    assert!(rt; roll.customers() == customers);
+}
+
+#[test]
+fn keeps_customers_by_number(rt: HostRuntime) -> Result<(), Fail> {
+    let three = service(3, 1, 0, None);
+    let five = service(5, 2, 10, Some(11));
+    let seven = service(7, 1, 4, Some(9));
+    let roll = roll_of(rt.alloc(), &[seven, three, five])?;
+    has_customers(&rt, &roll, &[three, five, seven]);
+    assert!(rt; roll.customer(5) == Some(five));
+    assert!(rt; roll.customer(6) == None);
+    assert!(rt; !roll.is_full());
+    Ok(())
+}
+
+#[test]
+fn holds_one_customer_alone(rt: HostRuntime) -> Result<(), Fail> {
+    let customer = Customer {
+        no: 7,
+        section: 1,
+        since: 4,
+        until: Some(9),
+    };
+    let roll = Roll::of_one(rt.alloc(), customer)?;
+    has_customers(&rt, &roll, &[customer]);
+    Ok(())
+}
+
+fn are_refused(rt: &impl Abort, roll: &mut Roll, rows: &[(Customer, Refusal)]) -> Result<(), Fail> {
+    for (customer, refusal) in rows {
+        roll.reserve_one()?;
+        assert!(rt; roll.connect(*customer) == Err(*refusal));
+    }
+    Ok(())
+}
+
+#[test]
+fn refuses_a_taken_number_before_a_bad_service(rt: HostRuntime) -> Result<(), Fail> {
+    let first = service(3, 1, 0, None);
+    let mut roll = roll_of(rt.alloc(), &[first])?;
+    are_refused(
+        &rt,
+        &mut roll,
+        &[
+            (service(3, 2, 5, Some(6)), Refusal::NameTaken),
+            (service(3, 2, 6, Some(5)), Refusal::NameTaken),
+            (service(4, 2, 5, Some(5)), Refusal::BadService),
+            (service(4, 2, 6, Some(5)), Refusal::BadService),
+        ],
+    )?;
+    has_customers(&rt, &roll, &[first]);
+    Ok(())
+}
+
+// A customer, the bounds of its new service, and why it is refused.
+type RevisionRow = (u32, Second, Option<Second>, Refusal);
+
+fn are_not_revised(rt: &impl Abort, roll: &mut Roll, rows: &[RevisionRow]) {
+    for (no, since, until, refusal) in rows {
+        assert!(rt; roll.revise(*no, *since, *until) == Err(*refusal));
+    }
+}
+
+#[test]
+fn revises_the_service_of_one_customer(rt: HostRuntime) -> Result<(), Fail> {
+    let three = service(3, 1, 0, None);
+    let mut roll = roll_of(rt.alloc(), &[three, service(5, 1, 0, None)])?;
+    assert!(rt; roll.revise(5, 10, Some(11)) == Ok(()));
+    are_not_revised(
+        &rt,
+        &mut roll,
+        &[
+            (4, 5, Some(5), Refusal::UnknownCustomer),
+            (3, 5, Some(5), Refusal::BadService),
+            (3, 5, Some(4), Refusal::BadService),
+        ],
+    );
+    has_customers(&rt, &roll, &[three, service(5, 1, 10, Some(11))]);
+    Ok(())
+}
+
+// A section, the bounds of a span, and the seconds of service in it.
+fn serves(rt: &impl Abort, roll: &Roll, rows: &[(u16, Second, Second, u64)]) {
+    for (section, a, b, seconds) in rows {
+        assert!(rt; *b <= LAST_SECOND);
+        assert!(rt; roll.served_seconds(*section, *a, *b) == *seconds);
+    }
+}
+
+#[test]
+fn counts_the_seconds_of_service(rt: HostRuntime) -> Result<(), Fail> {
+    let customers = &[
+        service(1, 1, 10, Some(20)),
+        service(2, 1, 15, None),
+        service(3, 2, 0, Some(7)),
+    ];
+    let roll = roll_of(rt.alloc(), customers)?;
+    serves(
+        &rt,
+        &roll,
+        &[
+            (1, 0, 10, 0),
+            (1, 0, 12, 2),
+            (1, 12, 18, 9),
+            (1, 18, 25, 9),
+            (1, 20, 25, 5),
+            (1, 25, 18, 0),
+            (2, 5, 30, 2),
+            (1, 2, 9, 0),
+            (2, 8, 30, 0),
+            (3, 0, 100, 0),
+        ],
+    );
+    Ok(())
+}
+
+fn block(since: Second, until: Option<Second>, count: u32) -> Block {
+    Block {
+        since,
+        until,
+        count,
+    }
+}
+
+fn has_blocks(rt: &impl Abort, roll: &Roll, section: u16, wanted: &[Block]) -> Result<(), Fail> {
+    let blocks = roll.blocks(section)?;
+    assert!(rt; blocks.as_slice() == wanted);
+    Ok(())
+}
+
+const T: Second = 1_704_067_200;
+
+#[test]
+fn counts_equal_services_once(rt: HostRuntime) -> Result<(), Fail> {
+    let customers = &[
+        service(1, 1, T, None),
+        service(2, 1, T, None),
+        service(3, 2, T, None),
+        service(4, 2, 0, Some(T)),
+        service(5, 4, 7, None),
+        service(6, 2, T, Some(T + 60)),
+        service(7, 2, T, None),
+        service(8, 2, T, Some(T + 60)),
+        service(9, 2, T, Some(T + 60)),
+    ];
+    let roll = roll_of(rt.alloc(), customers)?;
+    has_blocks(&rt, &roll, 1, &[block(T, None, 2)])?;
+    let second = &[
+        block(0, Some(T), 1),
+        block(T, None, 2),
+        block(T, Some(T + 60), 3),
+    ];
+    has_blocks(&rt, &roll, 2, second)?;
+    has_blocks(&rt, &roll, 3, &[])?;
+    let later = SectionBlock {
+        section: 4,
+        block: block(7, None, 1),
+    };
+    assert!(rt; roll.section_blocks(4) == [later].as_slice());
+    Ok(())
+}

@@ -1,0 +1,209 @@
+//! Switching sheets: the order of their entries, the positions that these leave, corrections and withdrawals.
+ghost use Rattle.std.specs.Prelude.{IfOk, length};
+ghost use Rattle.ob_sheet.specs.Sheet.{NameDevices};
+
+use crate::feeders::net_of;
+use crate::sheet::sheet_of;
+use ob_net::Pos::{Closed, Opened};
+use ob_net::{Crew, Net, Pos, Refusal, Second};
+use ob_sheet::{Entry, Sheet};
+use ob_time::Period;
+use std::alloc::Global;
+use std::process::Abort;
+use std::test::Fail;
+
+// Three devices between GRID and a section, the second of them normally open.
+const DEVICES: &'static str = "\
+section S1 1
+device D1 GRID S1 closed
+device D2 GRID S1 open
+device D3 GRID S1 closed
+";
+
+const ENTRIES: &'static str = "\
+switch D1 open 200 7 CREW-1
+switch D2 close 300 7 CREW-1
+switch D1 close 100 7 CREW-1
+switch D3 open 200 7 CREW-1
+";
+
+// The devices, and their sheet.
+fn switched(alloc: Global) -> Result<(Net, Sheet), Fail>
+    ensures { IfOk result (λ s. NameDevices (length s.0.network.devices) s.1.entries) }
+{
+    let net = net_of(alloc, DEVICES)?;
+    let period = Period::from_text(alloc, b"1970-01-01", 1, b"UTC0")?;
+    let sheet = sheet_of(alloc, &net, &period, ENTRIES)?;
+    Ok((net, sheet))
+}
+
+fn crew() -> Result<Crew, Fail> {
+    Ok(Crew::read(b"CREW-1").ok_or("a crew")?)
+}
+
+fn is_entry(rt: &impl Abort, sheet: &Sheet, entry: Entry) {
+    assert!(rt; sheet.entry(entry.no) == Some(entry));
+}
+
+fn is_in_order(rt: &impl Abort, sheet: &Sheet, numbers: &[u32]) {
+    assert!(rt; sheet.in_order() == numbers);
+}
+
+#[test]
+fn a_late_entry_before_an_earlier_opening(rt: HostRuntime) -> Result<(), Fail> {
+    let (_, sheet) = switched(rt.alloc())?;
+    assert!(rt; sheet.len() == 4 && !sheet.is_full());
+    is_in_order(&rt, &sheet, &[3, 1, 4, 2]);
+    let late = Entry {
+        no: 3,
+        rev: 1,
+        device: 0,
+        pos: Closed,
+        second: 100,
+        cause: 7,
+        crew: crew()?,
+        kept: true,
+    };
+    is_entry(&rt, &sheet, late);
+    assert!(rt; sheet.entry(0) == None && sheet.entry(5) == None);
+    Ok(())
+}
+
+// The positions before each place of the order.
+fn leaves(rt: &impl Abort, sheet: &Sheet, net: &Net, rows: &[[Pos; 3]]) -> Result<(), Fail>
+    requires { NameDevices (length net.now.network.devices) sheet.now.entries }
+{
+    for (place, wanted) in rows.iter().enumerate() {
+        assert!(rt; place <= sheet.in_order().len());
+        let positions = sheet.positions_before(place, net)?;
+        assert!(rt; positions.as_slice() == wanted.as_slice());
+    }
+    Ok(())
+}
+
+#[test]
+fn positions_at_each_place(rt: HostRuntime) -> Result<(), Fail> {
+    let (net, sheet) = switched(rt.alloc())?;
+    assert!(rt; net.devices() == 3 && sheet.in_order().len() == 4);
+    leaves(
+        &rt,
+        &sheet,
+        &net,
+        &[
+            [Closed, Opened, Closed],
+            [Closed, Opened, Closed],
+            [Opened, Opened, Closed],
+            [Opened, Opened, Opened],
+            [Opened, Closed, Opened],
+        ],
+    )
+}
+
+// From the normal positions on to a second, one after the other: the place after it, and the positions.
+fn moves_on(rt: &impl Abort, sheet: &Sheet, rows: &[(Second, usize, [Pos; 3])])
+    requires { NameDevices 3 sheet.now.entries }
+{
+    let mut now = [Closed, Opened, Closed];
+    let mut place = 0;
+    for (second, after, positions) in rows {
+        assert!(rt; place <= sheet.in_order().len());
+        place = sheet.advance(place, *second, &mut now);
+        assert!(rt; place == *after && now == *positions);
+    }
+}
+
+#[test]
+fn positions_move_on_to_a_second(rt: HostRuntime) -> Result<(), Fail> {
+    let (net, sheet) = switched(rt.alloc())?;
+    assert!(rt; net.devices() == 3);
+    moves_on(
+        &rt,
+        &sheet,
+        &[
+            (99, 0, [Closed, Opened, Closed]),
+            (100, 1, [Closed, Opened, Closed]),
+            (199, 1, [Closed, Opened, Closed]),
+            (200, 3, [Opened, Opened, Opened]),
+            (100, 3, [Opened, Opened, Opened]),
+            (299, 3, [Opened, Opened, Opened]),
+            (400, 4, [Opened, Closed, Opened]),
+        ],
+    );
+    Ok(())
+}
+
+// The fourth entry goes first, the first one behind the opening before it, and the third one goes.
+fn revise(rt: &impl Abort, sheet: &mut Sheet, crew: Crew) {
+    assert!(rt; sheet.correct(4, 1, Closed, 50, 3, crew) == Ok(()));
+    assert!(rt; sheet.correct(1, 1, Opened, 300, 7, crew) == Ok(()));
+    is_in_order(rt, sheet, &[4, 3, 1, 2]);
+    assert!(rt; sheet.withdraw(3, 1) == Ok(()));
+    is_in_order(rt, sheet, &[4, 1, 2]);
+}
+
+// An entry and the revision that was seen, and why it is neither corrected nor withdrawn.
+fn are_refused(rt: &impl Abort, sheet: &mut Sheet, crew: Crew, rows: &[(u32, u32, Refusal)]) {
+    for (no, rev, refusal) in rows {
+        assert!(rt; sheet.correct(*no, *rev, Opened, 0, 0, crew) == Err(*refusal));
+        assert!(rt; sheet.withdraw(*no, *rev) == Err(*refusal));
+    }
+}
+
+#[test]
+fn entries_are_corrected_and_withdrawn(rt: HostRuntime) -> Result<(), Fail> {
+    let (_, mut sheet) = switched(rt.alloc())?;
+    revise(&rt, &mut sheet, crew()?);
+    let corrected = Entry {
+        no: 4,
+        rev: 2,
+        device: 2,
+        pos: Closed,
+        second: 50,
+        cause: 3,
+        crew: crew()?,
+        kept: true,
+    };
+    is_entry(&rt, &sheet, corrected);
+    Ok(())
+}
+
+#[test]
+fn revisions_are_refused(rt: HostRuntime) -> Result<(), Fail> {
+    let (_, mut sheet) = switched(rt.alloc())?;
+    let crew = crew()?;
+    revise(&rt, &mut sheet, crew);
+    are_refused(
+        &rt,
+        &mut sheet,
+        crew,
+        &[
+            (0, 1, Refusal::UnknownEntry),
+            (5, 1, Refusal::UnknownEntry),
+            (3, 1, Refusal::Withdrawn),
+            (3, 2, Refusal::Withdrawn),
+            (4, 1, Refusal::Stale(2)),
+            (2, 2, Refusal::Stale(1)),
+        ],
+    );
+    is_in_order(&rt, &sheet, &[4, 1, 2]);
+    Ok(())
+}
+
+fn fill(rt: &impl Abort, sheet: &mut Sheet, crew: Crew) -> Result<(), Fail> {
+    for second in 0..50_000 {
+        sheet.reserve_one()?;
+        assert!(rt; !sheet.is_full());
+        sheet.enter(0, Opened, second, 0, crew);
+    }
+    Ok(())
+}
+
+#[test]
+fn takes_as_many_entries_as_it_may(rt: HostRuntime) -> Result<(), Fail> {
+    let mut sheet = Sheet::new(rt.alloc());
+    fill(&rt, &mut sheet, crew()?)?;
+    assert!(rt; sheet.is_full());
+    assert!(rt; sheet.in_order().first() == Some(&1));
+    assert!(rt; sheet.in_order().last() == Some(&50_000));
+    Ok(())
+}
