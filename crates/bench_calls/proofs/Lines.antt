@@ -9,9 +9,9 @@ use Rattle.std.proofs.lemmas.List.Quantifiers.{position-Some}
 use Rattle.ob_time.specs.Calendar.{Calendar}
 use Rattle.ob_command.specs.Commands.{body_text, IsCommand}
 use Rattle.ob_command.specs.declared.command.Command.{Command}
-use Rattle.ob_book.specs.State.{BookState, empty_book}
-use Rattle.ob_book.specs.Refusals.{refusal}
-use Rattle.ob_book.specs.Next.{after, next, next_all}
+use Rattle.ob_state.specs.State.{BookState, empty_book}
+use Rattle.ob_state.specs.Refusals.{refusal}
+use Rattle.ob_state.specs.Next.{after, next, next_all}
 use Rattle.bench_calls.specs.Years.{IsStep, IsYear, IsYear2024, line_of, lines_of}
 
 -- commands were read from the front of the text, and the rest of it was not; whatever comes after them goes on from this state

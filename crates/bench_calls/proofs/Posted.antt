@@ -8,8 +8,8 @@ use Rattle.ob_post.specs.Postings as postings
 use Rattle.ob_post.specs.TotalLaws.{TotalsAgree}
 use Rattle.ob_post.specs.declared.Dim.{Dim}
 use Rattle.ob_post.specs.declared.Dim.TheVariants.{Cause}
-use Rattle.ob_book.specs.State.{BookState}
-use Rattle.ob_book.specs.Amounts.{amount}
+use Rattle.ob_state.specs.State.{BookState}
+use Rattle.ob_state.specs.Amounts.{amount}
 use Rattle.bench_calls.specs.Years.{customer_seconds_of}
 
 -- where the postings are the state's, their total is too

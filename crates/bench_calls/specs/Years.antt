@@ -7,10 +7,10 @@ use Rattle.ob_post.specs.Keys.{keys}
 use Rattle.ob_post.specs.declared.Dim.TheVariants.{Cause}
 use Rattle.ob_command.specs.Commands.{body_text, IsCommand}
 use Rattle.ob_command.specs.declared.command.Command.{Command}
-use Rattle.ob_book.specs.State.{BookState}
-use Rattle.ob_book.specs.Refusals.{refusal}
-use Rattle.ob_book.specs.Next.{after, next}
-use Rattle.ob_book.specs.Amounts.{amount}
+use Rattle.ob_state.specs.State.{BookState}
+use Rattle.ob_state.specs.Refusals.{refusal}
+use Rattle.ob_state.specs.Next.{after, next}
+use Rattle.ob_state.specs.Amounts.{amount}
 
 -- the line of a command: its body text and a line feed
 abbrev pub line_of : Command → List ℕ

@@ -1,6 +1,6 @@
 //! A book's year, replayed from the body texts of its commands.
 ghost use Rattle.std.specs.Prelude.{◌≡◌, ◌⊎◌, ◌∷◌, ◌++◌, IfSome, take};
-ghost use Rattle.ob_book.specs.State.{BookState};
+ghost use Rattle.ob_state.specs.State.{BookState};
 ghost use Rattle.ob_book.specs.Views.{annual_table_of_book};
 ghost use Rattle.bench_calls.specs.Years.{customer_seconds_of, IsStep, IsYear};
 

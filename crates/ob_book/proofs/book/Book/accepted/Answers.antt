@@ -1,5 +1,5 @@
 use Rattle.std.proofs.Common.{arith, subst}
-use Rattle.ob_book.specs.States.{BookValue, IsSoundState}
+use Rattle.ob_state.specs.States.{BookValue, IsSoundState}
 use Rattle.ob_book.proofs.book.Book.accepted.Goals as goal
 
 pub returns-clause-few : goal.returns-clause-few

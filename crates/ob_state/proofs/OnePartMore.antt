@@ -1,0 +1,164 @@
+-- One part more in the network: what stays, what it moves, and what leads to the runs with it.
+use Rattle.std.proofs.Common.{◌≡◌, ◌∙◌, sym, ap, ap₂, subst, refl, ℕ, ◌+◌, ◌-◌, ◌<◌, ◌==◌, ◌&&◌, Bool, true, false, cond, get_or, List, [], ◌∷◌, ◌++◌, length, take, sum_by, Option, Some, None, IsSome, slice_get, inl, inr, length-append, arith, is_some, unwrap_or}
+use Rattle.std.specs.List.{All, AllPairs, Contains}
+use Rattle.std.specs.Option.{option_and_then, option_map_or}
+use Rattle.std.proofs.lemmas.Bool.{cases_eq, cases_lt, eq-eqb, false≢true}
+use Rattle.std.proofs.Math.Seq.{take-append_seam}
+use Rattle.std.proofs.lemmas.List.Elements.{All-head, All-tail}
+use Rattle.std.proofs.lemmas.List.Sums.{sum_by-cons}
+use Rattle.ob_net.specs.declared.Pos.{Pos}
+use Rattle.ob_net.specs.declared.net.Device.{Device}
+use Rattle.ob_net.specs.declared.net.Node.{Node}
+use Rattle.ob_net.specs.declared.stop.Refusal.{Refusal}
+use Rattle.ob_net.specs.declared.stop.Refusal.TheVariants.{Full, NameTaken}
+use Rattle.ob_net.specs.declared.TheConstants.{MOST_NODES}
+use Rattle.ob_net.specs.Network.{IsNetwork, home_feeder, node_of, node_refusal, with_device, with_node}
+use Rattle.ob_net.specs.Seconds.{seconds}
+use Rattle.ob_net.specs.Walk.{is_supplied}
+use Rattle.ob_sheet.specs.Supply.{is_deenergized}
+use Rattle.ob_cust.specs.declared.Customer.{Customer}
+use Rattle.ob_cust.specs.WithoutSupply.{is_without_supply}
+use Rattle.ob_sweep.specs.declared.Run.{Run}
+use Rattle.ob_sweep.specs.Deltas.{sections_of, IsDelta}
+use Rattle.ob_sweep.specs.Timeline.{IsSection}
+use Rattle.ob_time.specs.Calendar.{day_count}
+use Rattle.ob_post.specs.CustomerSeconds.{Days, has_key}
+use Rattle.ob_post.specs.SectionLaws.{AreOnSections, ByRuns}
+use Rattle.ob_post.specs.declared.Dim.{Dim}
+use Rattle.ob_post.specs.declared.Dim.TheVariants.{Cause, Feeder, Day}
+use Rattle.ob_posting.specs.declared.posting.Posting.{Posting}
+use Rattle.ob_state.specs.Amounts.{amount, days_of_book}
+use Rattle.ob_posting.specs.Balances.{Balances}
+use Rattle.ob_state.specs.Effects.{amount_of_first, amount_of_node, amount_of_nodes, with_network, without_device}
+use Rattle.ob_state.specs.Retimings.{runs_in}
+use Rattle.ob_state.specs.Refusals.{first, if_full, if_sealed}
+use Rattle.ob_state.specs.State.{BookState}
+use Rattle.ob_state.specs.States.{AreRunsOf}
+use Rattle.ob_state.proofs.Amounting.{all_nodes, get-before, is_section}
+use Rattle.ob_posting.proofs.Balancing.{balances_as, same_change}
+use Rattle.ob_state.proofs.NodeByNode.{section_amount}
+use Rattle.ob_state.proofs.Deltas.{untouched}
+use Rattle.ob_state.proofs.Firsts.{no_head, no_tail}
+use Rattle.ob_state.proofs.Kept.{section_within}
+use Rattle.ob_state.proofs.Untouched.{over_touched}
+
+not_refused : (t : Bool) (r : Refusal) (o : Option Refusal) → cond t (Some r) o ≡ None → (t ≡ false) × (o ≡ None)
+not_refused true r o h = cc
+not_refused false r o h = (refl, h)
+
+-- a network that takes one more node isn't full
+pub has_place : (b : BookState) (name : List ℕ) → IsNetwork b.network → first (if_sealed b.entries ∷ node_refusal b.network name ∷ if_full b ∷ []) ≡ None → length b.network.nodes < MOST_NODES
+has_place b name ok h =
+    let few = ok.few_nodes in
+    let free = not_refused (length b.network.nodes == MOST_NODES) (Full MOST_NODES) None (not_refused (is_some (node_of b.network name)) NameTaken _ (no_head (node_refusal b.network name) _ (no_tail (if_sealed b.entries) _ h))).1 in
+    elim (cases_eq (length b.network.nodes) MOST_NODES) as (λ _. length b.network.nodes < MOST_NODES) [
+      | inl e ↦ absurd (false≢true (sym free.0 ∙ eq-eqb (length b.network.nodes) MOST_NODES e))
+      | inr o ↦ omega (arith, few, o)
+    ]
+
+-- ---- a node more
+sum_same : {X : Type 0} (f g : X → ℕ) (xs : List X) → All (λ x. f x ≡ g x) xs → sum_by f xs ≡ sum_by g xs
+sum_same f g [] h = refl
+sum_same f g (x ∷ xs) h =
+    sum_by-cons f x xs ∙ ap₂ (λ m n. m + n) (All-head (λ x. f x ≡ g x) x xs h) (sum_same f g xs (All-tail (λ x. f x ≡ g x) x xs h)) ∙ sym (sum_by-cons g x xs)
+
+module _ (b : BookState) (node : Node) where
+  abbrev more : BookState
+  more = with_network b (with_node b.network node)
+
+  old_feeder : (v : ℕ) → v < length b.network.nodes → home_feeder more.network v ≡ home_feeder b.network v
+  old_feeder v l = ap (option_and_then (λ (n : Node). n.feeder)) (get-before b.network.nodes (node ∷ []) v l)
+
+  same_key : (p : Days) (dim : Dim) (key : ℕ) (c : Customer) (s : ℕ) → c.section < length b.network.nodes
+      → has_key more.network b.entries p dim key c s ≡ has_key b.network b.entries p dim key c s
+  unfolding is_supplied
+  same_key p Cause key c s l = refl
+  same_key p Feeder key c s l = ap (λ o. option_map_or (λ f. f == key) o false) (old_feeder c.section l)
+  same_key p Day key c s l = refl
+
+  same_second : (p : Days) (dim : Dim) (key : ℕ) (c : Customer) (s : ℕ) → c.section < length b.network.nodes
+      → (is_without_supply (is_deenergized more.network b.entries) c s && has_key more.network b.entries p dim key c s)
+      ≡ (is_without_supply (is_deenergized b.network b.entries) c s && has_key b.network b.entries p dim key c s)
+  unfolding is_supplied
+  same_second p dim key c s l = ap (λ t. is_without_supply (is_deenergized b.network b.entries) c s && t) (same_key p dim key c s l)
+
+  -- it changes no amount, since no customer is of it
+  pub same_amount : AreOnSections b.network b.customers → (dim : Dim) (key : ℕ) → amount more dim key ≡ amount b dim key
+  same_amount ok dim key =
+      let p = days_of_book b in
+      sum_same _ _ (seconds p.first p.end) (λ k d l.
+      sum_same _ _ b.customers (λ i e m.
+      let c : Customer = get_or b.customers i e in
+      ap (λ t. cond t 1 0) (same_second p dim key c (get_or (seconds p.first p.end) k d) (section_within b.network c.section (ok i e m)))))
+
+  get_new : (nodes : List Node) → slice_get (nodes ++ node ∷ []) (length nodes) ≡ Some node
+  get_new [] = refl
+  get_new (x ∷ nodes) = get_new nodes
+
+  no_feeder : node.feeder ≡ None → IsSection more.network (length b.network.nodes) → ⊥
+  no_feeder none section =
+      false≢true (sym (ap is_some none) ∙ subst (λ (o : Option Node). IsSome (option_and_then (λ (n : Node). n.feeder) o)) (get_new b.network.nodes) section)
+
+  old_section : (v : ℕ) → node.feeder ≡ None → IsSection more.network v → IsSection b.network v
+  old_section v none section =
+      elim (cases_lt v (length b.network.nodes)) as (λ _. IsSection b.network v) [
+        | inl l ↦ subst IsSome (old_feeder v l) section
+        | inr past ↦
+            let within = section_within more.network v section in
+            let e : v ≡ length b.network.nodes = omega (arith, past, within, length-append b.network.nodes (node ∷ [])) in
+            absurd (no_feeder none (subst (IsSection more.network) e section))
+      ]
+
+  -- a bus changes no section's runs
+  pub bus_runs : (lists : List (List Run)) → node.feeder ≡ None → length b.network.nodes < MOST_NODES → AreRunsOf b lists → AreRunsOf more lists
+  unfolding is_supplied
+  bus_runs lists none place are =
+      let old : (v : ℕ) → IsSection more.network v → IsSection b.network v = λ v section. old_section v none section in
+      let grown = length-append b.network.nodes (node ∷ []) in
+      record {
+        count = omega (arith, place, grown, are.places);
+        places = are.places;
+        empty = λ v past. are.empty v (omega (arith, past, grown));
+        defined = λ v section. are.defined v (old v section);
+        related = λ v section r. are.related v (old v section) r;
+      }
+
+-- ---- a device more, where b is the state with it
+module _ (b : BookState) where
+  abbrev was : BookState
+  was = without_device b
+
+  node_stays : (v : ℕ) (o : Option ℕ) (dim : Dim) (key : ℕ) → home_feeder b.network v ≡ o → ((f : ℕ) → o ≡ Some f → runs_in was v ≡ runs_in b v)
+      → amount_of_node was v dim key ≡ amount_of_node b v dim key
+  node_stays v None dim key h runs = rw h refl
+  node_stays v (Some f) dim key h runs =
+      section_amount was v f (runs_in b v) h (sym (runs f refl)) dim key ∙ sym (section_amount b v f (runs_in b v) h refl dim key)
+
+  -- what is posted of the touched sections leads from all amounts to all
+  pub device_balance : (p : Posting) (lists : List (List Run)) (delta : List (ℕ × List Run)) (ts : List ℕ) → ByRuns → AreOnSections b.network b.customers
+      → AreRunsOf was lists → IsDelta b.network delta lists (runs_in b) → ts ≡ sections_of delta → AllPairs (λ v w. v < w) ts → All (λ v. v < length b.network.nodes) ts
+      → Balances (day_count b.period) p (amount_of_nodes was ts) (amount_of_nodes b ts) → Balances (day_count b.period) p (amount was) (amount b)
+  device_balance p lists delta ts by_runs ok are is named rising within h =
+      let n = length b.network.nodes in
+      balances_as (day_count b.period) p (amount_of_first was n) (amount_of_first b n) (amount was) (amount b) (all_nodes was by_runs ok) (all_nodes b by_runs ok)
+      (same_change (day_count b.period) p (amount_of_nodes was ts) (amount_of_nodes b ts) (amount_of_first was n) (amount_of_first b n)
+      (λ dim key.
+      over_touched (λ v. amount_of_node was v dim key) (λ v. amount_of_node b v dim key) ts 0 n rising (λ k d l. (omega arith, let w = within k d l in omega arith))
+      (λ v l apart.
+      node_stays v (home_feeder b.network v) dim key refl
+      (λ f at.
+      let s = is_section (home_feeder b.network v) f at in
+      sym (is.others v s (untouched delta v (λ c. apart (subst (λ xs. Contains xs v) (sym named) c))) ∙ are.defined v s))))
+      h)
+
+-- the new device
+abbrev devices_end : BookState → List ℕ → List ℕ → List ℕ → Pos → List Device
+devices_end b name a z normal = record { name = name; a = unwrap_or (node_of b.network a) 0; b = unwrap_or (node_of b.network z) 0; normal = normal } ∷ []
+
+-- a device that was added last is taken back
+pub taken_back : (b : BookState) (name a z : List ℕ) (normal : Pos) → without_device (with_network b (with_device b.network name a z normal)) ≡ b
+taken_back b name a z normal =
+    let devices : List Device = (with_device b.network name a z normal).devices in
+    let one : length devices - 1 ≡ length b.network.devices = omega (arith, length-append b.network.devices (devices_end b name a z normal)) in
+    ap (λ (ds : List Device). record b { network = record b.network { devices = ds } })
+    (ap (λ n. take n devices) one ∙ take-append_seam b.network.devices (devices_end b name a z normal))

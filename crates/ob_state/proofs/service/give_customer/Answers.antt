@@ -1,0 +1,35 @@
+use Rattle.std.proofs.Common.{◌≡◌, ◌∙◌, sym, ap, subst, refl, ℕ, ◌+◌, Some}
+use Rattle.std.specs.Result.{OnOk}
+use Rattle.std.proofs.lemmas.Result.{on_ok_weaker}
+use Rattle.ob_net.specs.Network.{home_feeder}
+use Rattle.ob_time.specs.Calendar.{day_count, days_of}
+use Rattle.ob_post.specs.SectionAmounts.{amount_of_runs}
+use Rattle.ob_post.specs.declared.Dim.{Dim}
+use Rattle.ob_state.specs.States.{BookValue}
+use Rattle.ob_posting.specs.Balances.{Balances, together}
+use Rattle.ob_state.specs.Effects.{amount_of_customer}
+use Rattle.ob_state.proofs.Amounting.{feeder_from_one, one_customer}
+use Rattle.ob_posting.proofs.Balancing.{balances_as}
+use Rattle.ob_state.proofs.service.give_customer.Goals as goal
+
+pub give-requires-clause-feeder : goal.give-requires-clause-feeder
+give-requires-clause-feeder g c =
+    feeder_from_one c.args.state.now.state.network c.args.customer.section c.in-Some.feeder c.requires.sound.network
+    (ap (λ (s : BookValue). home_feeder s.state.network c.args.customer.section) (sym c.state.view_is) ∙ sym c.feeder_of.ensures ∙ c.in-Some.is)
+
+pub returns-clause-given : goal.returns-clause-given
+returns-clause-given g c = λ old new bal.
+    let b = c.args.state.now.state in
+    let f = c.in-Some.feeder in
+    let runs = c.runs_of-runs.result.now in
+    let roll = c.in_ok-roll.roll.customers in
+    let hb : home_feeder b.network c.args.customer.section ≡ Some f = ap (λ (s : BookValue). home_feeder s.state.network c.args.customer.section) (sym c.state.view_is) ∙ sym c.feeder_of.ensures ∙ c.in-Some.is in
+    let of : Dim → ℕ → ℕ = amount_of_runs b.entries roll (days_of b.period) f runs in
+    let gives = subst (λ (s : BookValue). (o n : Dim → ℕ → ℕ) → Balances (day_count s.state.period) c.args.posting.now o n
+    → OnOk c.give.result (Balances (day_count s.state.period) c.give.new.self o (together n (amount_of_runs s.state.entries roll (days_of s.state.period) f runs)))) c.state.view_is c.give.ensures.given in
+    on_ok_weaker c.give.result
+    (λ h. balances_as (day_count b.period) c.give.new.self old (together new of) old (together new (amount_of_customer b c.args.customer))
+    (λ dim key. refl)
+    (λ dim key. ap (λ n. new dim key + n) (one_customer b c.args.customer (g.T.Timeline.content c.args.timeline.now) f roll runs dim key c.roll_laws.ensures.one c.requires.runs hb c.in_ok-roll.ensures.roll c.runs_of-runs.ensures.runs))
+    h)
+    (gives old new bal)

@@ -1,0 +1,99 @@
+//! What an accepted command moves, and what it does to the runs.
+ghost use Rattle.std.specs.Prelude.{◌≡◌, ◌≤◌, ◌+◌, None, IfOk, IfErr, IfSome};
+ghost use Rattle.ob_net.specs.Stop.{out_of_memory};
+ghost use Rattle.ob_state.specs.States.{AreRunsOf};
+ghost use Rattle.ob_state.specs.Refusals.{refusal};
+ghost use Rattle.ob_state.specs.Next.{next};
+ghost use Rattle.ob_state.specs.Effects.{IsEffect};
+ghost use Rattle.ob_state.specs.Searches.{most_searches};
+
+use crate::parts::{with_bus, with_device, with_section};
+use crate::retiming::Retiming;
+use crate::service::{connected, revised};
+use crate::state::State;
+use crate::switching::{Operation, corrected, entered, withdrawn};
+use ob_command::Command;
+use ob_net::Stop;
+use ob_post::Moved;
+use ob_sweep::Timeline;
+use std::alloc::Global;
+
+/// What a command moves, and what it does to the runs.
+#[derive(Drop)]
+pub struct Effect {
+    pub moves: Vec<Moved>,
+    pub retiming: Retiming,
+}
+
+/// The effect of an accepted command on a state with these runs. The state is left as it was. The
+/// error is that memory was refused.
+pub fn effect_of<T: Timeline>(
+    alloc: Global,
+    state: &mut State,
+    timeline: &T,
+    command: &Command,
+) -> Result<Effect, Stop>
+    requires accepted { refusal state.old.state command.now ≡ None }
+    requires runs { AreRunsOf state.old.state (T.content timeline.now) }
+    ensures effect { IfOk result (IsEffect state.old.state (next state.old.state command.now)) }
+    ensures err { IfErr result (λ stop. stop ≡ out_of_memory) }
+    ensures state { state.new.state ≡ state.old.state }
+    ensures searches { IfSome (most_searches T.bound state.old.state command.now) (λ most. state.new.searches ≤ state.old.searches + most) }
+{
+    match *command {
+        Command::Cause { .. } | Command::Mark { .. } | Command::Unmark { .. } => Ok(Effect {
+            moves: Vec::new(alloc),
+            retiming: Retiming::Same,
+        }),
+        Command::Bus { .. } => Ok(with_bus(alloc, state)),
+        Command::Section { .. } => with_section(alloc, state),
+        Command::Device { name, ends, normal } => {
+            with_device(alloc, state, timeline, name, ends, normal)
+        }
+        Command::Connect {
+            customer,
+            section,
+            since,
+            until,
+        } => connected(alloc, state, timeline, customer, &section, since, until),
+        Command::Revise {
+            customer,
+            since,
+            until,
+        } => revised(alloc, state, timeline, customer, since, until),
+        Command::Switch {
+            device,
+            act,
+            second,
+            cause,
+            crew,
+        } => {
+            let operation = Operation {
+                act,
+                second,
+                cause,
+                crew,
+            };
+            entered(alloc, state, timeline, &device, operation)
+        }
+        Command::Correct {
+            entry,
+            revision,
+            act,
+            second,
+            cause,
+            crew,
+        } => {
+            let operation = Operation {
+                act,
+                second,
+                cause,
+                crew,
+            };
+            corrected(alloc, state, timeline, entry, revision, operation)
+        }
+        Command::Withdraw { entry, revision } => {
+            withdrawn(alloc, state, timeline, entry, revision)
+        }
+    }
+}

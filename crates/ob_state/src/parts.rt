@@ -1,0 +1,137 @@
+//! What one more part of the network moves.
+ghost use Rattle.std.specs.Prelude.{◌≡◌, ◌+◌, ◌≤◌, ◌<◌, ℕ, List, [], None, IfOk, IfErr, IsSome, OnOk, length};
+ghost use Rattle.ob_net.specs.Stop.{out_of_memory};
+ghost use Rattle.ob_sweep.specs.Deltas.{new_runs, IsDelta};
+ghost use Rattle.ob_time.specs.Calendar.{day_count};
+ghost use Rattle.ob_post.specs.declared.Dim.{Dim as Dimension};
+ghost use Rattle.ob_state.specs.Amounts.{amount};
+ghost use Rattle.ob_state.specs.States.{AreRunsOf, IsSoundState};
+ghost use Rattle.ob_state.specs.Refusals.{refusal};
+ghost use Rattle.ob_state.specs.Next.{next};
+ghost use Rattle.ob_state.specs.Retimings.{runs_in};
+ghost use Rattle.ob_posting.specs.Balances.{Balances, together};
+ghost use Rattle.ob_state.specs.Effects.{IsEffect, amount_of_node, without_device};
+
+use crate::effect::Effect;
+use crate::retiming::Retiming;
+use crate::state::State;
+use ob_command::{Command, Ends};
+use ob_net::{Name, Pos, Stop};
+use ob_post::laws::{section_laws, total_laws};
+use ob_posting::Posting;
+use ob_sweep::{Delta, Timeline, plan_section, plan_still};
+use std::alloc::Global;
+
+/// The effect of a bus that isn't refused: no section's runs change.
+pub fn with_bus(alloc: Global, state: &State) -> Effect
+    ensures effect { (name : List ℕ) → refusal state.now.state (Command.Bus name) ≡ None → IsEffect state.now.state (next state.now.state (Command.Bus name)) result }
+{
+    let _ = state.accepted();
+    Effect {
+        moves: Vec::new(alloc),
+        retiming: Retiming::Same,
+    }
+}
+
+/// The effect of a section that isn't refused: it has runs, and no customers yet. The error is that memory was refused.
+pub fn with_section(alloc: Global, state: &State) -> Result<Effect, Stop>
+    ensures effect { (name : List ℕ) (feeder : ℕ) → refusal state.now.state (Command.Section name feeder) ≡ None → IfOk result (IsEffect state.now.state (next state.now.state (Command.Section name feeder))) }
+    ensures err { IfErr result (λ stop. stop ≡ out_of_memory) }
+{
+    let _ = state.accepted();
+    let delta = plan_section(alloc, &state.net, &state.period)?;
+    Ok(Effect {
+        moves: Vec::new(alloc),
+        retiming: Retiming::By(delta),
+    })
+}
+
+/// The effect of a device that isn't refused. The error is that memory was refused.
+pub fn with_device<T: Timeline>(
+    alloc: Global,
+    state: &mut State,
+    timeline: &T,
+    name: Name,
+    ends: Ends,
+    normal: Pos,
+) -> Result<Effect, Stop>
+    requires accepted { refusal state.old.state (Command.Device name ends normal) ≡ None }
+    requires runs { AreRunsOf state.old.state (T.content timeline.now) }
+    ensures effect { IfOk result (IsEffect state.old.state (next state.old.state (Command.Device name ends normal))) }
+    ensures err { IfErr result (λ stop. stop ≡ out_of_memory) }
+    ensures state { state.new.state ≡ state.old.state }
+    ensures searches { state.new.searches ≤ state.old.searches + 1 }
+{
+    state.reserve_one()?;
+    let _ = state.accepted();
+    state.add_device(name, ends, normal);
+    let effect = joined(alloc, state, timeline);
+    state.take_back_device();
+    effect
+}
+
+// The effect of the device that was added last, where a timeline holds the runs without it.
+fn joined<T: Timeline>(alloc: Global, state: &mut State, timeline: &T) -> Result<Effect, Stop>
+    requires unswitched { state.old.state.entries ≡ [] }
+    requires runs { AreRunsOf (without_device state.old.state) (T.content timeline.now) }
+    ensures effect { IfOk result (IsEffect (without_device state.old.state) state.old.state) }
+    ensures err { IfErr result (λ stop. stop ≡ out_of_memory) }
+    ensures state { state.new.state ≡ state.old.state }
+    ensures searches { state.new.searches ≤ state.old.searches + 1 }
+{
+    total_laws();
+    let _ = state.accepted();
+    let delta = plan_still(alloc, timeline, &mut state.net, &state.period)?;
+    let posting = posted(alloc, state, timeline, &delta)?;
+    Ok(Effect {
+        moves: posting.moves(&state.period)?,
+        retiming: Retiming::By(delta),
+    })
+}
+
+// What is posted for the device that was added last: the runs of the sections that it touches.
+fn posted<T: Timeline>(
+    alloc: Global,
+    state: &State,
+    timeline: &T,
+    delta: &Delta,
+) -> Result<Posting, Stop>
+    requires runs { AreRunsOf (without_device state.now.state) (T.content timeline.now) }
+    requires delta { IsDelta state.now.state.network delta.now (T.content timeline.now) (runs_in state.now.state) }
+    ensures posted { IfOk result (λ posting. Balances (day_count state.now.state.period) posting (amount (without_device state.now.state)) (amount state.now.state)) }
+    ensures err { IfErr result (λ stop. stop ≡ out_of_memory) }
+{
+    section_laws();
+    let _ = state.accepted();
+    let mut posting = Posting::new(alloc);
+    let touched = delta.touched();
+    for node in touched {
+        repost(&mut posting, state, timeline, delta, *node)?;
+    }
+    Ok(posting)
+}
+
+// Posts the runs of a touched section anew.
+fn repost<T: Timeline>(
+    posting: &mut Posting,
+    state: &State,
+    timeline: &T,
+    delta: &Delta,
+    node: u16,
+) -> Result<(), Stop>
+    requires sound { IsSoundState state.now.state }
+    requires runs { AreRunsOf (without_device state.now.state) (T.content timeline.now) }
+    requires delta { IsDelta state.now.state.network delta.now (T.content timeline.now) (runs_in state.now.state) }
+    requires node { node < length state.now.state.network.nodes }
+    requires touched { IsSome (new_runs delta.now node) }
+    ensures posted { (old new : Dimension → ℕ → ℕ) → Balances (day_count state.now.state.period) posting.old old new → OnOk result (Balances (day_count state.now.state.period) posting.new (together old (amount_of_node (without_device state.now.state) node)) (together new (amount_of_node state.now.state node))) }
+    ensures err { IfErr result (λ stop. stop ≡ out_of_memory) }
+{
+    section_laws();
+    let (sheet, roll, period) = (&state.sheet, &state.roll, &state.period);
+    let Some(feeder) = state.net.feeder_of(node) else {
+        unreachable!();
+    };
+    posting.take(timeline.runs_of(node), sheet, feeder, roll, period)?;
+    posting.give(delta.runs(node), sheet, feeder, roll, period)
+}

@@ -1,0 +1,144 @@
+//! What a customer that is connected, or gets another service, moves.
+ghost use Rattle.std.specs.Prelude.{◌≡◌, ℕ, ◌∷◌, [], IsSome, false, None, IfOk, IfErr, OnOk};
+ghost use Rattle.ob_net.specs.Network.{home_feeder};
+ghost use Rattle.ob_net.specs.Stop.{out_of_memory};
+ghost use Rattle.ob_cust.specs.Roll.{is_bad_service};
+ghost use Rattle.ob_time.specs.Calendar.{day_count};
+ghost use Rattle.ob_post.specs.declared.Dim.{Dim as Dimension};
+ghost use Rattle.ob_state.specs.States.{AreRunsOf, IsSoundState};
+ghost use Rattle.ob_state.specs.Refusals.{refusal};
+ghost use Rattle.ob_state.specs.Next.{next};
+ghost use Rattle.ob_posting.specs.Balances.{together, Balances};
+ghost use Rattle.ob_state.specs.Effects.{amount_of_customer, IsEffect};
+
+use crate::change::end_of;
+use crate::effect::Effect;
+use crate::retiming::Retiming;
+use crate::state::State;
+use ob_command::{Command, Moment, Serial};
+use ob_cust::{Customer, Roll};
+use ob_net::{Name, Stop};
+use ob_post::laws::{roll_laws, section_laws, total_laws};
+use ob_posting::Posting;
+use ob_sweep::Timeline;
+use std::alloc::Global;
+
+/// The effect of a customer that isn't refused. The error is that memory was refused.
+pub fn connected<T: Timeline>(
+    alloc: Global,
+    state: &State,
+    timeline: &T,
+    customer: Serial,
+    section: &Name,
+    since: Moment,
+    until: Option<Moment>,
+) -> Result<Effect, Stop>
+    requires accepted { refusal state.now.state (Command.Connect customer section.now since until) ≡ None }
+    requires runs { AreRunsOf state.now.state (T.content timeline.now) }
+    ensures effect { IfOk result (IsEffect state.now.state (next state.now.state (Command.Connect customer section.now since until))) }
+    ensures err { IfErr result (λ stop. stop ≡ out_of_memory) }
+{
+    roll_laws();
+    total_laws();
+    let _ = state.accepted();
+    let Some(section) = state.section_named(section) else {
+        unreachable!();
+    };
+    let customer = Customer {
+        no: customer.get(),
+        section,
+        since: since.second(),
+        until: end_of(until),
+    };
+    let mut posting = Posting::new(alloc);
+    give_customer(alloc, state, timeline, customer, &mut posting)?;
+    Ok(Effect {
+        moves: posting.moves(&state.period)?,
+        retiming: Retiming::Same,
+    })
+}
+
+/// The effect of another service of a customer, which isn't refused. The error is that memory was
+/// refused.
+pub fn revised<T: Timeline>(
+    alloc: Global,
+    state: &State,
+    timeline: &T,
+    customer: Serial,
+    since: Moment,
+    until: Option<Moment>,
+) -> Result<Effect, Stop>
+    requires accepted { refusal state.now.state (Command.Revise customer since until) ≡ None }
+    requires runs { AreRunsOf state.now.state (T.content timeline.now) }
+    ensures effect { IfOk result (IsEffect state.now.state (next state.now.state (Command.Revise customer since until))) }
+    ensures err { IfErr result (λ stop. stop ≡ out_of_memory) }
+{
+    roll_laws();
+    total_laws();
+    let _ = state.accepted();
+    let Some(old) = state.roll.customer(customer.get()) else {
+        unreachable!();
+    };
+    let new = Customer {
+        since: since.second(),
+        until: end_of(until),
+        ..old
+    };
+    let mut posting = Posting::new(alloc);
+    take_customer(alloc, state, timeline, old, &mut posting)?;
+    give_customer(alloc, state, timeline, new, &mut posting)?;
+    Ok(Effect {
+        moves: posting.moves(&state.period)?,
+        retiming: Retiming::Same,
+    })
+}
+
+// Takes back the amounts of one customer.
+fn take_customer<T: Timeline>(
+    alloc: Global,
+    state: &State,
+    timeline: &T,
+    customer: Customer,
+    posting: &mut Posting,
+) -> Result<(), Stop>
+    requires sound { IsSoundState state.now.state }
+    requires section { IsSome (home_feeder state.now.state.network customer.section) }
+    requires service { is_bad_service customer ≡ false }
+    requires runs { AreRunsOf state.now.state (T.content timeline.now) }
+    ensures taken { (old new : Dimension → ℕ → ℕ) → Balances (day_count state.now.state.period) posting.old old new → OnOk result (Balances (day_count state.now.state.period) posting.new (together old (amount_of_customer state.now.state customer)) new) }
+    ensures err { IfErr result (λ stop. stop ≡ out_of_memory) }
+{
+    section_laws();
+    roll_laws();
+    let Some(feeder) = state.net.feeder_of(customer.section) else {
+        unreachable!();
+    };
+    let roll = Roll::of_one(alloc, customer)?;
+    let runs = timeline.runs_of(customer.section);
+    posting.take(runs, &state.sheet, feeder, &roll, &state.period)
+}
+
+// Gives the amounts of one customer.
+fn give_customer<T: Timeline>(
+    alloc: Global,
+    state: &State,
+    timeline: &T,
+    customer: Customer,
+    posting: &mut Posting,
+) -> Result<(), Stop>
+    requires sound { IsSoundState state.now.state }
+    requires section { IsSome (home_feeder state.now.state.network customer.section) }
+    requires service { is_bad_service customer ≡ false }
+    requires runs { AreRunsOf state.now.state (T.content timeline.now) }
+    ensures given { (old new : Dimension → ℕ → ℕ) → Balances (day_count state.now.state.period) posting.old old new → OnOk result (Balances (day_count state.now.state.period) posting.new old (together new (amount_of_customer state.now.state customer))) }
+    ensures err { IfErr result (λ stop. stop ≡ out_of_memory) }
+{
+    section_laws();
+    roll_laws();
+    let Some(feeder) = state.net.feeder_of(customer.section) else {
+        unreachable!();
+    };
+    let roll = Roll::of_one(alloc, customer)?;
+    let runs = timeline.runs_of(customer.section);
+    posting.give(runs, &state.sheet, feeder, &roll, &state.period)
+}

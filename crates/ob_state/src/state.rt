@@ -1,0 +1,169 @@
+//! The state of a book: everything but the runs and the amounts, which follow from it.
+use crate::causes::Causes;
+use ob_cust::Roll;
+use ob_index::Marks;
+use ob_net::{Name, Net, Stop};
+use ob_sheet::Sheet;
+use ob_sweep::Timeline;
+use ob_time::Period;
+use std::alloc::Global;
+use std::marker::Model;
+
+/// The period, the network, the causes, the roll, the sheet, the marked days, and how many commands were accepted.
+#[derive(Drop)]
+pub struct State {
+    pub(crate) period: Period,
+    pub(crate) net: Net,
+    pub(crate) causes: Causes,
+    pub(crate) roll: Roll,
+    pub(crate) sheet: Sheet,
+    pub(crate) marks: Marks,
+    pub(crate) accepted: u32,
+}
+
+impl Model for State {
+    ghost use Rattle.std.specs.Prelude.{min};
+    ghost use Rattle.ob_state.specs.States.{BookValue, IsBookState, book_state};
+
+    ghost Value = { BookValue };
+
+    ghost view = { λ s. record {
+      state = book_state s.period s.net.network s.causes s.roll.customers s.sheet.entries s.marks s.accepted;
+      room = min (min s.net.node_room s.net.device_room) (min s.roll.room s.sheet.room);
+      searches = s.net.searches;
+    } };
+
+    ghost invariant = { λ s. IsBookState (book_state s.period s.net.network s.causes s.roll.customers s.sheet.entries s.marks s.accepted) };
+}
+
+impl State {
+    ghost use Rattle.std.specs.Prelude.{◌≡◌, ◌<◌, ◌-◌, IfOk, IfErr, OnOk, IfSome, length};
+    ghost use Rattle.std.specs.List.{All};
+    ghost use Rattle.ob_net.specs.Stop.{out_of_memory};
+    ghost use Rattle.ob_state.specs.State.{empty_book, section_of, cause_name_of};
+    ghost use Rattle.ob_state.specs.Effects.{without_device};
+    ghost use Rattle.ob_state.specs.States.{AreRunsOf, IsSoundState};
+
+    /// A new book's state.
+    pub fn new(alloc: Global, period: Period) -> Result<State, Stop>
+        ensures state { IfOk result (λ s. s.state ≡ empty_book period) }
+        ensures err { IfErr result (λ stop. stop ≡ out_of_memory) }
+    {
+        let marks = Marks::new(alloc, period.days())?;
+        let net = Net::new(alloc)?;
+        Ok(State {
+            period,
+            net,
+            causes: Causes::new(),
+            roll: Roll::new(alloc),
+            sheet: Sheet::new(alloc),
+            marks,
+            accepted: 0,
+        })
+    }
+
+    /// Makes room for the change of one command.
+    pub fn reserve_one(&mut self) -> Result<(), Stop>
+        ensures room { OnOk result (0 < self.new.room) }
+        ensures err { IfErr result (λ stop. stop ≡ out_of_memory) }
+        ensures state { self.new.state ≡ self.old.state }
+        ensures searches { self.new.searches ≡ self.old.searches }
+    {
+        self.net.reserve_one()?;
+        self.roll.reserve_one()?;
+        self.sheet.reserve_one()?;
+        Ok(())
+    }
+
+    /// How many commands were accepted. Its clause `sound` says what each state keeps to.
+    pub fn accepted(&self) -> u32
+        ensures accepted { result ≡ self.now.state.accepted }
+        ensures sound { IsSoundState self.now.state }
+    {
+        self.sound();
+        self.accepted
+    }
+
+    /// The period.
+    pub fn period(&self) -> &Period
+        ensures { result.now ≡ self.now.state.period }
+    {
+        &self.period
+    }
+
+    /// The network.
+    pub fn net(&self) -> &Net
+        ensures network { result.now.network ≡ self.now.state.network }
+        ensures searches { result.now.searches ≡ self.now.searches }
+    {
+        &self.net
+    }
+
+    /// The customers.
+    pub fn roll(&self) -> &Roll
+        ensures { result.now.customers ≡ self.now.state.customers }
+    {
+        &self.roll
+    }
+
+    /// The switching sheet.
+    pub fn sheet(&self) -> &Sheet
+        ensures { result.now.entries ≡ self.now.state.entries }
+    {
+        &self.sheet
+    }
+
+    /// The marked days.
+    pub fn marks(&self) -> &Marks
+        ensures { result.now ≡ self.now.state.marks }
+    {
+        &self.marks
+    }
+
+    // Says what each state keeps to, by the clauses of its parts, and does nothing.
+    fn sound(&self)
+        ensures { IsSoundState self.now.state }
+    {
+        let _ = (self.period.days(), self.net.nodes());
+        let _ = (self.roll.customers().len(), self.sheet.entry(1));
+    }
+
+    /// The number of the section with a name; None where no node has it, or one that is no section.
+    pub(crate) fn section_named(&self, name: &Name) -> Option<u16>
+        ensures section { result ≡ section_of self.now.state.network name.now }
+        ensures exists { IfSome result (λ v. v < length self.now.state.network.nodes) }
+    {
+        let node = self.net.node_of(name)?;
+        match self.net.feeder_of(node) {
+            Some(_) => Some(node),
+            None => None,
+        }
+    }
+
+    /// The name of the cause with a code; None where there is none.
+    pub fn cause_name(&self, code: u8) -> Option<Name>
+        ensures { result ≡ cause_name_of self.now.state.causes code }
+    {
+        self.causes.name(code)
+    }
+
+    /// The runs of the state's sections, found from scratch; the error is that memory was refused.
+    pub fn build<T: Timeline>(&mut self, alloc: Global) -> Result<T, Stop>
+        ensures runs { IfOk result (λ t. AreRunsOf self.old.state (T.content t)) }
+        ensures err { IfErr result (λ stop. stop ≡ out_of_memory) }
+        ensures state { self.new.state ≡ self.old.state }
+        ensures room { self.new.room ≡ self.old.room }
+    {
+        T::build(alloc, &mut self.net, &self.sheet, &self.period)
+    }
+
+    /// Takes back the device that was added last, of which there is no entry.
+    pub(crate) fn take_back_device(&mut self)
+        requires some { 0 < length self.old.state.network.devices }
+        requires entries { All (λ e. e.device < length self.old.state.network.devices - 1) self.old.state.entries }
+        ensures state { self.new.state ≡ without_device self.old.state }
+        ensures searches { self.new.searches ≡ self.old.searches }
+    {
+        self.net.take_back_device();
+    }
+}

@@ -1,0 +1,330 @@
+//! What a change of the switching sheet moves.
+ghost use Rattle.std.specs.Prelude.{◌≡◌, ◌+◌, ◌<◌, ◌≤◌, ℕ, None, Some, true, IfOk, IfErr, IfSome, IsSome, IsTrue, OnOk, length};
+ghost use Rattle.ob_net.specs.Stop.{out_of_memory};
+ghost use Rattle.ob_sheet.specs.Order.{entry_of};
+ghost use Rattle.ob_sheet.specs.Revisions.{corrected as corrected_entry, revision_refusal};
+ghost use Rattle.ob_sheet.specs.Sheet.{new_entry};
+ghost use Rattle.ob_sweep.specs.Changed.{changed, Applies};
+ghost use Rattle.ob_sweep.specs.Deltas.{new_runs, IsDelta};
+ghost use Rattle.ob_post.specs.declared.Dim.{Dim as Dimension};
+ghost use Rattle.ob_time.specs.Calendar.{day_count};
+ghost use Rattle.ob_state.specs.Amounts.{amount, moves};
+ghost use Rattle.ob_state.specs.Retimings.{runs_in};
+ghost use Rattle.ob_state.specs.States.{AreRunsOf, IsBookState, IsSoundState};
+ghost use Rattle.ob_state.specs.Refusals.{refusal};
+ghost use Rattle.ob_state.specs.Next.{next};
+ghost use Rattle.ob_state.specs.Effects.{amount_of_first, amount_of_node, with_entries, IsEffect};
+ghost use Rattle.ob_posting.specs.Balances.{together, Balances};
+ghost use Rattle.ob_posting.specs.Causes.{KeepsCause};
+ghost use Rattle.ob_state.specs.Searches.{most_searches};
+
+use crate::effect::Effect;
+use crate::retiming::Retiming;
+use crate::state::State;
+use ob_command::{CauseCode, Command, Moment, Serial};
+use ob_net::{Crew, Name, Pos, Stop};
+use ob_post::Moved;
+use ob_post::laws::{cause_laws, section_laws, total_laws};
+use ob_posting::Posting;
+use ob_sheet::Entry;
+use ob_sweep::{Change, Delta, Timeline};
+use std::alloc::Global;
+
+/// A switching operation, as an entry tells it.
+#[derive(Clone, Copy)]
+pub struct Operation {
+    pub act: Pos,
+    pub second: Moment,
+    pub cause: CauseCode,
+    pub crew: Crew,
+}
+
+/// The effect of a new entry that isn't refused. The error is that memory was refused.
+pub fn entered<T: Timeline>(
+    alloc: Global,
+    state: &mut State,
+    timeline: &T,
+    device: &Name,
+    operation: Operation,
+) -> Result<Effect, Stop>
+    requires accepted { refusal state.old.state (Command.Switch device.now operation.act operation.second operation.cause operation.crew) ≡ None }
+    requires runs { AreRunsOf state.old.state (T.content timeline.now) }
+    ensures effect { IfOk result (IsEffect state.old.state (next state.old.state (Command.Switch device.now operation.act operation.second operation.cause operation.crew))) }
+    ensures err { IfErr result (λ stop. stop ≡ out_of_memory) }
+    ensures state { state.new.state ≡ state.old.state }
+    ensures searches { IfSome (most_searches T.bound state.old.state (Command.Switch device.now operation.act operation.second operation.cause operation.crew)) (λ most. state.new.searches ≤ state.old.searches + most) }
+{
+    let Some(device) = state.net.device_of(device) else {
+        unreachable!();
+    };
+    let _ = state.accepted();
+    let entry = next_entry(state, device, operation);
+    switched(alloc, state, timeline, &Change::Entered(entry))
+}
+
+/// The effect of a correction that isn't refused. The error is that memory was refused.
+pub fn corrected<T: Timeline>(
+    alloc: Global,
+    state: &mut State,
+    timeline: &T,
+    entry: Serial,
+    revision: Serial,
+    operation: Operation,
+) -> Result<Effect, Stop>
+    requires accepted { refusal state.old.state (Command.Correct entry revision operation.act operation.second operation.cause operation.crew) ≡ None }
+    requires runs { AreRunsOf state.old.state (T.content timeline.now) }
+    ensures effect { IfOk result (IsEffect state.old.state (next state.old.state (Command.Correct entry revision operation.act operation.second operation.cause operation.crew))) }
+    ensures err { IfErr result (λ stop. stop ≡ out_of_memory) }
+    ensures state { state.new.state ≡ state.old.state }
+    ensures searches { IfSome (most_searches T.bound state.old.state (Command.Correct entry revision operation.act operation.second operation.cause operation.crew)) (λ most. state.new.searches ≤ state.old.searches + most) }
+{
+    let old = entry_at(state, entry, revision);
+    let _ = state.accepted();
+    let change = correction(old, operation);
+    switched(alloc, state, timeline, &change)
+}
+
+/// The effect of a withdrawal that isn't refused. The error is that memory was refused.
+pub fn withdrawn<T: Timeline>(
+    alloc: Global,
+    state: &mut State,
+    timeline: &T,
+    entry: Serial,
+    revision: Serial,
+) -> Result<Effect, Stop>
+    requires accepted { refusal state.old.state (Command.Withdraw entry revision) ≡ None }
+    requires runs { AreRunsOf state.old.state (T.content timeline.now) }
+    ensures effect { IfOk result (IsEffect state.old.state (next state.old.state (Command.Withdraw entry revision))) }
+    ensures err { IfErr result (λ stop. stop ≡ out_of_memory) }
+    ensures state { state.new.state ≡ state.old.state }
+    ensures searches { IfSome (most_searches T.bound state.old.state (Command.Withdraw entry revision)) (λ most. state.new.searches ≤ state.old.searches + most) }
+{
+    let old = entry_at(state, entry, revision);
+    let _ = state.accepted();
+    switched(alloc, state, timeline, &Change::Withdrawn(old))
+}
+
+// The kept entry with a number and a revision.
+fn entry_at(state: &State, entry: Serial, revision: Serial) -> Entry
+    requires { revision_refusal state.now.state.entries entry revision ≡ None }
+    ensures on { entry_of state.now.state.entries entry ≡ Some result }
+    ensures kept { result.kept ≡ true }
+{
+    let Some(entry) = state.sheet.entry(entry.get()) else {
+        unreachable!();
+    };
+    prove!(entry.kept && entry.rev == revision.get());
+    entry
+}
+
+// The next entry, of an operation of a device.
+fn next_entry(state: &State, device: u16, operation: Operation) -> Entry
+    ensures entry { result ≡ new_entry state.now.state.entries device operation.act operation.second operation.cause operation.crew }
+    ensures cause { operation.cause < 64 }
+{
+    Entry {
+        no: state.sheet.len() as u32 + 1,
+        rev: 1,
+        device,
+        pos: operation.act,
+        second: operation.second.second(),
+        cause: operation.cause.get(),
+        crew: operation.crew,
+        kept: true,
+    }
+}
+
+// The correction by which an entry tells of another operation.
+fn correction(old: Entry, operation: Operation) -> Change
+    ensures change { result ≡ Change.Corrected old (corrected_entry operation.act operation.second operation.cause operation.crew old) }
+    ensures cause { operation.cause < 64 }
+{
+    let new = Entry {
+        rev: old.rev.saturating_add(1),
+        pos: operation.act,
+        second: operation.second.second(),
+        cause: operation.cause.get(),
+        crew: operation.crew,
+        ..old
+    };
+    Change::Corrected { old, new }
+}
+
+// The effect of a change of the sheet.
+fn switched<T: Timeline>(
+    alloc: Global,
+    state: &mut State,
+    timeline: &T,
+    change: &Change,
+) -> Result<Effect, Stop>
+    requires runs { AreRunsOf state.old.state (T.content timeline.now) }
+    requires applies { Applies change.now state.old.state.entries }
+    requires changed { IsBookState (with_entries state.old.state (changed change.now state.old.state.entries)) }
+    ensures effect { IfOk result (IsEffect state.old.state (with_entries state.old.state (changed change.now state.old.state.entries))) }
+    ensures err { IfErr result (λ stop. stop ≡ out_of_memory) }
+    ensures state { state.new.state ≡ state.old.state }
+    ensures searches { state.new.searches ≤ state.old.searches + T.bound state.old.state.network state.old.state.entries state.old.state.period change.now }
+{
+    let delta = timeline.plan(alloc, &mut state.net, &state.sheet, &state.period, change)?;
+    let moves = moves_by_change(alloc, state, timeline, &delta, change)?;
+    Ok(Effect {
+        moves,
+        retiming: Retiming::By(delta),
+    })
+}
+
+// What a change of the sheet moves, which alters the runs by the delta.
+fn moves_by_change<T: Timeline>(
+    alloc: Global,
+    state: &State,
+    timeline: &T,
+    delta: &Delta,
+    change: &Change,
+) -> Result<Vec<Moved>, Stop>
+    requires runs { AreRunsOf state.now.state (T.content timeline.now) }
+    requires applies { Applies change.now state.now.state.entries }
+    requires changed { IsBookState (with_entries state.now.state (changed change.now state.now.state.entries)) }
+    requires delta { IsDelta state.now.state.network delta.now (T.content timeline.now) (runs_in (with_entries state.now.state (changed change.now state.now.state.entries))) }
+    ensures moves { IfOk result (λ moved. moved.items ≡ moves state.now.state (with_entries state.now.state (changed change.now state.now.state.entries))) }
+    ensures err { IfErr result (λ stop. stop ≡ out_of_memory) }
+{
+    total_laws();
+    let _ = state.accepted();
+    let posting = if gives_another_cause(change) {
+        posted_everywhere(alloc, state, timeline, delta, change)?
+    } else {
+        posted_where_touched(alloc, state, timeline, delta, change)?
+    };
+    posting.moves(&state.period)
+}
+
+// Whether a correction gives its entry another cause.
+fn gives_another_cause(change: &Change) -> bool
+    ensures { ¬ IsTrue result → KeepsCause change.now }
+{
+    match change {
+        Change::Corrected { old, new } => new.cause != old.cause,
+        _ => false,
+    }
+}
+
+// What a change posts that gives no entry another cause: the runs of the sections that it touches.
+fn posted_where_touched<T: Timeline>(
+    alloc: Global,
+    state: &State,
+    timeline: &T,
+    delta: &Delta,
+    change: &Change,
+) -> Result<Posting, Stop>
+    requires runs { AreRunsOf state.now.state (T.content timeline.now) }
+    requires applies { Applies change.now state.now.state.entries }
+    requires changed { IsBookState (with_entries state.now.state (changed change.now state.now.state.entries)) }
+    requires delta { IsDelta state.now.state.network delta.now (T.content timeline.now) (runs_in (with_entries state.now.state (changed change.now state.now.state.entries))) }
+    requires cause { KeepsCause change.now }
+    ensures posted { IfOk result (λ posting. Balances (day_count state.now.state.period) posting (amount state.now.state) (amount (with_entries state.now.state (changed change.now state.now.state.entries)))) }
+    ensures err { IfErr result (λ stop. stop ≡ out_of_memory) }
+{
+    section_laws();
+    cause_laws();
+    let _ = state.accepted();
+    let mut posting = Posting::new(alloc);
+    let touched = delta.touched();
+    for node in touched {
+        post_touched(&mut posting, state, timeline, delta, change, *node)?;
+    }
+    Ok(posting)
+}
+
+// What a change posts: the runs that it alters, and in every section the one whose cause changes.
+fn posted_everywhere<T: Timeline>(
+    alloc: Global,
+    state: &State,
+    timeline: &T,
+    delta: &Delta,
+    change: &Change,
+) -> Result<Posting, Stop>
+    requires runs { AreRunsOf state.now.state (T.content timeline.now) }
+    requires applies { Applies change.now state.now.state.entries }
+    requires changed { IsBookState (with_entries state.now.state (changed change.now state.now.state.entries)) }
+    requires delta { IsDelta state.now.state.network delta.now (T.content timeline.now) (runs_in (with_entries state.now.state (changed change.now state.now.state.entries))) }
+    ensures posted { IfOk result (λ posting. Balances (day_count state.now.state.period) posting (amount state.now.state) (amount (with_entries state.now.state (changed change.now state.now.state.entries)))) }
+    ensures err { IfErr result (λ stop. stop ≡ out_of_memory) }
+{
+    section_laws();
+    let _ = state.accepted();
+    let mut posting = Posting::new(alloc);
+    for node in 0..state.net.nodes() {
+        post_node(&mut posting, state, timeline, delta, change, node)?;
+    }
+    Ok(posting)
+}
+
+// Posts the runs of a node, where it is a section: those that change, else the one whose cause changes.
+fn post_node<T: Timeline>(
+    posting: &mut Posting,
+    state: &State,
+    timeline: &T,
+    delta: &Delta,
+    change: &Change,
+    node: u16,
+) -> Result<(), Stop>
+    requires sound { IsSoundState state.now.state }
+    requires runs { AreRunsOf state.now.state (T.content timeline.now) }
+    requires applies { Applies change.now state.now.state.entries }
+    requires changed { IsBookState (with_entries state.now.state (changed change.now state.now.state.entries)) }
+    requires delta { IsDelta state.now.state.network delta.now (T.content timeline.now) (runs_in (with_entries state.now.state (changed change.now state.now.state.entries))) }
+    requires node { node < length state.now.state.network.nodes }
+    ensures posted { Balances (day_count state.now.state.period) posting.old (amount_of_first state.now.state node) (amount_of_first (with_entries state.now.state (changed change.now state.now.state.entries)) node) → OnOk result (Balances (day_count state.now.state.period) posting.new (amount_of_first state.now.state (node + 1)) (amount_of_first (with_entries state.now.state (changed change.now state.now.state.entries)) (node + 1))) }
+    ensures err { IfErr result (λ stop. stop ≡ out_of_memory) }
+{
+    section_laws();
+    if delta.touched().binary_search(&node).is_ok() {
+        return post_touched(posting, state, timeline, delta, change, node);
+    }
+    let Some(feeder) = state.net.feeder_of(node) else {
+        return Ok(());
+    };
+    let old = timeline.runs_of(node);
+    posting.relabel(
+        old,
+        &state.sheet,
+        change,
+        feeder,
+        &state.roll,
+        &state.period,
+    )
+}
+
+// Posts those runs of a touched section that change.
+fn post_touched<T: Timeline>(
+    posting: &mut Posting,
+    state: &State,
+    timeline: &T,
+    delta: &Delta,
+    change: &Change,
+    node: u16,
+) -> Result<(), Stop>
+    requires sound { IsSoundState state.now.state }
+    requires runs { AreRunsOf state.now.state (T.content timeline.now) }
+    requires applies { Applies change.now state.now.state.entries }
+    requires changed { IsBookState (with_entries state.now.state (changed change.now state.now.state.entries)) }
+    requires delta { IsDelta state.now.state.network delta.now (T.content timeline.now) (runs_in (with_entries state.now.state (changed change.now state.now.state.entries))) }
+    requires node { node < length state.now.state.network.nodes }
+    requires touched { IsSome (new_runs delta.now node) }
+    ensures posted { (old new : Dimension → ℕ → ℕ) → Balances (day_count state.now.state.period) posting.old old new → OnOk result (Balances (day_count state.now.state.period) posting.new (together old (amount_of_node state.now.state node)) (together new (amount_of_node (with_entries state.now.state (changed change.now state.now.state.entries)) node))) }
+    ensures err { IfErr result (λ stop. stop ≡ out_of_memory) }
+{
+    section_laws();
+    let Some(feeder) = state.net.feeder_of(node) else {
+        unreachable!();
+    };
+    posting.replace(
+        timeline.runs_of(node),
+        delta.runs(node),
+        &state.sheet,
+        change,
+        feeder,
+        &state.roll,
+        &state.period,
+    )
+}
