@@ -10,8 +10,12 @@ use Rattle.ob_state.specs.State.{BookState}
 use Rattle.ob_state.specs.States.{AreRunsOf}
 use Rattle.ob_state.specs.Amounts.{amount}
 
--- the runs and the amounts that a book keeps beside its state are the state's
-pub record AreKept (b : BookState) (lists : List (List Run)) (posted : PostedAmounts) : Type 0 where
-  pub runs : AreRunsOf b lists
+-- the postings are the state's customer-seconds without supply, by cause, feeder and day
+pub record ArePosted (b : BookState) (posted : PostedAmounts) : Type 0 where
   pub days : postings.day_count posted ≡ day_count b.period
   pub amounts : (dim : Dim) (key : ℕ) → IsKey (day_count b.period) dim key → amount_of posted dim key ≡ amount b dim key
+
+-- the runs and the amounts that a book keeps beside its state are the state's
+pub record AreKept (b : BookState) (lists : List (List Run)) (amounts : PostedAmounts) : Type 0 where
+  pub runs : AreRunsOf b lists
+  pub posted : ArePosted b amounts

@@ -60,6 +60,16 @@ DifferencesFit =
     (days : ℕ) (taken given : List Moved) (old new : Dim → ℕ → ℕ) → HaveKeys days taken → HaveKeys days given → AreOfChange days taken given (change_from old new) → AreSmall old → AreSmall new
     → (dim : Dim) (key : ℕ) → FitsSigned w64 (delta_of given dim key -ℤ delta_of taken dim key)
 
+-- the moves by a change are of amounts that are kept
+abbrev pub MovesHaveKeys : Type 0
+MovesHaveKeys = (change : Dim → ℕ → ℤ) (days : ℕ) → HaveKeys days (moves_by change days)
+
+-- they move each amount that is kept by its change
+abbrev pub MovesAreOfChange : Type 0
+MovesAreOfChange =
+    (change : Dim → ℕ → ℤ) (days : ℕ) (dim : Dim) (key : ℕ)
+    → IsKey days dim key → delta_of (moves_by change days) dim key ≡ change dim key
+
 -- the rows lead from these amounts to new ones that postings may keep
 pub record LeadTo (a : PostedAmounts) (moved : List Moved) (new : Dim → ℕ → ℕ) : Type 0 where
   pub keys : HaveKeys (day_count a) moved

@@ -6,7 +6,8 @@ use Rattle.ob_cust.specs.declared.Customer.{Customer}
 use Rattle.ob_cust.specs.declared.TheConstants.{MOST_CUSTOMERS}
 use Rattle.ob_cust.specs.Roll.{connect_refusal, revised, with_customer}
 use Rattle.ob_time.specs.Calendar.{IsCalendar, day_count}
-use Rattle.ob_command.specs.declared.command.Command.TheVariants.{Connect, Revise}
+use Rattle.ob_command.specs.declared.command.Command.{Command}
+use Rattle.ob_command.specs.declared.command.Command.TheVariants.{Cause, Bus, Section, Device, Connect, Revise, Switch, Correct, Withdraw, Mark, Unmark}
 use Rattle.ob_post.specs.MoveLaws.{AreSmall}
 use Rattle.ob_post.specs.SectionLaws.{Changed, Connected}
 use Rattle.ob_post.specs.TotalLaws.{AmountsAreSmall}
@@ -14,9 +15,10 @@ use Rattle.ob_posting.specs.declared.posting.Posting.{Posting}
 use Rattle.ob_state.specs.State.{BookState, section_of}
 use Rattle.ob_state.specs.Amounts.{amount, days_of_book}
 use Rattle.ob_state.specs.Next.{next}
+use Rattle.ob_state.specs.Refusals.{refusal}
 use Rattle.ob_posting.specs.Balances.{together, Balances}
 use Rattle.ob_state.specs.Effects.{amount_of_customer}
-use Rattle.ob_state.proofs.Accepted.{few_with}
+use Rattle.ob_state.proofs.Accepted.{connect_accepted, few_with}
 use Rattle.ob_state.proofs.Amounting.{small}
 use Rattle.ob_posting.proofs.Balancing.{balances_as, same_change}
 
@@ -56,3 +58,19 @@ revise_balance p b number since until old law rising e h =
 
 pub revise_small : (b : BookState) (number since : ℕ) (until : Option ℕ) → AmountsAreSmall → IsCalendar b.period → length b.customers ≤ MOST_CUSTOMERS → AreSmall (amount (next b (Revise number since until)))
 revise_small b number since until law cal few = small (next b (Revise number since until)) law cal (omega (arith, few, length-map b.customers (λ (c : Customer). if c.«no» == number then revised since until c else c)))
+
+-- the amounts after a command that is accepted are small
+pub next_small : (b : BookState) (command : Command) → AmountsAreSmall → IsCalendar b.period → length b.customers ≤ MOST_CUSTOMERS → refusal b command ≡ None → AreSmall (amount (next b command))
+next_small b (Cause code name) law cal few h = small (next b (Cause code name)) law cal few
+next_small b (Bus name) law cal few h = small (next b (Bus name)) law cal few
+next_small b (Section name feeder) law cal few h = small (next b (Section name feeder)) law cal few
+next_small b (Device name ends normal) law cal few h = small (next b (Device name ends normal)) law cal few
+next_small b (Connect customer section since until) law cal few h =
+    let accepted = connect_accepted b customer section since until h in
+    connect_small b customer section since until accepted.0 law cal few accepted.1 accepted.2
+next_small b (Revise customer since until) law cal few h = revise_small b customer since until law cal few
+next_small b (Switch device act second cause crew) law cal few h = small (next b (Switch device act second cause crew)) law cal few
+next_small b (Correct entry revision act second cause crew) law cal few h = small (next b (Correct entry revision act second cause crew)) law cal few
+next_small b (Withdraw entry revision) law cal few h = small (next b (Withdraw entry revision)) law cal few
+next_small b (Mark date engineer) law cal few h = small (next b (Mark date engineer)) law cal few
+next_small b (Unmark date engineer) law cal few h = small (next b (Unmark date engineer)) law cal few

@@ -7,6 +7,7 @@
 //! and the amounts beside the state.
 #![tactic(auto)]
 
+mod amounts;
 mod causes;
 mod change;
 mod effect;
@@ -17,6 +18,7 @@ mod service;
 mod state;
 mod switching;
 
+pub use amounts::amounts_are_small;
 pub use effect::{Effect, effect_of};
 pub use retiming::{Retiming, retime};
 pub use state::State;

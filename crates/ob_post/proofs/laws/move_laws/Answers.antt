@@ -1,3 +1,4 @@
+use Rattle.ob_post.proofs.Listed.{delta_of-moves_by, keys_of_moves_by}
 use Rattle.ob_post.proofs.Reposted.{none_reposted, node_stays, node_reposted, have_keys_of_more, reposted_differ, differences_fit, moves_lead_to}
 use Rattle.ob_post.proofs.laws.move_laws.Goals as goal
 
@@ -18,6 +19,12 @@ returns-clause-reposted c = reposted_differ
 
 pub returns-clause-fit : goal.returns-clause-fit
 returns-clause-fit c = differences_fit
+
+pub returns-clause-keys : goal.returns-clause-keys
+returns-clause-keys c = keys_of_moves_by
+
+pub returns-clause-change : goal.returns-clause-change
+returns-clause-change c = delta_of-moves_by
 
 pub returns-clause-lead_to : goal.returns-clause-lead_to
 returns-clause-lead_to c = moves_lead_to

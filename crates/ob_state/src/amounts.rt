@@ -1,0 +1,20 @@
+//! How large the amounts of a state can be. It does nothing when it runs.
+ghost use Rattle.std.specs.Prelude.{◌≡◌, None};
+ghost use Rattle.ob_post.specs.MoveLaws.{AreSmall};
+ghost use Rattle.ob_state.specs.Amounts.{amount};
+ghost use Rattle.ob_state.specs.Next.{next};
+ghost use Rattle.ob_state.specs.Refusals.{refusal};
+
+use crate::state::State;
+use ob_command::Command;
+use ob_post::laws::total_laws;
+
+/// The amounts before and after a command that is accepted are below 2^63.
+pub fn amounts_are_small(state: &State, command: &Command)
+    requires accepted { refusal state.now.state command.now ≡ None }
+    ensures before { AreSmall (amount state.now.state) }
+    ensures after { AreSmall (amount (next state.now.state command.now)) }
+{
+    total_laws();
+    let _ = (state.accepted(), *command);
+}
