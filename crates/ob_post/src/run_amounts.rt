@@ -4,7 +4,6 @@ ghost use Rattle.std.specs.List.{All};
 ghost use Rattle.ob_net.specs.Network.{Network};
 ghost use Rattle.ob_net.specs.Seconds.{seconds};
 ghost use Rattle.ob_net.specs.Stop.{out_of_memory};
-ghost use Rattle.ob_net.specs.declared.TheConstants.{LAST_SECOND};
 ghost use Rattle.ob_time.specs.Calendar.{days_of, first_second_of, end_second_of, day_count};
 ghost use Rattle.ob_sheet.specs.declared.Entry.{Entry};
 ghost use Rattle.ob_cust.specs.Service.{served_seconds as served};
@@ -130,7 +129,7 @@ pub fn post_run(
 
 // The seconds of service as a delta: 100,000 customers have far fewer than 2^63.
 fn served_delta(roll: &Roll, section: u16, since: Second, until: Second) -> i64
-    requires { until ≤ LAST_SECOND }
+    requires { until ≤ 99_999_999_999 }
     ensures { result ≡ pos (served roll.now.customers section since until) }
 {
     prove!(roll.customers().len() <= MOST_CUSTOMERS);
