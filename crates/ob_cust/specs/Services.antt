@@ -7,7 +7,6 @@ use Rattle.std.specs.declared.cmp.Ordering.TheVariants.{Less}
 use Rattle.ob_cust.specs.Blocks.{service_cmp, service_of}
 use Rattle.ob_cust.specs.declared.SectionBlock.{SectionBlock}
 use Rattle.ob_cust.specs.declared.services.Before.{Before}
-use Rattle.ob_cust.specs.declared.TheConstants.{MOST_CUSTOMERS}
 
 -- the section and the service of a block
 abbrev pub key : SectionBlock → ℕ × (ℕ × Option ℕ)
@@ -59,7 +58,7 @@ pub record AreServices (bs : List SectionBlock) : Type 0 where
   pub ordered : AllPairs (λ a b. key_cmp (key a) (key b) ≡ Less) bs
   pub positive : All (λ b. 0 < b.block.count) bs
   pub small : All (λ b. b.block.since < 2 ^ 64) bs
-  pub few : customers_of bs ≤ MOST_CUSTOMERS
+  pub few : customers_of bs ≤ 100_000
 
 -- and beside each its sums
 pub record IsServices (bs : List SectionBlock) (ss : List Before) : Type 0 where

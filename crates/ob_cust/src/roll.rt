@@ -46,8 +46,7 @@ impl Roll {
     ghost use Rattle.std.specs.List.{All, AllPairs, Any, count_by, find, sum_by};
     ghost use Rattle.std.specs.declared.cmp.Ordering.TheVariants.{Less};
     ghost use Rattle.std.specs.Result.{result_err};
-    ghost use Rattle.ob_base.specs.declared.TheConstants.{LAST_SECOND};
-    ghost use Rattle.ob_base.specs.Stop.{out_of_memory};
+    ghost use Rattle.ob_net.specs.Stop.{out_of_memory};
     ghost use Rattle.ob_cust.specs.Blocks.{has_service, service_cmp, service_of, sum_over_blocks, sum_over_customers};
     ghost use Rattle.ob_cust.specs.Roll.{connect_refusal, is_bad_service, revise_refusal, with_customer, with_service};
     ghost use Rattle.ob_cust.specs.Service.{served_seconds as served};
@@ -160,7 +159,7 @@ impl Roll {
         ensures customers { result.now ≡ self.now.customers }
         ensures rising { AllPairs (λ c d. c.«no» < d.«no») result.now }
         ensures services { All (λ c. IfSome c.until (λ until. c.since < until)) result.now }
-        ensures few { length result.now ≤ MOST_CUSTOMERS }
+        ensures few { length result.now ≤ 100_000 }
     {
         &self.customers
     }
@@ -177,7 +176,7 @@ impl Roll {
 
     /// Whether there are `MOST_CUSTOMERS`.
     pub fn is_full(&self) -> bool
-        ensures { result ≡ (length self.now.customers == MOST_CUSTOMERS) }
+        ensures { result ≡ (length self.now.customers == 100_000) }
     {
         self.customers.len() == MOST_CUSTOMERS
     }
@@ -185,7 +184,7 @@ impl Roll {
     /// The seconds of service from `a` up to `b`, summed over the customers of a section; 0 where
     /// `b` is not above `a`.
     pub fn served_seconds(&self, section: u16, a: Second, b: Second) -> u64
-        requires { b ≤ LAST_SECOND }
+        requires { b ≤ 99_999_999_999 }
         ensures { result ≡ served self.now.customers section a b }
     {
         if b <= a || self.shelves.is_empty() {
@@ -204,7 +203,7 @@ impl Roll {
         ensures positive { All (λ b. 0 < b.block.count) result.now }
         ensures sums { (f : ℕ → Option ℕ → ℕ) → sum_over_blocks f (map (λ b. b.block) result.now) ≡ sum_over_customers f section self.now.customers }
         ensures ordered { AllPairs (λ a b. service_cmp (service_of a.block) (service_of b.block) ≡ Less) result.now }
-        ensures few { sum_by (λ b. b.block.count) result.now ≤ MOST_CUSTOMERS }
+        ensures few { sum_by (λ b. b.block.count) result.now ≤ 100_000 }
     {
         if self.shelves.is_empty() {
             return &[];
@@ -222,7 +221,7 @@ impl Roll {
         ensures complete { IfOk result (λ blocks. All (λ c. c.section ≡ section → Any (λ b. (b.since ≡ c.since) × (b.until ≡ c.until)) blocks.items) self.now.customers) }
         ensures sums { IfOk result (λ blocks. (f : ℕ → Option ℕ → ℕ) → sum_over_blocks f blocks.items ≡ sum_over_customers f section self.now.customers) }
         ensures ordered { IfOk result (λ blocks. AllPairs (λ a b. service_cmp (service_of a) (service_of b) ≡ Less) blocks.items) }
-        ensures few { IfOk result (λ blocks. sum_by (λ b. b.count) blocks.items ≤ MOST_CUSTOMERS) }
+        ensures few { IfOk result (λ blocks. sum_by (λ b. b.count) blocks.items ≤ 100_000) }
         ensures err { IfErr result (λ stop. stop ≡ out_of_memory) }
     {
         let blocks = without_section(*self.customers.allocator(), self.section_blocks(section))?;
@@ -267,7 +266,7 @@ fn empty_shelves(alloc: Global, count: usize) -> Result<Vec<Shelf>, AllocError>
 
 // Makes room for one customer more on each shelf.
 fn reserve_each(shelves: &mut [Shelf]) -> Result<(), AllocError>
-    requires few { All (λ s. s.customers ≤ MOST_CUSTOMERS) shelves.old }
+    requires few { All (λ s. s.customers ≤ 100_000) shelves.old }
     ensures len { length shelves.new ≡ length shelves.old }
     ensures kept { (k : ℕ) (d : Shelf) → IsRoomier (slice_index_or shelves.old k d) (slice_index_or shelves.new k d) }
     ensures ok { OnOk result (All HasRoom shelves.new) }

@@ -47,7 +47,6 @@ impl Services {
     ghost use Rattle.std.specs.declared.cmp.Ordering.TheVariants.{Less};
     ghost use Rattle.ob_cust.specs.Blocks.{service_cmp, service_of, sum_over_blocks};
     ghost use Rattle.ob_cust.specs.Services.{sum_of, customers_of, since_start};
-    ghost use Rattle.ob_cust.specs.declared.TheConstants.{MOST_CUSTOMERS};
 
     /// No services.
     pub fn new(alloc: Global) -> Services
@@ -74,7 +73,7 @@ impl Services {
     /// Counts one customer more of a service.
     pub fn add(&mut self, section: u16, since: Second, until: Option<Second>)
         requires room { customers_of self.old.blocks < self.old.capacity }
-        requires few { customers_of self.old.blocks < MOST_CUSTOMERS }
+        requires few { customers_of self.old.blocks < 100_000 }
         ensures sums { (f : ℕ → ℕ → Option ℕ → ℕ) → sum_of f self.new.blocks ≡ sum_of f self.old.blocks + f section since until }
         ensures capacity { self.new.capacity ≡ self.old.capacity }
     {
@@ -119,7 +118,7 @@ impl Services {
     /// Counts one customer more of the service without end that begins at `end`, where there is one.
     pub fn add_end(&mut self, section: u16, end: Option<Second>)
         requires room { customers_of self.old.blocks < self.old.capacity }
-        requires few { customers_of self.old.blocks < MOST_CUSTOMERS }
+        requires few { customers_of self.old.blocks < 100_000 }
         ensures sums { (f : ℕ → ℕ → Option ℕ → ℕ) → sum_of f self.new.blocks ≡ sum_of f self.old.blocks + option_map_or (λ since. f section since None) end 0 }
         ensures capacity { self.new.capacity ≡ self.old.capacity }
     {
@@ -235,7 +234,7 @@ fn recount(blocks: &mut Vec<SectionBlock>, before: &mut Vec<Before>, place: usiz
     requires services { IsServices blocks.old.items before.old.items }
     requires place { place < length blocks.old.items }
     requires positive { 0 < count }
-    requires few { (d : SectionBlock) → customers_of blocks.old.items + count ≤ MOST_CUSTOMERS + (slice_index_or blocks.old.items place d).block.count }
+    requires few { (d : SectionBlock) → customers_of blocks.old.items + count ≤ 100_000 + (slice_index_or blocks.old.items place d).block.count }
     ensures services { IsServices blocks.new.items before.new.items }
     ensures sums { (f : ℕ → ℕ → Option ℕ → ℕ) (d : SectionBlock) → let b = slice_index_or blocks.old.items place d in sum_of f blocks.new.items + b.block.count * f b.section b.block.since b.block.until ≡ sum_of f blocks.old.items + count * f b.section b.block.since b.block.until }
     ensures capacity { vec_capacity blocks.new ≡ vec_capacity blocks.old }
@@ -253,7 +252,7 @@ fn put(blocks: &mut Vec<SectionBlock>, before: &mut Vec<Before>, place: usize, b
     requires below { AllWithin (λ b. key_cmp (key b) (key block) ≡ Less) blocks.old.items 0 place }
     requires above { AllWithin (λ b. key_cmp (key b) (key block) ≡ Greater) blocks.old.items place (length blocks.old.items) }
     requires positive { 0 < block.block.count }
-    requires few { customers_of blocks.old.items + block.block.count ≤ MOST_CUSTOMERS }
+    requires few { customers_of blocks.old.items + block.block.count ≤ 100_000 }
     requires room { length blocks.old.items < vec_capacity blocks.old }
     requires room_before { length blocks.old.items < vec_capacity before.old }
     ensures services { IsServices blocks.new.items before.new.items }
@@ -321,7 +320,7 @@ fn sums_at(blocks: &[SectionBlock], before: &[Before], at: usize) -> Before
 
 // The sums with those of a block.
 fn with_own(before: Before, block: Block) -> Before
-    requires few { before.customers + block.count ≤ MOST_CUSTOMERS }
+    requires few { before.customers + block.count ≤ 100_000 }
     requires small { before.seconds + block.count * block.since < 2 ^ 128 }
     ensures customers { result.customers ≡ before.customers + block.count }
     ensures seconds { result.seconds ≡ before.seconds + block.count * block.since }

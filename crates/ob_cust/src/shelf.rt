@@ -22,7 +22,6 @@ impl Shelf {
     ghost use Rattle.std.specs.Prelude.{◌≡◌, ◌<◌, ◌≤◌, ◌+◌, ℕ, Option, OnOk};
     ghost use Rattle.ob_cust.specs.Services.{sum_of, customers_of};
     ghost use Rattle.ob_cust.specs.Shelves.{at_end, IsRoomier, HasRoom, IsEmpty};
-    ghost use Rattle.ob_cust.specs.declared.TheConstants.{MOST_CUSTOMERS};
 
     /// A shelf of no customer.
     pub fn new(alloc: Global) -> Shelf
@@ -37,7 +36,7 @@ impl Shelf {
 
     /// Makes room for one customer more, whatever services the others get.
     pub fn reserve_one(&mut self) -> Result<(), AllocError>
-        requires few { self.old.customers ≤ MOST_CUSTOMERS }
+        requires few { self.old.customers ≤ 100_000 }
         ensures kept { IsRoomier self.old self.new }
         ensures ok { OnOk result (HasRoom self.new) }
     {
@@ -50,7 +49,7 @@ impl Shelf {
     pub fn add(&mut self, customer: &Customer)
         requires counted { self.old.customers ≡ customers_of self.old.services.blocks }
         requires ends { customers_of self.old.ends.blocks ≤ self.old.customers }
-        requires few { self.old.customers < MOST_CUSTOMERS }
+        requires few { self.old.customers < 100_000 }
         requires room { HasRoom self.old }
         ensures services { (f : ℕ → ℕ → Option ℕ → ℕ) → sum_of f self.new.services.blocks ≡ sum_of f self.old.services.blocks + f customer.now.section customer.now.since customer.now.until }
         ensures ends { (f : ℕ → ℕ → Option ℕ → ℕ) → sum_of f self.new.ends.blocks ≡ sum_of f self.old.ends.blocks + at_end f customer.now.section customer.now.until }
@@ -69,9 +68,9 @@ impl Shelf {
         requires there { (f : ℕ → ℕ → Option ℕ → ℕ) → f old.now.section old.now.since old.now.until ≤ sum_of f self.old.services.blocks }
         requires there_end { (f : ℕ → ℕ → Option ℕ → ℕ) → at_end f old.now.section old.now.until ≤ sum_of f self.old.ends.blocks }
         requires room { customers_of self.old.services.blocks ≤ self.old.services.capacity }
-        requires few { customers_of self.old.services.blocks ≤ MOST_CUSTOMERS }
+        requires few { customers_of self.old.services.blocks ≤ 100_000 }
         requires room_of_ends { customers_of self.old.ends.blocks < self.old.ends.capacity + at_end (λ section since until. 1) old.now.section old.now.until }
-        requires few_ends { customers_of self.old.ends.blocks < MOST_CUSTOMERS + at_end (λ section since until. 1) old.now.section old.now.until }
+        requires few_ends { customers_of self.old.ends.blocks < 100_000 + at_end (λ section since until. 1) old.now.section old.now.until }
         ensures services { (f : ℕ → ℕ → Option ℕ → ℕ) → sum_of f self.new.services.blocks + f old.now.section old.now.since old.now.until ≡ sum_of f self.old.services.blocks + f new.now.section new.now.since new.now.until }
         ensures ends { (f : ℕ → ℕ → Option ℕ → ℕ) → sum_of f self.new.ends.blocks + at_end f old.now.section old.now.until ≡ sum_of f self.old.ends.blocks + at_end f new.now.section new.now.until }
         ensures customers { self.new.customers ≡ self.old.customers }

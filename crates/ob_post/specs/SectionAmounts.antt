@@ -9,14 +9,9 @@ use Rattle.ob_sheet.specs.Order.{cause_of}
 use Rattle.ob_cust.specs.declared.Customer.{Customer}
 use Rattle.ob_sweep.specs.Runs.{history, runs_between}
 use Rattle.ob_sweep.specs.declared.Run.{Run}
-use Rattle.ob_time.specs.Calendar.{Calendar, days_of, first_second_of, end_second_of}
 use Rattle.ob_post.specs.CustomerSeconds.{Days}
 use Rattle.ob_post.specs.RunAmounts.{customer_seconds_in}
 use Rattle.ob_post.specs.declared.Dim.{Dim}
-
--- the seconds and the days of a calendar
-abbrev pub period_days : Calendar → Days
-period_days c = record { first = first_second_of c; end = end_second_of c; days = days_of c }
 
 -- the cause that a run is posted to: the one that its cutter has now; 0, unassigned, where there is no cutter
 abbrev pub run_cause : List Entry → Run → ℕ
@@ -25,6 +20,11 @@ run_cause entries r = option_map_or (cause_of entries) r.cutter 0
 -- the customer-seconds of some runs, of sections of this home feeder, that count under a key of a dimension
 abbrev pub amount_of_runs : List Entry → List Customer → List Interval → ℕ → List Run → Dim → ℕ → ℕ
 amount_of_runs entries roll days feeder runs dim key = sum_by (λ r. customer_seconds_in roll r (run_cause entries r) feeder days dim key) runs
+
+-- the customer-seconds of some runs, of sections of this home feeder, each posted to the cause beside it, that count under a key of a
+-- dimension
+abbrev pub amount_of_posted : List Customer → List Interval → ℕ → List (Run × ℕ) → Dim → ℕ → ℕ
+amount_of_posted roll days feeder posted dim key = sum_by (λ p. customer_seconds_in roll p.0 p.1 feeder days dim key) posted
 
 -- the customer-seconds of the runs that a node has in the period, where it is a section; else 0
 abbrev pub amount_at : Network → List Entry → List Customer → Days → ℕ → Dim → ℕ → ℕ

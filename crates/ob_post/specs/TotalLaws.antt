@@ -6,7 +6,6 @@ use Rattle.ob_base.specs.Seconds.{seconds}
 use Rattle.ob_sheet.specs.declared.Entry.{Entry}
 use Rattle.ob_sheet.specs.Supply.{is_deenergized}
 use Rattle.ob_cust.specs.declared.Customer.{Customer}
-use Rattle.ob_cust.specs.declared.TheConstants.{MOST_CUSTOMERS}
 use Rattle.ob_cust.specs.WithoutSupply.{seconds_without_supply}
 use Rattle.ob_time.specs.Calendar.{PartSeconds}
 use Rattle.ob_post.specs.CustomerSeconds.{Days, customer_seconds_by}
@@ -14,7 +13,6 @@ use Rattle.ob_post.specs.Keys.{IsKey, keys}
 use Rattle.ob_post.specs.Postings.{PostedAmounts, amount_of, day_count, total_of}
 use Rattle.ob_post.specs.SectionLaws.{AreOnSections}
 use Rattle.ob_post.specs.declared.Dim.{Dim}
-use Rattle.ob_post.specs.declared.TheConstants.{MOST_DAYS}
 
 -- the customer-seconds without supply under all keys of a dimension
 abbrev pub seconds_under_keys : Network → List Entry → List Customer → Days → Dim → ℕ
@@ -30,13 +28,13 @@ AddUp =
 -- with the customers that there may be and fewer than 2^25 seconds, an amount is below 2^63
 abbrev pub AmountsAreSmall : Type 0
 AmountsAreSmall =
-    (net : Network) (entries : List Entry) (roll : List Customer) (p : Days) (dim : Dim) (key : ℕ) → length roll ≤ MOST_CUSTOMERS → p.end < p.first + 2 ^ 25
+    (net : Network) (entries : List Entry) (roll : List Customer) (p : Days) (dim : Dim) (key : ℕ) → length roll ≤ 100_000 → p.end < p.first + 2 ^ 25
     → customer_seconds_by net entries roll p dim key < 2 ^ 63
 
 -- and so are all amounts of a dimension together
 abbrev pub TotalsAreSmall : Type 0
 TotalsAreSmall =
-    (net : Network) (entries : List Entry) (roll : List Customer) (p : Days) (dim : Dim) → length roll ≤ MOST_CUSTOMERS → p.end < p.first + 2 ^ 25 → length p.days ≤ MOST_DAYS
+    (net : Network) (entries : List Entry) (roll : List Customer) (p : Days) (dim : Dim) → length roll ≤ 100_000 → p.end < p.first + 2 ^ 25 → length p.days ≤ 366
     → seconds_under_keys net entries roll p dim < 2 ^ 63
 
 -- where amounts are kept as they are defined, so are their totals

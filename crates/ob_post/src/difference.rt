@@ -8,7 +8,6 @@ ghost use Rattle.ob_post.specs.MoveLaws.{AreOfChange};
 ghost use Rattle.ob_post.specs.Moved.{delta_of, HaveKeys, HaveNoZero, AreInOrder, moves_by};
 ghost use Rattle.ob_post.specs.Places.{place_of as the_place_of};
 ghost use Rattle.ob_post.specs.declared.Dim.{Dim as Dimension};
-ghost use Rattle.ob_post.specs.declared.TheConstants.{MOST_DAYS};
 ghost use Rattle.ob_post.specs.declared.place.TheConstants.{MOST_PLACES};
 
 use crate::Moved;
@@ -20,8 +19,8 @@ use std::alloc::Global;
 /// taken, where that isn't 0, in the order cause, feeder, day and then by key. Several rows of a key
 /// count together, and each difference fits an i64. The error is that memory was refused.
 pub fn moves(alloc: Global, taken: &[Moved], given: &[Moved]) -> Result<Vec<Moved>, Stop>
-    requires taken { HaveKeys MOST_DAYS taken.now }
-    requires given { HaveKeys MOST_DAYS given.now }
+    requires taken { HaveKeys 366 taken.now }
+    requires given { HaveKeys 366 given.now }
     requires fits { (dim : Dimension) (key : ℕ) → FitsSigned w64 (delta_of given.now dim key -ℤ delta_of taken.now dim key) }
     ensures deltas { IfOk result (λ moved. (dim : Dimension) (key : ℕ) → delta_of moved.items dim key ≡ delta_of given.now dim key -ℤ delta_of taken.now dim key) }
     ensures no_zero { IfOk result (λ moved. HaveNoZero moved.items) }
@@ -48,9 +47,9 @@ pub fn moves(alloc: Global, taken: &[Moved], given: &[Moved]) -> Result<Vec<Move
 // The deltas of each key summed, by place. A sum may wrap on the way: the difference of two is exact
 // wherever it fits.
 fn sums(alloc: Global, rows: &[Moved]) -> Result<Vec<i64>, Stop>
-    requires { HaveKeys MOST_DAYS rows.now }
+    requires { HaveKeys 366 rows.now }
     ensures places { IfOk result (λ sums. length sums.items ≡ MOST_PLACES) }
-    ensures sums { IfOk result (λ sums. (dim : Dimension) (key : ℕ) → IsKey MOST_DAYS dim key → slice_index_or sums.items (the_place_of dim key) (pos 0) ≡ int_wrap w64 (delta_of rows.now dim key)) }
+    ensures sums { IfOk result (λ sums. (dim : Dimension) (key : ℕ) → IsKey 366 dim key → slice_index_or sums.items (the_place_of dim key) (pos 0) ≡ int_wrap w64 (delta_of rows.now dim key)) }
     ensures err { IfErr result (λ stop. stop ≡ out_of_memory) }
 {
     let mut sums = vec![in alloc; 0i64; MOST_PLACES]?;

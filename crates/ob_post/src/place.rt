@@ -2,7 +2,6 @@
 ghost use Rattle.std.specs.Prelude.{◌≡◌, ◌<◌};
 ghost use Rattle.ob_post.specs.Keys.{IsKey};
 ghost use Rattle.ob_post.specs.Places.{place_of as the_place_of};
-ghost use Rattle.ob_post.specs.declared.TheConstants.{MOST_DAYS};
 
 use crate::{Dim, MOST_DAYS};
 
@@ -17,7 +16,7 @@ pub const FIRST_FEEDER: usize = 64;
 
 /// The place of a key.
 pub fn place_of(dim: Dim, key: u16) -> usize
-    requires { IsKey MOST_DAYS dim key }
+    requires { IsKey 366 dim key }
     ensures { result ≡ the_place_of dim key }
 {
     let key = usize::from(key);
@@ -31,7 +30,7 @@ pub fn place_of(dim: Dim, key: u16) -> usize
 /// The dimension and the key of a place.
 pub fn key_at(place: usize) -> (Dim, u16)
     requires { place < MOST_PLACES }
-    ensures exists { IsKey MOST_DAYS result.0 result.1 }
+    ensures exists { IsKey 366 result.0 result.1 }
     ensures place { the_place_of result.0 result.1 ≡ place }
 {
     if place < FIRST_FEEDER {

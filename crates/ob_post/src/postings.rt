@@ -32,11 +32,10 @@ impl Postings {
     ghost use Rattle.ob_post.specs.Moved.{HaveKeys};
     ghost use Rattle.ob_post.specs.Postings.{amount_of, amount_after, day_count, total_of, total_after};
     ghost use Rattle.ob_post.specs.declared.Dim.{Dim as Dimension};
-    ghost use Rattle.ob_post.specs.declared.TheConstants.{MOST_DAYS};
 
     /// Postings for that many days, where every amount is 0; the error is that memory was refused.
     pub fn new(alloc: Global, days: u16) -> Result<Postings, Stop>
-        requires { days ≤ MOST_DAYS }
+        requires { days ≤ 366 }
         ensures zero { IfOk result (λ p. (dim : Dimension) (key : ℕ) → amount_of p dim key ≡ 0) }
         ensures days { IfOk result (λ p. day_count p ≡ days) }
         ensures err { IfErr result (λ stop. stop ≡ out_of_memory) }

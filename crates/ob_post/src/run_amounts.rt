@@ -1,17 +1,16 @@
 //! The amounts of runs.
 ghost use Rattle.std.specs.Prelude.{◌≡◌, ◌<◌, ◌≤◌, ◌+ℤ◌, ℕ, List, length, map, take, pos, IfOk, OnOk, IfErr};
-ghost use Rattle.std.specs.List.{All};
+ghost use Rattle.std.specs.List.{All, zip};
 ghost use Rattle.ob_net.specs.Network.{Network};
-ghost use Rattle.ob_base.specs.Seconds.{seconds};
-ghost use Rattle.ob_base.specs.Stop.{out_of_memory};
-ghost use Rattle.ob_base.specs.declared.TheConstants.{LAST_SECOND};
+ghost use Rattle.ob_net.specs.Seconds.{seconds};
+ghost use Rattle.ob_net.specs.Stop.{out_of_memory};
 ghost use Rattle.ob_time.specs.Calendar.{days_of, first_second_of, end_second_of, day_count};
 ghost use Rattle.ob_sheet.specs.declared.Entry.{Entry};
 ghost use Rattle.ob_cust.specs.Service.{served_seconds as served};
 ghost use Rattle.ob_post.specs.CustomerSeconds.{Days};
 ghost use Rattle.ob_post.specs.Moved.{delta_of, HaveKeys};
 ghost use Rattle.ob_post.specs.RunAmounts.{customer_seconds_in, served_in, section_seconds_by, IsRunOf};
-ghost use Rattle.ob_post.specs.SectionAmounts.{run_cause, amount_of_runs, LieWithin};
+ghost use Rattle.ob_post.specs.SectionAmounts.{run_cause, amount_of_posted, amount_of_runs, LieWithin};
 ghost use Rattle.ob_post.specs.declared.Dim.{Dim as Dimension};
 
 use crate::{Dim, Moved};
@@ -64,6 +63,8 @@ pub fn post_runs(
     requires causes { All (λ cause. cause < 64) causes.now }
     requires feeder { 1 ≤ feeder }
     requires within { LieWithin (first_second_of period.now) (end_second_of period.now) runs.now }
+    ensures posted { OnOk result ((dim : Dimension) (key : ℕ) → delta_of rows.new.items dim key ≡ delta_of rows.old.items dim key +ℤ pos (amount_of_posted roll.now.customers (days_of period.now) feeder (zip runs.now causes.now) dim key)) }
+
     // Where the causes are those that the runs' cutters have in a sheet, the amount is that of the runs.
     ensures amounts { (entries : List Entry) → causes.now ≡ map (run_cause entries) runs.now → OnOk result ((dim : Dimension) (key : ℕ) → delta_of rows.new.items dim key ≡ delta_of rows.old.items dim key +ℤ pos (amount_of_runs entries roll.now.customers (days_of period.now) feeder runs.now dim key)) }
     ensures keys { HaveKeys (day_count period.now) rows.old.items → HaveKeys (day_count period.now) rows.new.items }
@@ -130,7 +131,7 @@ pub fn post_run(
 
 // The seconds of service as a delta: 100,000 customers have far fewer than 2^63.
 fn served_delta(roll: &Roll, section: u16, since: Second, until: Second) -> i64
-    requires { until ≤ LAST_SECOND }
+    requires { until ≤ 99_999_999_999 }
     ensures { result ≡ pos (served roll.now.customers section since until) }
 {
     prove!(roll.customers().len() <= MOST_CUSTOMERS);

@@ -4,8 +4,7 @@ use Rattle.std.specs.Int.{IsInRange}
 use Rattle.std.specs.List.{find, range_with_len}
 use Rattle.std.specs.List.Sorted.{IsStrictlyIncreasing}
 use Rattle.std.specs.Ordering.{int_eq}
-use Rattle.ob_base.specs.declared.TheConstants.{LAST_SECOND}
-use Rattle.ob_base.specs.declared.interval.Interval.{Interval}
+use Rattle.ob_net.specs.declared.interval.Interval.{Interval}
 
 -- the day number of the first date, the bounds of the days in order, the last one's end among them,
 -- and the text of the zone
@@ -78,7 +77,7 @@ pub record IsCalendar (c : Calendar) : Type 0 where
   pub count : length c.bounds ≡ day_count c + 1
   pub days : IsInRange 1 366 (day_count c)
   pub rising : IsStrictlyIncreasing c.bounds
-  pub last : end_second_of c ≤ LAST_SECOND
+  pub last : end_second_of c ≤ 99_999_999_999
   pub short : end_second_of c < first_second_of c + 2 ^ 25
   pub first_date : neg_ℤ (pos 1) ≤ℤ c.first_day
   pub last_date : (c.first_day +ℤ pos (day_count c)) ≤ℤ pos 2_932_896

@@ -1,6 +1,5 @@
 -- The seconds of midnights, by the offsets that `jiff` gives.
 use Rattle.std.specs.Prelude.{◌≡◌, ℕ, ℤ, pos, ◌≤◌}
-use Rattle.ob_base.specs.declared.TheConstants.{LAST_SECOND}
 use Rattle.jiff.specs.Types.{AmbiguousOffset, DateTime, Fold, Gap, Offset, TimeZone, Unambiguous}
 use Rattle.jiff.specs.Words.{ambiguous_at, earlier_offset, epoch_day, instant_of, nanos_of_seconds, time_nanos}
 
@@ -21,4 +20,4 @@ pub record IsMidnight (zone : TimeZone) (day : ℤ) (second : ℕ) : Type 0 wher
   pub date : epoch_day midnight.date ≡ day
   pub time : time_nanos midnight.time ≡ 0
   pub instant : instant_in zone midnight ≡ nanos_of_seconds (pos second)
-  pub within : second ≤ LAST_SECOND
+  pub within : second ≤ 99_999_999_999

@@ -1,7 +1,6 @@
 -- The texts of dates and moments.
 use Rattle.std.specs.Prelude.{◌≡◌, ℕ, ℤ, pos, neg_ℤ, ◌+◌, ◌*◌, ◌*ℤ◌, ◌<◌, ◌≤◌, ◌≤ℤ◌, ◌-ℤ◌, ◌+ℤ◌, ◌⊎◌, List, [], ◌∷◌, ◌++◌, length, take, drop, slice_index, slice_range, Some, codes}
-use Rattle.ob_base.specs.Fields.{unix_second_in}
-use Rattle.ob_base.specs.declared.TheConstants.{LAST_SECOND}
+use Rattle.ob_net.specs.Fields.{unix_second_in}
 use Rattle.jiff.specs.Types.{Date, DateTime, Time}
 use Rattle.jiff.specs.Words.{civil_nanos, date_text, epoch_day, iso_datetime_text, nanos_of_seconds}
 use Rattle.jiff_core.specs.Time.{time_seconds}
@@ -63,7 +62,7 @@ pub record IsCivilText (text : List ℕ) (s : ℕ) : Type 0 where
   pub time_is : IsTimeText (slice_range text 11 19) time
   pub offset_is : IsOffsetText (drop 19 text) offset
   pub value : pos s ≡ civil_second date time offset
-  pub within : s ≤ LAST_SECOND
+  pub within : s ≤ 99_999_999_999
 
 -- the text names this second: by 1 to 11 digits as Unix seconds, or as a civil moment
 abbrev pub IsSecondText : List ℕ → ℕ → Type 0

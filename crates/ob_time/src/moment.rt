@@ -1,8 +1,7 @@
 //! Moments as texts: Unix seconds, and civil datetimes with an offset.
 ghost use Rattle.std.specs.Prelude.{◌≡◌, ℕ, pos, neg_ℤ, ◌-ℤ◌, ◌^◌, ◌≤◌, ◌↔◌, Some, length, IfSome, IfNone, IfOk, IfErr, string_bytes};
 ghost use Rattle.jiff.specs.Words.{IsBetween};
-ghost use Rattle.ob_base.specs.Stop.{out_of_memory};
-ghost use Rattle.ob_base.specs.declared.TheConstants.{LAST_SECOND};
+ghost use Rattle.ob_net.specs.Stop.{out_of_memory};
 ghost use Rattle.ob_time.specs.Moment.{IsCivilText, IsSecondText, IsUtcText};
 
 use crate::clock::{read_offset, read_time};
@@ -53,7 +52,7 @@ pub fn read_second(text: &[u8]) -> Option<Second>
 
 /// The text of a second, as `2024-01-01T00:00:00Z`; the error is that memory was refused.
 pub fn second_text(alloc: Global, second: Second) -> Result<String, Stop>
-    requires { second ≤ LAST_SECOND }
+    requires { second ≤ 99_999_999_999 }
     ensures ok { IfOk result (λ t. IsUtcText (string_bytes t) second) }
     ensures long { IfOk result (λ t. length (string_bytes t) ≡ 20) }
     ensures reads_back { IfOk result (λ t. IsSecondText (string_bytes t) second) }

@@ -5,7 +5,6 @@ use Rattle.ob_base.specs.declared.stop.Refusal.{Refusal}
 use Rattle.ob_base.specs.declared.stop.Refusal.TheVariants.{BadField, Full}
 use Rattle.ob_rows.specs.Header.{is_header}
 use Rattle.ob_rows.specs.Rows.{Fields, rows_of}
-use Rattle.ob_rows.specs.declared.TheConstants.{MOST_ROWS}
 use Rattle.ob_total.specs.Commands.{command_of, span_of}
 use Rattle.ob_total.specs.declared.command.Command.{Command}
 use Rattle.ob_total.specs.declared.command.Span.{Span}
@@ -34,7 +33,7 @@ stepped world (Err refusal) = Err refusal
 unfoldable pub total_from : ℕ → WorldState → List Fields → Result ℕ Refused
 total_from number world [] = Ok (customer_seconds_of world)
 total_from number world (row ∷ rows) =
-    if nat_lt MOST_ROWS number then Err (Full MOST_ROWS, number)
+    if nat_lt 1_000_000 number then Err (Full 1_000_000, number)
     else after_row number (λ later. total_from (number + 1) later rows) (stepped world (command_of row))
 
 -- the total of the rows after the header, of which the first is the span

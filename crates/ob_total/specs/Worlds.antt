@@ -8,7 +8,6 @@ use Rattle.ob_base.specs.Seconds.{seconds}
 use Rattle.ob_sheet.specs.Sheet.{NameDevices, new_entry}
 use Rattle.ob_sheet.specs.Supply.{is_deenergized}
 use Rattle.ob_sheet.specs.declared.Entry.{Entry}
-use Rattle.ob_sheet.specs.declared.TheConstants.{MOST_ENTRIES}
 use Rattle.ob_cust.specs.Roll.{connect_refusal, with_customer}
 use Rattle.ob_cust.specs.WithoutSupply.{seconds_without_supply}
 use Rattle.ob_cust.specs.declared.Customer.{Customer}
@@ -56,7 +55,7 @@ with_known (Some number) rest = rest number
 abbrev pub switch_refusal : Span → List Entry → ℕ → Option Refusal
 switch_refusal span entries second =
     if nat_lt second span.first || nat_le span.end second then Some OutOfPeriod else
-    if length entries == MOST_ENTRIES then Some (Full MOST_ENTRIES) else None
+    if length entries == 50_000 then Some (Full 50_000) else None
 
 -- the one change of a command, or its first refusal
 abbrev pub next : WorldState → Command → Result WorldState Refusal

@@ -121,7 +121,7 @@ fn read_kind(text: &[u8]) -> Option<Kind>
 
 /// The end of a span: above its first second, by less than `SPAN_LIMIT`.
 fn read_span_end(first: Second, text: &[u8]) -> Option<Second>
-    requires { first ≤ LAST_SECOND }
+    requires { first ≤ 99_999_999_999 }
     ensures end { result ≡ span_end_in first text.now }
     ensures valid { IfSome result (λ end. IsSpan (record { first = first; end = end })) }
 {

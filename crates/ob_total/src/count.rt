@@ -27,7 +27,7 @@ pub fn count_seconds(
     requires span { IsSpan span }
     requires devices { NameDevices (length net.old.network.devices) sheet.now.entries }
     requires sections { All (λ c. c.section < length net.old.network.nodes) customers.now }
-    requires few { length customers.now ≤ MOST_CUSTOMERS }
+    requires few { length customers.now ≤ 100_000 }
     requires normal { positions.old ≡ positions_under net.old.network [] }
     ensures total { IfOk result (λ n. n ≡ seconds_without_supply (is_deenergized net.old.network sheet.now.entries) (seconds span.first span.end) customers.now) }
     ensures err { IfErr result (λ stop. stop ≡ out_of_memory) }
