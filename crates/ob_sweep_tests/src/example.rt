@@ -10,7 +10,7 @@ use crate::change::change_by;
 use crate::feeders::{NODES, feeders};
 use crate::sheet::sheet_of;
 use ob_command::read_body;
-use ob_net::{Net, Second};
+use ob_net::Net;
 use ob_sheet::Sheet;
 use ob_sweep::{Delta, Run, Scratch, Timeline, Windowed};
 use ob_time::Period;
@@ -74,21 +74,34 @@ fn names_of(alloc: Global, nodes: &[u16]) -> Result<String, Fail> {
     Ok(text)
 }
 
+// These nodes have these runs.
+fn has_lines<T: Timeline>(
+    rt: &impl Abort,
+    alloc: Global,
+    timeline: &T,
+    nodes: &[u16],
+    wanted: &str,
+) -> Result<(), Fail>
+    requires { 6 ≤ length (T.content timeline.now) }
+{
+    let found = lines_of(alloc, timeline, nodes)?;
+    assert!(rt; found.as_str() == wanted);
+    Ok(())
+}
+
 // The sections S1 to S3 have these runs, and S4 one of the whole day.
 fn shows<T: Timeline>(
     rt: &impl Abort,
     alloc: Global,
     timeline: &T,
-    day: (Second, Second),
+    period: &Period,
     wanted: &str,
 ) -> Result<(), Fail>
     requires { 6 ≤ length (T.content timeline.now) }
 {
-    let (first, end) = day;
+    let (first, end) = (period.first_second(), period.end_second());
     let wanted = format!(in alloc; "{wanted}S4 {first} {end} -\n")?;
-    let found = lines_of(alloc, timeline, &[2, 3, 4, 5])?;
-    assert!(rt; found.as_str() == wanted.as_str());
-    Ok(())
+    has_lines(rt, alloc, timeline, &[2, 3, 4, 5], wanted.as_str())
 }
 
 // The network, a day and its sheet.
@@ -113,8 +126,7 @@ fn build<T: Timeline>(
     let (mut net, period, sheet) = day_of(alloc, script)?;
     let timeline = T::build(alloc, &mut net, &sheet, &period)?;
     assert!(rt; net.nodes() == 6 && net.searches() == searches);
-    let day = (period.first_second(), period.end_second());
-    shows(rt, alloc, &timeline, day, wanted)
+    shows(rt, alloc, &timeline, &period, wanted)
 }
 
 /// Under the script the sections have these runs, which took so many searches.
@@ -136,25 +148,28 @@ pub struct Effect {
     pub runs: &'static str,
 }
 
+// A change touches these sections.
+fn touches(rt: &impl Abort, alloc: Global, delta: &Delta, wanted: &str) -> Result<(), Fail> {
+    let names = names_of(alloc, delta.touched())?;
+    assert!(rt; names.as_str() == wanted);
+    Ok(())
+}
+
+// Takes a change over: the sections that it touches have its runs then.
 fn adopt<T: Timeline>(
     rt: &impl Abort,
     alloc: Global,
     timeline: &mut T,
     delta: Delta,
-    touched: &str,
 ) -> Result<(), Fail>
     requires count { 6 ≤ length (T.content timeline.old) }
     requires fits { Fits (T.content timeline.old) delta }
     ensures count { length (T.content timeline.new) ≡ length (T.content timeline.old) }
 {
-    let mut sections = Vec::new(alloc);
-    sections.extend_from_slice(delta.touched())?;
+    let sections = Vec::from_slice(alloc, delta.touched())?;
     let new = new_lines(alloc, &delta)?;
     timeline.adopt(delta);
-    let names = names_of(alloc, &sections)?;
-    let found = lines_of(alloc, timeline, &sections)?;
-    assert!(rt; names.as_str() == touched && found.as_str() == new.as_str());
-    Ok(())
+    has_lines(rt, alloc, timeline, &sections, new.as_str())
 }
 
 // What the command with a body text alters.
@@ -178,6 +193,29 @@ fn plan_asked<T: Timeline>(
     Ok(delta)
 }
 
+// Plans what a command asks, which touches these sections, and takes it over.
+fn takes<T: Timeline>(
+    rt: &impl Abort,
+    alloc: Global,
+    net: &mut Net,
+    sheet: &Sheet,
+    period: &Period,
+    timeline: &mut T,
+    body: &str,
+    touched: &str,
+) -> Result<(), Fail>
+    requires runs { AreRuns net.old.network sheet.now.entries (first_second_of period.now) (end_second_of period.now) (T.content timeline.old) }
+    requires devices { NameDevices (length net.old.network.devices) sheet.now.entries }
+    requires all { All (λ e. (first_second_of period.now ≤ e.second) × (e.second < end_second_of period.now)) sheet.now.entries }
+    requires between { LieBetween (first_second_of period.now) (end_second_of period.now) sheet.now.entries }
+    requires count { 6 ≤ length (T.content timeline.old) }
+    ensures count { length (T.content timeline.new) ≡ length (T.content timeline.old) }
+{
+    let delta = plan_asked(alloc, net, sheet, period, timeline, body)?;
+    touches(rt, alloc, &delta, touched)?;
+    adopt(rt, alloc, timeline, delta)
+}
+
 fn change<T: Timeline>(
     rt: &impl Abort,
     alloc: Global,
@@ -190,11 +228,18 @@ fn change<T: Timeline>(
     let mut timeline = T::build(alloc, &mut net, &sheet, &period)?;
     assert!(rt; net.nodes() == 6);
     let before = net.searches();
-    let delta = plan_asked(alloc, &mut net, &sheet, &period, &timeline, body)?;
+    takes(
+        rt,
+        alloc,
+        &mut net,
+        &sheet,
+        &period,
+        &mut timeline,
+        body,
+        effect.touched,
+    )?;
     assert!(rt; net.searches().checked_sub(before) == Some(searches));
-    adopt(rt, alloc, &mut timeline, delta, effect.touched)?;
-    let day = (period.first_second(), period.end_second());
-    shows(rt, alloc, &timeline, day, effect.runs)
+    shows(rt, alloc, &timeline, &period, effect.runs)
 }
 
 /// After the script, the command with a body text has this effect: on runs that are found from scratch by so many searches,
