@@ -1,2 +1,2 @@
-mod Alike
-pub mod Bounds
+mod Bounds
+mod Leaving

@@ -70,7 +70,13 @@ fn switch(
     assert!(rt; 0 < net.devices() && !sheet.is_full());
     assert!(rt; period.first_second() <= second && second < period.end_second());
     sheet.reserve_one()?;
-    sheet.enter(0, pos, second, 3, Crew::read(b"CREW-1").expect(rt, "a crew"));
+    sheet.enter(
+        0,
+        pos,
+        second,
+        3,
+        Crew::read(b"CREW-1").expect(rt, "a crew"),
+    );
     Ok(())
 }
 

@@ -3,8 +3,7 @@ ghost use Rattle.std.specs.Prelude.{◌≡◌};
 
 use crate::alike::{alike, apply, none, nothing, twice};
 use crate::moved::are;
-use ob_post::laws;
-use ob_post::{Dim, Moved, moves};
+use ob_post::{Dim, Moved, laws, moves};
 use std::test::Fail;
 
 // The worked example: what an opening moves, a correction that moves nothing, an earlier closing and a
@@ -54,15 +53,17 @@ fn moves_are_differences(rt: HostRuntime) -> Result<(), Fail> {
         row(Dim::Feeder, 255, 0),
     ];
     let moved = moves(rt.alloc(), &taken, &given)?;
-    assert!(rt; are(
-        &moved,
-        &[
-            (Dim::Cause, 3, -1_800),
-            (Dim::Cause, 4, 3_600),
-            (Dim::Day, 0, -1_200),
-            (Dim::Day, 1, 3_000),
-        ],
-    ));
+    assert!(rt;
+        are(
+            &moved,
+            &[
+                (Dim::Cause, 3, -1_800),
+                (Dim::Cause, 4, 3_600),
+                (Dim::Day, 0, -1_200),
+                (Dim::Day, 1, 3_000),
+            ],
+        )
+    );
     let none = moves(rt.alloc(), &given, &given)?;
     assert!(rt; none.is_empty());
     Ok(())

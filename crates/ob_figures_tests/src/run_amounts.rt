@@ -83,7 +83,14 @@ fn amounts_are(
 ) -> Result<(), Fail> {
     let period = Period::from_text(alloc, b"2024-01-01", 2, b"UTC0")?;
     let roll = seven(alloc, later)?;
-    have_amounts(rt, alloc, &run(bounds.0, bounds.1, Some(1)), &roll, &period, wanted)
+    have_amounts(
+        rt,
+        alloc,
+        &run(bounds.0, bounds.1, Some(1)),
+        &roll,
+        &period,
+        wanted,
+    )
 }
 
 // The worked example of a run across midnight: 3,000 and 6,000 customer-seconds.
@@ -127,11 +134,7 @@ fn amounts_of_one_second(rt: HostRuntime) -> Result<(), Fail> {
         rt.alloc(),
         T + 100_000,
         (T + 86_400, T + 86_401),
-        &[
-            (Dim::Cause, 3, 5),
-            (Dim::Feeder, 2, 5),
-            (Dim::Day, 1, 5),
-        ],
+        &[(Dim::Cause, 3, 5), (Dim::Feeder, 2, 5), (Dim::Day, 1, 5)],
     )
 }
 
@@ -153,12 +156,7 @@ fn amounts_of_a_short_day(rt: HostRuntime) -> Result<(), Fail> {
 
 // Appends what two runs of section 4 come to, ten minutes of cause 3 and then one of 300 seconds across midnight, which no
 // entry caused, and the first of them alone.
-fn post(
-    rt: &impl Abort,
-    roll: &Roll,
-    period: &Period,
-    rows: &mut Vec<Moved>,
-) -> Result<(), Fail> {
+fn post(rt: &impl Abort, roll: &Roll, period: &Period, rows: &mut Vec<Moved>) -> Result<(), Fail> {
     let first = run(T + 3_600, T + 4_200, Some(1));
     let second = run(T + 86_200, T + 86_500, None);
     assert!(rt; period.first_second() <= T);

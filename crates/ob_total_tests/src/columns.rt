@@ -1,5 +1,5 @@
 //! Spans, rows as a whole, and the bad column of a row.
-use crate::script::{bad_columns, script};
+use crate::script::script;
 use std::test::Fail;
 
 const SPANS: &'static str = "\
@@ -64,80 +64,80 @@ fn rows_as_a_whole(rt: HostRuntime) -> Result<(), Fail> {
 }
 
 const CAUSES_AND_NODES: &'static str = "\
-cause,A1,0,STORM,,,, => 3
-cause,A1,64,STORM,,,, => 3
-cause,A1,007,STORM,,,, => 3
-cause,A1,,STORM,,,, => 3
-cause,A1,7,,,,, => 4
-cause,A1,7,ABCDEFGHIJKLMNOPQRSTUVWXY,,,, => 4
-cause,A1,7,STORM,x,,, => 5
-cause,A1,7,STORM,,x,, => 6
-cause,A1,7,STORM,,,x, => 7
-cause,A1,7,STORM,,,,x => 8
-bus,A1,,,,,, => 3
-bus,A1,ABCDEFGHIJKLMNOPQRSTUVWXY,,,,, => 3
-bus,A1,B1,x,,,, => 4
-bus,A1,B1,,x,,, => 5
-bus,A1,B1,,,x,, => 6
-bus,A1,B1,,,,x, => 7
-bus,A1,B1,,,,,x => 8
-section,A1,S 1,1,,,, => 3
-section,A1,SÜ,1,,,, => 3
-section,A1,S1,0,,,, => 4
-section,A1,S1,256,,,, => 4
-section,A1,S1,0001,,,, => 4
-section,A1,S1,-1,,,, => 4
-section,A1,S1,,,,, => 4
-section,A1,S1,1,x,,, => 5
-section,A1,S1,1,,x,, => 6
-section,A1,S1,1,,,x, => 7
-section,A1,S1,1,,,,x => 8
+cause,A1,0,STORM,,,, => refused 1 BadField 3 row 2
+cause,A1,64,STORM,,,, => refused 1 BadField 3 row 2
+cause,A1,007,STORM,,,, => refused 1 BadField 3 row 2
+cause,A1,,STORM,,,, => refused 1 BadField 3 row 2
+cause,A1,7,,,,, => refused 1 BadField 4 row 2
+cause,A1,7,ABCDEFGHIJKLMNOPQRSTUVWXY,,,, => refused 1 BadField 4 row 2
+cause,A1,7,STORM,x,,, => refused 1 BadField 5 row 2
+cause,A1,7,STORM,,x,, => refused 1 BadField 6 row 2
+cause,A1,7,STORM,,,x, => refused 1 BadField 7 row 2
+cause,A1,7,STORM,,,,x => refused 1 BadField 8 row 2
+bus,A1,,,,,, => refused 1 BadField 3 row 2
+bus,A1,ABCDEFGHIJKLMNOPQRSTUVWXY,,,,, => refused 1 BadField 3 row 2
+bus,A1,B1,x,,,, => refused 1 BadField 4 row 2
+bus,A1,B1,,x,,, => refused 1 BadField 5 row 2
+bus,A1,B1,,,x,, => refused 1 BadField 6 row 2
+bus,A1,B1,,,,x, => refused 1 BadField 7 row 2
+bus,A1,B1,,,,,x => refused 1 BadField 8 row 2
+section,A1,S 1,1,,,, => refused 1 BadField 3 row 2
+section,A1,SÜ,1,,,, => refused 1 BadField 3 row 2
+section,A1,S1,0,,,, => refused 1 BadField 4 row 2
+section,A1,S1,256,,,, => refused 1 BadField 4 row 2
+section,A1,S1,0001,,,, => refused 1 BadField 4 row 2
+section,A1,S1,-1,,,, => refused 1 BadField 4 row 2
+section,A1,S1,,,,, => refused 1 BadField 4 row 2
+section,A1,S1,1,x,,, => refused 1 BadField 5 row 2
+section,A1,S1,1,,x,, => refused 1 BadField 6 row 2
+section,A1,S1,1,,,x, => refused 1 BadField 7 row 2
+section,A1,S1,1,,,,x => refused 1 BadField 8 row 2
 ";
 
 #[test]
 fn columns_of_causes_and_nodes(rt: HostRuntime) -> Result<(), Fail> {
-    bad_columns(&rt, rt.alloc(), SPAN, CAUSES_AND_NODES)
+    script(&rt, rt.alloc(), SPAN, CAUSES_AND_NODES)
 }
 
 const DEVICES_AND_CUSTOMERS: &'static str = "\
-device,A1,b1,GRID,S1,closed,, => 3
-device,A1,B1,grid,S1,closed,, => 4
-device,A1,B1,GRID,s1,closed,, => 5
-device,A1,B1,GRID,,closed,, => 5
-device,A1,B1,S1,S1,closed,, => 5
-device,A1,B1,S1,S1,close,, => 5
-device,A1,B1,s1,s1,closed,, => 4
-device,A1,B1,GRID,S1,close,, => 6
-device,A1,B1,GRID,S1,,, => 6
-device,A1,B1,GRID,S1,open,x, => 7
-device,A1,B1,GRID,S1,open,,x => 8
-connect,A1,0,S1,0,,, => 3
-connect,A1,4294967296,S1,0,,, => 3
-connect,A1,00000000001,S1,0,,, => 3
-connect,A1,,S1,0,,, => 3
-connect,A1,1,,0,,, => 4
-connect,A1,1,S1,,,, => 5
-connect,A1,1,S1,000000000001,,, => 5
-connect,A1,1,S1,+1,,, => 5
-connect,A1,1,S1,0,x,, => 6
-connect,A1,1,S1,0,100000000000,, => 6
-connect,A1,1,S1,0,,x, => 7
-connect,A1,1,S1,0,,,x => 8
-switch,A1,b1,open,150,3,K1, => 3
-switch,A1,B1,closed,150,3,K1, => 4
-switch,A1,B1,,150,3,K1, => 4
-switch,A1,B1,open,,3,K1, => 5
-switch,A1,B1,open,1e2,3,K1, => 5
-switch,A1,B1,open,150,0,K1, => 6
-switch,A1,B1,open,150,64,K1, => 6
-switch,A1,B1,open,150,,K1, => 6
-switch,A1,B1,open,150,3,, => 7
-switch,A1,B1,open,150,3,k1, => 7
-switch,A1,B1,open,150,3,ABCDEFGHIJKLMNOPQ, => 7
-switch,A1,B1,open,150,3,K1,x => 8
+device,A1,b1,GRID,S1,closed,, => refused 1 BadField 3 row 2
+device,A1,B1,grid,S1,closed,, => refused 1 BadField 4 row 2
+device,A1,B1,GRID,s1,closed,, => refused 1 BadField 5 row 2
+device,A1,B1,GRID,,closed,, => refused 1 BadField 5 row 2
+device,A1,B1,S1,S1,closed,, => refused 1 BadField 5 row 2
+device,A1,B1,S1,S1,close,, => refused 1 BadField 5 row 2
+device,A1,B1,s1,s1,closed,, => refused 1 BadField 4 row 2
+device,A1,B1,GRID,S1,close,, => refused 1 BadField 6 row 2
+device,A1,B1,GRID,S1,,, => refused 1 BadField 6 row 2
+device,A1,B1,GRID,S1,open,x, => refused 1 BadField 7 row 2
+device,A1,B1,GRID,S1,open,,x => refused 1 BadField 8 row 2
+connect,A1,0,S1,0,,, => refused 1 BadField 3 row 2
+connect,A1,4294967296,S1,0,,, => refused 1 BadField 3 row 2
+connect,A1,00000000001,S1,0,,, => refused 1 BadField 3 row 2
+connect,A1,,S1,0,,, => refused 1 BadField 3 row 2
+connect,A1,1,,0,,, => refused 1 BadField 4 row 2
+connect,A1,1,S1,,,, => refused 1 BadField 5 row 2
+connect,A1,1,S1,000000000001,,, => refused 1 BadField 5 row 2
+connect,A1,1,S1,+1,,, => refused 1 BadField 5 row 2
+connect,A1,1,S1,0,x,, => refused 1 BadField 6 row 2
+connect,A1,1,S1,0,100000000000,, => refused 1 BadField 6 row 2
+connect,A1,1,S1,0,,x, => refused 1 BadField 7 row 2
+connect,A1,1,S1,0,,,x => refused 1 BadField 8 row 2
+switch,A1,b1,open,150,3,K1, => refused 1 BadField 3 row 2
+switch,A1,B1,closed,150,3,K1, => refused 1 BadField 4 row 2
+switch,A1,B1,,150,3,K1, => refused 1 BadField 4 row 2
+switch,A1,B1,open,,3,K1, => refused 1 BadField 5 row 2
+switch,A1,B1,open,1e2,3,K1, => refused 1 BadField 5 row 2
+switch,A1,B1,open,150,0,K1, => refused 1 BadField 6 row 2
+switch,A1,B1,open,150,64,K1, => refused 1 BadField 6 row 2
+switch,A1,B1,open,150,,K1, => refused 1 BadField 6 row 2
+switch,A1,B1,open,150,3,, => refused 1 BadField 7 row 2
+switch,A1,B1,open,150,3,k1, => refused 1 BadField 7 row 2
+switch,A1,B1,open,150,3,ABCDEFGHIJKLMNOPQ, => refused 1 BadField 7 row 2
+switch,A1,B1,open,150,3,K1,x => refused 1 BadField 8 row 2
 ";
 
 #[test]
 fn columns_of_devices_and_customers(rt: HostRuntime) -> Result<(), Fail> {
-    bad_columns(&rt, rt.alloc(), SPAN, DEVICES_AND_CUSTOMERS)
+    script(&rt, rt.alloc(), SPAN, DEVICES_AND_CUSTOMERS)
 }

@@ -1,6 +1,6 @@
 //! What runs over texts say, by scripts of lines.
 use ob_net::Watched;
-use ob_total::run_total;
+use ob_total::{TotalStop, run_total};
 use ob_words::complaint_of;
 use std::alloc::{AllocError, Global};
 use std::process::Abort;
@@ -8,33 +8,32 @@ use std::test::Fail;
 
 const HEADER: &'static str = "kind,ref,f1,f2,f3,f4,f5,f6\n";
 
-/// What a run over a text says: `W` and the total, which is what it writes, or the line of its refusal, where it writes
-/// nothing.
-pub fn said(rt: &impl Abort, alloc: Global, text: &[u8]) -> Result<String, Fail> {
+/// A run over a text says this: `W` and the total, and writes it, or the line of its refusal, and writes nothing.
+pub fn says(rt: &impl Abort, alloc: Global, text: &[u8], wanted: &str) -> Result<(), Fail> {
     let mut reader = Watched::new(text);
     let mut writer = Watched::new(Vec::new(alloc));
     let answer = run_total(alloc, &mut reader, &mut writer);
     let written = writer.into_parts().0;
+    let line = line_of(alloc, &answer)?;
+    assert!(rt; line.as_str() == wanted, "{line}");
+    assert!(rt; is_written(&answer, &written, wanted.as_bytes()));
+    Ok(())
+}
+
+// What an answer says.
+fn line_of(alloc: Global, answer: &Result<u64, TotalStop>) -> Result<String, AllocError> {
     match answer {
-        Ok(total) => {
-            let line = format!(in alloc; "W {total}\n")?;
-            assert!(rt; written.as_slice() == line.as_bytes());
-            Ok(format!(in alloc; "W {total}")?)
-        }
-        Err(stop) => {
-            assert!(rt; written.is_empty());
-            Ok(complaint_of(alloc, &stop.stop, stop.row)?)
-        }
+        Ok(total) => format!(in alloc; "W {total}"),
+        Err(stop) => complaint_of(alloc, &stop.stop, stop.row),
     }
 }
 
-/// Runs over texts say this.
-pub fn say(rt: &impl Abort, alloc: Global, table: &[(&[u8], &str)]) -> Result<(), Fail> {
-    for (text, wanted) in table {
-        let found = said(rt, alloc, text)?;
-        assert!(rt; found.as_str() == *wanted);
+// Whether the line of a total was written, or nothing for a refusal.
+fn is_written(answer: &Result<u64, TotalStop>, written: &[u8], line: &[u8]) -> bool {
+    match answer {
+        Ok(_) => written.strip_suffix(b"\n") == Some(line),
+        Err(_) => written.is_empty(),
     }
-    Ok(())
 }
 
 /// Runs over the header, the rows of `base` and those of a script's lines, one line after another. A line is some rows with
@@ -44,28 +43,21 @@ pub fn script(rt: &impl Abort, alloc: Global, base: &str, lines: &str) -> Result
         if !line.starts_with("#") {
             let (rows, wanted) = line.split_once(" => ").unwrap_or(("", line));
             let text = text_of(alloc, base, rows)?;
-            let found = said(rt, alloc, text.as_bytes())?;
-            assert!(rt; found.as_str() == wanted, "{rows}: {found}");
+            says(rt, alloc, text.as_bytes(), wanted)?;
         }
     }
     Ok(())
 }
 
-/// The same, where each line is one row behind one row of `base`, and the column of it that is wanted as a bad field.
-pub fn bad_columns(rt: &impl Abort, alloc: Global, base: &str, lines: &str) -> Result<(), Fail> {
-    for line in lines.lines() {
-        let (row, column) = line.split_once(" => ").ok_or("a row and a column")?;
-        let text = text_of(alloc, base, row)?;
-        let found = said(rt, alloc, text.as_bytes())?;
-        let wanted = format!(in alloc; "refused 1 BadField {column} row 2")?;
-        assert!(rt; found.as_str() == wanted.as_str(), "{row}: {found}");
-    }
-    Ok(())
+/// A text behind another.
+pub fn joined(alloc: Global, front: &str, back: &str) -> Result<String, AllocError> {
+    let mut text = String::from_str(alloc, front)?;
+    text.push_str(back)?;
+    Ok(text)
 }
 
 fn text_of(alloc: Global, base: &str, rows: &str) -> Result<String, AllocError> {
-    let mut text = String::from_str(alloc, HEADER)?;
-    text.push_str(base)?;
+    let mut text = joined(alloc, HEADER, base)?;
     if !rows.is_empty() {
         for row in rows.split(';') {
             text.push_str(row)?;

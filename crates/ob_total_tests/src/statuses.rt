@@ -29,10 +29,22 @@ fn a_complaint_has_number_name_detail_and_row(rt: HostRuntime) -> Result<(), Fai
     let full = Stop::Refused(Refusal::Full(1_000_000));
     let alloc = rt.alloc();
     complains(&rt, alloc, bad_field, Some(1), "refused 1 BadField 4 row 1")?;
-    complains(&rt, alloc, out_of_period, Some(24), "refused 5 OutOfPeriod row 24")?;
+    complains(
+        &rt,
+        alloc,
+        out_of_period,
+        Some(24),
+        "refused 5 OutOfPeriod row 24",
+    )?;
     complains(&rt, alloc, full, None, "refused 12 Full 1000000")?;
     complains(&rt, alloc, out_of_period, None, "refused 5 OutOfPeriod")?;
-    complains(&rt, alloc, Stop::Fault(Fault::Input), None, "fault 23 Input")?;
+    complains(
+        &rt,
+        alloc,
+        Stop::Fault(Fault::Input),
+        None,
+        "fault 23 Input",
+    )?;
     Ok(())
 }
 

@@ -1,5 +1,7 @@
 //! Whole texts: the first run, and the forms that a text may have.
-use crate::script::{said, say};
+use crate::script::{joined, says};
+use std::alloc::Global;
+use std::process::Abort;
 use std::test::Fail;
 
 /// The text of the first run, whose total is 9,000.
@@ -33,18 +35,28 @@ switch,E4,B1,close,7200,3,K1,
 
 #[test]
 fn first_run(rt: HostRuntime) -> Result<(), Fail> {
-    say(&rt, rt.alloc(), &[(FIRST_RUN.as_bytes(), "W 9000")])
+    says(&rt, rt.alloc(), FIRST_RUN.as_bytes(), "W 9000")
 }
 
 // The last entry of the first run, at the end of the span.
 #[test]
 fn first_run_past_its_span(rt: HostRuntime) -> Result<(), Fail> {
     let last = "switch,E4,B1,close,7200,3,K1,\n";
-    let front = FIRST_RUN.strip_suffix(last).ok_or("the last entry")?;
-    let mut text = String::from_str(rt.alloc(), front)?;
-    text.push_str("switch,E4,B1,close,10000,3,K1,\n")?;
-    let found = said(&rt, rt.alloc(), text.as_bytes())?;
-    assert!(rt; found.as_str() == "refused 5 OutOfPeriod row 24");
+    let front = FIRST_RUN.strip_suffix(last).unwrap_or("");
+    let text = joined(rt.alloc(), front, "switch,E4,B1,close,10000,3,K1,\n")?;
+    says(
+        &rt,
+        rt.alloc(),
+        text.as_bytes(),
+        "refused 5 OutOfPeriod row 24",
+    )
+}
+
+// Runs over texts say this.
+fn say(rt: &impl Abort, alloc: Global, table: &[(&[u8], &str)]) -> Result<(), Fail> {
+    for (text, wanted) in table {
+        says(rt, alloc, text, wanted)?;
+    }
     Ok(())
 }
 
@@ -57,20 +69,59 @@ fn forms_of_texts(rt: HostRuntime) -> Result<(), Fail> {
             (b"", "refused 1 BadField 0 row 0"),
             (b"\n", "refused 1 BadField 0 row 0"),
             (b"span,A0,0,10000,,,,\n", "refused 1 BadField 0 row 0"),
-            (b"ref,kind,f1,f2,f3,f4,f5,f6\nspan,A0,0,10,,,,\n", "refused 1 BadField 0 row 0"),
-            (b"kind,ref,f1,f2,f3,f4,f5\nspan,A0,0,10,,,,\n", "refused 1 BadField 0 row 0"),
-            (b"kind,ref,f1,f2,f3,f4,f5,f6,\nspan,A0,0,10,,,,\n", "refused 1 BadField 0 row 0"),
-            (b"Kind,ref,f1,f2,f3,f4,f5,f6\nspan,A0,0,10,,,,\n", "refused 1 BadField 0 row 0"),
+            (
+                b"ref,kind,f1,f2,f3,f4,f5,f6\nspan,A0,0,10,,,,\n",
+                "refused 1 BadField 0 row 0",
+            ),
+            (
+                b"kind,ref,f1,f2,f3,f4,f5\nspan,A0,0,10,,,,\n",
+                "refused 1 BadField 0 row 0",
+            ),
+            (
+                b"kind,ref,f1,f2,f3,f4,f5,f6,\nspan,A0,0,10,,,,\n",
+                "refused 1 BadField 0 row 0",
+            ),
+            (
+                b"Kind,ref,f1,f2,f3,f4,f5,f6\nspan,A0,0,10,,,,\n",
+                "refused 1 BadField 0 row 0",
+            ),
             (b"kind,ref,f1,f2,f3,f4,f5,f6", "refused 1 BadField 0 row 0"),
-            (b"kind,ref,f1,f2,f3,f4,f5,f6\n\n", "refused 1 BadField 0 row 0"),
-            (b"\xEF\xBB\xBFkind,ref,f1,f2,f3,f4,f5,f6\nspan,A0,0,10,,,,", "W 0"),
-            (b"\xEF\xBB\xBF\xEF\xBB\xBFkind,ref,f1,f2,f3,f4,f5,f6\nspan,A0,0,10,,,,", "refused 1 BadField 0 row 0"),
-            (b"kind,ref,f1,f2,f3,f4,f5,f6\r\nspan,A0,0,10,,,,\r\nsection,A1,S1,1,,,,\r\nconnect,C1,1,S1,0,,,\r\n", "W 10"),
-            (b"kind,ref,f1,f2,f3,f4,f5,f6\rspan,A0,0,10,,,,\rsection,A1,S1,1,,,,\rconnect,C1,1,S1,0,,,", "W 10"),
-            (b"\"kind\",ref,f1,f2,f3,f4,f5,\"f6\"\n\"span\",\"A0\",\"0\",\"10\",,,,\"\"\nsection,A1,\"S1\",1,,,,\n\"connect\",C1,1,S1,0,\"\",,", "W 10"),
-            (b"\n\r\nkind,ref,f1,f2,f3,f4,f5,f6\n\n\nspan,A0,0,10,,,,\n\r\r\nbus,A1,bus,,,,,\n", "refused 1 BadField 3 row 2"),
-            (b"kind,ref,f1,f2,f3,f4,f5,f6\nspan,A0,0,10,,,,\n\"\"\n", "refused 1 BadField 0 row 2"),
-            (b"kind,ref,f1,f2,f3,f4,f5,f6\nspan,A0,0,10,,,,\n \n", "refused 1 BadField 0 row 2"),
+            (
+                b"kind,ref,f1,f2,f3,f4,f5,f6\n\n",
+                "refused 1 BadField 0 row 0",
+            ),
+            (
+                b"\xEF\xBB\xBFkind,ref,f1,f2,f3,f4,f5,f6\nspan,A0,0,10,,,,",
+                "W 0",
+            ),
+            (
+                b"\xEF\xBB\xBF\xEF\xBB\xBFkind,ref,f1,f2,f3,f4,f5,f6\nspan,A0,0,10,,,,",
+                "refused 1 BadField 0 row 0",
+            ),
+            (
+                b"kind,ref,f1,f2,f3,f4,f5,f6\r\nspan,A0,0,10,,,,\r\nsection,A1,S1,1,,,,\r\nconnect,C1,1,S1,0,,,\r\n",
+                "W 10",
+            ),
+            (
+                b"kind,ref,f1,f2,f3,f4,f5,f6\rspan,A0,0,10,,,,\rsection,A1,S1,1,,,,\rconnect,C1,1,S1,0,,,",
+                "W 10",
+            ),
+            (
+                b"\"kind\",ref,f1,f2,f3,f4,f5,\"f6\"\n\"span\",\"A0\",\"0\",\"10\",,,,\"\"\nsection,A1,\"S1\",1,,,,\n\"connect\",C1,1,S1,0,\"\",,",
+                "W 10",
+            ),
+            (
+                b"\n\r\nkind,ref,f1,f2,f3,f4,f5,f6\n\n\nspan,A0,0,10,,,,\n\r\r\nbus,A1,bus,,,,,\n",
+                "refused 1 BadField 3 row 2",
+            ),
+            (
+                b"kind,ref,f1,f2,f3,f4,f5,f6\nspan,A0,0,10,,,,\n\"\"\n",
+                "refused 1 BadField 0 row 2",
+            ),
+            (
+                b"kind,ref,f1,f2,f3,f4,f5,f6\nspan,A0,0,10,,,,\n \n",
+                "refused 1 BadField 0 row 2",
+            ),
         ],
     )
 }
@@ -82,7 +133,10 @@ fn bytes_of_a_row(rt: HostRuntime) -> Result<(), Fail> {
         &rt,
         rt.alloc(),
         &[
-            (b"kind,ref,f1,f2,f3,f4,f5,f6\nspan,A0,100,200,,,,\nbus,A1,B1,,,,,\"", "W 0"),
+            (
+                b"kind,ref,f1,f2,f3,f4,f5,f6\nspan,A0,100,200,,,,\nbus,A1,B1,,,,,\"",
+                "W 0",
+            ),
             (
                 b"kind,ref,f1,f2,f3,f4,f5,f6\nspan,A0,100,200,,,,\nbus,A1,\xFF\xFE,,,,,\n",
                 "refused 1 BadField 3 row 2",

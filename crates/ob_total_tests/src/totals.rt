@@ -1,5 +1,5 @@
 //! Totals of switching and of service.
-use crate::script::script;
+use crate::script::{joined, script};
 use std::test::Fail;
 
 // Two sections one behind the other, with one customer and two, and a tie from the bus to the second.
@@ -73,7 +73,6 @@ connect,C5,5,S2,58,,,;connect,C4,4,S2,0,22,, => W 84
 // S2 is without supply from 20 to 60: 80 for its two customers.
 #[test]
 fn totals_of_service(rt: HostRuntime) -> Result<(), Fail> {
-    let mut base = String::from_str(rt.alloc(), TIED)?;
-    base.push_str(OUTAGE)?;
+    let base = joined(rt.alloc(), TIED, OUTAGE)?;
     script(&rt, rt.alloc(), base.as_str(), SERVICE)
 }

@@ -1,51 +1,59 @@
 //! The words of the command line.
 use ob_words::{Job, WrongWords, read_words};
 use std::alloc::Global;
-use std::process::Abort;
 
-// Words are refused, and the usage is told.
-fn are_refused(rt: &impl Abort, alloc: Global, words: &[&str]) {
+// Whether words are refused, and the usage is told.
+fn are_refused(alloc: Global, words: &[&str]) -> bool {
     match read_words(alloc, words) {
-        Err(WrongWords::Wrong(text)) => assert!(rt; text.contains("Usage: outagebook")),
-        _ => assert!(rt; false, "they are not refused"),
+        Err(WrongWords::Wrong(text)) => text.contains("Usage: outagebook"),
+        Err(WrongWords::Help(_text)) => false,
+        Err(WrongWords::Fault(_fault)) => false,
+        Ok(_job) => false,
     }
 }
 
-// Words ask for help, which names `total`.
-fn show_total(rt: &impl Abort, alloc: Global, words: &[&str]) {
+// Whether words ask for help, which names `total`.
+fn show_total(alloc: Global, words: &[&str]) -> bool {
     match read_words(alloc, words) {
-        Err(WrongWords::Help(text)) => assert!(rt; text.contains("total")),
-        _ => assert!(rt; false, "no help"),
+        Err(WrongWords::Help(text)) => text.contains("total"),
+        Err(WrongWords::Wrong(_text)) => false,
+        Err(WrongWords::Fault(_fault)) => false,
+        Ok(_job) => false,
+    }
+}
+
+// Whether words name the job `total`.
+fn name_total(alloc: Global, words: &[&str]) -> bool {
+    match read_words(alloc, words) {
+        Ok(job) => job == Job::Total,
+        Err(_wrong) => false,
     }
 }
 
 #[test]
 fn reads_total(rt: HostRuntime) {
-    match read_words(rt.alloc(), &["outagebook", "total"]) {
-        Ok(job) => assert!(rt; job == Job::Total),
-        Err(_wrong) => assert!(rt; false, "no job"),
-    }
+    assert!(rt; name_total(rt.alloc(), &["outagebook", "total"]));
 }
 
 #[test]
 fn refuses_words(rt: HostRuntime) {
     let alloc = rt.alloc();
-    are_refused(&rt, alloc, &[]);
-    are_refused(&rt, alloc, &["outagebook"]);
-    are_refused(&rt, alloc, &["outagebook", ""]);
-    are_refused(&rt, alloc, &["outagebook", "totals"]);
-    are_refused(&rt, alloc, &["outagebook", "total", "more"]);
-    are_refused(&rt, alloc, &["outagebook", "total", "--fast"]);
-    are_refused(&rt, alloc, &["outagebook", "--fast", "total"]);
-    are_refused(&rt, alloc, &["outagebook", "--version"]);
+    assert!(rt; are_refused(alloc, &[]));
+    assert!(rt; are_refused(alloc, &["outagebook"]));
+    assert!(rt; are_refused(alloc, &["outagebook", ""]));
+    assert!(rt; are_refused(alloc, &["outagebook", "totals"]));
+    assert!(rt; are_refused(alloc, &["outagebook", "total", "more"]));
+    assert!(rt; are_refused(alloc, &["outagebook", "total", "--fast"]));
+    assert!(rt; are_refused(alloc, &["outagebook", "--fast", "total"]));
+    assert!(rt; are_refused(alloc, &["outagebook", "--version"]));
 }
 
 #[test]
 fn shows_help(rt: HostRuntime) {
     let alloc = rt.alloc();
-    show_total(&rt, alloc, &["outagebook", "--help"]);
-    show_total(&rt, alloc, &["outagebook", "-h"]);
-    show_total(&rt, alloc, &["outagebook", "help"]);
-    show_total(&rt, alloc, &["outagebook", "help", "total"]);
-    show_total(&rt, alloc, &["outagebook", "total", "--help"]);
+    assert!(rt; show_total(alloc, &["outagebook", "--help"]));
+    assert!(rt; show_total(alloc, &["outagebook", "-h"]));
+    assert!(rt; show_total(alloc, &["outagebook", "help"]));
+    assert!(rt; show_total(alloc, &["outagebook", "help", "total"]));
+    assert!(rt; show_total(alloc, &["outagebook", "total", "--help"]));
 }

@@ -3,11 +3,12 @@ use Rattle.std.proofs.Common.{◌≡◌, ◌∙◌, refl, ap, sym, subst, ℕ, �
 use Rattle.std.specs.Int.RustNames.{unsigned_abs}
 use Rattle.std.proofs.lemmas.Bool.{cases_Bool}
 use Rattle.std.proofs.lemmas.Int.{ints}
+use Rattle.std.proofs.lemmas.List.Elements.{All-cons, All-nil}
 use Rattle.ob_post.specs.declared.Dim.{Dim}
 use Rattle.ob_post.specs.declared.Dim.TheVariants.{Cause, Feeder, Day}
 use Rattle.ob_post.specs.declared.Moved.{Moved}
 use Rattle.ob_post.specs.Keys.{IsKey}
-use Rattle.ob_post.specs.Moved.{delta_of}
+use Rattle.ob_post.specs.Moved.{HaveKeys, delta_of}
 use Rattle.ob_post.specs.Postings.{PostedAmounts, amount_of, day_count, amount_after, total_after}
 use Rattle.ob_figures_tests.specs.Alike.{AreAlike, MoveAlike, is_one_of_three}
 use Rattle.ob_figures_tests.proofs.Bounds.{total_after-le}
@@ -51,6 +52,9 @@ module _ (a : PostedAmounts) (moved : List Moved) (n m : ℕ) (have : AreAlike a
             rw f (omega (arith, ints, amount_is, delta_is))
       ]
 
+  pub keys : HaveKeys (day_count a) moved
+  keys = subst (λ (days : ℕ). HaveKeys days moved) (sym have.days) by.keys
+
   pub floor : (dim : Dim) (key : ℕ) → IsKey (day_count a) dim key → pos 0 ≤ℤ amount_after a moved dim key
   floor dim key k = omega (arith, ints, leaves dim key k)
 
@@ -74,3 +78,28 @@ module _ (a : PostedAmounts) (moved : List Moved) (n m : ℕ) (have : AreAlike a
 
 pub zeros : (a : PostedAmounts) → day_count a ≡ 2 → ((dim : Dim) (key : ℕ) → amount_of a dim key ≡ 0) → AreAlike a 0
 zeros a days zero = record { days = days; each = λ dim key k. zero dim key ∙ elim (cases_Bool (is_one_of_three dim key)) [ inl t ↦ rw t refl | inr f ↦ rw f refl ] }
+
+abbrev Kept : Moved → Type 0
+Kept m = IsKey 2 m.dim m.key
+
+none_kept : HaveKeys 2 []
+none_kept = All-nil Kept
+
+pub none_move : MoveAlike [] (pos 0)
+none_move = record { keys = none_kept; each = delta_none; size = omega arith }
+
+pub one_row_moves : (z : ℤ) → unsigned_abs z ≤ 600000 → MoveAlike (one_row z) z
+one_row_moves z small = record {
+  keys = All-cons Kept _ _ (omega arith) (All-cons Kept _ _ (omega arith, omega arith) (All-cons Kept _ _ (omega arith) none_kept));
+  each = delta_alike z;
+  size = omega arith;
+}
+
+pub two_rows_move : (y z : ℤ) → unsigned_abs y ≤ 300000 → unsigned_abs z ≤ 300000 → MoveAlike (two_rows y z) (y +ℤ z)
+two_rows_move y z small other = record {
+  keys =
+      All-cons Kept _ _ (omega arith) (All-cons Kept _ _ (omega arith) (All-cons Kept _ _ (omega arith, omega arith)
+      (All-cons Kept _ _ (omega arith, omega arith) (All-cons Kept _ _ (omega arith) (All-cons Kept _ _ (omega arith) none_kept)))));
+  each = delta_twice y z;
+  size = omega arith;
+}
