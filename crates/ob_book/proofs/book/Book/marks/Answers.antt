@@ -1,4 +1,4 @@
-use Rattle.std.proofs.Common.{◌≡◌, ◌∙◌, ap, length}
+use Rattle.std.proofs.Common.{◌∙◌, ap, length}
 use Rattle.ob_time.specs.Calendar.{day_count}
 use Rattle.ob_state.specs.States.{BookValue}
 use Rattle.ob_book.proofs.book.Book.marks.Goals as goal
