@@ -46,7 +46,7 @@ impl Roll {
     ghost use Rattle.std.specs.List.{All, AllPairs, Any, count_by, find, sum_by};
     ghost use Rattle.std.specs.declared.cmp.Ordering.TheVariants.{Less};
     ghost use Rattle.std.specs.Result.{result_err};
-    ghost use Rattle.ob_net.specs.Stop.{out_of_memory};
+    ghost use Rattle.ob_base.specs.Stop.{out_of_memory};
     ghost use Rattle.ob_cust.specs.Blocks.{has_service, service_cmp, service_of, sum_over_blocks, sum_over_customers};
     ghost use Rattle.ob_cust.specs.Roll.{connect_refusal, is_bad_service, revise_refusal, with_customer, with_service};
     ghost use Rattle.ob_cust.specs.Service.{served_seconds as served};

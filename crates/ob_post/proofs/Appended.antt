@@ -6,7 +6,7 @@ use Rattle.std.proofs.lemmas.List.{append_assoc, take-append-drop, take_all}
 use Rattle.std.proofs.lemmas.List.Sums.{sum_by-cons, sum_by_more}
 use Rattle.std.proofs.lemmas.Slice.Zip.{get_or-zip}
 use Rattle.std.specs.List.{zip}
-use Rattle.ob_net.specs.declared.interval.Interval.{Interval}
+use Rattle.ob_base.specs.declared.interval.Interval.{Interval}
 use Rattle.ob_sheet.specs.declared.Entry.{Entry}
 use Rattle.ob_cust.specs.declared.Customer.{Customer}
 use Rattle.ob_sweep.specs.declared.Run.{Run}

@@ -2,8 +2,8 @@
 ghost use Rattle.std.specs.Prelude.{◌≡◌, ◌<◌, ◌≤◌, ◌+ℤ◌, ℕ, List, length, map, take, pos, IfOk, OnOk, IfErr};
 ghost use Rattle.std.specs.List.{All, zip};
 ghost use Rattle.ob_net.specs.Network.{Network};
-ghost use Rattle.ob_net.specs.Seconds.{seconds};
-ghost use Rattle.ob_net.specs.Stop.{out_of_memory};
+ghost use Rattle.ob_base.specs.Seconds.{seconds};
+ghost use Rattle.ob_base.specs.Stop.{out_of_memory};
 ghost use Rattle.ob_time.specs.Calendar.{days_of, first_second_of, end_second_of, day_count};
 ghost use Rattle.ob_sheet.specs.declared.Entry.{Entry};
 ghost use Rattle.ob_cust.specs.Service.{served_seconds as served};

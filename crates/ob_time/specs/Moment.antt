@@ -1,6 +1,6 @@
 -- The texts of dates and moments.
 use Rattle.std.specs.Prelude.{◌≡◌, ℕ, ℤ, pos, neg_ℤ, ◌+◌, ◌*◌, ◌*ℤ◌, ◌<◌, ◌≤◌, ◌≤ℤ◌, ◌-ℤ◌, ◌+ℤ◌, ◌⊎◌, List, [], ◌∷◌, ◌++◌, length, take, drop, slice_index, slice_range, Some, codes}
-use Rattle.ob_net.specs.Fields.{unix_second_in}
+use Rattle.ob_base.specs.Fields.{unix_second_in}
 use Rattle.jiff.specs.Types.{Date, DateTime, Time}
 use Rattle.jiff.specs.Words.{civil_nanos, date_text, epoch_day, iso_datetime_text, nanos_of_seconds}
 use Rattle.jiff_core.specs.Time.{time_seconds}

@@ -1,7 +1,7 @@
 //! Moments as texts: Unix seconds, and civil datetimes with an offset.
 ghost use Rattle.std.specs.Prelude.{◌≡◌, ℕ, pos, neg_ℤ, ◌-ℤ◌, ◌^◌, ◌≤◌, ◌↔◌, Some, length, IfSome, IfNone, IfOk, IfErr, string_bytes};
 ghost use Rattle.jiff.specs.Words.{IsBetween};
-ghost use Rattle.ob_net.specs.Stop.{out_of_memory};
+ghost use Rattle.ob_base.specs.Stop.{out_of_memory};
 ghost use Rattle.ob_time.specs.Moment.{IsCivilText, IsSecondText, IsUtcText};
 
 use crate::clock::{read_offset, read_time};

@@ -1,10 +1,10 @@
 -- What the rows of a text say: the span first, then commands. The leftmost bad column is refused.
 use Rattle.std.specs.Prelude.{ℕ, ◌≢◌, ◌<◌, ◌≤◌, ◌+◌, ◌^◌, ◌&&◌, List, [], ◌∷◌, nat_lt, Option, Some, None, Result, Ok, Err, option_and_then, codes, if◌then◌else◌}
 use Rattle.std.specs.Str.{bytes_eq}
-use Rattle.ob_net.specs.Fields.{act_in, cause_in, feeder_in, normal_in, serial_in, unix_second_in, until_in}
-use Rattle.ob_net.specs.Identifier.{identifier_in}
-use Rattle.ob_net.specs.declared.stop.Refusal.{Refusal}
-use Rattle.ob_net.specs.declared.stop.Refusal.TheVariants.{BadField}
+use Rattle.ob_base.specs.Fields.{act_in, cause_in, feeder_in, normal_in, serial_in, unix_second_in, until_in}
+use Rattle.ob_base.specs.Identifier.{identifier_in}
+use Rattle.ob_base.specs.declared.stop.Refusal.{Refusal}
+use Rattle.ob_base.specs.declared.stop.Refusal.TheVariants.{BadField}
 use Rattle.ob_total.specs.declared.command.Command.{Command}
 use Rattle.ob_total.specs.declared.command.Command.TheVariants.{Cause, Bus, Section, Device, Connect, Switch}
 use Rattle.ob_total.specs.declared.command.Kind.{Kind}
