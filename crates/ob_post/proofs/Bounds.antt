@@ -1,5 +1,5 @@
 -- Bounds of amounts that rows move.
-use Rattle.std.proofs.Common.{◌≡◌, ap, ℕ, ◌+◌, ◌*◌, ◌≤◌, Bool, true, false, cond, List, [], ◌∷◌, length, get_or, sum_by, ℤ, pos, ◌+ℤ◌, arith}
+use Rattle.std.proofs.Common.{ℕ, ◌+◌, ◌*◌, ◌≤◌, Bool, true, false, cond, List, [], ◌∷◌, length, get_or, sum_by, ℤ, pos, ◌+ℤ◌, arith}
 use Rattle.std.specs.Int.RustNames.{unsigned_abs}
 use Rattle.std.proofs.Math.Nat.{mul-le-mul_right}
 use Rattle.std.proofs.lemmas.Int.{ints}
@@ -47,8 +47,3 @@ total_after-le a moved dim n days h =
     let each = sum_by-le (λ key. unsigned_abs (amount_after a moved dim key)) (n + size_of moved) (keys (day_count a) dim)
     (λ i d l. omega (arith, amount_after-le a moved dim (get_or (keys (day_count a) dim) i d), h (get_or (keys (day_count a) dim) i d) (keys_exist (day_count a) dim i d l))) in
     omega (arith, each, mul-le-mul_right (n + size_of moved) (few_keys (day_count a) dim days))
-
--- the amounts that rows leave are no more than these
-pub amount_of-le : (a b : PostedAmounts) (moved : List Moved) (dim : Dim) (key n : ℕ) → amount_of a dim key ≤ n → pos (amount_of b dim key) ≡ amount_after a moved dim key
-    → amount_of b dim key ≤ n + size_of moved
-amount_of-le a b moved dim key n h e = omega (arith, ap unsigned_abs e, amount_after-le a moved dim key, h)
