@@ -159,7 +159,6 @@ fn adopt<T: Timeline>(
 
 // What the command with a body text alters.
 fn plan_asked<T: Timeline>(
-    alloc: Global,
     net: &mut Net,
     sheet: &Sheet,
     period: &Period,
@@ -174,7 +173,7 @@ fn plan_asked<T: Timeline>(
 {
     let command = read_body(body.as_bytes()).ok_or("a command")?;
     let change = change_by(net, sheet, period, &command).ok_or("a change")?;
-    let delta = timeline.plan(alloc, net, sheet, period, &change)?;
+    let delta = timeline.plan(net, sheet, period, &change)?;
     Ok(delta)
 }
 
@@ -190,7 +189,7 @@ fn change<T: Timeline>(
     let mut timeline = T::build(alloc, &mut net, &sheet, &period)?;
     assert!(rt; net.nodes() == 6);
     let before = net.searches();
-    let delta = plan_asked(alloc, &mut net, &sheet, &period, &timeline, body)?;
+    let delta = plan_asked(&mut net, &sheet, &period, &timeline, body)?;
     assert!(rt; net.searches().checked_sub(before) == Some(searches));
     adopt(rt, alloc, &mut timeline, delta, effect.touched)?;
     let day = (period.first_second(), period.end_second());
