@@ -15,7 +15,7 @@ use ob_base::Second;
 pub use roll::Roll;
 
 /// A customer of a section, in service from `since` up to `until`, or without end.
-#[derive(Clone, Copy, Debug, PartialEq, Eq)]
+#[derive(Clone, Copy, PartialEq, Eq)]
 pub struct Customer {
     /// Its number, which no other customer has.
     pub no: u32,
@@ -28,7 +28,7 @@ pub struct Customer {
 }
 
 /// Customers of one section with equal service, counted together.
-#[derive(Clone, Copy, Debug, PartialEq, Eq)]
+#[derive(Clone, Copy, PartialEq, Eq)]
 pub struct Block {
     /// The first second of their service.
     pub since: Second,
@@ -39,7 +39,7 @@ pub struct Block {
 }
 
 /// Customers of one section with equal service, counted together, and the section.
-#[derive(Clone, Copy, Debug, PartialEq, Eq)]
+#[derive(Clone, Copy, PartialEq, Eq)]
 pub struct SectionBlock {
     /// The section of the customers.
     pub section: u16,

@@ -28,13 +28,12 @@ impl Timeline for Counting {
 
     fn plan(
         &self,
-        alloc: Global,
         net: &mut Net,
         sheet: &Sheet,
         period: &Period,
         change: &Change,
     ) -> Result<Delta, Stop> {
-        self.inner.plan(alloc, net, sheet, period, change)
+        self.inner.plan(net, sheet, period, change)
     }
 
     fn adopt(&mut self, delta: Delta) {

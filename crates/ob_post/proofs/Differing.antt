@@ -95,14 +95,6 @@ pub record AreMoves (taken given moved : List Moved) (place : ℕ) : Type 0 wher
   pub no_zero : HaveNoZero moved
   pub each : (dim : Dim) (key : ℕ) → IsKey 366 dim key → place_of dim key < place → delta_of moved dim key ≡ difference taken given dim key
 
-pub no_moves : (taken given : List Moved) → AreMoves taken given [] 0
-no_moves taken given = record {
-  below = λ i d l. absurd (omega arith);
-  order = λ i j d l k. absurd (omega arith);
-  no_zero = λ i d l. absurd (omega arith);
-  each = λ dim key k l. absurd (omega arith);
-}
-
 -- keys at rising places are in order
 rising_keys : (d e : Dim) (j k : ℕ) → IsKey 366 d j → IsKey 366 e k → place_of d j < place_of e k → (dim_number d < dim_number e) ⊎ ((d ≡ e) × (j < k))
 rising_keys Cause Cause j k h i l = inr (refl, l)

@@ -21,7 +21,7 @@ pub use run_amounts::{amounts, post_run, post_runs};
 pub const MOST_DAYS: u16 = 366;
 
 /// What customer-seconds are kept by.
-#[derive(Clone, Copy, Debug, PartialEq, Eq)]
+#[derive(Clone, Copy, PartialEq, Eq)]
 pub enum Dim {
     /// By the cause of the entry that cut the section off, from 0 (unassigned) to 63.
     Cause,
@@ -48,7 +48,7 @@ impl Dim {
 }
 
 /// By how many customer-seconds the amount under a key of a dimension moves.
-#[derive(Clone, Copy, Debug, PartialEq, Eq)]
+#[derive(Clone, Copy, PartialEq, Eq)]
 pub struct Moved {
     pub dim: Dim,
     /// The cause, the feeder or the day.

@@ -4,7 +4,6 @@ use Rattle.ob_base.specs.declared.stop.Refusal.{Refusal}
 use Rattle.ob_base.specs.declared.stop.Refusal.TheVariants.{UnknownName, NameTaken, Sealed, OutOfPeriod, Full, UnknownCause}
 use Rattle.ob_net.specs.Network.{Network, node_refusal, device_refusal, device_of}
 use Rattle.ob_sheet.specs.declared.Entry.{Entry}
-use Rattle.ob_sheet.specs.declared.TheConstants.{MOST_ENTRIES}
 use Rattle.ob_sheet.specs.Revisions.{revision_refusal}
 use Rattle.ob_cust.specs.Roll.{connect_refusal, revise_refusal}
 use Rattle.ob_cust.specs.declared.Customer.{Customer}
@@ -12,8 +11,7 @@ use Rattle.ob_time.specs.Calendar.{Calendar, first_second_of, end_second_of, day
 use Rattle.ob_index.specs.Marks.{mark_refusal, unmark_refusal}
 use Rattle.ob_command.specs.declared.command.Command.{Command}
 use Rattle.ob_command.specs.declared.command.Command.TheVariants.{Cause, Bus, Section, Device, Connect, Revise, Switch, Correct, Withdraw, Mark, Unmark}
-use Rattle.ob_state.specs.declared.TheConstants.{MOST_COMMANDS}
-use Rattle.ob_state.specs.State.{BookState, has_cause, has_cause_name, section_of}
+use Rattle.ob_book.specs.State.{BookState, has_cause, has_cause_name, section_of}
 use Rattle.jiff.specs.Words.{epoch_day}
 
 -- the refusal where the test holds
@@ -44,7 +42,7 @@ if_unknown_device net name = refuse_if (is_none (device_of net name)) UnknownNam
 
 -- the sheet takes no more entries
 abbrev pub if_full_sheet : List Entry → Option Refusal
-if_full_sheet entries = refuse_if (length entries == MOST_ENTRIES) (Full MOST_ENTRIES)
+if_full_sheet entries = refuse_if (length entries == 50_000) (Full 50_000)
 
 -- no section has the name, or the roll refuses the customer on the one that has it
 abbrev pub connect_refusal_on : Option ℕ → List Customer → ℕ → ℕ → Option ℕ → Option Refusal
@@ -79,7 +77,7 @@ refusals b (Unmark date engineer) = day_refusal (day_on b.period (epoch_day date
 
 -- no more commands are accepted
 abbrev pub if_full : BookState → Option Refusal
-if_full b = refuse_if (b.accepted == MOST_COMMANDS) (Full MOST_COMMANDS)
+if_full b = refuse_if (b.accepted == 1_000_000) (Full 1_000_000)
 
 -- why the command isn't accepted; None where it is
 abbrev pub refusal : BookState → Command → Option Refusal

@@ -3,15 +3,18 @@ use Rattle.std.specs.Prelude.{◌≡◌, ℕ, ◌<◌, ◌≤◌, List, Option, 
 use Rattle.std.specs.List.{All}
 use Rattle.ob_net.specs.Network.{Network, IsNetwork, home_feeder}
 use Rattle.ob_sheet.specs.declared.Entry.{Entry}
-use Rattle.ob_sheet.specs.declared.TheConstants.{MOST_ENTRIES}
 use Rattle.ob_sheet.specs.Sheet.{AreNumbered, NameDevices}
 use Rattle.ob_cust.specs.declared.Customer.{Customer}
 use Rattle.ob_cust.specs.Roll.{IsRoll}
 use Rattle.ob_sweep.specs.Timeline.{AreRuns}
 use Rattle.ob_sweep.specs.declared.Run.{Run}
 use Rattle.ob_time.specs.Calendar.{Calendar, IsCalendar, day_count, first_second_of, end_second_of}
-use Rattle.ob_state.specs.declared.TheConstants.{MOST_COMMANDS}
-use Rattle.ob_state.specs.State.{BookState}
+use Rattle.ob_post.specs.Keys.{IsKey}
+use Rattle.ob_post.specs.Postings.{PostedAmounts, amount_of}
+use Rattle.ob_post.specs.Postings as postings
+use Rattle.ob_post.specs.declared.Dim.{Dim}
+use Rattle.ob_book.specs.State.{BookState}
+use Rattle.ob_book.specs.Amounts.{amount}
 
 -- the state of a book, for how many commands it has room without memory, at least, and how often its network was searched
 pub record BookValue : Type 0 where
@@ -31,10 +34,10 @@ pub record IsBookState (b : BookState) : Type 0 where
   pub devices : NameDevices (length b.network.devices) b.entries
   pub between : All (λ e. (first_second_of b.period ≤ e.second) × (e.second < end_second_of b.period)) b.entries
   pub entry_causes : All (λ e. e.cause < 64) b.entries
-  pub few_entries : length b.entries ≤ MOST_ENTRIES
+  pub few_entries : length b.entries ≤ 50_000
   pub causes : length b.causes ≡ 64
   pub marks : length b.marks ≡ day_count b.period
-  pub few : b.accepted ≤ MOST_COMMANDS
+  pub few : b.accepted ≤ 1_000_000
 
 -- what each state keeps to: each of its parts to its own rules, and the parts to one another
 pub record IsSoundState (b : BookState) : Type 0 where

@@ -165,7 +165,7 @@ fn switched<T: Timeline>(
     ensures state { state.new.state ≡ state.old.state }
     ensures searches { state.new.searches ≤ state.old.searches + T.bound state.old.state.network state.old.state.entries state.old.state.period change.now }
 {
-    let delta = timeline.plan(alloc, &mut state.net, &state.sheet, &state.period, change)?;
+    let delta = timeline.plan(&mut state.net, &state.sheet, &state.period, change)?;
     let moves = moves_by_change(alloc, state, timeline, &delta, change)?;
     Ok(Effect {
         moves,

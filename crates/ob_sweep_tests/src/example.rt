@@ -189,7 +189,6 @@ fn adopt<T: Timeline>(
 
 // What the command with a body text alters.
 fn plan_asked<T: Timeline>(
-    alloc: Global,
     net: &mut Net,
     sheet: &Sheet,
     period: &Period,
@@ -204,7 +203,7 @@ fn plan_asked<T: Timeline>(
 {
     let command = read_body(body.as_bytes()).ok_or("a command")?;
     let change = change_by(net, sheet, period, &command).ok_or("a change")?;
-    let delta = timeline.plan(alloc, net, sheet, period, &change)?;
+    let delta = timeline.plan(net, sheet, period, &change)?;
     Ok(delta)
 }
 
@@ -271,7 +270,14 @@ fn change<T: Timeline>(
     effect: &Effect,
 ) -> Result<(), Fail> {
     let (mut net, period, sheet) = day_of(alloc, script)?;
-    change_on::<T>(rt, alloc, &mut net, &sheet, &period, body, searches, effect)
+    let mut timeline = T::build(alloc, &mut net, &sheet, &period)?;
+    assert!(rt; net.nodes() == 6);
+    let before = net.searches();
+    let delta = plan_asked(&mut net, &sheet, &period, &timeline, body)?;
+    assert!(rt; net.searches().checked_sub(before) == Some(searches));
+    adopt(rt, alloc, &mut timeline, delta, effect.touched)?;
+    let day = (period.first_second(), period.end_second());
+    shows(rt, alloc, &timeline, day, effect.runs)
 }
 
 /// After the script, the command with a body text has this effect: on runs that are found from scratch by so many searches,

@@ -1,5 +1,5 @@
 -- Lists of midnights, and the calendars that they make.
-use Rattle.std.proofs.Common.{◌≡◌, ◌∙◌, refl, sym, ap, take, ℕ, ℤ, pos, neg_ℤ, ◌+◌, ◌-◌, ◌^◌, ◌<◌, ◌≤◌, ◌+ℤ◌, ◌≤ℤ◌, List, [], ◌∷◌, ◌++◌, length, get_or, slice_index, arith, below_more, inl, inr, Result, Ok, Err, IfOk}
+use Rattle.std.proofs.Common.{◌≡◌, ◌∙◌, refl, sym, ap, take, ℕ, ℤ, pos, neg_ℤ, ◌+◌, ◌-◌, ◌^◌, ◌<◌, ◌≤◌, ◌+ℤ◌, ◌≤ℤ◌, List, [], ◌∷◌, ◌++◌, length, slice_index, arith, below_more, inl, inr, Result, Ok, Err, IfOk}
 use Rattle.std.proofs.lemmas.Bool.{cases_lt}
 use Rattle.std.proofs.lemmas.Grind.{common_steps}
 use Rattle.std.proofs.lemmas.List.{length_push, get_or-take, get_or_push, get_or_append_left}
@@ -190,7 +190,7 @@ IsPeriodText-unique first days zone c c' h k =
     (λ i lt. AreMidnights-same h.rule (epoch_day h.date) (days + 1) (days + 1) c.bounds c'.bounds q.midnights p.midnights i (omega arith) (omega arith)) in
     λ i. record { first_day = day i; bounds = bounds i; zone = text i }
 
--- the last bound at most a second begins its day, and no other day holds it
+-- no bound is above a later one
 pub bound-at-most : (b : List ℕ) (i j : ℕ) → IsStrictlyIncreasing b → i ≤ j → j < length b → slice_index b i ≤ slice_index b j
 bound-at-most b i j rising h lt =
     elim (cases_lt i j) [
@@ -198,23 +198,9 @@ bound-at-most b i j rising h lt =
       | inr ge ↦ let e : i ≡ j = omega arith in rw e (omega arith)
     ]
 
-pub IsInDay-only : (b : List ℕ) (s j k : ℕ) → IsStrictlyIncreasing b → j + 1 < length b → k + 1 < length b
-    → slice_index b j ≤ s → s < slice_index b (j + 1) → slice_index b k ≤ s → s < slice_index b (k + 1) → j ≡ k
-IsInDay-only b s j k rising inj ink lowj highj lowk highk =
-    let one : j < k → ⊥ = λ lt. omega (arith, bound-at-most b (j + 1) k rising (omega arith) (omega arith)) in
-    let two : k < j → ⊥ = λ lt. omega (arith, bound-at-most b (k + 1) j rising (omega arith) (omega arith)) in
-    elim (cases_lt j k) [
-      | inl lt ↦ absurd (one lt)
-      | inr ge ↦ elim (cases_lt k j) [ inl lt ↦ absurd (two lt) | inr le ↦ omega arith ]
-    ]
-
 pub IsNonDecreasingBy-increasing : (b : List ℕ) → IsStrictlyIncreasing b → IsNonDecreasingBy (λ (x : ℕ). x) b
 IsNonDecreasingBy-increasing b rising i j d h lt =
     rw (get_or_default_zero b i d (omega arith), get_or_default_zero b j d lt) (bound-at-most b i j rising h lt)
-
--- what an index gives, at the default 0
-pub index-value : (b : List ℕ) (i j v : ℕ) → v ≡ get_or b i v → i ≡ j → j < length b → v ≡ slice_index b j
-index-value b i j v e same lt = rw same at e ∙ get_or_default_zero b j v lt
 
 -- the facts of a calendar
 pub calendar_rises : (c : Calendar) → IsCalendar c → first_second_of c < end_second_of c

@@ -1,5 +1,5 @@
 //! The bounds of the days that follow a date.
-ghost use Rattle.std.specs.Prelude.{◌≡◌, ℕ, pos, take, ◌<◌, ◌≤◌, ◌-◌, ◌+◌, ◌+ℤ◌, ◌↔◌, List, length, slice_index, Err, IsTrue, IfSome, IfNone, IfOk, IfErr};
+ghost use Rattle.std.specs.Prelude.{◌≡◌, ℕ, pos, take, ◌<◌, ◌≤◌, ◌-◌, ◌+◌, ◌+ℤ◌, ◌↔◌, List, length, slice_index, IsTrue, IfSome, IfNone};
 ghost use Rattle.std.specs.List.Sorted.{IsStrictlyIncreasing};
 ghost use Rattle.jiff.specs.Words.{plain_zone, epoch_day, IsEpochDay};
 ghost use Rattle.ob_time.specs.Midnight.{IsMidnight};

@@ -1,20 +1,19 @@
 -- The loop over the rows after the span: what is left says what there was at first.
 use Rattle.std.proofs.Common.{◌≡◌, ℕ, ◌+◌, true, false, List, Option, Some, None, Result, Ok, Err, nat_lt, refl, ap, sym, ◌∙◌}
-use Rattle.ob_base.specs.declared.stop.Refusal.{Refusal}
-use Rattle.ob_base.specs.declared.stop.Refusal.TheVariants.{BadField, Full}
+use Rattle.ob_net.specs.declared.stop.Refusal.{Refusal}
+use Rattle.ob_net.specs.declared.stop.Refusal.TheVariants.{Full}
 use Rattle.std.specs.Prelude.{IfOk, IfErr}
-use Rattle.ob_base.specs.declared.stop.Fault.{Fault}
-use Rattle.ob_base.specs.declared.stop.Fault.TheVariants.{OutOfMemory}
-use Rattle.ob_base.specs.declared.stop.Stop.{Stop}
-use Rattle.ob_base.specs.declared.stop.Stop.TheVariants as stops
-use Rattle.ob_base.specs.Stop.{out_of_memory}
-use Rattle.ob_rows.specs.Header.{is_header}
+use Rattle.ob_net.specs.declared.stop.Fault.{Fault}
+use Rattle.ob_net.specs.declared.stop.Fault.TheVariants.{OutOfMemory}
+use Rattle.ob_net.specs.declared.stop.Stop.{Stop}
+use Rattle.ob_net.specs.declared.stop.Stop.TheVariants as stops
+use Rattle.ob_net.specs.Stop.{out_of_memory}
 use Rattle.ob_rows.specs.Rows.{Fields, TakesRow}
 use Rattle.ob_rows.specs.declared.TheConstants.{MOST_ROWS}
 use Rattle.ob_total.specs.Commands.{command_of, span_of}
-use Rattle.ob_total.specs.Outcomes.{Answers, AnswersKnown, SaysOn, StopsAs}
+use Rattle.ob_total.specs.Outcomes.{AnswersKnown, SaysOn, StopsAs}
 use Rattle.ob_total.specs.Steps.{StopsAtRow}
-use Rattle.ob_total.specs.Totals.{Refused, after_row, begun, stepped, total_from, total_of_body, total_of_rows}
+use Rattle.ob_total.specs.Totals.{Refused, after_row, begun, stepped, total_from, total_of_body}
 use Rattle.ob_total.specs.Worlds.{WorldState, customer_seconds_of}
 use Rattle.ob_total.specs.declared.total.TotalStop.{TotalStop}
 
@@ -86,31 +85,6 @@ says_no_span (Some old) None fields stop takes stops = absurd takes
 says_no_span (Some old) (Some after) fields stop takes stops =
     let is : total_of_body old ≡ after_row 1 (λ w. total_from 2 w after) (begun (span_of fields)) = ap total_of_body takes in
     rw is (stop_said stop.stop stop.row 1 (begun (span_of fields)) (λ w. total_from 2 w after) stops)
-
--- there is no row after the header
-pub says_no_body : (old after : Option (List Fields)) (fields : Fields) (stop : TotalStop)
-    → TakesRow old after false fields → stop.stop ≡ stops.Refused (BadField 0) → stop.row ≡ Some 0 → AnswersKnown total_of_body old (Err stop)
-says_no_body None after fields stop takes is at = tt
-says_no_body (Some old) after fields stop takes is at = rw (is, at) (ap total_of_body takes)
-
--- the first row is the header, and the rest says the total
-pub says_rows : (rows : List Fields) (after : Option (List Fields)) (fields : Fields) (answer : Result ℕ TotalStop)
-    → TakesRow (Some rows) after true fields → is_header fields ≡ true → AnswersKnown total_of_body after answer → Answers answer (total_of_rows rows)
-says_rows rows None fields answer takes header says = absurd takes
-says_rows rows (Some after) fields answer takes header says =
-    let is : total_of_rows rows ≡ total_of_body after = ap total_of_rows takes ∙ rw header refl in
-    rw is says
-
--- the first row isn't the header
-pub says_no_header : (rows : List Fields) (after : Option (List Fields)) (fields : Fields) (stop : TotalStop)
-    → TakesRow (Some rows) after true fields → is_header fields ≡ false → stop.stop ≡ stops.Refused (BadField 0) → stop.row ≡ Some 0 → Answers (Err stop) (total_of_rows rows)
-says_no_header rows None fields stop takes header is at = absurd takes
-says_no_header rows (Some after) fields stop takes header is at = rw (is, at) (ap total_of_rows takes ∙ rw header refl)
-
--- there is no row at all
-pub says_no_row : (rows : List Fields) (after : Option (List Fields)) (fields : Fields) (stop : TotalStop)
-    → TakesRow (Some rows) after false fields → stop.stop ≡ stops.Refused (BadField 0) → stop.row ≡ Some 0 → Answers (Err stop) (total_of_rows rows)
-says_no_row rows after fields stop takes is at = rw (is, at) (ap total_of_rows takes)
 
 -- the rows end, and the count says the total
 pub says_done : (first : List Fields → Result ℕ Refused) (n : ℕ) (w : WorldState) (old now after : Option (List Fields)) (fields : Fields) (answer : Result ℕ TotalStop)

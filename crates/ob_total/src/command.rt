@@ -11,14 +11,14 @@ use ob_net::{
 use ob_rows::{Row, RowFields};
 
 /// The seconds from `first` up to `end`, `end` excluded.
-#[derive(Clone, Copy, Debug)]
+#[derive(Clone, Copy)]
 pub struct Span {
     pub first: Second,
     pub end: Second,
 }
 
 /// The kinds of commands.
-#[derive(Clone, Copy, Debug)]
+#[derive(Clone, Copy)]
 pub enum Kind {
     Cause,
     Bus,
@@ -29,7 +29,7 @@ pub enum Kind {
 }
 
 /// What a row after the first says.
-#[derive(Clone, Copy, Debug)]
+#[derive(Clone, Copy)]
 pub enum Command {
     /// A cause, for which a total has no use.
     Cause,
