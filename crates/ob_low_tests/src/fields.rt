@@ -49,15 +49,9 @@ fn identifiers(rt: HostRuntime) {
             b"T\xC3\x84",
         ],
     );
-}
-
-#[test]
-fn longest_references_and_crews(rt: HostRuntime) {
     let long = [b'R'; 41];
-    assert!(rt; Ref::read(&long[..40]).is_some());
-    assert!(rt; Ref::read(&long).is_none());
-    assert!(rt; Crew::read(&long[..16]).is_some());
-    assert!(rt; Crew::read(&long[..17]).is_none());
+    assert!(rt; Ref::read(&long[..40]).is_some() && Ref::read(&long).is_none());
+    assert!(rt; Crew::read(&long[..16]).is_some() && Crew::read(&long[..17]).is_none());
 }
 
 // A text, and what it is as a cause, a feeder, a serial number and a second.
@@ -69,18 +63,21 @@ type NumberRow<'t> = (
     Option<Second>,
 );
 
-fn are_numbers(rt: &impl Abort, rows: &[NumberRow<'_>]) {
-    for (text, cause, feeder, serial, second) in rows {
-        assert!(rt; read_cause(text) == *cause);
-        assert!(rt; read_feeder(text) == *feeder);
-        assert!(rt; read_serial(text) == *serial);
-        assert!(rt; read_unix_second(text) == *second);
+fn is_read(rt: &impl Abort, row: &NumberRow<'_>) {
+    let (text, cause, feeder, serial, second) = *row;
+    assert!(rt; read_cause(text) == cause && read_feeder(text) == feeder);
+    assert!(rt; read_serial(text) == serial && read_unix_second(text) == second);
+}
+
+fn are_read(rt: &impl Abort, rows: &[NumberRow<'_>]) {
+    for row in rows {
+        is_read(rt, row);
     }
 }
 
 #[test]
 fn numbers(rt: HostRuntime) {
-    are_numbers(
+    are_read(
         &rt,
         &[
             (b"", None, None, None, None),

@@ -45,10 +45,11 @@ fn moments(rt: HostRuntime) {
 }
 
 #[test]
-fn outside_the_range(rt: HostRuntime) {
+fn no_moments(rt: HostRuntime) {
     are_no_moments(
         &rt,
         &[
+            // Outside the range.
             b"100000000000",
             b"1970-01-01T00:30:00+01:00",
             b"1969-12-31T23:59:59Z",
@@ -56,15 +57,7 @@ fn outside_the_range(rt: HostRuntime) {
             b"1970-01-01T23:58:59+23:59",
             b"0000-02-29T00:00:00Z",
             b"9999-12-31T23:59:59Z",
-        ],
-    );
-}
-
-#[test]
-fn no_such_moments(rt: HostRuntime) {
-    are_no_moments(
-        &rt,
-        &[
+            // No such date, time of day or offset.
             b"2024-02-30T00:00:00Z",
             b"2023-02-29T00:00:00Z",
             b"2024-13-01T00:00:00Z",
@@ -75,15 +68,7 @@ fn no_such_moments(rt: HostRuntime) {
             b"2024-01-01T00:00:60Z",
             b"2024-01-01T00:00:00+24:00",
             b"2024-01-01T00:00:00+00:60",
-        ],
-    );
-}
-
-#[test]
-fn other_forms(rt: HostRuntime) {
-    are_no_moments(
-        &rt,
-        &[
+            // Not the form.
             b"",
             b"+1",
             b"1 ",
@@ -98,11 +83,16 @@ fn other_forms(rt: HostRuntime) {
     );
 }
 
+fn has_text(rt: &impl Abort, alloc: Global, second: Second, wanted: &str) -> Result<(), Stop> {
+    assert!(rt; second <= LAST_SECOND);
+    let text = second_text(alloc, second)?;
+    assert!(rt; text.as_str() == wanted);
+    Ok(())
+}
+
 fn have_texts(rt: &impl Abort, alloc: Global, rows: &[(Second, &str)]) -> Result<(), Fail> {
     for (second, wanted) in rows {
-        assert!(rt; *second <= LAST_SECOND);
-        let text = second_text(alloc, *second)?;
-        assert!(rt; text.as_str() == *wanted);
+        has_text(rt, alloc, *second, wanted)?;
     }
     Ok(())
 }
@@ -124,8 +114,8 @@ fn texts_of_seconds(rt: HostRuntime) -> Result<(), Fail> {
 // With each allocation refused in turn the call either has its value or says that memory is refused.
 #[test]
 fn refused_memory(rt: HostRuntime) {
-    match second_text(rt.alloc(), 1_704_067_200) {
-        Ok(text) => assert!(rt; text.as_str() == "2024-01-01T00:00:00Z"),
+    match has_text(&rt, rt.alloc(), 1_704_067_200, "2024-01-01T00:00:00Z") {
+        Ok(()) => {}
         Err(stop) => assert!(rt; stop == Stop::Fault(Fault::OutOfMemory)),
     }
 }

@@ -1,4 +1,6 @@
 //! The network: its parts by name and by number, which nodes are supplied, and its limits.
+ghost use Rattle.std.specs.Prelude.{◌≡◌, []};
+
 use ob_command::{Command, read_body};
 use ob_net::Pos::{Closed, Opened};
 use ob_net::{Name, Net, Pos, Refusal};
@@ -35,14 +37,23 @@ fn add(net: &mut Net, body: &str) -> Result<Option<Refusal>, Fail> {
     }
 }
 
+fn add_all(rt: &impl Abort, net: &mut Net, script: &str) -> Result<(), Fail> {
+    for body in script.lines() {
+        assert!(rt; add(net, body)? == None);
+    }
+    Ok(())
+}
+
 fn meshed(rt: &impl Abort, alloc: Global) -> Result<Net, Fail> {
     let mut net = Net::new(alloc)?;
-    assert!(rt; net.nodes() == 1 && net.devices() == 0 && net.searches() == 0);
-    for body in MESHED.lines() {
-        assert!(rt; add(&mut net, body)? == None);
-    }
-    assert!(rt; net.nodes() == 6 && net.devices() == 6 && net.searches() == 0);
+    add_all(rt, &mut net, MESHED)?;
     Ok(net)
+}
+
+fn counts(rt: &impl Abort, net: &Net, nodes: u16, devices: u16, searches: u128) {
+    assert!(rt; net.nodes() == nodes);
+    assert!(rt; net.devices() == devices);
+    assert!(rt; net.searches() == searches);
 }
 
 fn node_of(net: &Net, text: &[u8]) -> Option<u16> {
@@ -53,88 +64,90 @@ fn device_of(net: &Net, text: &[u8]) -> Option<u16> {
     net.device_of(&Name::read(text)?)
 }
 
-// The network's nodes by number, each with its feeder.
-fn has_nodes(rt: &impl Abort, net: &Net, rows: &[(&[u8], Option<u8>)]) {
-    let mut node = 0;
-    for (text, feeder) in rows {
-        assert!(rt; node < net.nodes());
-        assert!(rt; node_of(net, text) == Some(node));
-        assert!(rt; device_of(net, text) == None);
-        assert!(rt; net.feeder_of(node) == *feeder);
-        node += 1;
+fn is_node(rt: &impl Abort, net: &Net, node: u16, text: &[u8], feeder: Option<u8>) {
+    assert!(rt; node_of(net, text) == Some(node) && device_of(net, text) == None);
+    assert!(rt; node < net.nodes());
+    assert!(rt; net.feeder_of(node) == feeder);
+}
+
+fn is_device(rt: &impl Abort, net: &Net, device: u16, text: &[u8], normal: Pos) {
+    assert!(rt; device_of(net, text) == Some(device) && node_of(net, text) == None);
+    assert!(rt; device < net.devices());
+    assert!(rt; net.normal(device) == normal);
+    assert!(rt; net.device_name(device).bytes() == text);
+}
+
+fn has_nodes(rt: &impl Abort, net: &Net, rows: &[(u16, &[u8], Option<u8>)]) {
+    for (node, text, feeder) in rows {
+        is_node(rt, net, *node, text, *feeder);
+    }
+}
+
+fn has_devices(rt: &impl Abort, net: &Net, rows: &[(u16, &[u8], Pos)]) {
+    for (device, text, normal) in rows {
+        is_device(rt, net, *device, text, *normal);
     }
 }
 
 #[test]
-fn nodes(rt: HostRuntime) -> Result<(), Fail> {
+fn nodes_and_devices(rt: HostRuntime) -> Result<(), Fail> {
     let net = meshed(&rt, rt.alloc())?;
+    counts(&rt, &net, 6, 6, 0);
     has_nodes(
         &rt,
         &net,
         &[
-            (b"GRID", None),
-            (b"BUS-A", None),
-            (b"BUS-B", None),
-            (b"S1", Some(1)),
-            (b"S2", Some(1)),
-            (b"S3", Some(255)),
+            (0, b"GRID", None),
+            (1, b"BUS-A", None),
+            (2, b"BUS-B", None),
+            (3, b"S1", Some(1)),
+            (4, b"S2", Some(1)),
+            (5, b"S3", Some(255)),
+        ],
+    );
+    has_devices(
+        &rt,
+        &net,
+        &[
+            (0, b"CB-A", Closed),
+            (1, b"CB-B", Closed),
+            (2, b"D1", Closed),
+            (3, b"D2", Closed),
+            (4, b"D3", Closed),
+            (5, b"TIE", Opened),
         ],
     );
     Ok(())
 }
 
-// The network's devices by number, each with its normal position.
-fn has_devices(rt: &impl Abort, net: &Net, rows: &[(&[u8], Pos)]) {
-    let mut device = 0;
-    for (text, normal) in rows {
-        assert!(rt; device < net.devices());
-        assert!(rt; device_of(net, text) == Some(device));
-        assert!(rt; node_of(net, text) == None);
-        assert!(rt; net.device_name(device).bytes() == *text);
-        assert!(rt; net.normal(device) == *normal);
-        device += 1;
-    }
-}
-
-#[test]
-fn devices(rt: HostRuntime) -> Result<(), Fail> {
-    let net = meshed(&rt, rt.alloc())?;
-    has_devices(
-        &rt,
-        &net,
-        &[
-            (b"CB-A", Closed),
-            (b"CB-B", Closed),
-            (b"D1", Closed),
-            (b"D2", Closed),
-            (b"D3", Closed),
-            (b"TIE", Opened),
-        ],
-    );
+// Adds a bus to a network of GRID alone, and takes it back.
+fn bus_and_none(rt: &impl Abort, net: &mut Net, bus: Name) -> Result<(), Fail>
+    requires { net.old.network.devices ≡ [] }
+{
+    counts(rt, net, 1, 0, 0);
+    net.reserve_one()?;
+    assert!(rt; net.add_bus(bus) == Ok(()));
+    assert!(rt; net.nodes() == 2);
+    net.take_back_node();
+    assert!(rt; net.nodes() == 1 && net.node_of(&bus) == None);
     Ok(())
 }
 
 #[test]
 fn a_node_is_taken_back(rt: HostRuntime) -> Result<(), Fail> {
+    let bus = Name::read(b"BUS-A").ok_or("a name")?;
     let mut net = Net::new(rt.alloc())?;
-    let name = Name::read(b"BUS-A").ok_or("a name")?;
-    net.reserve_one()?;
-    assert!(rt; net.add_bus(name) == Ok(()));
-    net.take_back_node();
-    assert!(rt; net.nodes() == 1);
-    assert!(rt; net.node_of(&name) == None);
-    Ok(())
+    bus_and_none(&rt, &mut net, bus)
 }
 
 // Takes the tie back and adds it anew.
 fn tie_anew(rt: &impl Abort, net: &mut Net) -> Result<(), Fail> {
     assert!(rt; net.devices() == 6);
     net.take_back_device();
-    assert!(rt; net.devices() == 5 && net.nodes() == 6);
+    counts(rt, net, 6, 5, 0);
+    is_device(rt, net, 4, b"D3", Closed);
     assert!(rt; device_of(net, b"TIE") == None);
-    assert!(rt; device_of(net, b"D3") == Some(4));
-    assert!(rt; add(net, "device TIE S1 S3 open")? == None);
-    Ok(())
+    add_all(rt, net, "device TIE S1 S3 open")
 }
 
 #[test]
@@ -143,9 +156,12 @@ fn a_device_is_taken_back(rt: HostRuntime) -> Result<(), Fail> {
     tie_anew(&rt, &mut net)
 }
 
-// Under these positions of the devices these nodes are supplied.
-fn supplies(rt: &impl Abort, net: &mut Net, rows: &[(&[Pos], &[bool])]) -> Result<(), Fail> {
-    for (positions, wanted) in rows {
+// How often the network was searched, positions of the devices, and the nodes that are supplied.
+type SupplyRow<'r> = (u128, &'r [Pos], &'r [bool]);
+
+fn supplies(rt: &impl Abort, net: &mut Net, rows: &[SupplyRow<'_>]) -> Result<(), Fail> {
+    for (searches, positions, wanted) in rows {
+        assert!(rt; net.searches() == *searches);
         assert!(rt; positions.len() == usize::from(net.devices()));
         let supplied = net.supplied(positions)?;
         assert!(rt; supplied.as_slice() == *wanted);
@@ -155,7 +171,7 @@ fn supplies(rt: &impl Abort, net: &mut Net, rows: &[(&[Pos], &[bool])]) -> Resul
 
 // By number: CB-A, CB-B, D1, D2, D3, TIE; and GRID, BUS-A, BUS-B, S1, S2, S3.
 #[test]
-fn supply_over_both_feeders(rt: HostRuntime) -> Result<(), Fail> {
+fn supply(rt: HostRuntime) -> Result<(), Fail> {
     let mut net = meshed(&rt, rt.alloc())?;
     supplies(
         &rt,
@@ -163,70 +179,67 @@ fn supply_over_both_feeders(rt: HostRuntime) -> Result<(), Fail> {
         &[
             // as normal
             (
+                0,
                 &[Closed, Closed, Closed, Closed, Closed, Opened],
                 &[true, true, true, true, true, true],
             ),
             // a loop over the tie
             (
+                1,
                 &[Closed, Closed, Closed, Closed, Closed, Closed],
                 &[true, true, true, true, true, true],
             ),
             // a feeder cut off behind its breaker
             (
+                2,
                 &[Closed, Closed, Opened, Closed, Closed, Opened],
                 &[true, true, true, false, false, true],
             ),
             // and supplied over the tie
             (
+                3,
                 &[Closed, Closed, Opened, Closed, Closed, Closed],
                 &[true, true, true, true, true, true],
             ),
             // its last section alone
             (
+                4,
                 &[Closed, Closed, Closed, Opened, Closed, Opened],
                 &[true, true, true, true, false, true],
             ),
-        ],
-    )?;
-    assert!(rt; net.searches() == 5);
-    Ok(())
-}
-
-#[test]
-fn supply_without_a_bus(rt: HostRuntime) -> Result<(), Fail> {
-    let mut net = meshed(&rt, rt.alloc())?;
-    supplies(
-        &rt,
-        &mut net,
-        &[
             // a bus cut off
             (
+                5,
                 &[Opened, Closed, Closed, Closed, Closed, Opened],
                 &[true, false, true, false, false, true],
             ),
             // and supplied from behind
             (
+                6,
                 &[Opened, Closed, Closed, Closed, Closed, Closed],
                 &[true, true, true, true, true, true],
             ),
             // an island of both feeders
             (
+                7,
                 &[Opened, Closed, Closed, Closed, Opened, Closed],
                 &[true, false, true, false, false, false],
             ),
             // both buses cut off
             (
+                8,
                 &[Opened, Opened, Closed, Closed, Closed, Closed],
                 &[true, false, false, false, false, false],
             ),
             // every device open
             (
+                9,
                 &[Opened, Opened, Opened, Opened, Opened, Opened],
                 &[true, false, false, false, false, false],
             ),
         ],
     )?;
-    assert!(rt; net.searches() == 5);
+    counts(&rt, &net, 6, 6, 10);
     Ok(())
 }
 
@@ -254,12 +267,11 @@ fn names(rt: HostRuntime) -> Result<(), Fail> {
             ("device D9 D1 S1 closed", Some(Refusal::UnknownName)),
             ("device D1 S1 S3 closed", Some(Refusal::NameTaken)),
             ("device TIE S3 S1 closed", Some(Refusal::NameTaken)),
+            ("device S1 S1 S3 closed", None),
+            ("bus TIE", None),
         ],
     )?;
-    assert!(rt; net.nodes() == 6 && net.devices() == 6);
-    let added = &[("device S1 S1 S3 closed", None), ("bus TIE", None)];
-    answers(&rt, &mut net, added)?;
-    assert!(rt; net.nodes() == 7 && net.devices() == 7);
+    counts(&rt, &net, 7, 7, 0);
     Ok(())
 }
 
@@ -267,7 +279,7 @@ fn names(rt: HostRuntime) -> Result<(), Fail> {
 fn fill_nodes(rt: &impl Abort, alloc: Global, net: &mut Net) -> Result<(), Fail> {
     for number in 1..1024 {
         let body = format!(in alloc; "bus N{number}")?;
-        assert!(rt; add(net, body.as_str())? == None);
+        add_all(rt, net, body.as_str())?;
     }
     Ok(())
 }
@@ -277,13 +289,13 @@ fn fill_devices(rt: &impl Abort, alloc: Global, net: &mut Net) -> Result<(), Fai
     for number in 0..2048 {
         let end = number % 1023 + 1;
         let body = format!(in alloc; "device D{number} GRID N{end} closed")?;
-        assert!(rt; add(net, body.as_str())? == None);
+        add_all(rt, net, body.as_str())?;
     }
     Ok(())
 }
 
 #[test]
-fn most_nodes(rt: HostRuntime) -> Result<(), Fail> {
+fn most_nodes_and_devices(rt: HostRuntime) -> Result<(), Fail> {
     let mut net = Net::new(rt.alloc())?;
     fill_nodes(&rt, rt.alloc(), &mut net)?;
     answers(
@@ -295,14 +307,6 @@ fn most_nodes(rt: HostRuntime) -> Result<(), Fail> {
             ("bus GRID", Some(Refusal::NameTaken)),
         ],
     )?;
-    assert!(rt; net.nodes() == 1024);
-    Ok(())
-}
-
-#[test]
-fn most_devices(rt: HostRuntime) -> Result<(), Fail> {
-    let mut net = Net::new(rt.alloc())?;
-    fill_nodes(&rt, rt.alloc(), &mut net)?;
     fill_devices(&rt, rt.alloc(), &mut net)?;
     answers(
         &rt,
@@ -313,6 +317,6 @@ fn most_devices(rt: HostRuntime) -> Result<(), Fail> {
             ("device D2047 GRID N1024 closed", Some(Refusal::UnknownName)),
         ],
     )?;
-    assert!(rt; net.nodes() == 1024 && net.devices() == 2048);
+    counts(&rt, &net, 1024, 2048, 0);
     Ok(())
 }

@@ -38,7 +38,7 @@ fn have_days(rt: &impl Abort, alloc: Global, rows: &[DayRow<'_>]) -> Result<(), 
 }
 
 #[test]
-fn days_that_lose_or_gain_an_hour(rt: HostRuntime) -> Result<(), Fail> {
+fn days_of_zones(rt: HostRuntime) -> Result<(), Fail> {
     have_days(
         &rt,
         rt.alloc(),
@@ -50,36 +50,11 @@ fn days_that_lose_or_gain_an_hour(rt: HostRuntime) -> Result<(), Fail> {
             // A shift of half an hour: 24.5 and 23.5 hours.
             (b"2024-04-07", 1, LORD_HOWE, 0, 1_712_408_400, 88_200),
             (b"2024-10-06", 1, LORD_HOWE, 0, 1_728_135_000, 84_600),
-        ],
-    )
-}
-
-#[test]
-fn days_without_a_shift(rt: HostRuntime) -> Result<(), Fail> {
-    have_days(
-        &rt,
-        rt.alloc(),
-        &[
-            // 05:45 and 23:59 east of UTC, and UTC itself.
+            // No shift: 05:45 and 23:59 east of UTC, and UTC itself.
             (b"2024-02-29", 1, b"<+0545>-5:45", 0, 1_709_144_100, 86_400),
             (b"2024-01-02", 1, b"<+2359>-23:59", 0, 1_704_067_260, 86_400),
             (b"2024-01-01", 366, b"UTC0", 0, 1_704_067_200, 86_400),
             (b"2024-01-01", 366, b"UTC0", 365, 1_735_603_200, 86_400),
-            // The first and the last dates that have bounds: second 0 is midnight in UTC and, a day
-            // earlier, 24 hours west of it; the last midnight is 99,999,999,999 less 09:46:39.
-            (b"1970-01-01", 1, b"UTC0", 0, 0, 86_400),
-            (b"1969-12-31", 1, b"AAA24", 0, 0, 86_400),
-            (b"5138-11-15", 1, b"UTC0", 0, 99_999_878_400, 86_400),
-        ],
-    )
-}
-
-#[test]
-fn days_with_a_shift_at_midnight(rt: HostRuntime) -> Result<(), Fail> {
-    have_days(
-        &rt,
-        rt.alloc(),
-        &[
             // A gap from 00:00 to 01:00: by the offset before it the midnight is its beginning, so the
             // day before has 24 hours and the day itself 23.
             (b"2023-09-30", 3, ASUNCION, 0, 1_696_046_400, 86_400),
@@ -93,15 +68,20 @@ fn days_with_a_shift_at_midnight(rt: HostRuntime) -> Result<(), Fail> {
             // A fold from 00:00 to 01:00: the day begins at the earlier of its two midnights.
             (b"2024-11-02", 2, HAVANA, 0, 1_730_520_000, 86_400),
             (b"2024-11-02", 2, HAVANA, 1, 1_730_606_400, 90_000),
+            // The first and the last dates that have bounds: second 0 is midnight in UTC and, a day
+            // earlier, 24 hours west of it; the last midnight is 99,999,999,999 less 09:46:39.
+            (b"1970-01-01", 1, b"UTC0", 0, 0, 86_400),
+            (b"1969-12-31", 1, b"AAA24", 0, 0, 86_400),
+            (b"5138-11-15", 1, b"UTC0", 0, 99_999_878_400, 86_400),
         ],
     )
 }
 
-fn spans(rt: &impl Abort, period: &Period, first: Second, end: Second, days: u16) {
+// The first second of a period, the one after its last, and how many it has.
+fn spans(rt: &impl Abort, period: &Period, first: Second, end: Second, seconds: u64) {
     assert!(rt; period.first_second() == first);
     assert!(rt; period.end_second() == end);
-    assert!(rt; period.length().checked_add(first) == Some(end));
-    assert!(rt; period.days() == days);
+    assert!(rt; period.length() == seconds);
 }
 
 fn has_days_of(rt: &impl Abort, period: &Period, rows: &[(Second, Option<u16>)]) {
@@ -114,6 +94,17 @@ fn day_index(period: &Period, text: &[u8]) -> Option<u16> {
     period.day_index(&read_date(text)?)
 }
 
+fn has_days_on(rt: &impl Abort, period: &Period, rows: &[(&[u8], Option<u16>)]) {
+    for (text, day) in rows {
+        assert!(rt; day_index(period, text) == *day);
+    }
+}
+
+fn is_of(rt: &impl Abort, period: &Period, days: u16, zone: &[u8]) {
+    assert!(rt; period.days() == days);
+    assert!(rt; period.zone_text() == zone);
+}
+
 fn has_date(rt: &impl Abort, period: &Period, day: u16, date: &str) -> Result<(), Stop> {
     assert!(rt; day < period.days());
     let text = period.date_text(day)?;
@@ -124,8 +115,7 @@ fn has_date(rt: &impl Abort, period: &Period, day: u16, date: &str) -> Result<()
 #[test]
 fn two_days(rt: HostRuntime) -> Result<(), Fail> {
     let period = Period::from_text(rt.alloc(), b"2024-03-10", 2, EASTERN)?;
-    spans(&rt, &period, 1_710_046_800, 1_710_216_000, 2);
-    assert!(rt; period.length() == 169_200);
+    spans(&rt, &period, 1_710_046_800, 1_710_216_000, 169_200);
     has_days_of(
         &rt,
         &period,
@@ -137,16 +127,16 @@ fn two_days(rt: HostRuntime) -> Result<(), Fail> {
             (1_710_216_000, None),
         ],
     );
-    Ok(())
-}
-
-#[test]
-fn dates_of_two_days(rt: HostRuntime) -> Result<(), Fail> {
-    let period = Period::from_text(rt.alloc(), b"2024-03-10", 2, EASTERN)?;
-    assert!(rt; period.zone_text() == EASTERN);
-    assert!(rt; day_index(&period, b"2024-03-09") == None);
-    assert!(rt; day_index(&period, b"2024-03-11") == Some(1));
-    assert!(rt; day_index(&period, b"2024-03-12") == None);
+    has_days_on(
+        &rt,
+        &period,
+        &[
+            (b"2024-03-09", None),
+            (b"2024-03-11", Some(1)),
+            (b"2024-03-12", None),
+        ],
+    );
+    is_of(&rt, &period, 2, EASTERN);
     has_date(&rt, &period, 1, "2024-03-11")?;
     Ok(())
 }
@@ -156,9 +146,9 @@ fn dates_of_two_days(rt: HostRuntime) -> Result<(), Fail> {
 fn a_year_in_utc(rt: HostRuntime) -> Result<(), Fail> {
     let first = Date::new(2024, 1, 1)?;
     let period = Period::new(rt.alloc(), first, 366, &TimeZone::UTC)?;
-    assert!(rt; period.length() == 31_622_400);
-    assert!(rt; period.zone_text() == b"-".as_slice());
-    assert!(rt; period.day_of(period.end_second()) == None);
+    spans(&rt, &period, 1_704_067_200, 1_735_689_600, 31_622_400);
+    has_days_of(&rt, &period, &[(1_735_689_600, None)]);
+    is_of(&rt, &period, 366, b"-");
     has_date(&rt, &period, 365, "2024-12-31")?;
     Ok(())
 }
@@ -167,8 +157,7 @@ fn a_year_in_utc(rt: HostRuntime) -> Result<(), Fail> {
 #[test]
 fn a_year_with_shifts(rt: HostRuntime) -> Result<(), Fail> {
     let period = Period::from_text(rt.alloc(), b"2024-01-01", 366, EASTERN)?;
-    assert!(rt; period.length() == 31_622_400);
-    assert!(rt; period.first_second() == 1_704_085_200);
+    spans(&rt, &period, 1_704_085_200, 1_735_707_600, 31_622_400);
     Ok(())
 }
 
@@ -181,7 +170,7 @@ fn are_no_periods(rt: &impl Abort, alloc: Global, rows: &[(&[u8], u16, &[u8])]) 
 }
 
 #[test]
-fn bad_texts_of_periods(rt: HostRuntime) {
+fn no_periods(rt: HostRuntime) {
     are_no_periods(
         &rt,
         rt.alloc(),
@@ -199,16 +188,6 @@ fn bad_texts_of_periods(rt: HostRuntime) {
             (b"2024-01-01", 1, b"EST5EDT,M13.2.0,M11.1.0"),
             (b"2024-01-01", 1, b"\xC3\x84BC0"),
             (b"2024-01-01", 1, &[b'A'; 65]),
-        ],
-    );
-}
-
-#[test]
-fn bad_bounds_of_periods(rt: HostRuntime) {
-    are_no_periods(
-        &rt,
-        rt.alloc(),
-        &[
             // A bound below second 0, above the last second, or of a date past 9999-12-31.
             (b"1970-01-01", 1, b"<+01>-1"),
             (b"1969-12-31", 1, b"UTC0"),
@@ -222,9 +201,9 @@ fn bad_bounds_of_periods(rt: HostRuntime) {
     );
 }
 
-fn is_dated_or_without_memory(rt: &impl Abort, period: &Period) {
+fn is_whole_or_without_memory(rt: &impl Abort, period: &Period) {
     assert!(rt; period.length() == 169_200);
-    assert!(rt; period.zone_text() == EASTERN);
+    is_of(rt, period, 2, EASTERN);
     match has_date(rt, period, 1, "2024-03-11") {
         Ok(()) => {}
         Err(stop) => assert!(rt; stop == Stop::Fault(Fault::OutOfMemory)),
@@ -235,7 +214,7 @@ fn is_dated_or_without_memory(rt: &impl Abort, period: &Period) {
 #[test]
 fn refused_memory(rt: HostRuntime) {
     match Period::from_text(rt.alloc(), b"2024-03-10", 2, EASTERN) {
-        Ok(period) => is_dated_or_without_memory(&rt, &period),
+        Ok(period) => is_whole_or_without_memory(&rt, &period),
         Err(stop) => assert!(rt; stop == Stop::Fault(Fault::OutOfMemory)),
     }
 }

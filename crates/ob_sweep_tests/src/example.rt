@@ -116,6 +116,23 @@ fn day_of(alloc: Global, script: Script) -> Result<(Net, Period, Sheet), Fail>
     Ok((net, period, sheet))
 }
 
+fn build_on<T: Timeline>(
+    rt: &impl Abort,
+    alloc: Global,
+    net: &mut Net,
+    sheet: &Sheet,
+    period: &Period,
+    searches: u128,
+    wanted: &str,
+) -> Result<(), Fail>
+    requires devices { NameDevices (length net.old.network.devices) sheet.now.entries }
+    requires between { LieBetween (first_second_of period.now) (end_second_of period.now) sheet.now.entries }
+{
+    let timeline = T::build(alloc, net, sheet, period)?;
+    assert!(rt; net.nodes() == 6 && net.searches() == searches);
+    shows(rt, alloc, &timeline, period, wanted)
+}
+
 fn build<T: Timeline>(
     rt: &impl Abort,
     alloc: Global,
@@ -124,9 +141,7 @@ fn build<T: Timeline>(
     wanted: &str,
 ) -> Result<(), Fail> {
     let (mut net, period, sheet) = day_of(alloc, script)?;
-    let timeline = T::build(alloc, &mut net, &sheet, &period)?;
-    assert!(rt; net.nodes() == 6 && net.searches() == searches);
-    shows(rt, alloc, &timeline, &period, wanted)
+    build_on::<T>(rt, alloc, &mut net, &sheet, &period, searches, wanted)
 }
 
 /// Under the script the sections have these runs, which took so many searches.
@@ -216,6 +231,37 @@ fn takes<T: Timeline>(
     adopt(rt, alloc, timeline, delta)
 }
 
+fn change_on<T: Timeline>(
+    rt: &impl Abort,
+    alloc: Global,
+    net: &mut Net,
+    sheet: &Sheet,
+    period: &Period,
+    body: &str,
+    searches: u128,
+    effect: &Effect,
+) -> Result<(), Fail>
+    requires devices { NameDevices (length net.old.network.devices) sheet.now.entries }
+    requires all { All (λ e. (first_second_of period.now ≤ e.second) × (e.second < end_second_of period.now)) sheet.now.entries }
+    requires between { LieBetween (first_second_of period.now) (end_second_of period.now) sheet.now.entries }
+{
+    let mut timeline = T::build(alloc, net, sheet, period)?;
+    assert!(rt; net.nodes() == 6);
+    let before = net.searches();
+    takes(
+        rt,
+        alloc,
+        net,
+        sheet,
+        period,
+        &mut timeline,
+        body,
+        effect.touched,
+    )?;
+    assert!(rt; net.searches().checked_sub(before) == Some(searches));
+    shows(rt, alloc, &timeline, period, effect.runs)
+}
+
 fn change<T: Timeline>(
     rt: &impl Abort,
     alloc: Global,
@@ -225,21 +271,7 @@ fn change<T: Timeline>(
     effect: &Effect,
 ) -> Result<(), Fail> {
     let (mut net, period, sheet) = day_of(alloc, script)?;
-    let mut timeline = T::build(alloc, &mut net, &sheet, &period)?;
-    assert!(rt; net.nodes() == 6);
-    let before = net.searches();
-    takes(
-        rt,
-        alloc,
-        &mut net,
-        &sheet,
-        &period,
-        &mut timeline,
-        body,
-        effect.touched,
-    )?;
-    assert!(rt; net.searches().checked_sub(before) == Some(searches));
-    shows(rt, alloc, &timeline, &period, effect.runs)
+    change_on::<T>(rt, alloc, &mut net, &sheet, &period, body, searches, effect)
 }
 
 /// After the script, the command with a body text has this effect: on runs that are found from scratch by so many searches,
