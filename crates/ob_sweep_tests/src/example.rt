@@ -270,14 +270,7 @@ fn change<T: Timeline>(
     effect: &Effect,
 ) -> Result<(), Fail> {
     let (mut net, period, sheet) = day_of(alloc, script)?;
-    let mut timeline = T::build(alloc, &mut net, &sheet, &period)?;
-    assert!(rt; net.nodes() == 6);
-    let before = net.searches();
-    let delta = plan_asked(&mut net, &sheet, &period, &timeline, body)?;
-    assert!(rt; net.searches().checked_sub(before) == Some(searches));
-    adopt(rt, alloc, &mut timeline, delta, effect.touched)?;
-    let day = (period.first_second(), period.end_second());
-    shows(rt, alloc, &timeline, day, effect.runs)
+    change_on::<T>(rt, alloc, &mut net, &sheet, &period, body, searches, effect)
 }
 
 /// After the script, the command with a body text has this effect: on runs that are found from scratch by so many searches,
