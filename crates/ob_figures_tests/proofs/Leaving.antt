@@ -79,27 +79,54 @@ module _ (a : PostedAmounts) (moved : List Moved) (n m : ℕ) (have : AreAlike a
 pub zeros : (a : PostedAmounts) → day_count a ≡ 2 → ((dim : Dim) (key : ℕ) → amount_of a dim key ≡ 0) → AreAlike a 0
 zeros a days zero = record { days = days; each = λ dim key k. zero dim key ∙ elim (cases_Bool (is_one_of_three dim key)) [ inl t ↦ rw t refl | inr f ↦ rw f refl ] }
 
-abbrev Kept : Moved → Type 0
-Kept m = IsKey 2 m.dim m.key
-
 none_kept : HaveKeys 2 []
-none_kept = All-nil Kept
+none_kept = All-nil (λ (m : Moved). IsKey 2 m.dim m.key)
+
+-- the three rows before others, in three orders
+kept : (z : ℤ) (rest : List Moved) → HaveKeys 2 rest
+    → HaveKeys 2 (record { dim = Cause; key = 3; delta = z } ∷ record { dim = Feeder; key = 1; delta = z } ∷ record { dim = Day; key = 0; delta = z } ∷ rest)
+kept z rest h =
+    let k : Moved → Type 0 = λ m. IsKey 2 m.dim m.key in
+    let d : Moved = record { dim = Day; key = 0; delta = z } in
+    let f : Moved = record { dim = Feeder; key = 1; delta = z } in
+    let c : Moved = record { dim = Cause; key = 3; delta = z } in
+    All-cons k c (f ∷ d ∷ rest) (omega arith) (All-cons k f (d ∷ rest) (omega arith, omega arith) (All-cons k d rest (omega arith) h))
+
+kept_from_day : (z : ℤ) (rest : List Moved) → HaveKeys 2 rest
+    → HaveKeys 2 (record { dim = Day; key = 0; delta = z } ∷ record { dim = Cause; key = 3; delta = z } ∷ record { dim = Feeder; key = 1; delta = z } ∷ rest)
+kept_from_day z rest h =
+    let k : Moved → Type 0 = λ m. IsKey 2 m.dim m.key in
+    let d : Moved = record { dim = Day; key = 0; delta = z } in
+    let f : Moved = record { dim = Feeder; key = 1; delta = z } in
+    let c : Moved = record { dim = Cause; key = 3; delta = z } in
+    All-cons k d (c ∷ f ∷ rest) (omega arith) (All-cons k c (f ∷ rest) (omega arith) (All-cons k f rest (omega arith, omega arith) h))
+
+kept_to_day : (z : ℤ) (rest : List Moved) → HaveKeys 2 rest
+    → HaveKeys 2 (record { dim = Feeder; key = 1; delta = z } ∷ record { dim = Cause; key = 3; delta = z } ∷ record { dim = Day; key = 0; delta = z } ∷ rest)
+kept_to_day z rest h =
+    let k : Moved → Type 0 = λ m. IsKey 2 m.dim m.key in
+    let d : Moved = record { dim = Day; key = 0; delta = z } in
+    let f : Moved = record { dim = Feeder; key = 1; delta = z } in
+    let c : Moved = record { dim = Cause; key = 3; delta = z } in
+    All-cons k f (c ∷ d ∷ rest) (omega arith, omega arith) (All-cons k c (d ∷ rest) (omega arith) (All-cons k d rest (omega arith) h))
 
 pub none_move : MoveAlike [] (pos 0)
 none_move = record { keys = none_kept; each = delta_none; size = omega arith }
 
 pub one_row_moves : (z : ℤ) → unsigned_abs z ≤ 600000 → MoveAlike (one_row z) z
-one_row_moves z small = record {
-  keys = All-cons Kept _ _ (omega arith) (All-cons Kept _ _ (omega arith, omega arith) (All-cons Kept _ _ (omega arith) none_kept));
-  each = delta_alike z;
-  size = omega arith;
-}
+one_row_moves z small = record { keys = kept z [] none_kept; each = delta_alike z; size = omega arith }
 
 pub two_rows_move : (y z : ℤ) → unsigned_abs y ≤ 300000 → unsigned_abs z ≤ 300000 → MoveAlike (two_rows y z) (y +ℤ z)
 two_rows_move y z small other = record {
-  keys =
-      All-cons Kept _ _ (omega arith) (All-cons Kept _ _ (omega arith) (All-cons Kept _ _ (omega arith, omega arith)
-      (All-cons Kept _ _ (omega arith, omega arith) (All-cons Kept _ _ (omega arith) (All-cons Kept _ _ (omega arith) none_kept)))));
+  keys = kept_from_day y (record { dim = Feeder; key = 1; delta = z } ∷ record { dim = Cause; key = 3; delta = z } ∷ record { dim = Day; key = 0; delta = z } ∷ []) (kept_to_day z [] none_kept);
   each = delta_twice y z;
   size = omega arith;
 }
+
+-- the same of deltas that were passed
+pub one_row_at : (z x : ℤ) → x ≡ z → unsigned_abs z ≤ 600000 → MoveAlike (one_row x) z
+one_row_at z x e small = subst (λ (d : ℤ). MoveAlike (one_row d) z) (sym e) (one_row_moves z small)
+
+pub two_rows_at : (y z x w : ℤ) → x ≡ y → w ≡ z → unsigned_abs y ≤ 300000 → unsigned_abs z ≤ 300000 → MoveAlike (two_rows x w) (y +ℤ z)
+two_rows_at y z x w e f small other =
+    subst (λ (d : ℤ). MoveAlike (two_rows d w) (y +ℤ z)) (sym e) (subst (λ (d : ℤ). MoveAlike (two_rows y d) (y +ℤ z)) (sym f) (two_rows_move y z small other))

@@ -1,8 +1,9 @@
 //! Postings of two days whose amounts under cause 3, feeder 1 and day 0 are the same, and which have no other.
-ghost use Rattle.std.specs.Prelude.{◌≡◌, ◌≤◌, ◌+ℤ◌, ◌-ℤ◌, pos, IfOk};
+ghost use Rattle.std.specs.Prelude.{◌≡◌, ◌≤◌, ◌∷◌, ◌+ℤ◌, ◌-ℤ◌, [], pos, IfOk};
 ghost use Rattle.std.specs.Int.RustNames.{unsigned_abs};
 ghost use Rattle.ob_figures_tests.specs.Alike.{AreAlike, MoveAlike};
 
+use crate::moved::row;
 use ob_net::Stop;
 use ob_post::{Dim, Moved, Postings};
 use std::alloc::Global;
@@ -36,23 +37,7 @@ pub fn alike(delta: i64) -> [Moved; 3]
     requires { unsigned_abs delta ≤ 600000 }
     ensures { MoveAlike result delta }
 {
-    [
-        Moved {
-            dim: Dim::Cause,
-            key: 3,
-            delta,
-        },
-        Moved {
-            dim: Dim::Feeder,
-            key: 1,
-            delta,
-        },
-        Moved {
-            dim: Dim::Day,
-            key: 0,
-            delta,
-        },
-    ]
+    three(delta)
 }
 
 /// They move twice, in another order.
@@ -61,36 +46,28 @@ pub fn twice(first: i64, second: i64) -> [Moved; 6]
     requires second { unsigned_abs second ≤ 300000 }
     ensures { MoveAlike result (first +ℤ second) }
 {
+    six(first, second)
+}
+
+fn three(delta: i64) -> [Moved; 3]
+    ensures { result ≡ record { dim = Dim.Cause; key = 3; delta = delta } ∷ record { dim = Dim.Feeder; key = 1; delta = delta } ∷ record { dim = Dim.Day; key = 0; delta = delta } ∷ [] }
+{
     [
-        Moved {
-            dim: Dim::Day,
-            key: 0,
-            delta: first,
-        },
-        Moved {
-            dim: Dim::Cause,
-            key: 3,
-            delta: first,
-        },
-        Moved {
-            dim: Dim::Feeder,
-            key: 1,
-            delta: first,
-        },
-        Moved {
-            dim: Dim::Feeder,
-            key: 1,
-            delta: second,
-        },
-        Moved {
-            dim: Dim::Cause,
-            key: 3,
-            delta: second,
-        },
-        Moved {
-            dim: Dim::Day,
-            key: 0,
-            delta: second,
-        },
+        row(Dim::Cause, 3, delta),
+        row(Dim::Feeder, 1, delta),
+        row(Dim::Day, 0, delta),
+    ]
+}
+
+fn six(first: i64, second: i64) -> [Moved; 6]
+    ensures { result ≡ record { dim = Dim.Day; key = 0; delta = first } ∷ record { dim = Dim.Cause; key = 3; delta = first } ∷ record { dim = Dim.Feeder; key = 1; delta = first } ∷ record { dim = Dim.Feeder; key = 1; delta = second } ∷ record { dim = Dim.Cause; key = 3; delta = second } ∷ record { dim = Dim.Day; key = 0; delta = second } ∷ [] }
+{
+    [
+        row(Dim::Day, 0, first),
+        row(Dim::Cause, 3, first),
+        row(Dim::Feeder, 1, first),
+        row(Dim::Feeder, 1, second),
+        row(Dim::Cause, 3, second),
+        row(Dim::Day, 0, second),
     ]
 }

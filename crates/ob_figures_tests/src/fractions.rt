@@ -25,6 +25,7 @@ fn shows(
     decimals: &str,
 ) -> Result<(), AllocError> {
     assert!(rt; fraction.to_string(alloc)?.as_str() == text);
+    assert!(rt; fraction.num() < 1_000 && fraction.den() < 1_000);
     assert!(rt; decimal3(fraction).to_string(alloc)?.as_str() == decimals);
     Ok(())
 }

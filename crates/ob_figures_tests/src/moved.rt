@@ -1,4 +1,6 @@
 //! Rows of amounts by what they say.
+ghost use Rattle.std.specs.Prelude.{◌≡◌};
+
 use ob_post::{Dim, Moved};
 
 /// A dimension, a key and a delta.
@@ -11,4 +13,11 @@ pub fn are(moved: &[Moved], wanted: &[Row]) -> bool {
             .iter()
             .zip(wanted)
             .all(|(row, wanted)| (row.dim, row.key, row.delta) == *wanted)
+}
+
+/// The row that says this.
+pub fn row(dim: Dim, key: u16, delta: i64) -> Moved
+    ensures { result ≡ record { dim = dim; key = key; delta = delta } }
+{
+    Moved { dim, key, delta }
 }

@@ -1,8 +1,6 @@
 //! What moves leave in postings, and the moves between amounts.
-ghost use Rattle.std.specs.Prelude.{◌≡◌};
-
 use crate::alike::{alike, apply, none, nothing, twice};
-use crate::moved::are;
+use crate::moved::{are, row};
 use ob_post::{Dim, Moved, laws, moves};
 use std::test::Fail;
 
@@ -28,12 +26,6 @@ fn moves_leave_the_amount(rt: HostRuntime) -> Result<(), Fail> {
     assert!(rt; postings.total(Dim::Feeder) == 9_000);
     assert!(rt; postings.total(Dim::Day) == 9_000);
     Ok(())
-}
-
-fn row(dim: Dim, key: u16, delta: i64) -> Moved
-    ensures { result ≡ record { dim = dim; key = key; delta = delta } }
-{
-    Moved { dim, key, delta }
 }
 
 // Rows in any order and several of a key: each key's difference once, in order, zeros left out.
