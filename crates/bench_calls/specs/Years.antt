@@ -1,16 +1,13 @@
 -- A year of a book as a text of its commands.
 use Rattle.std.specs.Prelude.{◌≡◌, ℕ, List, [], ◌∷◌, ◌++◌, Some, None, codes}
-use Rattle.std.specs.List.{All, flat_map, sum_by}
-use Rattle.ob_time.specs.Calendar.{Calendar, day_count}
+use Rattle.std.specs.List.{All, flat_map}
+use Rattle.ob_time.specs.Calendar.{Calendar}
 use Rattle.ob_time.specs.Period.{IsPeriodText}
-use Rattle.ob_post.specs.Keys.{keys}
-use Rattle.ob_post.specs.declared.Dim.TheVariants.{Cause}
 use Rattle.ob_command.specs.Commands.{body_text, IsCommand}
 use Rattle.ob_command.specs.declared.command.Command.{Command}
 use Rattle.ob_state.specs.State.{BookState}
 use Rattle.ob_state.specs.Refusals.{refusal}
 use Rattle.ob_state.specs.Next.{after, next}
-use Rattle.ob_state.specs.Amounts.{amount}
 
 -- the line of a command: its body text and a line feed
 abbrev pub line_of : Command → List ℕ
@@ -32,7 +29,3 @@ IsYear text b =
 -- the line's command is accepted, and leads from the one state to the other
 abbrev pub IsStep : List ℕ → BookState → BookState → Type 0
 IsStep line b c = (command : Command) × IsCommand command × (line ≡ body_text command) × (refusal b command ≡ None) × (c ≡ next b command)
-
--- the customer-seconds without supply under all causes
-abbrev pub customer_seconds_of : BookState → ℕ
-customer_seconds_of b = sum_by (amount b Cause) (keys (day_count b.period) Cause)

@@ -1,30 +1,28 @@
 //! A book's year, replayed from the body texts of its commands.
 ghost use Rattle.std.specs.Prelude.{◌≡◌, ◌⊎◌, ◌∷◌, ◌++◌, IfSome, take};
 ghost use Rattle.ob_state.specs.State.{BookState};
-ghost use Rattle.ob_book.specs.Views.{annual_table_of_book};
-ghost use Rattle.bench_calls.specs.Years.{customer_seconds_of, IsStep, IsYear};
+ghost use Rattle.ob_book.specs.Views.{annual_table_of_book, without_supply_of_book};
+ghost use Rattle.bench_calls.specs.Years.{IsStep, IsYear};
 
 use ob_book::Book;
 use ob_command::read_body;
 use ob_post::Dim;
-use ob_post::laws::total_laws;
 use ob_sweep::Windowed;
 use ob_time::Period;
 use std::alloc::Global;
 
 /// Replays a year on a book of the 366 days from 2024-01-01 in UTC, whose runs are kept up by windows. The text has the body
-/// texts of its commands, each with a line feed behind it. It answers the customer-seconds without supply of all causes, and
-/// writes how often the network was searched.
+/// texts of its commands, each with a line feed behind it. It answers all customer-seconds without supply, and writes
+/// how often the network was searched.
 ///
 /// It answers 0 where memory is refused, where a line is no command, or where a command isn't accepted in its turn.
 #[unsafe(no_mangle)]
 pub extern "C" fn bench_year(alloc: Global, text: &[u8], searches: &mut u64) -> u64
-    ensures { (result ≡ 0) ⊎ ((b : BookState) × IsYear text.now b × (result ≡ customer_seconds_of b)) }
+    ensures { (result ≡ 0) ⊎ ((b : BookState) × IsYear text.now b × (result ≡ without_supply_of_book b)) }
 {
     let Some(book) = book_of(alloc, text) else {
         return 0;
     };
-    total_laws();
     *searches = u64::try_from(book.net().searches()).unwrap_or(u64::MAX);
     book.postings().total(Dim::Cause)
 }

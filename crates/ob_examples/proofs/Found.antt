@@ -9,9 +9,9 @@ use Rattle.ob_sheet.specs.Sheet.{NameDevices}
 
 found_device : (devices : ℕ) (test : Entry → Bool) (entries : List Entry) (e : Entry) → find test entries ≡ Some e → NameDevices devices entries → e.device < devices
 found_device devices test [] e h ok = cc
-found_device devices test (f ∷ fs) e h ok = elim (cases_Bool (test f)) [
-  | inl t ↦ (let same : f ≡ e = (let at = rw t at h in cc) in rw (← same) (All-head (λ d. d.device < devices) f fs ok))
-  | inr no ↦ (let at = rw no at h in found_device devices test fs e at (All-tail (λ d. d.device < devices) f fs ok))
+found_device devices test (d ∷ ds) e h ok = elim (cases_Bool (test d)) [
+  | inl t ↦ (let same : d ≡ e = (let at = rw t at h in cc) in rw (← same) (All-head (λ k. k.device < devices) d ds ok))
+  | inr f ↦ (let at = rw f at h in found_device devices test ds e at (All-tail (λ k. k.device < devices) d ds ok))
 ]
 
 pub device_of_entry : (devices : ℕ) (entries : List Entry) (number : ℕ) (e : Entry) → entry_of entries number ≡ Some e → NameDevices devices entries → e.device < devices
