@@ -1,13 +1,13 @@
 -- The loop over the rows after the span: what is left says what there was at first.
 use Rattle.std.proofs.Common.{◌≡◌, ℕ, ◌+◌, true, false, List, Option, Some, None, Result, Ok, Err, nat_lt, refl, ap, sym, ◌∙◌}
-use Rattle.ob_net.specs.declared.stop.Refusal.{Refusal}
-use Rattle.ob_net.specs.declared.stop.Refusal.TheVariants.{Full}
+use Rattle.ob_base.specs.declared.stop.Refusal.{Refusal}
+use Rattle.ob_base.specs.declared.stop.Refusal.TheVariants.{Full}
 use Rattle.std.specs.Prelude.{IfOk, IfErr}
-use Rattle.ob_net.specs.declared.stop.Fault.{Fault}
-use Rattle.ob_net.specs.declared.stop.Fault.TheVariants.{OutOfMemory}
-use Rattle.ob_net.specs.declared.stop.Stop.{Stop}
-use Rattle.ob_net.specs.declared.stop.Stop.TheVariants as stops
-use Rattle.ob_net.specs.Stop.{out_of_memory}
+use Rattle.ob_base.specs.declared.stop.Fault.{Fault}
+use Rattle.ob_base.specs.declared.stop.Fault.TheVariants.{OutOfMemory}
+use Rattle.ob_base.specs.declared.stop.Stop.{Stop}
+use Rattle.ob_base.specs.declared.stop.Stop.TheVariants as stops
+use Rattle.ob_base.specs.Stop.{out_of_memory}
 use Rattle.ob_rows.specs.Rows.{Fields, TakesRow}
 use Rattle.ob_rows.specs.declared.TheConstants.{MOST_ROWS}
 use Rattle.ob_total.specs.Commands.{command_of, span_of}
