@@ -189,6 +189,7 @@ fn adopt<T: Timeline>(
 
 // What the command with a body text alters.
 fn plan_asked<T: Timeline>(
+    alloc: Global,
     net: &mut Net,
     sheet: &Sheet,
     period: &Period,
@@ -203,7 +204,7 @@ fn plan_asked<T: Timeline>(
 {
     let command = read_body(body.as_bytes()).ok_or("a command")?;
     let change = change_by(net, sheet, period, &command).ok_or("a change")?;
-    let delta = timeline.plan(net, sheet, period, &change)?;
+    let delta = timeline.plan(alloc, net, sheet, period, &change)?;
     Ok(delta)
 }
 
