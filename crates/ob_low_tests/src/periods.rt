@@ -201,6 +201,18 @@ fn no_periods(rt: HostRuntime) {
     );
 }
 
+// The answer is there before memory is asked for: no day, too many, and a last day that ends past the last date.
+#[test]
+fn no_periods_of_days(rt: HostRuntime) -> Result<(), Fail> {
+    let first = Date::new(2024, 1, 1)?;
+    let last = Date::new(9999, 12, 31)?;
+    for &(date, days) in &[(first, 0), (first, 367), (last, 1)] {
+        let answer = Period::new(rt.alloc(), date, days, &TimeZone::UTC);
+        assert!(rt; answer.err() == Some(Stop::Refused(Refusal::BadPeriod)));
+    }
+    Ok(())
+}
+
 fn is_whole_or_without_memory(rt: &impl Abort, period: &Period) {
     assert!(rt; period.length() == 169_200);
     is_of(rt, period, 2, EASTERN);
