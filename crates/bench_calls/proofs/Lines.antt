@@ -23,17 +23,6 @@ pub record IsReadUpTo (text rest : List ℕ) (b : BookState) : Type 0 where
   pub front : lines_of commands ++ rest ≡ text
   pub goes_on : (more : List Command) → after period (commands ++ more) ≡ next_all b more
 
--- nothing was read
-pub none_read : (text : List ℕ) (period : Calendar) (b : BookState) → IsYear2024 period → b ≡ empty_book period → IsReadUpTo text text b
-none_read text period b year is = record {
-  period = period;
-  year = year;
-  commands = [];
-  valid = All-nil IsCommand;
-  front = refl;
-  goes_on = λ more. ap (λ (c : BookState). next_all c more) (sym is);
-}
-
 -- an accepted command goes on to the state after it
 goes_on_from : (b c : BookState) (command : Command) (more : List Command) → refusal b command ≡ None → c ≡ next b command → next_all b (command ∷ more) ≡ next_all c more
 goes_on_from b c command more accepted is = rw (accepted, is) refl

@@ -45,13 +45,6 @@ chosen_section net (Some w) v h = elim (cases_Bool (is_some (home_feeder net w))
   | inr f ↦ (let at = rw f at h in cc)
 ]
 
--- the section with a name is one
-pub section_is : (net : Network) (name : List ℕ) (v : ℕ) → section_of net name ≡ Some v → IsSome (home_feeder net v)
-section_is net name v h = chosen_section net (node_of net name) v h
-
-pub good_service : (customers : List Customer) (c : Customer) → connect_refusal customers c ≡ None → is_bad_service c ≡ false
-good_service customers c h = (not_refused _ _ _ (not_refused (has_number customers c.«no») _ _ h).1).0
-
 length-with : (c : Customer) (ds : List Customer) → length (with_customer c ds) ≡ length ds + 1
 length-with c [] = refl
 length-with c (d ∷ ds) = elim (cases_Bool (nat_lt c.«no» d.«no»)) [
@@ -118,20 +111,6 @@ correct_accepted b entry revision act second cause crew h =
     let rest : List (Option Refusal) = if_unknown_cause b.causes cause ∷ if_full b ∷ [] in
     let inside = within_period b.period second (no_head outside rest (no_tail revision_of (outside ∷ rest) h)) in
     (no_head revision_of (outside ∷ rest) h, inside.0, inside.1)
-
-pub withdraw_accepted : (b : BookState) (entry revision : ℕ) → refusal b (Withdraw entry revision) ≡ None → revision_refusal b.entries entry revision ≡ None
-withdraw_accepted b entry revision h = no_head _ _ h
-
--- an entry that may be revised is there, is kept and has the revision
-pub revised_entry : (rev : ℕ) (o : Option Entry) → entry_refusal rev o ≡ None → (e : Entry) × (o ≡ Some e) × (e.kept ≡ true) × (e.rev ≡ rev)
-revised_entry rev None h = cc
-revised_entry rev (Some e) h =
-    let kept = not_refused (not e.kept) _ _ h in
-    let is_kept : e.kept ≡ true = elim (cases_Bool e.kept) [ inl t ↦ t | inr f ↦ absurd (let g : not e.kept ≡ true = rw f refl in false≢true (sym kept.0 ∙ g)) ] in
-    elim (cases_eq e.rev rev) [
-      | inl same ↦ (e, refl, is_kept, same)
-      | inr other ↦ absurd (let at = rw (ne_eqb e.rev rev other) at kept.1 in cc)
-    ]
 
 -- ---- found elements
 found_holds : {X : Type 0} (P : X → Type 0) (test : X → Bool) (xs : List X) (x : X) → find test xs ≡ Some x → All P xs → P x

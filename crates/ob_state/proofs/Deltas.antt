@@ -41,9 +41,3 @@ pub delta_of_any : (b : BookState) (one other : List (List Run)) (delta : List (
     → (length b.network.nodes ≤ length b.network.nodes) × (length b.network.nodes ≤ length other) × Fits other delta × IsDelta b.network delta other now
 delta_of_any b one other delta now first second fits is =
     let given = delta_of_other b b.network one other delta now first second (λ v s. s) fits is in (omega arith, second.count, given.0, given.1)
-
--- the runs that a list has for a section lie in the period
-pub runs_within : (b : BookState) (lists : List (List Run)) (v : ℕ) → RunsLieWithin → AreRunsOf b lists → IsSection b.network v
-    → LieWithin (first_second_of b.period) (end_second_of b.period) (runs_at lists v)
-runs_within b lists v law runs s =
-    subst (LieWithin (first_second_of b.period) (end_second_of b.period)) (sym (runs.defined v s)) (law v (history b.network b.entries v) (first_second_of b.period) (end_second_of b.period))

@@ -46,9 +46,6 @@ Relabels b was now r p q f runs =
     (old new : Dim → ℕ → ℕ) → Balances (day_count b.period) p old new
     → OnOk r (Balances (day_count b.period) q (together old (amount_of_runs was b.customers (days_of b.period) f runs)) (together new (amount_of_runs now b.customers (days_of b.period) f runs)))
 
-pub runs_Decides : (a b : Run) → Decides (same.eq-value.it a b) (a ≡ b)
-runs_Decides a b = search rules
-
 -- all amounts, where entries are other ones
 pub entries_balance : (p : Posting) (b : BookState) (entries : List Entry) (n : ℕ) → n ≡ length b.network.nodes → ByRuns → AreOnSections b.network b.customers
     → Balances (day_count b.period) p (amount_of_first b n) (amount_of_first (with_entries b entries) n) → Balances (day_count b.period) p (amount b) (amount (with_entries b entries))

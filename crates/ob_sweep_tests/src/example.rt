@@ -189,7 +189,6 @@ fn adopt<T: Timeline>(
 
 // What the command with a body text alters.
 fn plan_asked<T: Timeline>(
-    alloc: Global,
     net: &mut Net,
     sheet: &Sheet,
     period: &Period,
@@ -204,7 +203,7 @@ fn plan_asked<T: Timeline>(
 {
     let command = read_body(body.as_bytes()).ok_or("a command")?;
     let change = change_by(net, sheet, period, &command).ok_or("a change")?;
-    let delta = timeline.plan(alloc, net, sheet, period, &change)?;
+    let delta = timeline.plan(net, sheet, period, &change)?;
     Ok(delta)
 }
 
@@ -226,7 +225,7 @@ fn takes<T: Timeline>(
     requires count { 6 ≤ length (T.content timeline.old) }
     ensures count { length (T.content timeline.new) ≡ length (T.content timeline.old) }
 {
-    let delta = plan_asked(alloc, net, sheet, period, timeline, body)?;
+    let delta = plan_asked(net, sheet, period, timeline, body)?;
     touches(rt, alloc, &delta, touched)?;
     adopt(rt, alloc, timeline, delta)
 }
