@@ -58,7 +58,10 @@ impl Posting {
         requires causes { All (λ e. e.cause < 64) sheet.now.entries }
         requires feeder { 1 ≤ feeder }
         requires within { LieWithin (first_second_of period.now) (end_second_of period.now) runs.now }
-        ensures taken { (old new : Dimension → ℕ → ℕ) → Balances (day_count period.now) self.old old new → OnOk result (Balances (day_count period.now) self.new (together old (amount_of_runs sheet.now.entries roll.now.customers (days_of period.now) feeder runs.now)) new) }
+        ensures taken { (old new : Dimension → ℕ → ℕ) → Balances (day_count period.now) self.old old new
+            → OnOk result (Balances (day_count period.now) self.new
+            (together old (amount_of_runs sheet.now.entries roll.now.customers (days_of period.now) feeder
+            runs.now)) new) }
         ensures err { IfErr result (λ stop. stop ≡ out_of_memory) }
     {
         let causes = causes_before(self.alloc, sheet, runs)?;
@@ -78,7 +81,9 @@ impl Posting {
         requires causes { All (λ e. e.cause < 64) sheet.now.entries }
         requires feeder { 1 ≤ feeder }
         requires within { LieWithin (first_second_of period.now) (end_second_of period.now) runs.now }
-        ensures given { (old new : Dimension → ℕ → ℕ) → Balances (day_count period.now) self.old old new → OnOk result (Balances (day_count period.now) self.new old (together new (amount_of_runs sheet.now.entries roll.now.customers (days_of period.now) feeder runs.now))) }
+        ensures given { (old new : Dimension → ℕ → ℕ) → Balances (day_count period.now) self.old old new
+            → OnOk result (Balances (day_count period.now) self.new old
+            (together new (amount_of_runs sheet.now.entries roll.now.customers (days_of period.now) feeder runs.now))) }
         ensures err { IfErr result (λ stop. stop ≡ out_of_memory) }
     {
         let causes = causes_before(self.alloc, sheet, runs)?;
@@ -99,7 +104,10 @@ impl Posting {
         requires change { IsSoundChange change.now sheet.now.entries }
         requires feeder { 1 ≤ feeder }
         requires within { LieWithin (first_second_of period.now) (end_second_of period.now) runs.now }
-        ensures given { (old new : Dimension → ℕ → ℕ) → Balances (day_count period.now) self.old old new → OnOk result (Balances (day_count period.now) self.new old (together new (amount_of_runs (changed change.now sheet.now.entries) roll.now.customers (days_of period.now) feeder runs.now))) }
+        ensures given { (old new : Dimension → ℕ → ℕ) → Balances (day_count period.now) self.old old new
+            → OnOk result (Balances (day_count period.now) self.new old
+            (together new (amount_of_runs (changed change.now sheet.now.entries) roll.now.customers
+            (days_of period.now) feeder runs.now))) }
         ensures err { IfErr result (λ stop. stop ≡ out_of_memory) }
     {
         let changed = causes_after(self.alloc, sheet, change, runs)?;
@@ -125,7 +133,11 @@ impl Posting {
         requires new { LieWithin (first_second_of period.now) (end_second_of period.now) new.now }
         requires rising { AllPairs (λ r s. r.until < s.since) old.now }
         requires cut { BeginAtCutters sheet.now.entries old.now }
-        ensures posted { (before after : Dimension → ℕ → ℕ) → Balances (day_count period.now) self.old before after → OnOk result (Balances (day_count period.now) self.new (together before (amount_of_runs sheet.now.entries roll.now.customers (days_of period.now) feeder old.now)) (together after (amount_of_runs (changed change.now sheet.now.entries) roll.now.customers (days_of period.now) feeder new.now))) }
+        ensures posted { (before after : Dimension → ℕ → ℕ) → Balances (day_count period.now) self.old before after
+            → OnOk result (Balances (day_count period.now) self.new
+            (together before (amount_of_runs sheet.now.entries roll.now.customers (days_of period.now) feeder
+            old.now)) (together after (amount_of_runs (changed change.now sheet.now.entries) roll.now.customers
+            (days_of period.now) feeder new.now))) }
         ensures err { IfErr result (λ stop. stop ≡ out_of_memory) }
     {
         let runs = compare(old, new);
@@ -151,7 +163,11 @@ impl Posting {
         requires within { LieWithin (first_second_of period.now) (end_second_of period.now) runs.now }
         requires rising { AllPairs (λ r s. r.until < s.since) runs.now }
         requires cut { BeginAtCutters sheet.now.entries runs.now }
-        ensures posted { (old new : Dimension → ℕ → ℕ) → Balances (day_count period.now) self.old old new → OnOk result (Balances (day_count period.now) self.new (together old (amount_of_runs sheet.now.entries roll.now.customers (days_of period.now) feeder runs.now)) (together new (amount_of_runs (changed change.now sheet.now.entries) roll.now.customers (days_of period.now) feeder runs.now))) }
+        ensures posted { (old new : Dimension → ℕ → ℕ) → Balances (day_count period.now) self.old old new
+            → OnOk result (Balances (day_count period.now) self.new
+            (together old (amount_of_runs sheet.now.entries roll.now.customers (days_of period.now) feeder
+            runs.now)) (together new (amount_of_runs (changed change.now sheet.now.entries) roll.now.customers
+            (days_of period.now) feeder runs.now))) }
         ensures err { IfErr result (λ stop. stop ≡ out_of_memory) }
     {
         let Some(place) = recaused(runs, change) else {
@@ -179,7 +195,10 @@ impl Posting {
         requires begins { first_second_of period.now ≤ run.now.since }
         requires some { run.now.since < run.now.until }
         requires ends { run.now.until ≤ end_second_of period.now }
-        ensures posted { (old new : Dimension → ℕ → ℕ) → Balances (day_count period.now) self.old old new → OnOk result (Balances (day_count period.now) self.new (together old (customer_seconds_in roll.now.customers run.now before feeder (days_of period.now))) (together new (customer_seconds_in roll.now.customers run.now after feeder (days_of period.now)))) }
+        ensures posted { (old new : Dimension → ℕ → ℕ) → Balances (day_count period.now) self.old old new
+            → OnOk result (Balances (day_count period.now) self.new
+            (together old (customer_seconds_in roll.now.customers run.now before feeder (days_of period.now)))
+            (together new (customer_seconds_in roll.now.customers run.now after feeder (days_of period.now)))) }
         ensures err { IfErr result (λ stop. stop ≡ out_of_memory) }
     {
         if before == after {
@@ -192,7 +211,8 @@ impl Posting {
     /// What is given less what is taken, by key, in a period. The error is that memory was refused.
     pub fn moves(&self, period: &Period) -> Result<Vec<Moved>, Stop>
         requires small { IsOfSmall (day_count period.now) self.now }
-        ensures moves { (old new : Dimension → ℕ → ℕ) → Balances (day_count period.now) self.now old new → IfOk result (λ moved. moved.items ≡ moves_by (change_from old new) (day_count period.now)) }
+        ensures moves { (old new : Dimension → ℕ → ℕ) → Balances (day_count period.now) self.now old new
+            → IfOk result (λ moved. moved.items ≡ moves_by (change_from old new) (day_count period.now)) }
         ensures err { IfErr result (λ stop. stop ≡ out_of_memory) }
     {
         move_laws();

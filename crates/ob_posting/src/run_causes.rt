@@ -46,7 +46,8 @@ pub fn recaused(runs: &[Run], change: &Change) -> Option<usize>
     requires some { All (λ r. r.since < r.until) runs.now }
     requires rising { AllPairs (λ r s. r.until < s.since) runs.now }
     ensures within { IfSome result (λ place. place < length runs.now) }
-    ensures others { (entries : List AnEntry) → Applies change.now entries → AreNumbered entries → BeginAtCutters entries runs.now → StayBut result entries (changed change.now entries) runs.now }
+    ensures others { (entries : List AnEntry) → Applies change.now entries → AreNumbered entries
+        → BeginAtCutters entries runs.now → StayBut result entries (changed change.now entries) runs.now }
 {
     cause_laws();
     match change {
@@ -78,7 +79,8 @@ pub fn causes_after(
 ) -> Result<Vec<u8>, Stop>
     requires applies { Applies change.now sheet.now.entries }
     requires numbered { AreNumbered sheet.now.entries }
-    ensures causes { IfOk result (λ causes. causes.items ≡ map (run_cause (changed change.now sheet.now.entries)) runs.now) }
+    ensures causes { IfOk result (λ causes. causes.items
+        ≡ map (run_cause (changed change.now sheet.now.entries)) runs.now) }
     ensures err { IfErr result (λ stop. stop ≡ out_of_memory) }
 {
     let mut causes = Vec::with_capacity(alloc, runs.len())?;

@@ -1,4 +1,4 @@
--- Words of the functions that find what a command moves: what the rows of a posting come to.
+-- Words of the functions that find what a command moves: the amounts of parts of a state.
 use Rattle.std.specs.Prelude.{◌≡◌, ℕ, List, [], ◌∷◌}
 use Rattle.std.specs.List.{sum_by, range_with_len}
 use Rattle.ob_net.specs.Network.{Network, without_last_device}

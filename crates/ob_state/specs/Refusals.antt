@@ -11,7 +11,7 @@ use Rattle.ob_time.specs.Calendar.{Calendar, first_second_of, end_second_of, day
 use Rattle.ob_index.specs.Marks.{mark_refusal, unmark_refusal}
 use Rattle.ob_command.specs.declared.command.Command.{Command}
 use Rattle.ob_command.specs.declared.command.Command.TheVariants.{Cause, Bus, Section, Device, Connect, Revise, Switch, Correct, Withdraw, Mark, Unmark}
-use Rattle.ob_book.specs.State.{BookState, has_cause, has_cause_name, section_of}
+use Rattle.ob_state.specs.State.{BookState, has_cause, has_cause_name, section_of}
 use Rattle.jiff.specs.Words.{epoch_day}
 
 -- the refusal where the test holds

@@ -9,12 +9,7 @@ use Rattle.ob_cust.specs.Roll.{IsRoll}
 use Rattle.ob_sweep.specs.Timeline.{AreRuns}
 use Rattle.ob_sweep.specs.declared.Run.{Run}
 use Rattle.ob_time.specs.Calendar.{Calendar, IsCalendar, day_count, first_second_of, end_second_of}
-use Rattle.ob_post.specs.Keys.{IsKey}
-use Rattle.ob_post.specs.Postings.{PostedAmounts, amount_of}
-use Rattle.ob_post.specs.Postings as postings
-use Rattle.ob_post.specs.declared.Dim.{Dim}
-use Rattle.ob_book.specs.State.{BookState}
-use Rattle.ob_book.specs.Amounts.{amount}
+use Rattle.ob_state.specs.State.{BookState}
 
 -- the state of a book, for how many commands it has room without memory, at least, and how often its network was searched
 pub record BookValue : Type 0 where

@@ -38,7 +38,8 @@ pub fn effect_of<T: Timeline>(
     ensures effect { IfOk result (IsEffect state.old.state (next state.old.state command.now)) }
     ensures err { IfErr result (λ stop. stop ≡ out_of_memory) }
     ensures state { state.new.state ≡ state.old.state }
-    ensures searches { IfSome (most_searches T.bound state.old.state command.now) (λ most. state.new.searches ≤ state.old.searches + most) }
+    ensures searches { IfSome (most_searches T.bound state.old.state command.now)
+        (λ most. state.new.searches ≤ state.old.searches + most) }
 {
     match *command {
         Command::Cause { .. } | Command::Mark { .. } | Command::Unmark { .. } => Ok(Effect {

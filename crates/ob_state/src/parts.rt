@@ -24,7 +24,8 @@ use std::alloc::Global;
 
 /// The effect of a bus that isn't refused: no section's runs change.
 pub fn with_bus(alloc: Global, state: &State) -> Effect
-    ensures effect { (name : List ℕ) → refusal state.now.state (Command.Bus name) ≡ None → IsEffect state.now.state (next state.now.state (Command.Bus name)) result }
+    ensures effect { (name : List ℕ) → refusal state.now.state (Command.Bus name) ≡ None
+        → IsEffect state.now.state (next state.now.state (Command.Bus name)) result }
 {
     let _ = state.accepted();
     Effect {
@@ -35,7 +36,8 @@ pub fn with_bus(alloc: Global, state: &State) -> Effect
 
 /// The effect of a section that isn't refused: it has runs, and no customers yet. The error is that memory was refused.
 pub fn with_section(alloc: Global, state: &State) -> Result<Effect, Stop>
-    ensures effect { (name : List ℕ) (feeder : ℕ) → refusal state.now.state (Command.Section name feeder) ≡ None → IfOk result (IsEffect state.now.state (next state.now.state (Command.Section name feeder))) }
+    ensures effect { (name : List ℕ) (feeder : ℕ) → refusal state.now.state (Command.Section name feeder) ≡ None
+        → IfOk result (IsEffect state.now.state (next state.now.state (Command.Section name feeder))) }
     ensures err { IfErr result (λ stop. stop ≡ out_of_memory) }
 {
     let _ = state.accepted();
@@ -98,7 +100,8 @@ fn posted<T: Timeline>(
 ) -> Result<Posting, Stop>
     requires runs { AreRunsOf (without_device state.now.state) (T.content timeline.now) }
     requires delta { IsDelta state.now.state.network delta.now (T.content timeline.now) (runs_in state.now.state) }
-    ensures posted { IfOk result (λ posting. Balances (day_count state.now.state.period) posting (amount (without_device state.now.state)) (amount state.now.state)) }
+    ensures posted { IfOk result (λ posting. Balances (day_count state.now.state.period) posting
+        (amount (without_device state.now.state)) (amount state.now.state)) }
     ensures err { IfErr result (λ stop. stop ≡ out_of_memory) }
 {
     section_laws();
@@ -124,7 +127,10 @@ fn repost<T: Timeline>(
     requires delta { IsDelta state.now.state.network delta.now (T.content timeline.now) (runs_in state.now.state) }
     requires node { node < length state.now.state.network.nodes }
     requires touched { IsSome (new_runs delta.now node) }
-    ensures posted { (old new : Dimension → ℕ → ℕ) → Balances (day_count state.now.state.period) posting.old old new → OnOk result (Balances (day_count state.now.state.period) posting.new (together old (amount_of_node (without_device state.now.state) node)) (together new (amount_of_node state.now.state node))) }
+    ensures posted { (old new : Dimension → ℕ → ℕ) → Balances (day_count state.now.state.period) posting.old old new
+        → OnOk result (Balances (day_count state.now.state.period) posting.new
+        (together old (amount_of_node (without_device state.now.state) node))
+        (together new (amount_of_node state.now.state node))) }
     ensures err { IfErr result (λ stop. stop ≡ out_of_memory) }
 {
     section_laws();

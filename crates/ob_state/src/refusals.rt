@@ -102,7 +102,8 @@ impl State {
     }
 
     fn refuse_node(&self, name: &Name) -> Option<Refusal>
-        ensures { result ≡ first (if_sealed self.now.state.entries ∷ node_refusal self.now.state.network name.now ∷ []) }
+        ensures { result ≡ first (if_sealed self.now.state.entries ∷ node_refusal self.now.state.network name.now
+            ∷ []) }
     {
         let full = usize::from(self.net.nodes()) == MOST_NODES;
         self.refuse_part()
@@ -111,7 +112,8 @@ impl State {
     }
 
     fn refuse_device(&self, name: &Name, ends: Ends) -> Option<Refusal>
-        ensures { result ≡ first (if_sealed self.now.state.entries ∷ device_refusal self.now.state.network name.now ends.a ends.b ∷ []) }
+        ensures { result ≡ first (if_sealed self.now.state.entries
+            ∷ device_refusal self.now.state.network name.now ends.a ends.b ∷ []) }
     {
         let unknown = self.net.node_of(ends.a()).is_none() || self.net.node_of(ends.b()).is_none();
         let full = usize::from(self.net.devices()) == MOST_DEVICES;
@@ -153,7 +155,9 @@ impl State {
     }
 
     fn refuse_switch(&self, device: &Name, second: Moment, cause: CauseCode) -> Option<Refusal>
-        ensures { result ≡ first (if_unknown_device self.now.state.network device.now ∷ if_outside self.now.state.period second ∷ if_unknown_cause self.now.state.causes cause ∷ if_full_sheet self.now.state.entries ∷ []) }
+        ensures { result ≡ first (if_unknown_device self.now.state.network device.now
+            ∷ if_outside self.now.state.period second ∷ if_unknown_cause self.now.state.causes cause
+            ∷ if_full_sheet self.now.state.entries ∷ []) }
     {
         refuse_if(self.net.device_of(device).is_none(), Refusal::UnknownName)
             .or(self.refuse_second(second))
@@ -192,7 +196,8 @@ impl State {
     }
 
     fn refuse_mark(&self, date: CivilDate) -> Option<Refusal>
-        ensures { result ≡ day_refusal (day_on self.now.state.period (epoch_day date)) (mark_refusal self.now.state.marks) }
+        ensures { result ≡ day_refusal (day_on self.now.state.period (epoch_day date))
+            (mark_refusal self.now.state.marks) }
     {
         match self.period.day_index(&date.date()) {
             Some(day) => refuse_if(self.marks.is_marked(day), Refusal::MarkedAlready),
@@ -201,7 +206,8 @@ impl State {
     }
 
     fn refuse_unmark(&self, date: CivilDate) -> Option<Refusal>
-        ensures { result ≡ day_refusal (day_on self.now.state.period (epoch_day date)) (unmark_refusal self.now.state.marks) }
+        ensures { result ≡ day_refusal (day_on self.now.state.period (epoch_day date))
+            (unmark_refusal self.now.state.marks) }
     {
         match self.period.day_index(&date.date()) {
             Some(day) => refuse_if(!self.marks.is_marked(day), Refusal::NotMarked),

@@ -18,7 +18,8 @@ pub enum Retiming {
 /// Takes over what a command does to the runs.
 pub fn retime<T: Timeline>(timeline: &mut T, retiming: Retiming)
     requires fits { FitsTo (T.content timeline.old) retiming }
-    ensures runs { (b c : BookState) → c.period ≡ b.period → AreRunsOf b (T.content timeline.old) → LeadsTo b c retiming → AreRunsOf c (T.content timeline.new) }
+    ensures runs { (b c : BookState) → c.period ≡ b.period → AreRunsOf b (T.content timeline.old)
+        → LeadsTo b c retiming → AreRunsOf c (T.content timeline.new) }
 {
     match retiming {
         Retiming::Same => {}

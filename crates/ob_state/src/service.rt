@@ -35,7 +35,8 @@ pub fn connected<T: Timeline>(
 ) -> Result<Effect, Stop>
     requires accepted { refusal state.now.state (Command.Connect customer section.now since until) ≡ None }
     requires runs { AreRunsOf state.now.state (T.content timeline.now) }
-    ensures effect { IfOk result (IsEffect state.now.state (next state.now.state (Command.Connect customer section.now since until))) }
+    ensures effect { IfOk result (IsEffect state.now.state (next state.now.state
+        (Command.Connect customer section.now since until))) }
     ensures err { IfErr result (λ stop. stop ≡ out_of_memory) }
 {
     roll_laws();
@@ -70,7 +71,8 @@ pub fn revised<T: Timeline>(
 ) -> Result<Effect, Stop>
     requires accepted { refusal state.now.state (Command.Revise customer since until) ≡ None }
     requires runs { AreRunsOf state.now.state (T.content timeline.now) }
-    ensures effect { IfOk result (IsEffect state.now.state (next state.now.state (Command.Revise customer since until))) }
+    ensures effect { IfOk result (IsEffect state.now.state (next state.now.state
+        (Command.Revise customer since until))) }
     ensures err { IfErr result (λ stop. stop ≡ out_of_memory) }
 {
     roll_laws();
@@ -105,7 +107,9 @@ fn take_customer<T: Timeline>(
     requires section { IsSome (home_feeder state.now.state.network customer.section) }
     requires service { is_bad_service customer ≡ false }
     requires runs { AreRunsOf state.now.state (T.content timeline.now) }
-    ensures taken { (old new : Dimension → ℕ → ℕ) → Balances (day_count state.now.state.period) posting.old old new → OnOk result (Balances (day_count state.now.state.period) posting.new (together old (amount_of_customer state.now.state customer)) new) }
+    ensures taken { (old new : Dimension → ℕ → ℕ) → Balances (day_count state.now.state.period) posting.old old new
+        → OnOk result (Balances (day_count state.now.state.period) posting.new
+        (together old (amount_of_customer state.now.state customer)) new) }
     ensures err { IfErr result (λ stop. stop ≡ out_of_memory) }
 {
     section_laws();
@@ -130,7 +134,9 @@ fn give_customer<T: Timeline>(
     requires section { IsSome (home_feeder state.now.state.network customer.section) }
     requires service { is_bad_service customer ≡ false }
     requires runs { AreRunsOf state.now.state (T.content timeline.now) }
-    ensures given { (old new : Dimension → ℕ → ℕ) → Balances (day_count state.now.state.period) posting.old old new → OnOk result (Balances (day_count state.now.state.period) posting.new old (together new (amount_of_customer state.now.state customer))) }
+    ensures given { (old new : Dimension → ℕ → ℕ) → Balances (day_count state.now.state.period) posting.old old new
+        → OnOk result (Balances (day_count state.now.state.period) posting.new old
+        (together new (amount_of_customer state.now.state customer))) }
     ensures err { IfErr result (λ stop. stop ≡ out_of_memory) }
 {
     section_laws();

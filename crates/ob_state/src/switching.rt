@@ -47,12 +47,16 @@ pub fn entered<T: Timeline>(
     device: &Name,
     operation: Operation,
 ) -> Result<Effect, Stop>
-    requires accepted { refusal state.old.state (Command.Switch device.now operation.act operation.second operation.cause operation.crew) ≡ None }
+    requires accepted { refusal state.old.state (Command.Switch device.now operation.act operation.second
+        operation.cause operation.crew) ≡ None }
     requires runs { AreRunsOf state.old.state (T.content timeline.now) }
-    ensures effect { IfOk result (IsEffect state.old.state (next state.old.state (Command.Switch device.now operation.act operation.second operation.cause operation.crew))) }
+    ensures effect { IfOk result (IsEffect state.old.state (next state.old.state
+        (Command.Switch device.now operation.act operation.second operation.cause operation.crew))) }
     ensures err { IfErr result (λ stop. stop ≡ out_of_memory) }
     ensures state { state.new.state ≡ state.old.state }
-    ensures searches { IfSome (most_searches T.bound state.old.state (Command.Switch device.now operation.act operation.second operation.cause operation.crew)) (λ most. state.new.searches ≤ state.old.searches + most) }
+    ensures searches { IfSome (most_searches T.bound state.old.state
+        (Command.Switch device.now operation.act operation.second operation.cause operation.crew))
+        (λ most. state.new.searches ≤ state.old.searches + most) }
 {
     let Some(device) = state.net.device_of(device) else {
         unreachable!();
@@ -71,12 +75,16 @@ pub fn corrected<T: Timeline>(
     revision: Serial,
     operation: Operation,
 ) -> Result<Effect, Stop>
-    requires accepted { refusal state.old.state (Command.Correct entry revision operation.act operation.second operation.cause operation.crew) ≡ None }
+    requires accepted { refusal state.old.state (Command.Correct entry revision operation.act operation.second
+        operation.cause operation.crew) ≡ None }
     requires runs { AreRunsOf state.old.state (T.content timeline.now) }
-    ensures effect { IfOk result (IsEffect state.old.state (next state.old.state (Command.Correct entry revision operation.act operation.second operation.cause operation.crew))) }
+    ensures effect { IfOk result (IsEffect state.old.state (next state.old.state
+        (Command.Correct entry revision operation.act operation.second operation.cause operation.crew))) }
     ensures err { IfErr result (λ stop. stop ≡ out_of_memory) }
     ensures state { state.new.state ≡ state.old.state }
-    ensures searches { IfSome (most_searches T.bound state.old.state (Command.Correct entry revision operation.act operation.second operation.cause operation.crew)) (λ most. state.new.searches ≤ state.old.searches + most) }
+    ensures searches { IfSome (most_searches T.bound state.old.state
+        (Command.Correct entry revision operation.act operation.second operation.cause operation.crew))
+        (λ most. state.new.searches ≤ state.old.searches + most) }
 {
     let old = entry_at(state, entry, revision);
     let _ = state.accepted();
@@ -97,7 +105,8 @@ pub fn withdrawn<T: Timeline>(
     ensures effect { IfOk result (IsEffect state.old.state (next state.old.state (Command.Withdraw entry revision))) }
     ensures err { IfErr result (λ stop. stop ≡ out_of_memory) }
     ensures state { state.new.state ≡ state.old.state }
-    ensures searches { IfSome (most_searches T.bound state.old.state (Command.Withdraw entry revision)) (λ most. state.new.searches ≤ state.old.searches + most) }
+    ensures searches { IfSome (most_searches T.bound state.old.state (Command.Withdraw entry revision))
+        (λ most. state.new.searches ≤ state.old.searches + most) }
 {
     let old = entry_at(state, entry, revision);
     let _ = state.accepted();
@@ -119,7 +128,8 @@ fn entry_at(state: &State, entry: Serial, revision: Serial) -> Entry
 
 // The next entry, of an operation of a device.
 fn next_entry(state: &State, device: u16, operation: Operation) -> Entry
-    ensures entry { result ≡ new_entry state.now.state.entries device operation.act operation.second operation.cause operation.crew }
+    ensures entry { result ≡ new_entry state.now.state.entries device operation.act operation.second operation.cause
+        operation.crew }
     ensures cause { operation.cause < 64 }
 {
     Entry {
@@ -136,7 +146,8 @@ fn next_entry(state: &State, device: u16, operation: Operation) -> Entry
 
 // The correction by which an entry tells of another operation.
 fn correction(old: Entry, operation: Operation) -> Change
-    ensures change { result ≡ Change.Corrected old (corrected_entry operation.act operation.second operation.cause operation.crew old) }
+    ensures change { result ≡ Change.Corrected old (corrected_entry operation.act operation.second operation.cause
+        operation.crew old) }
     ensures cause { operation.cause < 64 }
 {
     let new = Entry {
@@ -160,10 +171,12 @@ fn switched<T: Timeline>(
     requires runs { AreRunsOf state.old.state (T.content timeline.now) }
     requires applies { Applies change.now state.old.state.entries }
     requires changed { IsBookState (with_entries state.old.state (changed change.now state.old.state.entries)) }
-    ensures effect { IfOk result (IsEffect state.old.state (with_entries state.old.state (changed change.now state.old.state.entries))) }
+    ensures effect { IfOk result (IsEffect state.old.state (with_entries state.old.state
+        (changed change.now state.old.state.entries))) }
     ensures err { IfErr result (λ stop. stop ≡ out_of_memory) }
     ensures state { state.new.state ≡ state.old.state }
-    ensures searches { state.new.searches ≤ state.old.searches + T.bound state.old.state.network state.old.state.entries state.old.state.period change.now }
+    ensures searches { state.new.searches ≤ state.old.searches + T.bound state.old.state.network
+        state.old.state.entries state.old.state.period change.now }
 {
     let delta = timeline.plan(&mut state.net, &state.sheet, &state.period, change)?;
     let moves = moves_by_change(alloc, state, timeline, &delta, change)?;
@@ -184,8 +197,10 @@ fn moves_by_change<T: Timeline>(
     requires runs { AreRunsOf state.now.state (T.content timeline.now) }
     requires applies { Applies change.now state.now.state.entries }
     requires changed { IsBookState (with_entries state.now.state (changed change.now state.now.state.entries)) }
-    requires delta { IsDelta state.now.state.network delta.now (T.content timeline.now) (runs_in (with_entries state.now.state (changed change.now state.now.state.entries))) }
-    ensures moves { IfOk result (λ moved. moved.items ≡ moves state.now.state (with_entries state.now.state (changed change.now state.now.state.entries))) }
+    requires delta { IsDelta state.now.state.network delta.now (T.content timeline.now)
+        (runs_in (with_entries state.now.state (changed change.now state.now.state.entries))) }
+    ensures moves { IfOk result (λ moved. moved.items
+        ≡ moves state.now.state (with_entries state.now.state (changed change.now state.now.state.entries))) }
     ensures err { IfErr result (λ stop. stop ≡ out_of_memory) }
 {
     total_laws();
@@ -219,9 +234,11 @@ fn posted_where_touched<T: Timeline>(
     requires runs { AreRunsOf state.now.state (T.content timeline.now) }
     requires applies { Applies change.now state.now.state.entries }
     requires changed { IsBookState (with_entries state.now.state (changed change.now state.now.state.entries)) }
-    requires delta { IsDelta state.now.state.network delta.now (T.content timeline.now) (runs_in (with_entries state.now.state (changed change.now state.now.state.entries))) }
+    requires delta { IsDelta state.now.state.network delta.now (T.content timeline.now)
+        (runs_in (with_entries state.now.state (changed change.now state.now.state.entries))) }
     requires cause { KeepsCause change.now }
-    ensures posted { IfOk result (λ posting. Balances (day_count state.now.state.period) posting (amount state.now.state) (amount (with_entries state.now.state (changed change.now state.now.state.entries)))) }
+    ensures posted { IfOk result (λ posting. Balances (day_count state.now.state.period) posting
+        (amount state.now.state) (amount (with_entries state.now.state (changed change.now state.now.state.entries)))) }
     ensures err { IfErr result (λ stop. stop ≡ out_of_memory) }
 {
     section_laws();
@@ -246,8 +263,10 @@ fn posted_everywhere<T: Timeline>(
     requires runs { AreRunsOf state.now.state (T.content timeline.now) }
     requires applies { Applies change.now state.now.state.entries }
     requires changed { IsBookState (with_entries state.now.state (changed change.now state.now.state.entries)) }
-    requires delta { IsDelta state.now.state.network delta.now (T.content timeline.now) (runs_in (with_entries state.now.state (changed change.now state.now.state.entries))) }
-    ensures posted { IfOk result (λ posting. Balances (day_count state.now.state.period) posting (amount state.now.state) (amount (with_entries state.now.state (changed change.now state.now.state.entries)))) }
+    requires delta { IsDelta state.now.state.network delta.now (T.content timeline.now)
+        (runs_in (with_entries state.now.state (changed change.now state.now.state.entries))) }
+    ensures posted { IfOk result (λ posting. Balances (day_count state.now.state.period) posting
+        (amount state.now.state) (amount (with_entries state.now.state (changed change.now state.now.state.entries)))) }
     ensures err { IfErr result (λ stop. stop ≡ out_of_memory) }
 {
     section_laws();
@@ -272,9 +291,14 @@ fn post_node<T: Timeline>(
     requires runs { AreRunsOf state.now.state (T.content timeline.now) }
     requires applies { Applies change.now state.now.state.entries }
     requires changed { IsBookState (with_entries state.now.state (changed change.now state.now.state.entries)) }
-    requires delta { IsDelta state.now.state.network delta.now (T.content timeline.now) (runs_in (with_entries state.now.state (changed change.now state.now.state.entries))) }
+    requires delta { IsDelta state.now.state.network delta.now (T.content timeline.now)
+        (runs_in (with_entries state.now.state (changed change.now state.now.state.entries))) }
     requires node { node < length state.now.state.network.nodes }
-    ensures posted { Balances (day_count state.now.state.period) posting.old (amount_of_first state.now.state node) (amount_of_first (with_entries state.now.state (changed change.now state.now.state.entries)) node) → OnOk result (Balances (day_count state.now.state.period) posting.new (amount_of_first state.now.state (node + 1)) (amount_of_first (with_entries state.now.state (changed change.now state.now.state.entries)) (node + 1))) }
+    ensures posted { Balances (day_count state.now.state.period) posting.old (amount_of_first state.now.state node)
+        (amount_of_first (with_entries state.now.state (changed change.now state.now.state.entries)) node)
+        → OnOk result (Balances (day_count state.now.state.period) posting.new
+        (amount_of_first state.now.state (node + 1)) (amount_of_first
+        (with_entries state.now.state (changed change.now state.now.state.entries)) (node + 1))) }
     ensures err { IfErr result (λ stop. stop ≡ out_of_memory) }
 {
     section_laws();
@@ -308,10 +332,15 @@ fn post_touched<T: Timeline>(
     requires runs { AreRunsOf state.now.state (T.content timeline.now) }
     requires applies { Applies change.now state.now.state.entries }
     requires changed { IsBookState (with_entries state.now.state (changed change.now state.now.state.entries)) }
-    requires delta { IsDelta state.now.state.network delta.now (T.content timeline.now) (runs_in (with_entries state.now.state (changed change.now state.now.state.entries))) }
+    requires delta { IsDelta state.now.state.network delta.now (T.content timeline.now)
+        (runs_in (with_entries state.now.state (changed change.now state.now.state.entries))) }
     requires node { node < length state.now.state.network.nodes }
     requires touched { IsSome (new_runs delta.now node) }
-    ensures posted { (old new : Dimension → ℕ → ℕ) → Balances (day_count state.now.state.period) posting.old old new → OnOk result (Balances (day_count state.now.state.period) posting.new (together old (amount_of_node state.now.state node)) (together new (amount_of_node (with_entries state.now.state (changed change.now state.now.state.entries)) node))) }
+    ensures posted { (old new : Dimension → ℕ → ℕ) → Balances (day_count state.now.state.period) posting.old old new
+        → OnOk result (Balances (day_count state.now.state.period) posting.new
+        (together old (amount_of_node state.now.state node))
+        (together new (amount_of_node (with_entries state.now.state (changed change.now state.now.state.entries))
+        node))) }
     ensures err { IfErr result (λ stop. stop ≡ out_of_memory) }
 {
     section_laws();
