@@ -1,5 +1,5 @@
 -- What a clause sees of a `Watched`.
-use Rattle.std.specs.Prelude.{ℕ, Bool, true, false, ◌==◌, ◌&&◌, not, List, [], ◌∷◌, Option, Result, Ok, Err}
+use Rattle.std.specs.Prelude.{◌≡◌, ℕ, Bool, true, false, ◌==◌, ◌&&◌, not, List, [], ◌∷◌, Option, Result, Ok, Err}
 use Rattle.ob_stream.specs.declared.watched.Watched.{Watched}
 
 -- the reader or writer that is watched
@@ -13,6 +13,10 @@ watched_failed w = w.failed
 -- its last call did
 abbrev pub watched_last_failed : {D : Type 0} → Watched D → Bool
 watched_last_failed w = w.last_failed
+
+-- its last call failed, so that some call of it has failed
+abbrev pub HasJustFailed : {D : Type 0} → Watched D → Type 0
+HasJustFailed w = (watched_failed w ≡ true) × (watched_last_failed w ≡ true)
 
 -- the bytes of the reader or writer that is watched
 abbrev pub watched_bytes : {D : Type 0} → (D → Option (List ℕ)) → Watched D → Option (List ℕ)

@@ -3,7 +3,7 @@ ghost use Rattle.std.specs.Prelude.{◌≡◌, ◌↔◌, ◌⊎◌, ℕ, ◌+�
 ghost use Rattle.std.specs.IoError.{error_kind};
 ghost use Rattle.std.specs.Io.{ReadsAtMost, WritesAtMost};
 ghost use Rattle.std.specs.Io.KnownBytes.{Appends, ReadConsumes, WriteAppends};
-ghost use Rattle.ob_stream.specs.Watching.{watched_last_failed, watched_bytes};
+ghost use Rattle.ob_stream.specs.Watching.{HasJustFailed, watched_bytes};
 ghost use Rattle.ob_stream.specs.Streams.{retries_left, IsWhole, Passes, AppendsFront};
 
 use crate::Watched;
@@ -49,7 +49,7 @@ pub fn read_some<R: Read>(
 ) -> Result<usize, Fault>
     ensures bound { IfOk result (λ n. n ≤ length buf.new) }
     ensures bytes { ReadConsumes (watched_bytes R.remaining reader.old) (watched_bytes R.remaining reader.new) result buf.new }
-    ensures fault { IfErr result (λ f. (f ≡ Fault.Input) × (watched_last_failed reader.new ≡ true)) }
+    ensures fault { IfErr result (λ f. (f ≡ Fault.Input) × HasJustFailed reader.new) }
 {
     loop {
         match reader.read(buf) {
@@ -73,7 +73,7 @@ pub fn read_text<R: Read>(
     ensures whole { IfOk result (λ text. IsWhole (watched_bytes R.remaining reader.old) text.items) }
     ensures bound { IfOk result (λ text. length text.items ≤ limit) }
     ensures fault { IfErr result (λ f. (f ≡ Fault.OutOfMemory)
-        ⊎ ((f ≡ Fault.Input) × ((watched_last_failed reader.new ≡ true) ⊎ Passes (watched_bytes R.remaining reader.old) limit))) }
+        ⊎ ((f ≡ Fault.Input) × (HasJustFailed reader.new ⊎ Passes (watched_bytes R.remaining reader.old) limit))) }
 {
     let mut text = Vec::new(alloc);
     let mut chunk = [0u8; 4096];
@@ -99,7 +99,7 @@ pub fn write_text<W: Write>(
 ) -> Result<(), Fault>
     ensures whole { OnOk result (Appends (watched_bytes W.contents writer.old) (watched_bytes W.contents writer.new) text.now) }
     ensures front { IfErr result (λ _. AppendsFront (watched_bytes W.contents writer.old) (watched_bytes W.contents writer.new) text.now) }
-    ensures fault { IfErr result (λ f. (f ≡ Fault.Output) × (watched_last_failed writer.new ≡ true)) }
+    ensures fault { IfErr result (λ f. (f ≡ Fault.Output) × HasJustFailed writer.new) }
 {
     let mut at = 0;
     while at < text.len() {

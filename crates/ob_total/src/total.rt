@@ -3,7 +3,7 @@ ghost use Rattle.std.specs.Prelude.{◌≡◌, ◌≢◌, ◌⊎◌, string_byte
 ghost use Rattle.std.specs.Io.KnownBytes.{Appends, Keeps};
 ghost use Rattle.ob_base.specs.Stop.{out_of_memory};
 ghost use Rattle.ob_stream.specs.Streams.{Passes};
-ghost use Rattle.ob_stream.specs.Watching.{watched_bytes, watched_failed};
+ghost use Rattle.ob_stream.specs.Watching.{HasJustFailed, watched_bytes};
 ghost use Rattle.ob_rows.specs.Rows.{TakesRow};
 ghost use Rattle.ob_rows.specs.RowReading.{rows_left};
 ghost use Rattle.ob_total.specs.Commands.{command_of, span_of};
@@ -48,7 +48,8 @@ pub fn run_total<R: Read, W: Write>(
     ensures nothing { IfErr result (λ e. e.stop ≢ Stop.Fault Fault.Output → Keeps (watched_bytes W.contents writer.old) (watched_bytes W.contents writer.new)) }
     ensures front { IfErr result (λ e. e.stop ≡ Stop.Fault Fault.Output → BeginsLine (watched_bytes R.remaining reader.old) (watched_bytes W.contents writer.old) (watched_bytes W.contents writer.new)) }
     ensures length { SpeaksOfText result → IsWithin (watched_bytes R.remaining reader.old) 268435456 }
-    ensures cause { IfErr result (λ e. HasCause e.stop ((watched_failed reader.new ≡ true) ⊎ Passes (watched_bytes R.remaining reader.old) 268435456) (watched_failed writer.new ≡ true)) }
+    ensures cause { IfErr result (λ e. HasCause e.stop
+        (HasJustFailed reader.new ⊎ Passes (watched_bytes R.remaining reader.old) 268435456) (HasJustFailed writer.new)) }
 {
     let mut retries = Retries::new();
     let text = match read_text(alloc, reader, &mut retries, MOST_BYTES) {
