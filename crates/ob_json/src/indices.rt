@@ -6,8 +6,8 @@ ghost use Rattle.serde_json.specs.View.{view, items_of};
 ghost use Rattle.ob_json.specs.Indices.{index_data, indices_data, both_data};
 ghost use Rattle.ob_json.specs.Indices as definition;
 
-use ob_index::{Fraction, Indices};
 use ob_base::Stop;
+use ob_index::{Fraction, Indices};
 use serde_json::{Value, json};
 use std::alloc::{AllocError, Global};
 
