@@ -1,0 +1,50 @@
+-- What statements inside a transaction make of the tables.
+use Rattle.std.specs.Prelude.{◌≡◌, ◌⊎◌, ℕ, List, Result, IsTrue, Ok, true, IfErr, OnOk}
+use Rattle.sqlite.specs.Order.{Row}
+use Rattle.sqlite_trees.specs.declared.store.Store.{Ghosts}
+use Rattle.sqlite.specs.Held.{Held, state}
+use Rattle.sqlite.specs.State.{State, HasCleanDisk, Survives, KeepsCommit, Executes, Shows}
+use Rattle.ob_base.specs.Stop.{out_of_memory}
+use Rattle.ob_base.specs.declared.stop.Stop.{Stop}
+use Rattle.ob_base.specs.declared.stop.Stop.TheVariants.{Fault}
+use Rattle.ob_base.specs.declared.stop.Fault.TheVariants.{Store}
+use Rattle.ob_tables.specs.Schema.{book_schema}
+use Rattle.ob_tables.specs.Rows.{Tables, Holds}
+
+-- memory was refused, or the store failed
+abbrev pub IsStoreFault : Stop → Type 0
+IsStoreFault stop = (stop ≡ out_of_memory) ⊎ (stop ≡ Fault Store)
+
+-- nothing was committed
+pub record Silent (old new : State) : Type 0 where
+  pub survives : Survives old new (λ _. ⊥)
+  pub kept : HasCleanDisk new → KeepsCommit old new
+
+-- a statement ran in a transaction
+abbrev pub Ran : List ℕ → Row → State → State → Type 0
+Ran sql params old new = (count : ℕ) × Executes sql params old new (Ok count) × Shows old new new.now old.committed true
+
+-- inside a transaction over the book's tables, their rows were changed so; where they were as is needed
+pub record Makes (old new : State) (needs : Tables → Type 0) (change : Tables → Tables) : Type 0 where
+  pub live : IsTrue old.is_open
+  pub stays : IsTrue new.is_open
+  pub inside : IsTrue new.in_transaction
+  pub schema : old.now.schema ≡ book_schema → new.now.schema ≡ book_schema
+  pub holds : old.now.schema ≡ book_schema → (tables : Tables) → Holds old.now.trees tables → needs tables
+      → Holds new.now.trees (change tables)
+
+module _ {S : Type 0} (g : Ghosts S) where
+  -- a text ran inside a transaction, or failed; nothing was committed
+  pub record Runs {X : Type 0} (sql : List ℕ) (params : Row) (old new : Held S) (result : Result X Stop) : Type 0 where
+    pub silent : Silent (state g old) (state g new)
+    pub faults : IfErr result IsStoreFault
+    pub ran : HasCleanDisk (state g new) → OnOk result (IsTrue (state g old).in_transaction
+        → Ran sql params (state g old) (state g new))
+
+  -- a statement inside a transaction changed the tables so, where they were as is needed, or it failed; nothing was committed
+  pub record Changes {X : Type 0} (old new : Held S) (result : Result X Stop) (needs : Tables → Type 0)
+      (change : Tables → Tables) : Type 0 where
+    pub silent : Silent (state g old) (state g new)
+    pub faults : IfErr result IsStoreFault
+    pub makes : HasCleanDisk (state g new) → OnOk result (IsTrue (state g old).in_transaction
+        → Makes (state g old) (state g new) needs change)

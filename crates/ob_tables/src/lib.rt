@@ -1,0 +1,17 @@
+//! The tables of a book, and the statements that read and write them.
+//!
+//! Keeps the ten tables and one function for each statement, inside a transaction of the caller's. Promises of each what it makes of
+//! the rows that the tables show: a row more, one written anew, one less, or none but an answer. A statement that breaks a rule
+//! of its table fails. The transactions that write a command's rows stand above it.
+#![tactic(auto)]
+
+mod changes;
+mod inserts;
+mod reads;
+mod run;
+mod table;
+
+pub use changes::set_posting;
+pub use inserts::{add_command, add_moved};
+pub use reads::find_commands;
+pub use table::Table;
