@@ -11,7 +11,10 @@ mod reads;
 mod run;
 mod table;
 
-pub use changes::set_posting;
-pub use inserts::{add_command, add_moved};
+pub use changes::{correct_entry, drop_mark, set_posting, set_service, withdraw_entry};
+pub use inserts::{
+    add_cause, add_command, add_customer, add_device, add_entry, add_mark, add_meta, add_moved,
+    add_node, add_posting,
+};
 pub use reads::find_commands;
 pub use table::Table;

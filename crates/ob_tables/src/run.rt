@@ -4,7 +4,7 @@ ghost use Rattle.sqlite.specs.Values.{bound};
 ghost use Rattle.sqlite_value.specs.Value.{owned};
 ghost use Rattle.sqlite.specs.declared.types.Value.TheVariants.{Int};
 ghost use Rattle.ob_tables.specs.Steps.{Runs, IsStoreFault};
-ghost use Rattle.ob_tables.specs.Rows.{number, number_or_null, position_number, bit};
+ghost use Rattle.ob_tables.specs.Rows.{number, number_or_null, position_number};
 
 use ob_base::{Fault, Pos, Stop};
 use sqlite::{Alter, Error, ErrorCode, Transaction};
@@ -55,4 +55,25 @@ pub(crate) fn large(n: u64) -> ValueRef<'static>
     ensures { owned result ≡ number n }
 {
     ValueRef::Int(n as i64)
+}
+
+/// A large number, or none, as a parameter.
+pub(crate) fn large_or_null(n: Option<u64>) -> ValueRef<'static>
+    requires { IfSome n (λ it. it < 2 ^ 63) }
+    ensures { owned result ≡ number_or_null n }
+{
+    match n {
+        Some(it) => large(it),
+        None => ValueRef::Null,
+    }
+}
+
+/// A position as a parameter.
+pub(crate) fn position(pos: Pos) -> ValueRef<'static>
+    ensures { owned result ≡ number (position_number pos) }
+{
+    match pos {
+        Pos::Opened => ValueRef::Int(0),
+        Pos::Closed => ValueRef::Int(1),
+    }
 }
