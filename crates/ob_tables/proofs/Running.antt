@@ -7,6 +7,8 @@ use Rattle.sqlite.specs.Held.{Held, state}
 use Rattle.ob_base.specs.declared.stop.Stop.{Stop}
 use Rattle.ob_tables.specs.Rows.{Tables}
 use Rattle.ob_tables.specs.Steps.{Ran, Runs, Makes, Changes}
+use Rattle.ob_tables.specs.Creation.{Creates}
+use Rattle.sqlite.specs.State.{State}
 
 on_ok : {X E : Type 0} (r : Result X E) {P Q : Type 0} → OnOk r P → (P → Q) → OnOk r Q
 on_ok (Ok x) h f = f h
@@ -18,4 +20,12 @@ changes g old new result sql params runs makes = record {
   silent = runs.silent;
   faults = runs.faults;
   makes = λ clean. on_ok result (runs.ran clean) (λ ran inside. makes (ran inside));
+}
+
+pub creates : {S X : Type 0} (g : Ghosts S) (old new : Held S) (result : Result X Stop) (sql : List ℕ) (params : Row) (Made : State → State → Type 0)
+    → Runs g sql params old new result → (Ran sql params (state g old) (state g new) → Made (state g old) (state g new)) → Creates g old new result Made
+creates g old new result sql params Made runs makes = record {
+  silent = runs.silent;
+  faults = runs.faults;
+  creates = λ clean. on_ok result (runs.ran clean) (λ ran inside. makes (ran inside));
 }

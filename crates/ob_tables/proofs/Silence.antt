@@ -1,13 +1,32 @@
 -- A step inside a transaction commits nothing, also where it fails.
-use Rattle.std.proofs.Common.{◌≡◌, ◌⊎◌, inl, inr, ℕ, List, Option, Some, None, true, ap, ◌∙◌}
+use Rattle.std.proofs.Common.{◌≡◌, ◌⊎◌, inl, inr, ℕ, List, Option, Some, None, true, refl, ap, ◌∙◌, arith}
 use Rattle.std.specs.Prelude.{if◌then◌else◌}
+use Rattle.sqlite.proofs.StateLemmas.{survives_then}
+use Rattle.ob_tables.specs.Steps.{Silent}
 use Rattle.sqlite.specs.Clock.{timed}
 use Rattle.sqlite_resolve.specs.declared.compiled.Compiled.{Compiled}
 use Rattle.sqlite_schema.specs.declared.command.Returning.{Returning}
 use Rattle.std.specs.Prelude.{Err}
 use Rattle.sqlite.specs.Order.{Row}
 use Rattle.sqlite.specs.declared.error.Error.{Error}
-use Rattle.sqlite.specs.State.{State, KeepsCommit, IsUnchanged, IsRolledBack, ExecutesInside, IsNotRun, FailsToShow, FailsToQuery, IsTooLate, ShowsRows, Shown}
+use Rattle.sqlite.specs.State.{State, HasCleanDisk, KeepsCommit, IsUnchanged, IsRolledBack, ExecutesInside, IsNotRun, FailsToShow, FailsToQuery, IsTooLate, ShowsRows, Shown}
+
+pub silent_same : (a : State) → Silent a a
+silent_same a = record {
+  survives = record { clean = omega arith; shield = λ x. x; counts = omega arith; limit = refl; closes = λ clean live. inl live; crash = λ clean db may. inl may };
+  kept = λ clean. record { was_open = λ live. live; committed = λ live. refl };
+}
+
+pub silent_then : (a b c : State) → Silent a b → Silent b c → Silent a c
+silent_then a b c one two = record {
+  survives = survives_then a b c _ _ (λ _. ⊥) (λ _ db none. none) (λ _ db none. none) one.survives two.survives;
+  kept = λ clean.
+      let early : HasCleanDisk b = omega (arith, two.survives.clean, clean) in
+      record {
+        was_open = λ live. (one.kept early).was_open ((two.kept clean).was_open live);
+        committed = λ live. (two.kept clean).committed live ∙ (one.kept early).committed ((two.kept clean).was_open live);
+      };
+}
 
 pub kept_same : (old new : State) → IsUnchanged old new → KeepsCommit old new
 kept_same old new h = record { was_open = λ live. h.0.was_open; committed = λ live. h.0.committed_is }

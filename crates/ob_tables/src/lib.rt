@@ -6,12 +6,14 @@
 #![tactic(auto)]
 
 mod changes;
+mod creation;
 mod inserts;
 mod reads;
 mod run;
 mod table;
 
 pub use changes::{correct_entry, drop_mark, set_posting, set_service, withdraw_entry};
+pub use creation::create_tables;
 pub use inserts::{
     add_cause, add_command, add_customer, add_device, add_entry, add_mark, add_meta, add_moved,
     add_node, add_posting,

@@ -1,6 +1,6 @@
 //! The ten tables.
 
-/// A table of a book. `ALL` has them in the order in which they are made.
+/// A table of a book, in the order in which they are made.
 #[derive(Clone, Copy)]
 pub enum Table {
     /// The version of the tables, the first day, the count of days and the zone: one row.
