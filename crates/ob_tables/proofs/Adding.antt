@@ -1,5 +1,5 @@
 -- What an INSERT makes of the tables.
-use Rattle.std.proofs.Common.{◌≡◌, ◌≢◌, ℕ, inl, inr, ◌/◌, ◌≤◌, pos, ℤ, List, [], ◌∷◌, ◌++◌, map, filter, length, codes, Bool, true, false, Option, Some, Ordering, Less, Equal, Greater, true≢false, refl, sym, ap, subst, ◌∙◌, arith, slice_get}
+use Rattle.std.proofs.Common.{◌≡◌, ◌≢◌, ℕ, inl, inr, ◌/◌, ◌≤◌, pos, ℤ, List, [], ◌∷◌, filter, length, codes, Bool, true, false, Option, Some, Ordering, Less, Equal, Greater, true≢false, refl, sym, ap, subst, ◌∙◌, arith, slice_get}
 use Rattle.std.specs.Prelude.{IsTrue}
 use Rattle.std.specs.List.{AllByRecursion, list_any}
 use Rattle.std.specs.Ordering.{is_eq}
@@ -12,13 +12,13 @@ use Rattle.sqlite_value.proofs.OrderLemmas.{value_cmp_total}
 use Rattle.sqlite_value.specs.Order.{value_cmp}
 use Rattle.sqlite.specs.Order.{Row}
 use Rattle.sqlite.specs.declared.types.Value.TheVariants.{Null, Int, Text}
-use Rattle.sqlite.specs.Term.{Term, lit, col, op2, eval_all}
+use Rattle.sqlite.specs.Term.{Term, lit, col, eval_all}
 use Rattle.sqlite.specs.Table as sql
 use Rattle.sqlite.specs.Schema.{Schema}
 use Rattle.sqlite.specs.Source.TheVariants.{Values}
 use Rattle.sqlite.specs.Command.TheVariants.{Insert}
 use Rattle.sqlite.specs.Listing.{understood}
-use Rattle.sqlite.specs.Effect.{Database, value_rows}
+use Rattle.sqlite.specs.Effect.{value_rows}
 use Rattle.sqlite.specs.Tree.{Trees, put_row, rowid, has_rowid}
 use Rattle.sqlite.specs.Rows.{stamped}
 use Rattle.sqlite.specs.State.{State}
@@ -31,7 +31,7 @@ use Rattle.sqlite.specs.Rowids.TheVariants.{Chosen}
 use Rattle.sqlite.proofs.Callers.{IsPlain, command_of, runs_as}
 use Rattle.ob_base.specs.declared.Pos.{Pos}
 use Rattle.ob_tables.specs.Schema.{book_schema, meta_table, cause_table, node_table, device_table, customer_table, entry_table, mark_table, command_table, moved_table, posting_table}
-use Rattle.ob_tables.specs.Rows.{Columns, Tables, tree_of, shown, AreApart, Holds, with_table, with_row, Always, number_or_null, position_number, meta_row, cause_row, node_row, device_row, customer_row, entry_row, mark_row, command_row, moved_row, posting_row}
+use Rattle.ob_tables.specs.Rows.{Columns, tree_of, shown, AreApart, Holds, with_row, Always, number_or_null, position_number, meta_row, cause_row, node_row, device_row, customer_row, entry_row, mark_row, command_row, moved_row, posting_row}
 use Rattle.ob_tables.specs.Steps.{Ran, Makes}
 use Rattle.ob_tables.specs.declared.table.Table.{Table}
 use Rattle.ob_tables.specs.declared.table.Table.TheVariants.{Meta, Cause, Node, Device, Customer, Entry, Mark, Command, Moved, Posting}

@@ -14,7 +14,7 @@ use Rattle.sqlite.specs.Ops.{is_true, binary}
 use Rattle.sqlite.specs.Order.{Row, column}
 use Rattle.sqlite.specs.declared.types.Value.{Value}
 use Rattle.sqlite.specs.declared.types.Value.TheVariants.{Null, Int, Text, Real, Blob}
-use Rattle.sqlite.specs.Tree.{Trees, put_row, rowid, has_rowid, without_rowid}
+use Rattle.sqlite.specs.Tree.{put_row, rowid, has_rowid, without_rowid}
 use Rattle.sqlite.specs.Table as sql
 use Rattle.sqlite.specs.Schema.{Schema}
 use Rattle.sqlite.specs.State.{State}
@@ -33,7 +33,7 @@ use Rattle.sqlite_tied.specs.Compute.{everything}
 use Rattle.sqlite.proofs.Callers.{IsPlain, command_of, runs_as}
 use Rattle.ob_base.specs.declared.Pos.{Pos}
 use Rattle.ob_tables.specs.Schema.{book_schema, customer_table, entry_table, mark_table}
-use Rattle.ob_tables.specs.Rows.{Columns, Tables, tree_of, shown, AreApart, Holds, number, number_or_null, position_number, bit, is_key, change_where, with_change, without_key, customer_row, entry_row, mark_row, serve, correct, withdraw, HasCustomer, HasEntry, HasMark}
+use Rattle.ob_tables.specs.Rows.{Columns, Tables, tree_of, shown, AreApart, number, number_or_null, position_number, bit, is_key, change_where, with_change, without_key, customer_row, entry_row, mark_row, serve, correct, withdraw, HasCustomer, HasEntry, HasMark}
 use Rattle.ob_tables.specs.Steps.{Ran, Makes}
 use Rattle.ob_tables.specs.declared.table.Table.{Table}
 use Rattle.ob_tables.specs.declared.table.Table.TheVariants.{Customer, Entry, Mark, Posting}

@@ -1,5 +1,5 @@
 -- The tables of a book are made one after another.
-use Rattle.std.specs.Prelude.{◌≡◌, ℕ, ◌+◌, ◌<◌, List, [], take, fold, codes, Result, IsTrue, IfErr, OnOk}
+use Rattle.std.specs.Prelude.{◌≡◌, ℕ, ◌<◌, List, [], ◌++◌, take, fold, codes, Result, IsTrue, IfErr, OnOk}
 use Rattle.std.specs.List.{AllByRecursion}
 use Rattle.sqlite_trees.specs.declared.store.Store.{Ghosts}
 use Rattle.sqlite.specs.Schema.{Schema}
@@ -16,16 +16,38 @@ use Rattle.ob_tables.specs.declared.table.Table.TheVariants.{Meta, Cause, Node, 
 
 -- the text that makes a table
 abbrev pub create_text : Table → List ℕ
-create_text Meta = codes "CREATE TABLE meta (id INTEGER PRIMARY KEY CHECK (id = 1), version INTEGER NOT NULL, day0 TEXT NOT NULL, days INTEGER NOT NULL, zone TEXT NOT NULL) STRICT"
+create_text Meta =
+    codes "CREATE TABLE meta (id INTEGER PRIMARY KEY CHECK (id = 1), version INTEGER NOT NULL, "
+    ++ codes "day0 TEXT NOT NULL, days INTEGER NOT NULL, zone TEXT NOT NULL) STRICT"
 create_text Cause = codes "CREATE TABLE cause (code INTEGER PRIMARY KEY, name TEXT NOT NULL UNIQUE) STRICT"
-create_text Node = codes "CREATE TABLE node (id INTEGER PRIMARY KEY, name TEXT NOT NULL UNIQUE, kind INTEGER NOT NULL, feeder INTEGER NOT NULL) STRICT"
-create_text Device = codes "CREATE TABLE device (id INTEGER PRIMARY KEY, name TEXT NOT NULL UNIQUE, a INTEGER NOT NULL REFERENCES node (id), b INTEGER NOT NULL REFERENCES node (id), normal INTEGER NOT NULL CHECK (normal >= 0 AND normal <= 1)) STRICT"
-create_text Customer = codes "CREATE TABLE customer (id INTEGER PRIMARY KEY, section INTEGER NOT NULL REFERENCES node (id), since INTEGER NOT NULL, until INTEGER) STRICT"
-create_text Entry = codes "CREATE TABLE entry (id INTEGER PRIMARY KEY, rev INTEGER NOT NULL, device INTEGER NOT NULL REFERENCES device (id), pos INTEGER NOT NULL CHECK (pos >= 0 AND pos <= 1), second INTEGER NOT NULL, cause INTEGER NOT NULL REFERENCES cause (code), crew TEXT NOT NULL, kept INTEGER NOT NULL CHECK (kept >= 0 AND kept <= 1)) STRICT"
+create_text Node =
+    codes "CREATE TABLE node (id INTEGER PRIMARY KEY, name TEXT NOT NULL UNIQUE, "
+    ++ codes "kind INTEGER NOT NULL, feeder INTEGER NOT NULL) STRICT"
+create_text Device =
+    codes "CREATE TABLE device (id INTEGER PRIMARY KEY, name TEXT NOT NULL UNIQUE, "
+    ++ codes "a INTEGER NOT NULL REFERENCES node (id), b INTEGER NOT NULL REFERENCES node (id), "
+    ++ codes "normal INTEGER NOT NULL CHECK (normal >= 0 AND normal <= 1)) STRICT"
+create_text Customer =
+    codes "CREATE TABLE customer (id INTEGER PRIMARY KEY, "
+    ++ codes "section INTEGER NOT NULL REFERENCES node (id), since INTEGER NOT NULL, "
+    ++ codes "until INTEGER) STRICT"
+create_text Entry =
+    codes "CREATE TABLE entry (id INTEGER PRIMARY KEY, rev INTEGER NOT NULL, "
+    ++ codes "device INTEGER NOT NULL REFERENCES device (id), "
+    ++ codes "pos INTEGER NOT NULL CHECK (pos >= 0 AND pos <= 1), second INTEGER NOT NULL, "
+    ++ codes "cause INTEGER NOT NULL REFERENCES cause (code), crew TEXT NOT NULL, "
+    ++ codes "kept INTEGER NOT NULL CHECK (kept >= 0 AND kept <= 1)) STRICT"
 create_text Mark = codes "CREATE TABLE mark (day INTEGER PRIMARY KEY, engineer TEXT NOT NULL) STRICT"
-create_text Command = codes "CREATE TABLE cmd (id INTEGER PRIMARY KEY, ref TEXT NOT NULL UNIQUE, body TEXT NOT NULL) STRICT"
-create_text Moved = codes "CREATE TABLE moved (cmd INTEGER NOT NULL REFERENCES cmd (id), dim INTEGER NOT NULL, k INTEGER NOT NULL, delta INTEGER NOT NULL CHECK (delta <> 0), PRIMARY KEY (cmd, dim, k)) STRICT"
-create_text Posting = codes "CREATE TABLE posting (dim INTEGER NOT NULL, k INTEGER NOT NULL, amount INTEGER NOT NULL CHECK (amount >= 0), PRIMARY KEY (dim, k)) STRICT"
+create_text Command =
+    codes "CREATE TABLE cmd (id INTEGER PRIMARY KEY, ref TEXT NOT NULL UNIQUE, "
+    ++ codes "body TEXT NOT NULL) STRICT"
+create_text Moved =
+    codes "CREATE TABLE moved (cmd INTEGER NOT NULL REFERENCES cmd (id), dim INTEGER NOT NULL, "
+    ++ codes "k INTEGER NOT NULL, delta INTEGER NOT NULL CHECK (delta <> 0), PRIMARY KEY (cmd, dim, "
+    ++ codes "k)) STRICT"
+create_text Posting =
+    codes "CREATE TABLE posting (dim INTEGER NOT NULL, k INTEGER NOT NULL, "
+    ++ codes "amount INTEGER NOT NULL CHECK (amount >= 0), PRIMARY KEY (dim, k)) STRICT"
 
 -- how many tables are made before a table
 abbrev pub before : Table → ℕ
@@ -70,7 +92,8 @@ pub record MakesBook (old new : State) : Type 0 where
 
 module _ {S : Type 0} (g : Ghosts S) where
   -- statements inside a transaction made this, or one failed; nothing was committed
-  pub record Creates {X : Type 0} (old new : Held S) (result : Result X Stop) (Made : State → State → Type 0) : Type 0 where
+  pub record Creates {X : Type 0} (old new : Held S) (result : Result X Stop)
+      (Made : State → State → Type 0) : Type 0 where
     pub silent : Silent (state g old) (state g new)
     pub faults : IfErr result IsStoreFault
     pub creates : HasCleanDisk (state g new) → OnOk result (IsTrue (state g old).in_transaction

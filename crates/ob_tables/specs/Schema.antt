@@ -16,14 +16,17 @@ use Rattle.sqlite_schema.specs.declared.schema.Action.TheVariants.{NoAction}
 use Rattle.sqlite_value.specs.Keys.{plain}
 
 abbrev pub integer : List ℕ → Column
-integer name = record { name = name; kind = Integer; is_strict = true; not_null = true; default = Null; collation = Binary }
+integer name =
+    record { name = name; kind = Integer; is_strict = true; not_null = true; default = Null; collation = Binary }
 
 -- a column that may be NULL, as the rowid's own
 abbrev pub loose : List ℕ → Column
-loose name = record { name = name; kind = Integer; is_strict = true; not_null = false; default = Null; collation = Binary }
+loose name =
+    record { name = name; kind = Integer; is_strict = true; not_null = false; default = Null; collation = Binary }
 
 abbrev pub words : List ℕ → Column
-words name = record { name = name; kind = Text; is_strict = true; not_null = true; default = Null; collation = Binary }
+words name =
+    record { name = name; kind = Text; is_strict = true; not_null = true; default = Null; collation = Binary }
 
 -- a table with its rowid as the key, and no rule beside
 abbrev pub by_id : List ℕ → List Column → Table
@@ -83,7 +86,8 @@ by_columns name places columns checks references = record {
 
 abbrev pub meta_columns : List Column
 meta_columns =
-    loose (codes "id") ∷ integer (codes "version") ∷ words (codes "day0") ∷ integer (codes "days") ∷ words (codes "zone") ∷ []
+    loose (codes "id") ∷ integer (codes "version") ∷ words (codes "day0") ∷ integer (codes "days")
+    ∷ words (codes "zone") ∷ []
 
 abbrev pub meta_table : Table
 meta_table = record (by_id (codes "meta") meta_columns) { checks = compares Eq 0 1 ∷ [] }
@@ -97,7 +101,8 @@ node_table = by_id_and_name (codes "node")
 
 abbrev pub device_columns : List Column
 device_columns =
-    loose (codes "id") ∷ words (codes "name") ∷ integer (codes "a") ∷ integer (codes "b") ∷ integer (codes "normal") ∷ []
+    loose (codes "id") ∷ words (codes "name") ∷ integer (codes "a") ∷ integer (codes "b")
+    ∷ integer (codes "normal") ∷ []
 
 abbrev pub device_table : Table
 device_table = record (by_id_and_name (codes "device") device_columns) {
@@ -106,15 +111,17 @@ device_table = record (by_id_and_name (codes "device") device_columns) {
 }
 
 abbrev pub customer_columns : List Column
-customer_columns = loose (codes "id") ∷ integer (codes "section") ∷ integer (codes "since") ∷ loose (codes "until") ∷ []
+customer_columns =
+    loose (codes "id") ∷ integer (codes "section") ∷ integer (codes "since") ∷ loose (codes "until") ∷ []
 
 abbrev pub customer_table : Table
-customer_table = record (by_id (codes "customer") customer_columns) { references = refers 2 (codes "node") (codes "id") ∷ [] }
+customer_table =
+    record (by_id (codes "customer") customer_columns) { references = refers 2 (codes "node") (codes "id") ∷ [] }
 
 abbrev pub entry_columns : List Column
 entry_columns =
-    loose (codes "id") ∷ integer (codes "rev") ∷ integer (codes "device") ∷ integer (codes "pos") ∷ integer (codes "second")
-    ∷ integer (codes "cause") ∷ words (codes "crew") ∷ integer (codes "kept") ∷ []
+    loose (codes "id") ∷ integer (codes "rev") ∷ integer (codes "device") ∷ integer (codes "pos")
+    ∷ integer (codes "second") ∷ integer (codes "cause") ∷ words (codes "crew") ∷ integer (codes "kept") ∷ []
 
 abbrev pub entry_table : Table
 entry_table = record (by_id (codes "entry") entry_columns) {

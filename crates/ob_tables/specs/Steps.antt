@@ -41,7 +41,8 @@ module _ {S : Type 0} (g : Ghosts S) where
     pub ran : HasCleanDisk (state g new) → OnOk result (IsTrue (state g old).in_transaction
         → Ran sql params (state g old) (state g new))
 
-  -- a statement inside a transaction changed the tables so, where they were as is needed, or it failed; nothing was committed
+  -- a statement inside a transaction changed the tables so, where they were as is needed, or it failed;
+  -- nothing was committed
   pub record Changes {X : Type 0} (old new : Held S) (result : Result X Stop) (needs : Tables → Type 0)
       (change : Tables → Tables) : Type 0 where
     pub silent : Silent (state g old) (state g new)

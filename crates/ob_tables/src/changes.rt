@@ -104,7 +104,8 @@ pub fn set_posting<S: Alter>(
 ) -> Result<(), Stop>
     requires small { amount < 2 ^ 63 }
     ensures same_reference { tx.new.conn.ghost_name ≡ tx.old.conn.ghost_name }
-    ensures changes { Changes S.Store tx.old.conn.now tx.new.conn.now result (HasPosting dim key) (with_posting dim key amount) }
+    ensures changes { Changes S.Store tx.old.conn.now tx.new.conn.now result
+        (HasPosting dim key) (with_posting dim key amount) }
 {
     run(
         tx,

@@ -1,8 +1,9 @@
 //! The tables of a book, and the statements that read and write them.
 //!
-//! Keeps the ten tables and one function for each statement, inside a transaction of the caller's. Promises of each what it makes of
-//! the rows that the tables show: a row more, one written anew, one less, or none but an answer. A statement that breaks a rule
-//! of its table fails. The transactions that write a command's rows stand above it.
+//! Keeps the ten tables and one function for each statement, which runs inside a transaction of the caller. Promises of
+//! each what it makes of the rows that the tables show: a row more, one written anew, one less, or none, and what was
+//! found. A statement that breaks a rule of its table fails. What writes the rows of a command in one transaction stands
+//! above it.
 #![tactic(auto)]
 
 mod changes;

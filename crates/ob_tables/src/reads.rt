@@ -22,7 +22,8 @@ pub fn find_commands<S: Alter>(
         → Silent (state S.Store tx.old.conn.now) (state S.Store tx.new.conn.now) }
     ensures faults { IfErr result IsStoreFault }
     // whatever the schema
-    ensures live { HasCleanDisk (state S.Store tx.new.conn.now) → OnOk result (IsTrue (state S.Store tx.old.conn.now).is_open) }
+    ensures live { HasCleanDisk (state S.Store tx.new.conn.now)
+        → OnOk result (IsTrue (state S.Store tx.old.conn.now).is_open) }
     ensures found { HasCleanDisk (state S.Store tx.new.conn.now)
         → IfOk result (λ rows. (state S.Store tx.old.conn.now).now.schema ≡ book_schema
         → (t : Tables) → Holds (state S.Store tx.old.conn.now).now.trees t

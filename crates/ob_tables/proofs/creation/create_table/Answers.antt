@@ -1,5 +1,3 @@
-use Rattle.sqlite.specs.Held.{state}
-use Rattle.ob_tables.specs.Creation.{before, MakesUpTo}
 use Rattle.ob_tables.proofs.Running.{creates}
 use Rattle.ob_tables.proofs.Creating.{makes_table}
 use Rattle.ob_tables.proofs.creation.create_table.Goals as goal
