@@ -1,6 +1,7 @@
 -- What statements inside a transaction make of the tables.
 use Rattle.std.specs.Prelude.{◌≡◌, ◌⊎◌, ℕ, List, Result, IsTrue, Ok, true, IfErr, OnOk}
 use Rattle.sqlite.specs.Order.{Row}
+use Rattle.std.specs.Borrow.{MutBor}
 use Rattle.sqlite_trees.specs.declared.store.Store.{Ghosts}
 use Rattle.sqlite.specs.Held.{Held, state}
 use Rattle.sqlite.specs.State.{State, HasCleanDisk, Survives, KeepsCommit, Executes, Shows}
@@ -35,17 +36,19 @@ pub record Makes (old new : State) (needs : Tables → Type 0) (change : Tables 
 
 module _ {S : Type 0} (g : Ghosts S) where
   -- a text ran inside a transaction, or failed; nothing was committed
-  pub record Runs {X : Type 0} (sql : List ℕ) (params : Row) (old new : Held S) (result : Result X Stop) : Type 0 where
-    pub silent : Silent (state g old) (state g new)
+  pub record Runs {X : Type 0} (sql : List ℕ) (params : Row) (old new : MutBor (Held S)) (result : Result X Stop) : Type 0 where
+    pub same_reference : new.ghost_name ≡ old.ghost_name
+    pub silent : Silent (state g old.now) (state g new.now)
     pub faults : IfErr result IsStoreFault
-    pub ran : HasCleanDisk (state g new) → OnOk result (IsTrue (state g old).in_transaction
-        → Ran sql params (state g old) (state g new))
+    pub ran : HasCleanDisk (state g new.now) → OnOk result (IsTrue (state g old.now).in_transaction
+        → Ran sql params (state g old.now) (state g new.now))
 
   -- a statement inside a transaction changed the tables so, where they were as is needed, or it failed;
   -- nothing was committed
-  pub record Changes {X : Type 0} (old new : Held S) (result : Result X Stop) (needs : Tables → Type 0)
+  pub record Changes {X : Type 0} (old new : MutBor (Held S)) (result : Result X Stop) (needs : Tables → Type 0)
       (change : Tables → Tables) : Type 0 where
-    pub silent : Silent (state g old) (state g new)
+    pub same_reference : new.ghost_name ≡ old.ghost_name
+    pub silent : Silent (state g old.now) (state g new.now)
     pub faults : IfErr result IsStoreFault
-    pub makes : HasCleanDisk (state g new) → OnOk result (IsTrue (state g old).in_transaction
-        → Makes (state g old) (state g new) needs change)
+    pub makes : HasCleanDisk (state g new.now) → OnOk result (IsTrue (state g old.now).in_transaction
+        → Makes (state g old.now) (state g new.now) needs change)
