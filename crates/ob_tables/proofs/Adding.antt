@@ -1,0 +1,358 @@
+-- What an INSERT makes of the tables.
+use Rattle.std.proofs.Common.{◌≡◌, ◌≢◌, ℕ, inl, inr, ◌/◌, ◌≤◌, pos, ℤ, List, [], ◌∷◌, filter, length, codes, Bool, true, false, Option, Some, Ordering, Less, Equal, Greater, true≢false, refl, sym, ap, subst, ◌∙◌, arith, slice_get}
+use Rattle.std.specs.Prelude.{IsTrue}
+use Rattle.std.specs.List.{AllByRecursion, list_any}
+use Rattle.std.specs.Ordering.{is_eq}
+use Rattle.std.proofs.lemmas.Bool.{cases_Bool, or_parts}
+use Rattle.std.proofs.lemmas.Cmp.{alike_right}
+use Rattle.std.proofs.lemmas.List.Sorted.{IsPermutation-sym, length_permutation}
+use Rattle.sqlite_trees.proofs.ListLemmas.{IsPermutation-filter, all-permutation}
+use Rattle.sqlite_trees.specs.View.{is_int}
+use Rattle.sqlite_value.proofs.OrderLemmas.{value_cmp_total}
+use Rattle.sqlite_value.specs.Order.{value_cmp}
+use Rattle.sqlite.specs.Order.{Row}
+use Rattle.sqlite.specs.declared.types.Value.TheVariants.{Null, Int, Text}
+use Rattle.sqlite.specs.Term.{Term, lit, col, eval_all}
+use Rattle.sqlite.specs.Table as sql
+use Rattle.sqlite.specs.Schema.{Schema}
+use Rattle.sqlite.specs.Source.TheVariants.{Values}
+use Rattle.sqlite.specs.Command.TheVariants.{Insert}
+use Rattle.sqlite.specs.Listing.{understood}
+use Rattle.sqlite.specs.Effect.{value_rows}
+use Rattle.sqlite.specs.Tree.{Trees, put_row, rowid, has_rowid}
+use Rattle.sqlite.specs.Rows.{stamped}
+use Rattle.sqlite.specs.State.{State}
+use Rattle.sqlite_tied.specs.Compute.{everything}
+use Rattle.sqlite_rules.specs.Edit.{with_rowid, next_rowid, are_fresh}
+use Rattle.sqlite_rules.specs.Cast.{cast_row}
+use Rattle.sqlite_rules.specs.Action.{works}
+use Rattle.sqlite_schema.specs.declared.schema.Keys.TheVariants.{Enforced}
+use Rattle.sqlite.specs.Rowids.TheVariants.{Chosen}
+use Rattle.sqlite.proofs.Callers.{IsPlain, command_of, runs_as}
+use Rattle.ob_base.specs.declared.Pos.{Pos}
+use Rattle.ob_tables.specs.Schema.{book_schema, meta_table, cause_table, node_table, device_table, customer_table, entry_table, mark_table, command_table, moved_table, posting_table}
+use Rattle.ob_tables.specs.Rows.{Columns, tree_of, shown, AreApart, Holds, with_row, Always, number_or_null, position_number, meta_row, cause_row, node_row, device_row, customer_row, entry_row, mark_row, command_row, moved_row, posting_row}
+use Rattle.ob_tables.specs.Steps.{Ran, Makes}
+use Rattle.ob_tables.specs.declared.table.Table.{Table}
+use Rattle.ob_tables.specs.declared.table.Table.TheVariants.{Meta, Cause, Node, Device, Customer, Entry, Mark, Command, Moved, Posting}
+use Rattle.ob_tables.proofs.Statements.{inserted, Rewrites}
+use Rattle.ob_tables.proofs.Trees.{OthersStay, stays, adds, free_of}
+use Rattle.ob_tables.proofs.Put.{put_fresh}
+use Rattle.ob_tables.proofs.Casts.{cast_int, cast_null, cast_optional}
+
+-- an INSERT of one row adds the row to its table, where the rowids of `posting` stay apart
+makes_row_so : (table : Table) (at : ℕ) (it : sql.Table) (terms : List Term) (width : ℕ) (text : List ℕ) (params : Row) (columns : Columns)
+    → slice_get book_schema.tables at ≡ Some it → it.tree ≡ tree_of table → command_of (understood book_schema text) ≡ Insert at (Values terms width) → IsPlain (understood book_schema text)
+    → it.is_counted ≡ false → stamped it params ≡ params → value_rows params width (length terms / width) terms ≡ eval_all terms (params ∷ []) ∷ []
+    → ((new : Row) → works book_schema Enforced 0 it.tree [] (new ∷ []) ≡ []) → ((rows : List Row) → shown table (with_rowid Chosen rows (cast_row it (eval_all terms (params ∷ [])))) ≡ columns)
+    → ((old new : Trees) (row : Row) → row ≡ with_rowid Chosen (old (tree_of table)) (cast_row it (eval_all terms (params ∷ []))) → OthersStay (tree_of table) new old
+    → new (tree_of table) ≡ put_row row (old (tree_of table)) → are_fresh (old (tree_of table)) (row ∷ []) ≡ true → AreApart (old 14) → AreApart (new 14))
+    → (old new : State) → Ran text params old new → Makes old new Always (with_row table columns)
+makes_row_so table at it terms width text params columns found tree is plain uncounted timeless single idle stored stays_apart old new ran =
+    let row = λ (rows : List Row). with_rowid Chosen rows (cast_row it (eval_all terms (params ∷ []))) in
+    let made = λ (has : old.now.schema ≡ book_schema).
+    let w = runs_as text params old new book_schema has (Insert at (Values terms width)) is plain ran.0 ran.1 in
+    let all = inserted book_schema at it found terms width old new _ params ran.0 uncounted timeless single idle has w in
+    let here : Rewrites old.now new.now (tree_of table) (put_row (row (old.now.trees (tree_of table))) (old.now.trees (tree_of table))) = subst (λ n. Rewrites old.now new.now n (put_row (row (old.now.trees n)) (old.now.trees n))) tree all.0 in
+    let fresh : are_fresh (old.now.trees (tree_of table)) (row (old.now.trees (tree_of table)) ∷ []) ≡ true = subst (λ n. are_fresh (old.now.trees n) (row (old.now.trees n) ∷ []) ≡ true) tree all.1 in
+    let pair : (Rewrites old.now new.now (tree_of table) (put_row (row (old.now.trees (tree_of table))) (old.now.trees (tree_of table)))) × (are_fresh (old.now.trees (tree_of table)) (row (old.now.trees (tree_of table)) ∷ []) ≡ true) = (here, fresh) in
+    pair in
+    record {
+      live = ran.2.was_open;
+      stays = ran.2.is_open;
+      inside = ran.2.mode;
+      schema = λ has. (made has).0.schema ∙ has;
+      holds = λ has t holds _.
+          let it = made has in
+          let others : OthersStay (tree_of table) new.now.trees old.now.trees = subst (λ (s : Schema). AllByRecursion (λ x. x.tree ≢ tree_of table → new.now.trees x.tree ≡ old.now.trees x.tree) s.tables) has it.0.others in
+          let apart = stays_apart old.now.trees new.now.trees (row (old.now.trees (tree_of table))) refl others it.0.row_list it.1 holds.apart in
+          subst (λ c. Holds new.now.trees (with_row table c t)) (stored (old.now.trees (tree_of table)))
+          (adds table old.now.trees new.now.trees (row (old.now.trees (tree_of table))) t others it.0.row_list it.1 apart holds);
+    }
+
+-- the same for a table other than `posting`
+pub makes_row : (table : Table) (at : ℕ) (it : sql.Table) (terms : List Term) (width : ℕ) (text : List ℕ) (params : Row) (columns : Columns)
+    → slice_get book_schema.tables at ≡ Some it → it.tree ≡ tree_of table → command_of (understood book_schema text) ≡ Insert at (Values terms width) → IsPlain (understood book_schema text)
+    → it.is_counted ≡ false → stamped it params ≡ params → value_rows params width (length terms / width) terms ≡ eval_all terms (params ∷ []) ∷ []
+    → ((new : Row) → works book_schema Enforced 0 it.tree [] (new ∷ []) ≡ []) → ((rows : List Row) → shown table (with_rowid Chosen rows (cast_row it (eval_all terms (params ∷ [])))) ≡ columns)
+    → 14 ≢ tree_of table
+    → (old new : State) → Ran text params old new → Makes old new Always (with_row table columns)
+makes_row table at it terms width text params columns found tree is plain uncounted timeless single idle stored other =
+    makes_row_so table at it terms width text params columns found tree is plain uncounted timeless single idle stored
+    (λ old new row row_is others put fresh apart. subst AreApart (sym (stays new old (tree_of table) Posting others other)) apart)
+
+abbrev meta_insert : List ℕ
+meta_insert = codes "INSERT INTO meta (id, version, day0, days, zone) VALUES (1, 1, ?1, ?2, ?3)"
+
+abbrev meta_terms : List Term
+meta_terms = lit (Int (pos 1)) ∷ lit Null ∷ lit (Int (pos 1)) ∷ col 0 0 ∷ col 0 1 ∷ col 0 2 ∷ []
+
+meta_insert_is : command_of (understood book_schema meta_insert) ≡ Insert 0 (Values meta_terms 6)
+unfolding understood everything
+meta_insert_is = refl
+
+meta_insert_plain : IsPlain (understood book_schema meta_insert)
+unfolding understood everything
+meta_insert_plain = (refl, refl)
+
+stored_meta : (first_day : List ℕ) (days : ℕ) (zone : List ℕ) (rows : List Row)
+    → shown Meta (with_rowid Chosen rows (cast_row (record meta_table { tree = 0 }) (eval_all meta_terms ((Text first_day ∷ Int (pos days) ∷ Text zone ∷ []) ∷ [])))) ≡ meta_row 1 first_day days zone
+stored_meta first_day days zone rows = rw (cast_int (pos 1), cast_int (pos days))
+
+pub adds_meta : (old new : State) (first_day : List ℕ) (days : ℕ) (zone : List ℕ) → Ran meta_insert (Text first_day ∷ Int (pos days) ∷ Text zone ∷ []) old new → Makes old new Always (with_row Meta (meta_row 1 first_day days zone))
+adds_meta old new first_day days zone ran =
+    makes_row Meta 0 (record meta_table { tree = 0 }) meta_terms 6 meta_insert _ (meta_row 1 first_day days zone) refl refl meta_insert_is meta_insert_plain refl refl refl (λ new. refl)
+    (stored_meta first_day days zone) (λ e. omega (arith, e)) old new ran
+
+abbrev cause_insert : List ℕ
+cause_insert = codes "INSERT INTO cause (code, name) VALUES (?1, ?2)"
+
+abbrev cause_terms : List Term
+cause_terms = col 0 0 ∷ lit Null ∷ col 0 1 ∷ []
+
+cause_insert_is : command_of (understood book_schema cause_insert) ≡ Insert 1 (Values cause_terms 3)
+unfolding understood everything
+cause_insert_is = refl
+
+cause_insert_plain : IsPlain (understood book_schema cause_insert)
+unfolding understood everything
+cause_insert_plain = (refl, refl)
+
+stored_cause : (code : ℕ) (name : List ℕ) (rows : List Row)
+    → shown Cause (with_rowid Chosen rows (cast_row (record cause_table { tree = 1 }) (eval_all cause_terms ((Int (pos code) ∷ Text name ∷ []) ∷ [])))) ≡ cause_row code name
+stored_cause code name rows = rw (cast_int (pos code))
+
+pub adds_cause : (old new : State) (code : ℕ) (name : List ℕ) → Ran cause_insert (Int (pos code) ∷ Text name ∷ []) old new → Makes old new Always (with_row Cause (cause_row code name))
+adds_cause old new code name ran =
+    makes_row Cause 1 (record cause_table { tree = 1 }) cause_terms 3 cause_insert _ (cause_row code name) refl refl cause_insert_is cause_insert_plain refl refl refl (λ new. refl)
+    (stored_cause code name) (λ e. omega (arith, e)) old new ran
+
+abbrev node_insert : List ℕ
+node_insert = codes "INSERT INTO node (id, name, kind, feeder) VALUES (?1, ?2, ?3, ?4)"
+
+abbrev node_terms : List Term
+node_terms = col 0 0 ∷ lit Null ∷ col 0 1 ∷ col 0 2 ∷ col 0 3 ∷ []
+
+node_insert_is : command_of (understood book_schema node_insert) ≡ Insert 2 (Values node_terms 5)
+unfolding understood everything
+node_insert_is = refl
+
+node_insert_plain : IsPlain (understood book_schema node_insert)
+unfolding understood everything
+node_insert_plain = (refl, refl)
+
+stored_node : (id : ℕ) (name : List ℕ) (kind : ℕ) (feeder : ℕ) (rows : List Row)
+    → shown Node (with_rowid Chosen rows (cast_row (record node_table { tree = 3 }) (eval_all node_terms ((Int (pos id) ∷ Text name ∷ Int (pos kind) ∷ Int (pos feeder) ∷ []) ∷ [])))) ≡ node_row id name kind feeder
+stored_node id name kind feeder rows = rw (cast_int (pos id), cast_int (pos kind), cast_int (pos feeder))
+
+pub adds_node : (old new : State) (id : ℕ) (name : List ℕ) (kind : ℕ) (feeder : ℕ) → Ran node_insert (Int (pos id) ∷ Text name ∷ Int (pos kind) ∷ Int (pos feeder) ∷ []) old new → Makes old new Always (with_row Node (node_row id name kind feeder))
+adds_node old new id name kind feeder ran =
+    makes_row Node 2 (record node_table { tree = 3 }) node_terms 5 node_insert _ (node_row id name kind feeder) refl refl node_insert_is node_insert_plain refl refl refl (λ new. refl)
+    (stored_node id name kind feeder) (λ e. omega (arith, e)) old new ran
+
+abbrev device_insert : List ℕ
+device_insert = codes "INSERT INTO device (id, name, a, b, normal) VALUES (?1, ?2, ?3, ?4, ?5)"
+
+abbrev device_terms : List Term
+device_terms = col 0 0 ∷ lit Null ∷ col 0 1 ∷ col 0 2 ∷ col 0 3 ∷ col 0 4 ∷ []
+
+device_insert_is : command_of (understood book_schema device_insert) ≡ Insert 3 (Values device_terms 6)
+unfolding understood everything
+device_insert_is = refl
+
+device_insert_plain : IsPlain (understood book_schema device_insert)
+unfolding understood everything
+device_insert_plain = (refl, refl)
+
+stored_device : (id : ℕ) (name : List ℕ) (a : ℕ) (b : ℕ) (normal : Pos) (rows : List Row)
+    → shown Device (with_rowid Chosen rows (cast_row (record device_table { tree = 5 }) (eval_all device_terms ((Int (pos id) ∷ Text name ∷ Int (pos a) ∷ Int (pos b) ∷ Int (pos (position_number normal)) ∷ []) ∷ [])))) ≡ device_row id name a b normal
+stored_device id name a b normal rows = rw (cast_int (pos id), cast_int (pos a), cast_int (pos b), cast_int (pos (position_number normal)))
+
+pub adds_device : (old new : State) (id : ℕ) (name : List ℕ) (a : ℕ) (b : ℕ) (normal : Pos) → Ran device_insert (Int (pos id) ∷ Text name ∷ Int (pos a) ∷ Int (pos b) ∷ Int (pos (position_number normal)) ∷ []) old new → Makes old new Always (with_row Device (device_row id name a b normal))
+adds_device old new id name a b normal ran =
+    makes_row Device 3 (record device_table { tree = 5 }) device_terms 6 device_insert _ (device_row id name a b normal) refl refl device_insert_is device_insert_plain refl refl refl (λ new. refl)
+    (stored_device id name a b normal) (λ e. omega (arith, e)) old new ran
+
+abbrev customer_insert : List ℕ
+customer_insert = codes "INSERT INTO customer (id, section, since, until) VALUES (?1, ?2, ?3, ?4)"
+
+abbrev customer_terms : List Term
+customer_terms = col 0 0 ∷ lit Null ∷ col 0 1 ∷ col 0 2 ∷ col 0 3 ∷ []
+
+customer_insert_is : command_of (understood book_schema customer_insert) ≡ Insert 4 (Values customer_terms 5)
+unfolding understood everything
+customer_insert_is = refl
+
+customer_insert_plain : IsPlain (understood book_schema customer_insert)
+unfolding understood everything
+customer_insert_plain = (refl, refl)
+
+stored_customer : (id : ℕ) (section : ℕ) (since : ℕ) (until : Option ℕ) (rows : List Row)
+    → shown Customer (with_rowid Chosen rows (cast_row (record customer_table { tree = 7 }) (eval_all customer_terms ((Int (pos id) ∷ Int (pos section) ∷ Int (pos since) ∷ number_or_null until ∷ []) ∷ [])))) ≡ customer_row id section since until
+stored_customer id section since until rows = rw (cast_int (pos id), cast_int (pos section), cast_int (pos since), cast_optional until)
+
+pub adds_customer : (old new : State) (id : ℕ) (section : ℕ) (since : ℕ) (until : Option ℕ) → Ran customer_insert (Int (pos id) ∷ Int (pos section) ∷ Int (pos since) ∷ number_or_null until ∷ []) old new → Makes old new Always (with_row Customer (customer_row id section since until))
+adds_customer old new id section since until ran =
+    makes_row Customer 4 (record customer_table { tree = 7 }) customer_terms 5 customer_insert _ (customer_row id section since until) refl refl customer_insert_is customer_insert_plain refl refl refl (λ new. refl)
+    (stored_customer id section since until) (λ e. omega (arith, e)) old new ran
+
+abbrev entry_insert : List ℕ
+entry_insert = codes "INSERT INTO entry (id, rev, device, pos, second, cause, crew, kept) VALUES (?1, 1, ?2, ?3, ?4, ?5, ?6, 1)"
+
+abbrev entry_terms : List Term
+entry_terms = col 0 0 ∷ lit Null ∷ lit (Int (pos 1)) ∷ col 0 1 ∷ col 0 2 ∷ col 0 3 ∷ col 0 4 ∷ col 0 5 ∷ lit (Int (pos 1)) ∷ []
+
+entry_insert_is : command_of (understood book_schema entry_insert) ≡ Insert 5 (Values entry_terms 9)
+unfolding understood everything
+entry_insert_is = refl
+
+entry_insert_plain : IsPlain (understood book_schema entry_insert)
+unfolding understood everything
+entry_insert_plain = (refl, refl)
+
+stored_entry : (id : ℕ) (device : ℕ) (position : Pos) (second : ℕ) (cause : ℕ) (crew : List ℕ) (rows : List Row)
+    → shown Entry (with_rowid Chosen rows (cast_row (record entry_table { tree = 8 }) (eval_all entry_terms ((Int (pos id) ∷ Int (pos device) ∷ Int (pos (position_number position)) ∷ Int (pos second) ∷ Int (pos cause) ∷ Text crew ∷ []) ∷ [])))) ≡ entry_row id 1 device position second cause crew true
+stored_entry id device position second cause crew rows = rw (cast_int (pos id), cast_int (pos 1), cast_int (pos device), cast_int (pos (position_number position)), cast_int (pos second), cast_int (pos cause))
+
+pub adds_entry : (old new : State) (id : ℕ) (device : ℕ) (position : Pos) (second : ℕ) (cause : ℕ) (crew : List ℕ) → Ran entry_insert (Int (pos id) ∷ Int (pos device) ∷ Int (pos (position_number position)) ∷ Int (pos second) ∷ Int (pos cause) ∷ Text crew ∷ []) old new → Makes old new Always (with_row Entry (entry_row id 1 device position second cause crew true))
+adds_entry old new id device position second cause crew ran =
+    makes_row Entry 5 (record entry_table { tree = 8 }) entry_terms 9 entry_insert _ (entry_row id 1 device position second cause crew true) refl refl entry_insert_is entry_insert_plain refl refl refl (λ new. refl)
+    (stored_entry id device position second cause crew) (λ e. omega (arith, e)) old new ran
+
+abbrev mark_insert : List ℕ
+mark_insert = codes "INSERT INTO mark (day, engineer) VALUES (?1, ?2)"
+
+abbrev mark_terms : List Term
+mark_terms = col 0 0 ∷ lit Null ∷ col 0 1 ∷ []
+
+mark_insert_is : command_of (understood book_schema mark_insert) ≡ Insert 6 (Values mark_terms 3)
+unfolding understood everything
+mark_insert_is = refl
+
+mark_insert_plain : IsPlain (understood book_schema mark_insert)
+unfolding understood everything
+mark_insert_plain = (refl, refl)
+
+stored_mark : (day : ℕ) (engineer : List ℕ) (rows : List Row)
+    → shown Mark (with_rowid Chosen rows (cast_row (record mark_table { tree = 9 }) (eval_all mark_terms ((Int (pos day) ∷ Text engineer ∷ []) ∷ [])))) ≡ mark_row day engineer
+stored_mark day engineer rows = rw (cast_int (pos day))
+
+pub adds_mark : (old new : State) (day : ℕ) (engineer : List ℕ) → Ran mark_insert (Int (pos day) ∷ Text engineer ∷ []) old new → Makes old new Always (with_row Mark (mark_row day engineer))
+adds_mark old new day engineer ran =
+    makes_row Mark 6 (record mark_table { tree = 9 }) mark_terms 3 mark_insert _ (mark_row day engineer) refl refl mark_insert_is mark_insert_plain refl refl refl (λ new. refl)
+    (stored_mark day engineer) (λ e. omega (arith, e)) old new ran
+
+abbrev command_insert : List ℕ
+command_insert = codes "INSERT INTO cmd (id, ref, body) VALUES (?1, ?2, ?3)"
+
+abbrev command_terms : List Term
+command_terms = col 0 0 ∷ lit Null ∷ col 0 1 ∷ col 0 2 ∷ []
+
+command_insert_is : command_of (understood book_schema command_insert) ≡ Insert 7 (Values command_terms 4)
+unfolding understood everything
+command_insert_is = refl
+
+command_insert_plain : IsPlain (understood book_schema command_insert)
+unfolding understood everything
+command_insert_plain = (refl, refl)
+
+stored_command : (id : ℕ) (reference body : List ℕ) (rows : List Row)
+    → shown Command (with_rowid Chosen rows (cast_row (record command_table { tree = 10 }) (eval_all command_terms ((Int (pos id) ∷ Text reference ∷ Text body ∷ []) ∷ [])))) ≡ command_row id reference body
+stored_command id reference body rows = rw (cast_int (pos id))
+
+pub adds_command : (old new : State) (id : ℕ) (reference body : List ℕ) → Ran command_insert (Int (pos id) ∷ Text reference ∷ Text body ∷ []) old new → Makes old new Always (with_row Command (command_row id reference body))
+adds_command old new id reference body ran =
+    makes_row Command 7 (record command_table { tree = 10 }) command_terms 4 command_insert _ (command_row id reference body) refl refl command_insert_is command_insert_plain refl refl refl (λ new. refl)
+    (stored_command id reference body) (λ e. omega (arith, e)) old new ran
+
+abbrev moved_insert : List ℕ
+moved_insert = codes "INSERT INTO moved (cmd, dim, k, delta) VALUES (?1, ?2, ?3, ?4)"
+
+abbrev moved_terms : List Term
+moved_terms = lit Null ∷ col 0 0 ∷ col 0 1 ∷ col 0 2 ∷ col 0 3 ∷ []
+
+moved_insert_is : command_of (understood book_schema moved_insert) ≡ Insert 8 (Values moved_terms 5)
+unfolding understood everything
+moved_insert_is = refl
+
+moved_insert_plain : IsPlain (understood book_schema moved_insert)
+unfolding understood everything
+moved_insert_plain = (refl, refl)
+
+stored_moved : (id dim key : ℕ) (delta : ℤ) (rows : List Row)
+    → shown Moved (with_rowid Chosen rows (cast_row (record moved_table { tree = 12 }) (eval_all moved_terms ((Int (pos id) ∷ Int (pos dim) ∷ Int (pos key) ∷ Int delta ∷ []) ∷ [])))) ≡ moved_row id dim key delta
+stored_moved id dim key delta rows = rw (cast_null, cast_int (pos id), cast_int (pos dim), cast_int (pos key), cast_int delta)
+
+pub adds_moved : (old new : State) (id dim key : ℕ) (delta : ℤ) → Ran moved_insert (Int (pos id) ∷ Int (pos dim) ∷ Int (pos key) ∷ Int delta ∷ []) old new → Makes old new Always (with_row Moved (moved_row id dim key delta))
+adds_moved old new id dim key delta ran =
+    makes_row Moved 8 (record moved_table { tree = 12 }) moved_terms 5 moved_insert _ (moved_row id dim key delta) refl refl moved_insert_is moved_insert_plain refl refl refl (λ new. refl)
+    (stored_moved id dim key delta) (λ e. omega (arith, e)) old new ran
+
+equal_of : (o : Ordering) → is_eq o ≡ true → o ≡ Equal
+equal_of Less is = absurd (true≢false (sym is))
+equal_of Equal is = refl
+equal_of Greater is = absurd (true≢false (sym is))
+
+any_same : {X : Type 0} (p q : X → Bool) → ((x : X) → p x ≡ q x) → (xs : List X) → list_any p xs ≡ false → list_any q xs ≡ false
+any_same p q same [] none = refl
+any_same p q same (x ∷ xs) none =
+    let parts = or_parts (p x) (list_any p xs) none in
+    let first : q x ≡ false = sym (same x) ∙ parts.0 in
+    let rest : list_any q xs ≡ false = any_same p q same xs parts.1 in
+    rw (first, rest)
+
+none_passing : {X : Type 0} (p : X → Bool) (xs : List X) → list_any p xs ≡ false → filter p xs ≡ []
+none_passing p [] none = refl
+none_passing p (x ∷ xs) none =
+    let parts = or_parts (p x) (list_any p xs) none in
+    let rest : filter p xs ≡ [] = none_passing p xs parts.1 in
+    let first : p x ≡ false = parts.0 in
+    rw (first, rest)
+
+abbrev posting_insert : List ℕ
+posting_insert = codes "INSERT INTO posting (dim, k, amount) VALUES (?1, ?2, 0)"
+
+abbrev posting_terms : List Term
+posting_terms = lit Null ∷ col 0 0 ∷ col 0 1 ∷ lit (Int (pos 0)) ∷ []
+
+posting_insert_is : command_of (understood book_schema posting_insert) ≡ Insert 9 (Values posting_terms 4)
+unfolding understood everything
+posting_insert_is = refl
+
+posting_insert_plain : IsPlain (understood book_schema posting_insert)
+unfolding understood everything
+posting_insert_plain = (refl, refl)
+
+abbrev chosen_posting : ℕ → ℕ → List Row → Row
+chosen_posting dim key rows = with_rowid Chosen rows (cast_row (record posting_table { tree = 14 }) (eval_all posting_terms ((Int (pos dim) ∷ Int (pos key) ∷ []) ∷ [])))
+
+stored_posting : (dim key : ℕ) (rows : List Row) → shown Posting (chosen_posting dim key rows) ≡ posting_row dim key 0
+stored_posting dim key rows = rw (cast_null, cast_int (pos dim), cast_int (pos key), cast_int (pos 0))
+
+posting_numbered : (dim key : ℕ) (rows : List Row) → rowid (chosen_posting dim key rows) ≡ Int (next_rowid rows)
+posting_numbered dim key rows = rw cast_null
+
+-- the row that is put at a free rowid keeps the rowids apart
+apart_more : (rows : List Row) (row : Row) (id : ℤ) → rowid row ≡ Int id → are_fresh rows (row ∷ []) ≡ true → AreApart rows → AreApart (put_row row rows)
+apart_more rows row id numbered fresh apart =
+    let free = free_of rows row fresh in
+    let put = put_fresh row rows free in
+    record {
+      numbers = all-permutation (λ r. IsTrue (is_int (rowid r))) _ _ (IsPermutation-sym _ _ put) (subst (λ v. IsTrue (is_int v)) (sym numbered) refl, apart.numbers);
+      apart = λ other. omega (arith, length_permutation _ _ (IsPermutation-filter (has_rowid other) _ _ put), few other);
+    }
+  where
+    few : (other : ℤ) → length (filter (has_rowid other) (row ∷ rows)) ≤ 1
+    few other = elim (cases_Bool (has_rowid other row)) [
+      | inl here ↦
+          let tie : value_cmp (rowid row) (Int other) ≡ Equal = equal_of _ here in
+          let none : list_any (has_rowid other) rows ≡ false = any_same _ _ (λ r. ap is_eq (alike_right value_cmp_total (rowid row) (Int other) (rowid r) tie)) rows (free_of rows row fresh) in
+          rw (here, none_passing (has_rowid other) rows none) (omega arith)
+      | inr apart_from ↦ rw apart_from (apart.apart other)
+    ]
+
+pub adds_posting : (old new : State) (dim key : ℕ) → Ran posting_insert (Int (pos dim) ∷ Int (pos key) ∷ []) old new → Makes old new Always (with_row Posting (posting_row dim key 0))
+adds_posting old new dim key ran =
+    makes_row_so Posting 9 (record posting_table { tree = 14 }) posting_terms 4 posting_insert _ (posting_row dim key 0) refl refl posting_insert_is posting_insert_plain refl refl refl (λ new. refl)
+    (stored_posting dim key)
+    (λ old new row row_is others put fresh apart. subst AreApart (sym put) (apart_more (old 14) row (next_rowid (old 14)) (ap rowid row_is ∙ posting_numbered dim key (old 14)) fresh apart)) old new ran

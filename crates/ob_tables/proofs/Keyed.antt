@@ -1,0 +1,286 @@
+-- The one row of a key is written anew or taken out.
+use Rattle.std.proofs.Common.{◌≡◌, ◌≢◌, ℕ, pos, ℤ, List, [], ◌∷◌, ◌++◌, map, filter, drop, codes, Bool, true, false, cond, not, ◌&&◌, Option, Some, None, refl, sym, ap, subst, ◌∙◌, arith, slice_get, inl, inr}
+use Rattle.std.specs.Prelude.{if◌then◌else◌}
+use Rattle.std.specs.List.{AllByRecursion, list_all}
+use Rattle.std.specs.List.Sorted.{IsPermutation}
+use Rattle.std.specs.Ordering.{is_eq}
+use Rattle.std.proofs.lemmas.Bool.{cases_Bool}
+use Rattle.std.proofs.lemmas.List.Sorted.{IsPermutation-refl, IsPermutation-map, IsPermutation-trans, IsPermutation-sym, IsPermutation-cons, IsPermutation-middle}
+use Rattle.sqlite_trees.proofs.ListLemmas.{IsPermutation-filter, filter-map}
+use Rattle.sqlite_value.specs.Order.{value_cmp}
+use Rattle.sqlite_schema.specs.Rules.{equal}
+use Rattle.sqlite_sql.specs.Ops.{from_truth}
+use Rattle.sqlite.specs.Ops.{is_true, binary}
+use Rattle.sqlite.specs.Order.{Row, column}
+use Rattle.sqlite.specs.declared.types.Value.{Value}
+use Rattle.sqlite.specs.declared.types.Value.TheVariants.{Null, Int, Text, Real, Blob}
+use Rattle.sqlite.specs.Tree.{put_row, rowid, has_rowid, without_rowid}
+use Rattle.sqlite.specs.Table as sql
+use Rattle.sqlite.specs.Schema.{Schema}
+use Rattle.sqlite.specs.State.{State}
+use Rattle.sqlite.specs.Term.{Term, lit, col, op2, eval_all, holds}
+use Rattle.sqlite.specs.Command.TheVariants.{Update, Delete}
+use Rattle.sqlite.specs.Collation.TheVariants.{Binary}
+use Rattle.sqlite.specs.Program.{given_at}
+use Rattle.sqlite.specs.Listing.{understood}
+use Rattle.sqlite_sql.specs.declared.ops.BinaryOp.TheVariants.{Compare}
+use Rattle.sqlite_sql.specs.declared.ops.CompareOp.TheVariants.{Eq}
+use Rattle.sqlite_schema.specs.declared.schema.Keys.TheVariants.{Enforced}
+use Rattle.sqlite_rules.specs.Action.{works}
+use Rattle.sqlite_rules.specs.Edit.{are_fresh, id_in}
+use Rattle.sqlite_rules.specs.Cast.{cast_row}
+use Rattle.sqlite_tied.specs.Compute.{everything}
+use Rattle.sqlite.proofs.Callers.{IsPlain, command_of, runs_as}
+use Rattle.ob_base.specs.declared.Pos.{Pos}
+use Rattle.ob_tables.specs.Schema.{book_schema, customer_table, entry_table, mark_table}
+use Rattle.ob_tables.specs.Rows.{Columns, Tables, tree_of, shown, AreApart, number, number_or_null, position_number, bit, is_key, change_where, with_change, without_key, customer_row, entry_row, mark_row, serve, correct, withdraw, HasCustomer, HasEntry, HasMark}
+use Rattle.ob_tables.specs.Steps.{Ran, Makes}
+use Rattle.ob_tables.specs.declared.table.Table.{Table}
+use Rattle.ob_tables.specs.declared.table.Table.TheVariants.{Customer, Entry, Mark, Posting}
+use Rattle.ob_tables.proofs.Queries.{whole}
+use Rattle.ob_tables.proofs.Statements.{updated, updated_schema, deleted, deleted_schema}
+use Rattle.ob_tables.proofs.Posting.{single}
+use Rattle.ob_tables.proofs.Put.{put_fresh}
+use Rattle.ob_tables.proofs.Trees.{OthersStay, stays, changes, free_of}
+use Rattle.ob_tables.proofs.Casts.{cast_int, cast_optional}
+
+truth_is : (b : Bool) → is_true (from_truth (Some b)) ≡ b
+truth_is true = refl
+truth_is false = refl
+
+-- SQL's = on a number is the order's tie
+same_test : (v : Value) (n : ℤ) → equal Binary v (Int n) ≡ is_eq (value_cmp v (Int n))
+unfolding binary value_cmp
+same_test Null n = refl
+same_test (Int m) n = truth_is _
+same_test (Real x) n = truth_is _
+same_test (Text t) n = truth_is _
+same_test (Blob b) n = truth_is _
+
+and_true : (b : Bool) → (b && true) ≡ b
+and_true true = refl
+and_true false = refl
+
+filter_alike : {X : Type 0} (p q : X → Bool) → ((x : X) → p x ≡ q x) → (xs : List X) → filter p xs ≡ filter q xs
+filter_alike p q same [] = refl
+filter_alike p q same (x ∷ xs) =
+    ap (λ b. cond b (x ∷ filter p xs) (filter p xs)) (same x) ∙ ap (λ l. cond (q x) (x ∷ l) l) (filter_alike p q same xs)
+
+-- the rows that pass, changed, and the others
+change_parts : {X : Type 0} (p : X → Bool) (f : X → X) (xs : List X) → IsPermutation (map (λ x. if p x then f x else x) xs) (map f (filter p xs) ++ filter (λ x. not (p x)) xs)
+change_parts p f [] = IsPermutation-refl _
+change_parts p f (x ∷ xs) = elim (cases_Bool (p x)) [
+  | inl passes ↦ rw passes (IsPermutation-cons (f x) _ _ (change_parts p f xs))
+  | inr fails ↦ rw fails (IsPermutation-trans _ _ _ (IsPermutation-cons x _ _ (change_parts p f xs)) (IsPermutation-sym _ _ (IsPermutation-middle (map f (filter p xs)) x (filter (λ y. not (p y)) xs))))
+]
+
+-- the table has one row of the key
+record HasOne (table : Table) (key : ℕ) (tables : Tables) (was : Columns) : Type 0 where
+  pub one : filter (is_key key) (tables table) ≡ was ∷ []
+  pub keyed : column was 0 ≡ number key
+
+module _ (table : Table) (fronted : (r : Row) → column (shown table r) 0 ≡ rowid r) (key : ℕ) where
+  abbrev passes : Row → Bool
+  passes r = is_key key (shown table r)
+
+  has_key : (r : Row) → has_rowid (pos key) r ≡ passes r
+  has_key r = sym (same_test (rowid r) (pos key)) ∙ ap (λ v. equal Binary v (number key)) (sym (fronted r)) ∙ sym (and_true (equal Binary (column (shown table r) 0) (number key)))
+
+  -- what is shown of the rows without the key
+  left_shows : (rows : List Row) (ts : List Columns) → IsPermutation (map (shown table) rows) ts → IsPermutation (map (shown table) (without_rowid (pos key) rows)) (filter (λ r. not (is_key key r)) ts)
+  left_shows rows ts held =
+      let left : without_rowid (pos key) rows ≡ filter (λ r. not (passes r)) rows = filter_alike (λ r. not (has_rowid (pos key) r)) (λ r. not (passes r)) (λ r. ap not (has_key r)) rows in
+      let shows : filter (λ r. not (is_key key r)) (map (shown table) rows) ≡ map (shown table) (without_rowid (pos key) rows) = filter-map (λ r. not (is_key key r)) (shown table) rows ∙ ap (map (shown table)) (sym left) in
+      subst (λ l. IsPermutation l (filter (λ r. not (is_key key r)) ts)) shows (IsPermutation-filter (λ r. not (is_key key r)) _ _ held)
+
+  -- the stored row of the key
+  stored_one : (rows : List Row) (ts : List Columns) (was : Columns) → IsPermutation (map (shown table) rows) ts → filter (is_key key) ts ≡ was ∷ [] → (r : Row) × (filter passes rows ≡ r ∷ []) × (shown table r ≡ was)
+  stored_one rows ts was held one = single (shown table) (filter passes rows) was
+      (subst (λ l. IsPermutation l (was ∷ [])) (filter-map (is_key key) (shown table) rows) (subst (IsPermutation (filter (is_key key) (map (shown table) rows))) one (IsPermutation-filter (is_key key) _ _ held)))
+
+  -- the rows that are left and the new one are the rows as they should be
+  shows_anew : (rows : List Row) (ts : List Columns) (was : Columns) (change : Columns → Columns) (anew : Row) → IsPermutation (map (shown table) rows) ts → filter (is_key key) ts ≡ was ∷ [] → shown table anew ≡ change was
+      → IsPermutation (map (shown table) (anew ∷ without_rowid (pos key) rows)) (change_where (is_key key) change ts)
+  shows_anew rows ts was change anew held one is =
+      let parts : IsPermutation (change_where (is_key key) change ts) (change was ∷ filter (λ r. not (is_key key r)) ts) =
+      subst (λ l. IsPermutation (change_where (is_key key) change ts) (map change l ++ filter (λ r. not (is_key key r)) ts)) one (change_parts (is_key key) change ts) in
+      let left : IsPermutation (change was ∷ map (shown table) (without_rowid (pos key) rows)) (change was ∷ filter (λ r. not (is_key key r)) ts) = IsPermutation-cons (change was) _ _ (left_shows rows ts held) in
+      subst (λ c. IsPermutation (c ∷ map (shown table) (without_rowid (pos key) rows)) (change_where (is_key key) change ts)) (sym is) (IsPermutation-trans _ _ _ left (IsPermutation-sym _ _ parts))
+
+module _ (table : Table) (at : ℕ) (base : sql.Table) (tests shows : List Term) (text : List ℕ) (params : Row) (key : ℕ) (needs : Tables → Type 0)
+    (found : slice_get book_schema.tables at ≡ Some (record base { tree = tree_of table })) (plain : IsPlain (understood book_schema text)) (fronted : (r : Row) → column (shown table r) 0 ≡ rowid r)
+    (tested : ◌≡◌ {A = Row → Bool} (λ r. is_key key (shown table r)) (λ r. list_all (holds (params ∷ r ∷ [])) tests)) (same_id : (r : Row) → rowid (eval_all shows (params ∷ r ∷ [])) ≡ rowid r) (other : 14 ≢ tree_of table) (given : given_at [] (tree_of table) ≡ None) where
+  abbrev it : sql.Table
+  it = record base { tree = tree_of table }
+
+  abbrev anew : Row → Row
+  anew r = cast_row it (drop 1 (eval_all shows (params ∷ r ∷ [])))
+
+  -- an UPDATE of the row of a key
+  makes_change : (change : Columns → Columns) → command_of (understood book_schema text) ≡ Update at (record { lets = []; body = whole tests shows (tree_of table) })
+      → ((olds : List Row) (new : Row) → works book_schema Enforced 0 (tree_of table) olds (new ∷ []) ≡ [])
+      → ((tables : Tables) → needs tables → (was : Columns) × HasOne table key tables was × ((r : Row) → shown table r ≡ was → shown table (anew r) ≡ change was))
+      → (old new : State) → Ran text params old new → Makes old new needs (with_change table key change)
+  makes_change change is idle one_of old new ran =
+      let rows = old.now.trees (tree_of table) in
+      let w = λ (has : old.now.schema ≡ book_schema). runs_as text params old new book_schema has (Update at (record { lets = []; body = whole tests shows (tree_of table) })) is plain ran.0 ran.1 in
+      record {
+        live = ran.2.was_open;
+        stays = ran.2.is_open;
+        inside = ran.2.mode;
+        schema = λ has. updated_schema book_schema at it found _ old new _ params ran.0 has (w has) ∙ has;
+        holds = λ has t held need.
+            let one = one_of t need in
+            let stored = stored_one table fronted key rows (t table) one.0 (held.rows table) one.1.one in
+            let r = stored.0 in
+            let passing : filter (λ x. list_all (holds (params ∷ x ∷ [])) tests) rows ≡ r ∷ [] = subst (λ p. filter p rows ≡ r ∷ []) tested stored.1 in
+            let made = updated book_schema at it found tests shows old new _ params ran.0 r given idle passing has (w has) in
+            let id : id_in (rowid (eval_all shows (params ∷ r ∷ []))) ≡ pos key = ap id_in (same_id r ∙ sym (fronted r) ∙ ap (λ (c : Columns). column c 0) stored.2 ∙ one.1.keyed) in
+            let others : OthersStay (tree_of table) new.now.trees old.now.trees = subst (λ (s : Schema). AllByRecursion (λ x. x.tree ≢ tree_of table → new.now.trees x.tree ≡ old.now.trees x.tree) s.tables) has made.0.others in
+            let put : new.now.trees (tree_of table) ≡ put_row (anew r) (without_rowid (pos key) rows) = made.0.row_list ∙ ap (λ n. put_row (anew r) (without_rowid n rows)) id in
+            let fresh : are_fresh (without_rowid (pos key) rows) (anew r ∷ []) ≡ true = subst (λ n. are_fresh (without_rowid n rows) (anew r ∷ []) ≡ true) id made.1 in
+            let moved : IsPermutation (new.now.trees (tree_of table)) (anew r ∷ without_rowid (pos key) rows) = subst (λ l. IsPermutation l (anew r ∷ without_rowid (pos key) rows)) (sym put) (put_fresh (anew r) (without_rowid (pos key) rows) (free_of (without_rowid (pos key) rows) (anew r) fresh)) in
+            changes table old.now.trees new.now.trees (change_where (is_key key) change) t others
+            (IsPermutation-trans _ _ _ (IsPermutation-map (shown table) _ _ moved) (shows_anew table fronted key rows (t table) one.0 change (anew r) (held.rows table) one.1.one (one.2 r stored.2)))
+            (subst AreApart (sym (stays new.now.trees old.now.trees (tree_of table) Posting others other)) held.apart) held;
+      }
+
+  -- a DELETE of the row of a key
+  makes_without : command_of (understood book_schema text) ≡ Delete at (record { lets = []; body = whole tests shows (tree_of table) })
+      → ((olds : List Row) → works book_schema Enforced 0 (tree_of table) olds [] ≡ [])
+      → ((tables : Tables) → needs tables → (was : Columns) × HasOne table key tables was)
+      → (old new : State) → Ran text params old new → Makes old new needs (without_key table key)
+  makes_without is idle one_of old new ran =
+      let rows = old.now.trees (tree_of table) in
+      let w = λ (has : old.now.schema ≡ book_schema). runs_as text params old new book_schema has (Delete at (record { lets = []; body = whole tests shows (tree_of table) })) is plain ran.0 ran.1 in
+      record {
+        live = ran.2.was_open;
+        stays = ran.2.is_open;
+        inside = ran.2.mode;
+        schema = λ has. deleted_schema book_schema at it found _ old new _ params ran.0 has (w has) ∙ has;
+        holds = λ has t held need.
+            let one = one_of t need in
+            let stored = stored_one table fronted key rows (t table) one.0 (held.rows table) one.1.one in
+            let r = stored.0 in
+            let passing : filter (λ x. list_all (holds (params ∷ x ∷ [])) tests) rows ≡ r ∷ [] = subst (λ p. filter p rows ≡ r ∷ []) tested stored.1 in
+            let made = deleted book_schema at it found tests shows old new _ params ran.0 r given idle passing has (w has) in
+            let id : id_in (rowid (eval_all shows (params ∷ r ∷ []))) ≡ pos key = ap id_in (same_id r ∙ sym (fronted r) ∙ ap (λ (c : Columns). column c 0) stored.2 ∙ one.1.keyed) in
+            let others : OthersStay (tree_of table) new.now.trees old.now.trees = subst (λ (s : Schema). AllByRecursion (λ x. x.tree ≢ tree_of table → new.now.trees x.tree ≡ old.now.trees x.tree) s.tables) has made.others in
+            let left : new.now.trees (tree_of table) ≡ without_rowid (pos key) rows = made.row_list ∙ ap (λ n. without_rowid n rows) id in
+            changes table old.now.trees new.now.trees (filter (λ r. not (is_key key r))) t others
+            (subst (λ l. IsPermutation (map (shown table) l) (filter (λ r. not (is_key key r)) (t table))) (sym left) (left_shows table fronted key rows (t table) (held.rows table)))
+            (subst AreApart (sym (stays new.now.trees old.now.trees (tree_of table) Posting others other)) held.apart) held;
+      }
+
+abbrev by_key : List Term
+by_key = op2 (Compare Eq Binary) (col 1 0) (col 0 0) ∷ []
+
+abbrev service_update : List ℕ
+service_update = codes "UPDATE customer SET since = ?2, until = ?3 WHERE id = ?1"
+
+abbrev service_shows : List Term
+service_shows = col 1 0 ∷ col 1 0 ∷ lit Null ∷ col 1 2 ∷ col 0 1 ∷ col 0 2 ∷ []
+
+service_update_is : command_of (understood book_schema service_update) ≡ Update 4 (record { lets = []; body = whole by_key service_shows 7 })
+unfolding understood everything
+service_update_is = refl
+
+service_update_plain : IsPlain (understood book_schema service_update)
+unfolding understood everything
+service_update_plain = (refl, refl)
+
+abbrev customer_anew : Value → Value → ℕ → Option ℕ → Row
+customer_anew id section since until = cast_row (record customer_table { tree = 7 }) (id ∷ Null ∷ section ∷ Int (pos since) ∷ number_or_null until ∷ [])
+
+customer_served : (id section since : ℕ) (until : Option ℕ) → shown Customer (customer_anew (Int (pos id)) (Int (pos section)) since until) ≡ Int (pos id) ∷ Int (pos section) ∷ Int (pos since) ∷ number_or_null until ∷ []
+customer_served id section since until = rw (cast_int (pos id), cast_int (pos section), cast_int (pos since), cast_optional until)
+
+pub sets_service : (old new : State) (id since : ℕ) (until : Option ℕ) → Ran service_update (Int (pos id) ∷ Int (pos since) ∷ number_or_null until ∷ []) old new → Makes old new (HasCustomer id) (with_change Customer id (serve since until))
+sets_service old new id since until ran =
+    makes_change Customer 4 customer_table by_key service_shows service_update _ id (HasCustomer id) refl service_update_plain (λ r. refl) refl (λ r. refl) (λ e. omega (arith, e)) refl (serve since until) service_update_is (λ olds it. refl)
+    (λ t need. (
+      customer_row id need.section need.since need.until,
+      record { one = need.row; keyed = refl },
+      λ r is.
+          ap (λ (c : Columns). shown Customer (customer_anew (column c 0) (column c 1) since until)) is ∙ customer_served id need.section since until,
+    ))
+    old new ran
+
+abbrev correct_update : List ℕ
+correct_update = codes "UPDATE entry SET rev = ?2, pos = ?3, second = ?4, cause = ?5, crew = ?6 WHERE id = ?1"
+
+abbrev correct_shows : List Term
+correct_shows = col 1 0 ∷ col 1 0 ∷ lit Null ∷ col 0 1 ∷ col 1 3 ∷ col 0 2 ∷ col 0 3 ∷ col 0 4 ∷ col 0 5 ∷ col 1 8 ∷ []
+
+correct_update_is : command_of (understood book_schema correct_update) ≡ Update 5 (record { lets = []; body = whole by_key correct_shows 8 })
+unfolding understood everything
+correct_update_is = refl
+
+correct_update_plain : IsPlain (understood book_schema correct_update)
+unfolding understood everything
+correct_update_plain = (refl, refl)
+
+abbrev entry_anew : Value → Value → Value → Value → Value → Value → Value → Value → Row
+entry_anew id revision device position second cause crew kept = cast_row (record entry_table { tree = 8 }) (id ∷ Null ∷ revision ∷ device ∷ position ∷ second ∷ cause ∷ crew ∷ kept ∷ [])
+
+entry_stored : (id revision device position second cause : ℕ) (crew : List ℕ) (kept : ℕ)
+    → shown Entry (entry_anew (Int (pos id)) (Int (pos revision)) (Int (pos device)) (Int (pos position)) (Int (pos second)) (Int (pos cause)) (Text crew) (Int (pos kept)))
+    ≡ Int (pos id) ∷ Int (pos revision) ∷ Int (pos device) ∷ Int (pos position) ∷ Int (pos second) ∷ Int (pos cause) ∷ Text crew ∷ Int (pos kept) ∷ []
+entry_stored id revision device position second cause crew kept =
+    rw (cast_int (pos id), cast_int (pos revision), cast_int (pos device), cast_int (pos position), cast_int (pos second), cast_int (pos cause), cast_int (pos kept))
+
+pub corrects_entry : (old new : State) (id revision : ℕ) (position : Pos) (second cause : ℕ) (crew : List ℕ)
+    → Ran correct_update (Int (pos id) ∷ Int (pos revision) ∷ Int (pos (position_number position)) ∷ Int (pos second) ∷ Int (pos cause) ∷ Text crew ∷ []) old new
+    → Makes old new (HasEntry id) (with_change Entry id (correct revision position second cause crew))
+corrects_entry old new id revision position second cause crew ran =
+    makes_change Entry 5 entry_table by_key correct_shows correct_update _ id (HasEntry id) refl correct_update_plain (λ r. refl) refl (λ r. refl) (λ e. omega (arith, e)) refl (correct revision position second cause crew) correct_update_is (λ olds it. refl)
+    (λ t need. (
+      entry_row id need.revision need.device need.position need.second need.cause need.crew need.kept,
+      record { one = need.row; keyed = refl },
+      λ r is.
+          ap (λ (c : Columns). shown Entry (entry_anew (column c 0) (Int (pos revision)) (column c 2) (Int (pos (position_number position))) (Int (pos second)) (Int (pos cause)) (Text crew) (column c 7))) is
+          ∙ entry_stored id revision need.device (position_number position) second cause crew (bit need.kept),
+    ))
+    old new ran
+
+abbrev withdraw_update : List ℕ
+withdraw_update = codes "UPDATE entry SET rev = ?2, kept = 0 WHERE id = ?1"
+
+abbrev withdraw_shows : List Term
+withdraw_shows = col 1 0 ∷ col 1 0 ∷ lit Null ∷ col 0 1 ∷ col 1 3 ∷ col 1 4 ∷ col 1 5 ∷ col 1 6 ∷ col 1 7 ∷ lit (Int (pos 0)) ∷ []
+
+withdraw_update_is : command_of (understood book_schema withdraw_update) ≡ Update 5 (record { lets = []; body = whole by_key withdraw_shows 8 })
+unfolding understood everything
+withdraw_update_is = refl
+
+withdraw_update_plain : IsPlain (understood book_schema withdraw_update)
+unfolding understood everything
+withdraw_update_plain = (refl, refl)
+
+pub withdraws_entry : (old new : State) (id revision : ℕ) → Ran withdraw_update (Int (pos id) ∷ Int (pos revision) ∷ []) old new → Makes old new (HasEntry id) (with_change Entry id (withdraw revision))
+withdraws_entry old new id revision ran =
+    makes_change Entry 5 entry_table by_key withdraw_shows withdraw_update _ id (HasEntry id) refl withdraw_update_plain (λ r. refl) refl (λ r. refl) (λ e. omega (arith, e)) refl (withdraw revision) withdraw_update_is (λ olds it. refl)
+    (λ t need. (
+      entry_row id need.revision need.device need.position need.second need.cause need.crew need.kept,
+      record { one = need.row; keyed = refl },
+      λ r is.
+          ap (λ (c : Columns). shown Entry (entry_anew (column c 0) (Int (pos revision)) (column c 2) (column c 3) (column c 4) (column c 5) (column c 6) (Int (pos 0)))) is
+          ∙ entry_stored id revision need.device (position_number need.position) need.second need.cause need.crew 0,
+    ))
+    old new ran
+
+abbrev mark_delete : List ℕ
+mark_delete = codes "DELETE FROM mark WHERE day = ?1"
+
+mark_delete_is : command_of (understood book_schema mark_delete) ≡ Delete 6 (record { lets = []; body = whole by_key (col 1 0 ∷ []) 9 })
+unfolding understood everything
+mark_delete_is = refl
+
+mark_delete_plain : IsPlain (understood book_schema mark_delete)
+unfolding understood everything
+mark_delete_plain = (refl, refl)
+
+pub drops_mark : (old new : State) (day : ℕ) → Ran mark_delete (Int (pos day) ∷ []) old new → Makes old new (HasMark day) (without_key Mark day)
+drops_mark old new day ran =
+    makes_without Mark 6 mark_table by_key (col 1 0 ∷ []) mark_delete _ day (HasMark day) refl mark_delete_plain (λ r. refl) refl (λ r. refl) (λ e. omega (arith, e)) refl mark_delete_is (λ olds. refl)
+    (λ t need. (mark_row day need.0, record { one = need.1; keyed = refl })) old new ran

@@ -1,0 +1,13 @@
+pub mod Adding
+pub mod Answers
+pub mod Casts
+pub mod Creating
+pub mod Finding
+pub mod Keyed
+pub mod Posting
+pub mod Put
+pub mod Queries
+pub mod Running
+pub mod Silence
+pub mod Statements
+pub mod Trees

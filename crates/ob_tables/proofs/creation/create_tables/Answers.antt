@@ -1,0 +1,38 @@
+use Rattle.std.proofs.Common.{◌≡◌, subst, ◌∙◌, refl, arith}
+use Rattle.sqlite.specs.State.{HasCleanDisk}
+use Rattle.sqlite.specs.Held.{state}
+use Rattle.ob_tables.proofs.Silence.{silent_same, silent_then}
+use Rattle.ob_tables.proofs.Creating.{up_to_same, up_to_then, makes_book}
+use Rattle.ob_tables.specs.Creation.{MakesUpTo}
+use Rattle.ob_tables.proofs.creation.create_tables.Goals as goal
+
+pub tables-init : goal.tables-init
+tables-init g c =
+    let old = state g.S.Store c.args.tx.now.conn.now in
+    (refl, silent_same old, λ clean inside. up_to_same old inside)
+
+pub tables-preserved : goal.tables-preserved
+tables-preserved g c =
+    let old = state g.S.Store c.args.tx.now.conn.now in
+    let mid = state g.S.Store c.tables.tx.conn.now in
+    let new = state g.S.Store c.create_table.new.tx.conn.now in
+    let step = c.create_table.ensures in (
+      step.same_reference ∙ c.tables.invariant.0,
+      silent_then old mid new c.tables.invariant.1 step.silent,
+      λ late inside.
+          let early : HasCleanDisk mid = omega (arith, step.silent.survives.clean, late) in
+          let was = c.tables.invariant.2 early inside in
+          up_to_then old mid new c.tables.at _ c.table_after.ensures was (c.in_ok-create_table.ensures.creates late was.inside),
+    )
+
+pub returns : goal.returns
+returns g c =
+    let old = state g.S.Store c.args.tx.now.conn.now in
+    let now = state g.S.Store c.tables.tx.conn.now in
+    let all : c.tables.at ≡ 10 = omega (arith, c.tables-test.false, c.tables.auto.at-end) in
+    record {
+      same_reference = c.tables.invariant.0;
+      silent = c.tables.invariant.1;
+      faults = tt;
+      creates = λ clean inside. makes_book old now (subst (λ n. MakesUpTo 0 n old now) all (c.tables.invariant.2 clean inside));
+    }

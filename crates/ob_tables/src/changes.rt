@@ -1,0 +1,99 @@
+//! The statements that change a row or take one away, each in a function of its own.
+ghost use Rattle.std.specs.Prelude.{◌≡◌, ◌<◌, ◌^◌, IfSome};
+ghost use Rattle.ob_tables.specs.Steps.{Changes};
+ghost use Rattle.ob_tables.specs.Rows.{with_change, serve, HasCustomer, correct, withdraw, HasEntry, without_key, HasMark, with_posting, HasPosting};
+ghost use Rattle.ob_tables.specs.declared.table.Table.{Table as ATable};
+
+use crate::run::{int, large, large_or_null, position, run};
+use ob_base::{Pos, Stop};
+use sqlite::{Alter, Transaction};
+use sqlite_value::value::ValueRef;
+
+/// Gives a customer another service.
+pub fn set_service<S: Alter>(
+    tx: &mut Transaction<'_, S>,
+    no: u32,
+    since: u64,
+    until: Option<u64>,
+) -> Result<(), Stop>
+    requires since { since < 2 ^ 63 }
+    requires until { IfSome until (λ end. end < 2 ^ 63) }
+    ensures { Changes S.Store tx.old.conn tx.new.conn result (HasCustomer no)
+        (with_change ATable.Customer no (serve since until)) }
+{
+    run(
+        tx,
+        "UPDATE customer SET since = ?2, until = ?3 WHERE id = ?1",
+        &[int(no), large(since), large_or_null(until)],
+    )
+}
+
+/// Gives an entry another revision, position, second, cause and crew. It fails where there is no such cause.
+pub fn correct_entry<S: Alter>(
+    tx: &mut Transaction<'_, S>,
+    no: u32,
+    revision: u32,
+    act: Pos,
+    second: u64,
+    cause: u32,
+    crew: &[u8],
+) -> Result<(), Stop>
+    requires second { second < 2 ^ 63 }
+    ensures { Changes S.Store tx.old.conn tx.new.conn result (HasEntry no)
+        (with_change ATable.Entry no (correct revision act second cause crew.now)) }
+{
+    run(
+        tx,
+        "UPDATE entry SET rev = ?2, pos = ?3, second = ?4, cause = ?5, crew = ?6 WHERE id = ?1",
+        &[
+            int(no),
+            int(revision),
+            position(act),
+            large(second),
+            int(cause),
+            ValueRef::Text(crew),
+        ],
+    )
+}
+
+/// Gives an entry another revision, and keeps it no more.
+pub fn withdraw_entry<S: Alter>(
+    tx: &mut Transaction<'_, S>,
+    no: u32,
+    revision: u32,
+) -> Result<(), Stop>
+    ensures { Changes S.Store tx.old.conn tx.new.conn result (HasEntry no)
+        (with_change ATable.Entry no (withdraw revision)) }
+{
+    run(
+        tx,
+        "UPDATE entry SET rev = ?2, kept = 0 WHERE id = ?1",
+        &[int(no), int(revision)],
+    )
+}
+
+/// Takes the mark off a day.
+pub fn drop_mark<S: Alter>(tx: &mut Transaction<'_, S>, day: u32) -> Result<(), Stop>
+    ensures { Changes S.Store tx.old.conn tx.new.conn result (HasMark day)
+        (without_key ATable.Mark day) }
+{
+    run(tx, "DELETE FROM mark WHERE day = ?1", &[int(day)])
+}
+
+/// Gives the amount of a dimension and a key another value.
+pub fn set_posting<S: Alter>(
+    tx: &mut Transaction<'_, S>,
+    dim: u32,
+    key: u32,
+    amount: u64,
+) -> Result<(), Stop>
+    requires small { amount < 2 ^ 63 }
+    ensures { Changes S.Store tx.old.conn tx.new.conn result
+        (HasPosting dim key) (with_posting dim key amount) }
+{
+    run(
+        tx,
+        "UPDATE posting SET amount = ?3 WHERE dim = ?1 AND k = ?2",
+        &[int(dim), int(key), large(amount)],
+    )
+}

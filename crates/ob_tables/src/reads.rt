@@ -1,0 +1,30 @@
+//! The statements that read rows, each in a function of its own.
+ghost use Rattle.std.specs.Prelude.{IfOk};
+ghost use Rattle.sqlite.specs.Held.{state};
+ghost use Rattle.sqlite.specs.State.{HasCleanDisk};
+ghost use Rattle.ob_tables.specs.Steps.{Reads, Finds};
+ghost use Rattle.ob_tables.specs.Rows.{is_reference};
+ghost use Rattle.ob_tables.specs.declared.table.Table.{Table as ATable};
+
+use crate::run::stop_of;
+use ob_base::Stop;
+use sqlite::{Alter, Row, Transaction};
+use sqlite_value::value::ValueRef;
+
+/// The rows of the commands with a reference: one or none. Nothing is changed.
+pub fn find_commands<S: Alter>(
+    tx: &mut Transaction<'_, S>,
+    reference: &[u8],
+) -> Result<Vec<Row>, Stop>
+    ensures reads { Reads S.Store tx.old.conn tx.new.conn result }
+    ensures found { HasCleanDisk (state S.Store tx.new.conn.now) → IfOk result (λ rows.
+        Finds (state S.Store tx.old.conn.now) ATable.Command (is_reference reference.now) rows.items) }
+{
+    match tx.query_all(
+        "SELECT id, ref, body FROM cmd WHERE ref = ?1",
+        &[ValueRef::Text(reference)],
+    ) {
+        Ok(rows) => Ok(rows),
+        Err(error) => Err(stop_of(error)),
+    }
+}

@@ -1,0 +1,78 @@
+//! Running one statement inside a transaction, and its parameters.
+ghost use Rattle.std.specs.Prelude.{◌≡◌, ◌<◌, ◌^◌, pos, IfSome};
+ghost use Rattle.sqlite.specs.Values.{bound};
+ghost use Rattle.sqlite_value.specs.Value.{owned};
+ghost use Rattle.sqlite.specs.declared.types.Value.TheVariants.{Int};
+ghost use Rattle.ob_tables.specs.Steps.{Runs, IsStoreFault};
+ghost use Rattle.ob_tables.specs.Rows.{number, number_or_null, position_number};
+
+use ob_base::{Fault, Pos, Stop};
+use sqlite::{Alter, Error, ErrorCode, Transaction};
+use sqlite_value::value::ValueRef;
+
+/// Runs a statement that answers no rows.
+pub(crate) fn run<S: Alter>(
+    tx: &mut Transaction<'_, S>,
+    sql: &str,
+    params: &[ValueRef<'_>],
+) -> Result<(), Stop>
+    ensures { Runs S.Store sql.now (bound params.now) tx.old.conn tx.new.conn result }
+{
+    match tx.execute(sql, params) {
+        Ok(_) => Ok(()),
+        Err(error) => Err(stop_of(error)),
+    }
+}
+
+/// A failure of the store as a fault.
+pub(crate) fn stop_of(error: Error) -> Stop
+    ensures { IsStoreFault result }
+{
+    match error {
+        Error::SqliteFailure(ErrorCode::OutOfMemory) => Stop::Fault(Fault::OutOfMemory),
+        _ => Stop::Fault(Fault::Store),
+    }
+}
+
+/// A number as a parameter.
+pub(crate) fn int(n: u32) -> ValueRef<'static>
+    ensures { owned result ≡ number n }
+{
+    ValueRef::Int(i64::from(n))
+}
+
+/// A number that may be below 0 as a parameter.
+pub(crate) fn signed(n: i64) -> ValueRef<'static>
+    ensures { owned result ≡ Int n }
+{
+    ValueRef::Int(n)
+}
+
+/// A large number as a parameter.
+pub(crate) fn large(n: u64) -> ValueRef<'static>
+    requires { n < 2 ^ 63 }
+    ensures { owned result ≡ number n }
+{
+    ValueRef::Int(n as i64)
+}
+
+/// A large number, or none, as a parameter.
+pub(crate) fn large_or_null(n: Option<u64>) -> ValueRef<'static>
+    requires { IfSome n (λ it. it < 2 ^ 63) }
+    ensures { owned result ≡ number_or_null n }
+{
+    match n {
+        Some(it) => large(it),
+        None => ValueRef::Null,
+    }
+}
+
+/// A position as a parameter.
+pub(crate) fn position(pos: Pos) -> ValueRef<'static>
+    ensures { owned result ≡ number (position_number pos) }
+{
+    match pos {
+        Pos::Opened => ValueRef::Int(0),
+        Pos::Closed => ValueRef::Int(1),
+    }
+}
