@@ -1,0 +1,20 @@
+use Rattle.std.proofs.Common.{◌≡◌, IsTrue, refl, sym, subst, rules, arith, true}
+use Rattle.sqlite.specs.State.{HasCleanDisk}
+use Rattle.sqlite.specs.Held.{state}
+use Rattle.ob_tables.specs.Steps.{Silent}
+use Rattle.ob_commit.proofs.Commits.{silent_begin, both_ok}
+use Rattle.ob_commit.proofs.act.known_rows.Goals as goal
+
+pub returns-clause-found : goal.returns-clause-found
+returns-clause-found g c clean =
+    let h = c.args.conn.now in
+    let old = state g.S.Store h in
+    let last = state g.S.Store c.find_commands.new.tx.conn.now in
+    let end = c.drop-tx.new.self.0 in
+    let same : end ≡ c.conn-1.given.0 = search rules in
+    let done : HasCleanDisk (state g.S.Store end) = subst (λ x. HasCleanDisk (state g.S.Store x)) (sym same) clean in
+    let late : HasCleanDisk last = omega (arith, c.drop-tx.ensures.survives.clean, done) in
+    let quiet : Silent old last = silent_begin g.S.Store h last ((rw c.transaction-tx.ensures.begun at c.find_commands.ensures.silent) refl) in
+    let first : HasCleanDisk old = omega (arith, quiet.survives.clean, late) in
+    both_ok c.find_commands.result (rw c.transaction-tx.ensures.begun at (c.find_commands.ensures.live late)) (rw c.transaction-tx.ensures.begun at (c.find_commands.ensures.found late))
+    (λ rows live found t keeps. let was = keeps.settled first live in found was.schema t was.holds)
