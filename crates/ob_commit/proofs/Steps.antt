@@ -1,5 +1,5 @@
 -- Step after step inside a transaction.
-use Rattle.std.proofs.Common.{◌≡◌, ℕ, ◌<◌, ◌+◌, zero, suc, List, [], ◌∷◌, length, take, get_or, fold, refl, sym, ap, subst, ◌∙◌, arith, IsTrue, inl, inr}
+use Rattle.std.proofs.Common.{◌≡◌, ℕ, ◌<◌, ◌+◌, zero, suc, List, [], ◌∷◌, length, take, get_or, fold, refl, sym, subst, arith}
 use Rattle.std.specs.Prelude.{Result, Ok, Err, OnOk}
 use Rattle.sqlite.specs.State.{State}
 use Rattle.ob_post.specs.Keys.{dim_number}

@@ -1,11 +1,11 @@
 -- What the amounts of a command make of the tables.
-use Rattle.std.specs.Prelude.{◌≡◌, ℕ, ◌^◌, ◌<◌, ℤ, pos, ◌+ℤ◌, ◌≤ℤ◌, ◌<ℤ◌, List, [], ◌∷◌, ⊤, fold}
+use Rattle.std.specs.Prelude.{ℕ, ◌^◌, ◌<◌, ℤ, pos, ◌+ℤ◌, ◌≤ℤ◌, ◌<ℤ◌, List, [], ◌∷◌, ⊤, fold}
 use Rattle.std.specs.Int.RustNames.{unsigned_abs}
 use Rattle.ob_post.specs.Keys.{dim_number, IsKey}
 use Rattle.ob_post.specs.Postings.{PostedAmounts, amount_of, day_count}
 use Rattle.ob_post.specs.declared.Moved.{Moved}
-use Rattle.ob_tables.specs.Rows.{Tables, HasPosting, with_row, command_row, moved_row, with_posting}
-use Rattle.ob_tables.specs.declared.table.Table.TheVariants.{Command, Moved as Moves}
+use Rattle.ob_tables.specs.Rows.{Tables, HasPosting, with_row, moved_row, with_posting}
+use Rattle.ob_tables.specs.declared.table.Table.TheVariants.{Moved as Moves}
 
 -- the amount under the key of a row once the row has moved it
 abbrev pub moved_to : PostedAmounts → Moved → ℤ
@@ -32,11 +32,3 @@ with_moves id p moves t = fold (λ t m. with_move id p m t) t moves
 abbrev pub HasRows : ℕ → PostedAmounts → List Moved → Tables → Type 0
 HasRows id p [] t = ⊤
 HasRows id p (m ∷ ms) t = HasPosting (dim_number m.dim) m.key t × HasRows id p ms (with_move id p m t)
-
--- the tables with an accepted command and what it moved
-abbrev pub with_act : ℕ → List ℕ → List ℕ → PostedAmounts → List Moved → Tables → Tables
-with_act id reference body p moves t = with_moves id p moves (with_row Command (command_row id reference body) t)
-
--- each amount has its row in the tables before an accepted command
-abbrev pub HasRowsFor : ℕ → List ℕ → List ℕ → PostedAmounts → List Moved → Tables → Type 0
-HasRowsFor id reference body p moves t = HasRows id p moves (with_row Command (command_row id reference body) t)

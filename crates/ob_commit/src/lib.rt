@@ -9,6 +9,6 @@ mod act;
 mod change;
 mod moves;
 
-pub use act::{commit_act, known_rows, write_act};
+pub use act::{Act, commit_act, known_rows, write_act};
 pub use change::{Change, write_change};
 pub use moves::{write_move, write_moves};

@@ -1,8 +1,8 @@
-use Rattle.std.proofs.Common.{◌≡◌, IsTrue, refl, subst, rules, true}
+use Rattle.std.proofs.Common.{◌≡◌, refl, subst, rules, true}
 use Rattle.sqlite.specs.State.{HasCleanDisk}
 use Rattle.sqlite.specs.Held.{state}
 use Rattle.ob_tables.specs.Steps.{Silent, Makes}
-use Rattle.ob_commit.specs.Moves.{HasRowsFor, with_act}
+use Rattle.ob_commit.specs.Acts.{NeedsRows, with_act}
 use Rattle.ob_commit.specs.Keeps.{Keeps, KeepsEither}
 use Rattle.ob_commit.proofs.Commits.{silent_begin, committed, failed}
 use Rattle.ob_commit.proofs.act.commit_act.Goals as goal
@@ -13,8 +13,8 @@ returns-in-Ok-clause-done g c t keeps needed =
     let old = state g.S.Store h in
     let last = state g.S.Store c.write_act.new.tx.conn.now in
     let end = c.commit.new.self.0 in
-    let needs = HasRowsFor c.args.no c.args.reference.now c.args.body.now c.args.postings.now c.args.moves.now in
-    let change = with_act c.args.no c.args.reference.now c.args.body.now c.args.postings.now c.args.moves.now in
+    let needs = NeedsRows c.args.postings.now c.args.act.now in
+    let change = with_act c.args.postings.now c.args.act.now in
     let same : end ≡ c.conn-2-1.given.0 = search rules in
     let quiet : Silent old last = silent_begin g.S.Store h last (rw c.transaction-tx.ensures.begun at c.write_act.ensures.changes.silent) in
     let makes : HasCleanDisk last → Makes (record old { in_transaction = true }) last needs change = λ late. (rw c.transaction-tx.ensures.begun at (c.in_ok-write_act.ensures.changes.makes late)) refl in
@@ -27,8 +27,8 @@ returns-in-Err-clause-either g c t keeps needed =
     let old = state g.S.Store h in
     let last = state g.S.Store c.write_act.new.tx.conn.now in
     let end = c.commit.new.self.0 in
-    let needs = HasRowsFor c.args.no c.args.reference.now c.args.body.now c.args.postings.now c.args.moves.now in
-    let change = with_act c.args.no c.args.reference.now c.args.body.now c.args.postings.now c.args.moves.now in
+    let needs = NeedsRows c.args.postings.now c.args.act.now in
+    let change = with_act c.args.postings.now c.args.act.now in
     let same : end ≡ c.conn-2-1.given.0 = search rules in
     let quiet : Silent old last = silent_begin g.S.Store h last (rw c.transaction-tx.ensures.begun at c.write_act.ensures.changes.silent) in
     let makes : HasCleanDisk last → Makes (record old { in_transaction = true }) last needs change = λ late. (rw c.transaction-tx.ensures.begun at (c.in_ok-write_act.ensures.changes.makes late)) refl in

@@ -1,4 +1,4 @@
-use Rattle.std.proofs.Common.{◌≡◌, IsTrue, refl, sym, subst, rules, arith, true}
+use Rattle.std.proofs.Common.{◌≡◌, refl, sym, subst, rules, arith}
 use Rattle.sqlite.specs.State.{HasCleanDisk}
 use Rattle.sqlite.specs.Held.{state}
 use Rattle.ob_tables.specs.Steps.{Silent}

@@ -1,4 +1,4 @@
-use Rattle.std.proofs.Common.{◌≡◌, IsTrue, arith, rules, to_z-of_z, w64, FitsSigned}
+use Rattle.std.proofs.Common.{arith, rules, to_z-of_z, w64, FitsSigned}
 use Rattle.std.specs.Int.RustNames.{unsigned_abs}
 use Rattle.sqlite.specs.State.{HasCleanDisk}
 use Rattle.sqlite.specs.Held.{state}
@@ -7,7 +7,7 @@ use Rattle.ob_tables.specs.Steps.{Makes}
 use Rattle.ob_tables.specs.Rows.{Always, HasPosting, with_row, moved_row, with_posting}
 use Rattle.ob_tables.specs.declared.table.Table.TheVariants.{Moved}
 use Rattle.ob_tables.proofs.Silence.{silent_then}
-use Rattle.ob_commit.specs.Moves.{with_move, moved_to}
+use Rattle.ob_commit.specs.Moves.{moved_to}
 use Rattle.ob_commit.proofs.Steps.{on_ok, makes_then}
 use Rattle.ob_commit.proofs.moves.write_move.Goals as goal
 

@@ -1,4 +1,4 @@
-use Rattle.std.proofs.Common.{◌≡◌, ◌<◌, length, take, IsTrue, sym, ◌∙◌, refl, arith}
+use Rattle.std.proofs.Common.{◌<◌, length, ◌∙◌, refl, arith}
 use Rattle.sqlite.specs.State.{HasCleanDisk}
 use Rattle.sqlite.specs.Held.{state}
 use Rattle.ob_tables.proofs.Silence.{silent_same, silent_then}
