@@ -30,6 +30,10 @@ pub record KeepsEither (s : State) (t u : Tables) : Type 0 where
   pub settled : HasCleanDisk s → IsTrue s.is_open → IsSettled s t
   pub left : HasCleanDisk s → (trees : Trees) → s.may_leave trees → Leaves t trees ⊎ Leaves u trees
 
+-- the tables with the change, of tables that the store kept and that were as is needed
+abbrev pub LeavesChanged : State → (Tables → Type 0) → (Tables → Tables) → Trees → Type 0
+LeavesChanged s needs change trees = (t : Tables) → Keeps s t → needs t → Leaves (change t) trees
+
 module _ {S : Type 0} (g : Ghosts S) where
   -- statements inside a transaction of an open store changed the tables so, where they were as is needed, or one
   -- failed; nothing was committed

@@ -1,13 +1,13 @@
 //! The rows of a command, committed together.
 ghost use Rattle.std.specs.Prelude.{◌≡◌, false, OnOk, IfOk, IfErr, IsPermutation, filter};
 ghost use Rattle.sqlite.specs.Held.{state};
-ghost use Rattle.sqlite.specs.State.{HasCleanDisk};
+ghost use Rattle.sqlite.specs.State.{HasCleanDisk, Survives};
 ghost use Rattle.ob_base.specs.Stop.{out_of_memory};
 ghost use Rattle.ob_tables.specs.Steps.{Changes, IsStoreFault};
 ghost use Rattle.ob_tables.specs.Rows.{Tables, is_reference};
 ghost use Rattle.ob_tables.specs.declared.table.Table.{Table as ATable};
 ghost use Rattle.ob_commit.specs.Acts.{CanWrite, NeedsRows, with_act};
-ghost use Rattle.ob_commit.specs.Keeps.{Keeps, KeepsEither};
+ghost use Rattle.ob_commit.specs.Keeps.{Keeps, KeepsEither, LeavesChanged};
 
 use crate::change::{Change, write_change};
 use crate::moves::write_moves;
@@ -52,6 +52,7 @@ pub fn known_rows<S: Alter>(conn: &mut Connection<S>, reference: &[u8]) -> Resul
     requires mode { conn.old.in_transaction ≡ false }
     ensures mode { conn.new.in_transaction ≡ false }
     ensures faults { IfErr result IsStoreFault }
+    ensures survives { Survives (state S.Store conn.old) (state S.Store conn.new) (λ _. ⊥) }
     ensures kept { (t : Tables) → Keeps (state S.Store conn.old) t → Keeps (state S.Store conn.new) t }
     ensures found { HasCleanDisk (state S.Store conn.new)
         → IfOk result (λ rows. (t : Tables) → Keeps (state S.Store conn.old) t
@@ -78,6 +79,9 @@ pub fn commit_act<S: Alter>(
     ensures either { IfErr result (λ stop. (t : Tables) → Keeps (state S.Store conn.old) t
         → NeedsRows postings.now act.now t
         → KeepsEither (state S.Store conn.new) t (with_act postings.now act.now t)) }
+    // a crash leaves no more than before, but for the rows of the command
+    ensures survives { Survives (state S.Store conn.old) (state S.Store conn.new)
+        (LeavesChanged (state S.Store conn.old) (NeedsRows postings.now act.now) (with_act postings.now act.now)) }
 {
     let mut tx = conn.transaction();
     write_act(&mut tx, act, postings)?;
