@@ -1,6 +1,7 @@
 -- The tables of a book are made one after another.
 use Rattle.std.specs.Prelude.{◌≡◌, ℕ, ◌<◌, List, [], ◌++◌, take, fold, codes, Result, IsTrue, IfErr, OnOk}
 use Rattle.std.specs.List.{AllByRecursion}
+use Rattle.std.specs.Borrow.{MutBor}
 use Rattle.sqlite_trees.specs.declared.store.Store.{Ghosts}
 use Rattle.sqlite.specs.Schema.{Schema}
 use Rattle.sqlite.specs.Change.{created}
@@ -92,9 +93,10 @@ pub record MakesBook (old new : State) : Type 0 where
 
 module _ {S : Type 0} (g : Ghosts S) where
   -- statements inside a transaction made this, or one failed; nothing was committed
-  pub record Creates {X : Type 0} (old new : Held S) (result : Result X Stop)
+  pub record Creates {X : Type 0} (old new : MutBor (Held S)) (result : Result X Stop)
       (Made : State → State → Type 0) : Type 0 where
-    pub silent : Silent (state g old) (state g new)
+    pub same_reference : new.ghost_name ≡ old.ghost_name
+    pub silent : Silent (state g old.now) (state g new.now)
     pub faults : IfErr result IsStoreFault
-    pub creates : HasCleanDisk (state g new) → OnOk result (IsTrue (state g old).in_transaction
-        → Made (state g old) (state g new))
+    pub creates : HasCleanDisk (state g new.now) → OnOk result (IsTrue (state g old.now).in_transaction
+        → Made (state g old.now) (state g new.now))

@@ -167,8 +167,9 @@ with_change table id change = with_table table (change_where (is_key id) change)
 abbrev pub without_key : Table → ℕ → Tables → Tables
 without_key table id = with_table table (filter (λ r. not (is_key id r)))
 
+-- the amount of this dimension and key is another
 abbrev pub with_amount : ℕ → ℕ → ℕ → List Columns → List Columns
-with_amount dim key amount = map (λ r. if is_posting dim key r then posting_row dim key amount else r)
+with_amount dim key amount = change_where (is_posting dim key) (λ r. posting_row dim key amount)
 
 abbrev pub with_posting : ℕ → ℕ → ℕ → Tables → Tables
 with_posting dim key amount = with_table Posting (with_amount dim key amount)

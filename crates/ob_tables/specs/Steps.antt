@@ -1,6 +1,8 @@
 -- What statements inside a transaction make of the tables.
-use Rattle.std.specs.Prelude.{◌≡◌, ◌⊎◌, ℕ, List, Result, IsTrue, Ok, true, IfErr, OnOk}
+use Rattle.std.specs.Prelude.{◌≡◌, ◌⊎◌, ℕ, List, Result, IsTrue, Ok, true, IfErr, OnOk, Bool, filter}
+use Rattle.std.specs.List.Sorted.{IsPermutation}
 use Rattle.sqlite.specs.Order.{Row}
+use Rattle.std.specs.Borrow.{MutBor}
 use Rattle.sqlite_trees.specs.declared.store.Store.{Ghosts}
 use Rattle.sqlite.specs.Held.{Held, state}
 use Rattle.sqlite.specs.State.{State, HasCleanDisk, Survives, KeepsCommit, Executes, Shows}
@@ -9,7 +11,8 @@ use Rattle.ob_base.specs.declared.stop.Stop.{Stop}
 use Rattle.ob_base.specs.declared.stop.Stop.TheVariants.{Fault}
 use Rattle.ob_base.specs.declared.stop.Fault.TheVariants.{Store}
 use Rattle.ob_tables.specs.Schema.{book_schema}
-use Rattle.ob_tables.specs.Rows.{Tables, Holds}
+use Rattle.ob_tables.specs.Rows.{Columns, Tables, Holds, Always}
+use Rattle.ob_tables.specs.declared.table.Table.{Table}
 
 -- memory was refused, or the store failed
 abbrev pub IsStoreFault : Stop → Type 0
@@ -33,19 +36,36 @@ pub record Makes (old new : State) (needs : Tables → Type 0) (change : Tables 
   pub holds : old.now.schema ≡ book_schema → (tables : Tables) → Holds old.now.trees tables → needs tables
       → Holds new.now.trees (change tables)
 
+-- these are the rows of a table that pass, in some order
+abbrev pub Finds : State → Table → (Columns → Bool) → List Row → Type 0
+Finds s table test rows = s.now.schema ≡ book_schema → (tables : Tables) → Holds s.now.trees tables
+    → IsPermutation (filter test (tables table)) rows
+
 module _ {S : Type 0} (g : Ghosts S) where
   -- a text ran inside a transaction, or failed; nothing was committed
-  pub record Runs {X : Type 0} (sql : List ℕ) (params : Row) (old new : Held S) (result : Result X Stop) : Type 0 where
-    pub silent : Silent (state g old) (state g new)
+  pub record Runs {X : Type 0} (sql : List ℕ) (params : Row) (old new : MutBor (Held S)) (result : Result X Stop) : Type 0 where
+    pub same_reference : new.ghost_name ≡ old.ghost_name
+    pub silent : Silent (state g old.now) (state g new.now)
     pub faults : IfErr result IsStoreFault
-    pub ran : HasCleanDisk (state g new) → OnOk result (IsTrue (state g old).in_transaction
-        → Ran sql params (state g old) (state g new))
+    pub ran : HasCleanDisk (state g new.now) → OnOk result (IsTrue (state g old.now).in_transaction
+        → Ran sql params (state g old.now) (state g new.now))
 
   -- a statement inside a transaction changed the tables so, where they were as is needed, or it failed;
   -- nothing was committed
-  pub record Changes {X : Type 0} (old new : Held S) (result : Result X Stop) (needs : Tables → Type 0)
+  pub record Changes {X : Type 0} (old new : MutBor (Held S)) (result : Result X Stop) (needs : Tables → Type 0)
       (change : Tables → Tables) : Type 0 where
-    pub silent : Silent (state g old) (state g new)
+    pub same_reference : new.ghost_name ≡ old.ghost_name
+    pub silent : Silent (state g old.now) (state g new.now)
     pub faults : IfErr result IsStoreFault
-    pub makes : HasCleanDisk (state g new) → OnOk result (IsTrue (state g old).in_transaction
-        → Makes (state g old) (state g new) needs change)
+    pub makes : HasCleanDisk (state g new.now) → OnOk result (IsTrue (state g old.now).in_transaction
+        → Makes (state g old.now) (state g new.now) needs change)
+
+  -- a query inside a transaction answered and changed nothing, or it failed; nothing was committed
+  pub record Reads {X : Type 0} (old new : MutBor (Held S)) (result : Result X Stop) : Type 0 where
+    pub same_reference : new.ghost_name ≡ old.ghost_name
+    pub silent : IsTrue (state g old.now).in_transaction → Silent (state g old.now) (state g new.now)
+    pub faults : IfErr result IsStoreFault
+    -- whatever the schema
+    pub live : HasCleanDisk (state g new.now) → OnOk result (IsTrue (state g old.now).is_open)
+    pub stays : HasCleanDisk (state g new.now) → OnOk result ((state g old.now).now.schema ≡ book_schema
+        → IsTrue (state g old.now).in_transaction → Makes (state g old.now) (state g new.now) Always (λ tables. tables))

@@ -1,18 +1,7 @@
 //! The statements that change a row or take one away, each in a function of its own.
 ghost use Rattle.std.specs.Prelude.{◌≡◌, ◌<◌, ◌^◌, IfSome};
 ghost use Rattle.ob_tables.specs.Steps.{Changes};
-ghost use Rattle.ob_tables.specs.Rows.{
-  with_change,
-  serve,
-  HasCustomer,
-  correct,
-  withdraw,
-  HasEntry,
-  without_key,
-  HasMark,
-  with_posting,
-  HasPosting,
-};
+ghost use Rattle.ob_tables.specs.Rows.{with_change, serve, HasCustomer, correct, withdraw, HasEntry, without_key, HasMark, with_posting, HasPosting};
 ghost use Rattle.ob_tables.specs.declared.table.Table.{Table as ATable};
 
 use crate::run::{int, large, large_or_null, position, run};
@@ -29,8 +18,7 @@ pub fn set_service<S: Alter>(
 ) -> Result<(), Stop>
     requires since { since < 2 ^ 63 }
     requires until { IfSome until (λ end. end < 2 ^ 63) }
-    ensures same_reference { tx.new.conn.ghost_name ≡ tx.old.conn.ghost_name }
-    ensures changes { Changes S.Store tx.old.conn.now tx.new.conn.now result (HasCustomer no)
+    ensures { Changes S.Store tx.old.conn tx.new.conn result (HasCustomer no)
         (with_change ATable.Customer no (serve since until)) }
 {
     run(
@@ -51,8 +39,7 @@ pub fn correct_entry<S: Alter>(
     crew: &[u8],
 ) -> Result<(), Stop>
     requires second { second < 2 ^ 63 }
-    ensures same_reference { tx.new.conn.ghost_name ≡ tx.old.conn.ghost_name }
-    ensures changes { Changes S.Store tx.old.conn.now tx.new.conn.now result (HasEntry no)
+    ensures { Changes S.Store tx.old.conn tx.new.conn result (HasEntry no)
         (with_change ATable.Entry no (correct revision act second cause crew.now)) }
 {
     run(
@@ -75,8 +62,7 @@ pub fn withdraw_entry<S: Alter>(
     no: u32,
     revision: u32,
 ) -> Result<(), Stop>
-    ensures same_reference { tx.new.conn.ghost_name ≡ tx.old.conn.ghost_name }
-    ensures changes { Changes S.Store tx.old.conn.now tx.new.conn.now result (HasEntry no)
+    ensures { Changes S.Store tx.old.conn tx.new.conn result (HasEntry no)
         (with_change ATable.Entry no (withdraw revision)) }
 {
     run(
@@ -88,8 +74,7 @@ pub fn withdraw_entry<S: Alter>(
 
 /// Takes the mark off a day.
 pub fn drop_mark<S: Alter>(tx: &mut Transaction<'_, S>, day: u32) -> Result<(), Stop>
-    ensures same_reference { tx.new.conn.ghost_name ≡ tx.old.conn.ghost_name }
-    ensures changes { Changes S.Store tx.old.conn.now tx.new.conn.now result (HasMark day)
+    ensures { Changes S.Store tx.old.conn tx.new.conn result (HasMark day)
         (without_key ATable.Mark day) }
 {
     run(tx, "DELETE FROM mark WHERE day = ?1", &[int(day)])
@@ -103,8 +88,7 @@ pub fn set_posting<S: Alter>(
     amount: u64,
 ) -> Result<(), Stop>
     requires small { amount < 2 ^ 63 }
-    ensures same_reference { tx.new.conn.ghost_name ≡ tx.old.conn.ghost_name }
-    ensures changes { Changes S.Store tx.old.conn.now tx.new.conn.now result
+    ensures { Changes S.Store tx.old.conn tx.new.conn result
         (HasPosting dim key) (with_posting dim key amount) }
 {
     run(

@@ -9,8 +9,7 @@ use sqlite::{Alter, Transaction};
 
 /// Makes the ten tables, without rows. It fails where one of them stands already.
 pub fn create_tables<S: Alter>(tx: &mut Transaction<'_, S>) -> Result<(), Stop>
-    ensures same_reference { tx.new.conn.ghost_name ≡ tx.old.conn.ghost_name }
-    ensures creates { Creates S.Store tx.old.conn.now tx.new.conn.now result MakesBook }
+    ensures { Creates S.Store tx.old.conn tx.new.conn result MakesBook }
 {
     'tables: for at in 0..10 {
         create_table(tx, table_after(at))?;
@@ -39,8 +38,7 @@ fn table_after(count: usize) -> Table
 
 /// Makes a table after those before it.
 fn create_table<S: Alter>(tx: &mut Transaction<'_, S>, table: Table) -> Result<(), Stop>
-    ensures same_reference { tx.new.conn.ghost_name ≡ tx.old.conn.ghost_name }
-    ensures creates { Creates S.Store tx.old.conn.now tx.new.conn.now result
+    ensures { Creates S.Store tx.old.conn tx.new.conn result
         (MakesUpTo (before table) (before table + 1)) }
 {
     run(tx, text_of(table), &[])

@@ -1,20 +1,7 @@
 //! The statements that add a row, each in a function of its own.
 ghost use Rattle.std.specs.Prelude.{◌≡◌, ◌<◌, ◌^◌, true, IfSome};
 ghost use Rattle.ob_tables.specs.Steps.{Changes};
-ghost use Rattle.ob_tables.specs.Rows.{
-  Always,
-  with_row,
-  meta_row,
-  cause_row,
-  node_row,
-  device_row,
-  customer_row,
-  entry_row,
-  mark_row,
-  command_row,
-  moved_row,
-  posting_row,
-};
+ghost use Rattle.ob_tables.specs.Rows.{Always, with_row, meta_row, cause_row, node_row, device_row, customer_row, entry_row, mark_row, command_row, moved_row, posting_row};
 ghost use Rattle.ob_tables.specs.declared.table.Table.{Table as ATable};
 
 use crate::run::{int, large, large_or_null, position, run, signed};
@@ -29,8 +16,7 @@ pub fn add_meta<'t, S: Alter>(
     days: u32,
     zone: &'t [u8],
 ) -> Result<(), Stop>
-    ensures same_reference { tx.new.conn.ghost_name ≡ tx.old.conn.ghost_name }
-    ensures changes { Changes S.Store tx.old.conn.now tx.new.conn.now result Always
+    ensures { Changes S.Store tx.old.conn tx.new.conn result Always
         (with_row ATable.Meta (meta_row 1 first_day.now days zone.now)) }
 {
     run(
@@ -42,8 +28,7 @@ pub fn add_meta<'t, S: Alter>(
 
 /// Adds a cause. It fails where its code or its name stands already.
 pub fn add_cause<S: Alter>(tx: &mut Transaction<'_, S>, code: u32, name: &[u8]) -> Result<(), Stop>
-    ensures same_reference { tx.new.conn.ghost_name ≡ tx.old.conn.ghost_name }
-    ensures changes { Changes S.Store tx.old.conn.now tx.new.conn.now result Always
+    ensures { Changes S.Store tx.old.conn tx.new.conn result Always
         (with_row ATable.Cause (cause_row code name.now)) }
 {
     run(
@@ -62,8 +47,7 @@ pub fn add_node<S: Alter>(
     kind: u32,
     feeder: u32,
 ) -> Result<(), Stop>
-    ensures same_reference { tx.new.conn.ghost_name ≡ tx.old.conn.ghost_name }
-    ensures changes { Changes S.Store tx.old.conn.now tx.new.conn.now result Always
+    ensures { Changes S.Store tx.old.conn tx.new.conn result Always
         (with_row ATable.Node (node_row no name.now kind feeder)) }
 {
     run(
@@ -83,8 +67,7 @@ pub fn add_device<S: Alter>(
     b: u32,
     normal: Pos,
 ) -> Result<(), Stop>
-    ensures same_reference { tx.new.conn.ghost_name ≡ tx.old.conn.ghost_name }
-    ensures changes { Changes S.Store tx.old.conn.now tx.new.conn.now result Always
+    ensures { Changes S.Store tx.old.conn tx.new.conn result Always
         (with_row ATable.Device (device_row no name.now a b normal)) }
 {
     run(
@@ -111,8 +94,7 @@ pub fn add_customer<S: Alter>(
 ) -> Result<(), Stop>
     requires since { since < 2 ^ 63 }
     requires until { IfSome until (λ end. end < 2 ^ 63) }
-    ensures same_reference { tx.new.conn.ghost_name ≡ tx.old.conn.ghost_name }
-    ensures changes { Changes S.Store tx.old.conn.now tx.new.conn.now result Always
+    ensures { Changes S.Store tx.old.conn tx.new.conn result Always
         (with_row ATable.Customer (customer_row no section since until)) }
 {
     run(
@@ -134,8 +116,7 @@ pub fn add_entry<S: Alter>(
     crew: &[u8],
 ) -> Result<(), Stop>
     requires second { second < 2 ^ 63 }
-    ensures same_reference { tx.new.conn.ghost_name ≡ tx.old.conn.ghost_name }
-    ensures changes { Changes S.Store tx.old.conn.now tx.new.conn.now result Always
+    ensures { Changes S.Store tx.old.conn tx.new.conn result Always
         (with_row ATable.Entry (entry_row no 1 device act second cause crew.now true)) }
 {
     run(
@@ -158,8 +139,7 @@ pub fn add_mark<S: Alter>(
     day: u32,
     engineer: &[u8],
 ) -> Result<(), Stop>
-    ensures same_reference { tx.new.conn.ghost_name ≡ tx.old.conn.ghost_name }
-    ensures changes { Changes S.Store tx.old.conn.now tx.new.conn.now result Always
+    ensures { Changes S.Store tx.old.conn tx.new.conn result Always
         (with_row ATable.Mark (mark_row day engineer.now)) }
 {
     run(
@@ -176,8 +156,7 @@ pub fn add_command<'t, S: Alter>(
     reference: &'t [u8],
     body: &'t [u8],
 ) -> Result<(), Stop>
-    ensures same_reference { tx.new.conn.ghost_name ≡ tx.old.conn.ghost_name }
-    ensures changes { Changes S.Store tx.old.conn.now tx.new.conn.now result Always
+    ensures { Changes S.Store tx.old.conn tx.new.conn result Always
         (with_row ATable.Command (command_row no reference.now body.now)) }
 {
     run(
@@ -196,8 +175,7 @@ pub fn add_moved<S: Alter>(
     key: u32,
     delta: i64,
 ) -> Result<(), Stop>
-    ensures same_reference { tx.new.conn.ghost_name ≡ tx.old.conn.ghost_name }
-    ensures changes { Changes S.Store tx.old.conn.now tx.new.conn.now result Always
+    ensures { Changes S.Store tx.old.conn tx.new.conn result Always
         (with_row ATable.Moved (moved_row no dim key delta)) }
 {
     run(
@@ -209,8 +187,7 @@ pub fn add_moved<S: Alter>(
 
 /// Adds the row of a dimension and a key, with the amount 0. It fails where the row stands already.
 pub fn add_posting<S: Alter>(tx: &mut Transaction<'_, S>, dim: u32, key: u32) -> Result<(), Stop>
-    ensures same_reference { tx.new.conn.ghost_name ≡ tx.old.conn.ghost_name }
-    ensures changes { Changes S.Store tx.old.conn.now tx.new.conn.now result Always
+    ensures { Changes S.Store tx.old.conn tx.new.conn result Always
         (with_row ATable.Posting (posting_row dim key 0)) }
 {
     run(

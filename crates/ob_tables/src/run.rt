@@ -16,8 +16,7 @@ pub(crate) fn run<S: Alter>(
     sql: &str,
     params: &[ValueRef<'_>],
 ) -> Result<(), Stop>
-    ensures same_reference { tx.new.conn.ghost_name ≡ tx.old.conn.ghost_name }
-    ensures runs { Runs S.Store sql.now (bound params.now) tx.old.conn.now tx.new.conn.now result }
+    ensures { Runs S.Store sql.now (bound params.now) tx.old.conn tx.new.conn result }
 {
     match tx.execute(sql, params) {
         Ok(_) => Ok(()),

@@ -2,7 +2,7 @@ use Rattle.ob_tables.proofs.Running.{changes}
 use Rattle.ob_tables.proofs.Keyed.{corrects_entry}
 use Rattle.ob_tables.proofs.changes.correct_entry.Goals as goal
 
-pub returns-clause-changes : goal.returns-clause-changes
-returns-clause-changes g c =
-    changes g.S.Store _ _ _ _ _ c.run.ensures.runs (λ ran. corrects_entry _ _ c.args.no c.args.revision c.args.act c.args.second c.args.cause c.args.crew.now
+pub returns : goal.returns
+returns g c =
+    changes g.S.Store _ _ _ _ _ c.run.ensures (λ ran. corrects_entry _ _ c.args.no c.args.revision c.args.act c.args.second c.args.cause c.args.crew.now
     (rw (c.int.ensures, c.int-2.ensures, c.position.ensures, c.large.ensures, c.int-3.ensures) at ran))

@@ -2,7 +2,7 @@ use Rattle.ob_tables.proofs.Running.{changes}
 use Rattle.ob_tables.proofs.Keyed.{drops_mark}
 use Rattle.ob_tables.proofs.changes.drop_mark.Goals as goal
 
-pub returns-clause-changes : goal.returns-clause-changes
-returns-clause-changes g c =
-    changes g.S.Store _ _ _ _ _ c.run.ensures.runs (λ ran. drops_mark _ _ c.args.day
+pub returns : goal.returns
+returns g c =
+    changes g.S.Store _ _ _ _ _ c.run.ensures (λ ran. drops_mark _ _ c.args.day
     (rw (c.int.ensures) at ran))

@@ -2,6 +2,6 @@ use Rattle.ob_tables.proofs.Running.{changes}
 use Rattle.ob_tables.proofs.Posting.{sets_posting}
 use Rattle.ob_tables.proofs.changes.set_posting.Goals as goal
 
-pub returns-clause-changes : goal.returns-clause-changes
-returns-clause-changes g c =
-    changes g.S.Store _ _ _ _ _ c.run.ensures.runs (λ ran. sets_posting _ _ c.args.dim c.args.key c.args.amount (rw (c.int.ensures, c.int-2.ensures, c.large.ensures) at ran))
+pub returns : goal.returns
+returns g c =
+    changes g.S.Store _ _ _ _ _ c.run.ensures (λ ran. sets_posting _ _ c.args.dim c.args.key c.args.amount (rw (c.int.ensures, c.int-2.ensures, c.large.ensures) at ran))

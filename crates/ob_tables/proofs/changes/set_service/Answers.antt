@@ -3,7 +3,7 @@ use Rattle.ob_tables.proofs.Running.{changes}
 use Rattle.ob_tables.proofs.Keyed.{sets_service}
 use Rattle.ob_tables.proofs.changes.set_service.Goals as goal
 
-pub returns-clause-changes : goal.returns-clause-changes
-returns-clause-changes g c =
-    changes g.S.Store _ _ _ _ _ c.run.ensures.runs (λ ran. sets_service _ _ c.args.no c.args.since c.args.until
+pub returns : goal.returns
+returns g c =
+    changes g.S.Store _ _ _ _ _ c.run.ensures (λ ran. sets_service _ _ c.args.no c.args.since c.args.until
     (rw (c.int.ensures, c.large.ensures, c.large_or_null.ensures, bound_optional c.args.until) at ran))

@@ -18,19 +18,20 @@ tables-preserved g c =
     let new = state g.S.Store c.create_table.new.tx.conn.now in
     let step = c.create_table.ensures in (
       step.same_reference ∙ c.tables.invariant.0,
-      silent_then old mid new c.tables.invariant.1 step.creates.silent,
+      silent_then old mid new c.tables.invariant.1 step.silent,
       λ late inside.
-          let early : HasCleanDisk mid = omega (arith, step.creates.silent.survives.clean, late) in
+          let early : HasCleanDisk mid = omega (arith, step.silent.survives.clean, late) in
           let was = c.tables.invariant.2 early inside in
-          up_to_then old mid new c.tables.at _ c.table_after.ensures was (c.in_ok-create_table.ensures.creates.creates late was.inside),
+          up_to_then old mid new c.tables.at _ c.table_after.ensures was (c.in_ok-create_table.ensures.creates late was.inside),
     )
 
-pub returns-clause-creates : goal.returns-clause-creates
-returns-clause-creates g c =
+pub returns : goal.returns
+returns g c =
     let old = state g.S.Store c.args.tx.now.conn.now in
     let now = state g.S.Store c.tables.tx.conn.now in
     let all : c.tables.at ≡ 10 = omega (arith, c.tables-test.false, c.tables.auto.at-end) in
     record {
+      same_reference = c.tables.invariant.0;
       silent = c.tables.invariant.1;
       faults = tt;
       creates = λ clean inside. makes_book old now (subst (λ n. MakesUpTo 0 n old now) all (c.tables.invariant.2 clean inside));

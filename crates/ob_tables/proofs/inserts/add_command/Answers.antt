@@ -2,6 +2,6 @@ use Rattle.ob_tables.proofs.Running.{changes}
 use Rattle.ob_tables.proofs.Adding.{adds_command}
 use Rattle.ob_tables.proofs.inserts.add_command.Goals as goal
 
-pub returns-clause-changes : goal.returns-clause-changes
-returns-clause-changes g c =
-    changes g.S.Store _ _ _ _ _ c.run.ensures.runs (λ ran. adds_command _ _ c.args.no c.args.reference.now c.args.body.now (rw c.int.ensures at ran))
+pub returns : goal.returns
+returns g c =
+    changes g.S.Store _ _ _ _ _ c.run.ensures (λ ran. adds_command _ _ c.args.no c.args.reference.now c.args.body.now (rw c.int.ensures at ran))

@@ -2,7 +2,7 @@ use Rattle.ob_tables.proofs.Running.{changes}
 use Rattle.ob_tables.proofs.Adding.{adds_posting}
 use Rattle.ob_tables.proofs.inserts.add_posting.Goals as goal
 
-pub returns-clause-changes : goal.returns-clause-changes
-returns-clause-changes g c =
-    changes g.S.Store _ _ _ _ _ c.run.ensures.runs (λ ran. adds_posting _ _ c.args.dim c.args.key
+pub returns : goal.returns
+returns g c =
+    changes g.S.Store _ _ _ _ _ c.run.ensures (λ ran. adds_posting _ _ c.args.dim c.args.key
     (rw (c.int.ensures, c.int-2.ensures) at ran))

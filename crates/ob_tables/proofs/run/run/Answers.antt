@@ -5,11 +5,12 @@ use Rattle.sqlite.specs.Held.{state}
 use Rattle.ob_tables.proofs.Silence.{kept_failing}
 use Rattle.ob_tables.proofs.run.run.Goals as goal
 
-pub returns-in-Err-clause-runs : goal.returns-in-Err-clause-runs
-returns-in-Err-clause-runs g c =
+pub returns-in-Err : goal.returns-in-Err
+returns-in-Err g c =
     let old = state g.S.Store c.args.tx.now.conn.now in
     let new = state g.S.Store c.execute.new.self.conn.now in
     record {
+      same_reference = c.execute.ensures.same_reference;
       silent = record {
         survives = c.execute.ensures.survives;
         kept = λ clean. elim (cases_Bool old.in_transaction) [
@@ -20,8 +21,8 @@ returns-in-Err-clause-runs g c =
         ];
       };
       faults = c.stop_of.ensures;
-      ran = λ clean. search rules;
+      ran = λ clean. tt;
     }
 
-pub returns-in-Ok-clause-runs : goal.returns-in-Ok-clause-runs
-returns-in-Ok-clause-runs g c = search rules
+pub returns-in-Ok : goal.returns-in-Ok
+returns-in-Ok g c = search rules
