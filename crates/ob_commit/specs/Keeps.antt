@@ -1,5 +1,6 @@
 -- The tables that a store keeps, and what a crash leaves of them; what statements over an open store make of them.
 use Rattle.std.specs.Prelude.{◌≡◌, ◌⊎◌, Result, IsTrue, IfErr, OnOk}
+use Rattle.std.specs.Borrow.{MutBor}
 use Rattle.sqlite_trees.specs.declared.store.Store.{Ghosts}
 use Rattle.sqlite.specs.Tree.{Trees}
 use Rattle.sqlite.specs.Effect.{Database}
@@ -37,9 +38,10 @@ LeavesChanged s needs change trees = (t : Tables) → Keeps s t → needs t → 
 module _ {S : Type 0} (g : Ghosts S) where
   -- statements inside a transaction of an open store changed the tables so, where they were as is needed, or one
   -- failed; nothing was committed
-  pub record ChangesOpen {X : Type 0} (old new : Held S) (result : Result X Stop) (needs : Tables → Type 0)
+  pub record ChangesOpen {X : Type 0} (old new : MutBor (Held S)) (result : Result X Stop) (needs : Tables → Type 0)
       (change : Tables → Tables) : Type 0 where
-    pub silent : Silent (state g old) (state g new)
+    pub same_reference : new.ghost_name ≡ old.ghost_name
+    pub silent : Silent (state g old.now) (state g new.now)
     pub faults : IfErr result IsStoreFault
-    pub makes : HasCleanDisk (state g new) → OnOk result (IsTrue (state g old).is_open
-        → IsTrue (state g old).in_transaction → Makes (state g old) (state g new) needs change)
+    pub makes : HasCleanDisk (state g new.now) → OnOk result (IsTrue (state g old.now).is_open
+        → IsTrue (state g old.now).in_transaction → Makes (state g old.now) (state g new.now) needs change)

@@ -38,8 +38,7 @@ pub fn write_act<S: Alter>(
     postings: &Postings,
 ) -> Result<(), Stop>
     requires can { CanWrite postings.now act.now }
-    ensures same_reference { tx.new.conn.ghost_name ≡ tx.old.conn.ghost_name }
-    ensures changes { Changes S.Store tx.old.conn.now tx.new.conn.now result
+    ensures { Changes S.Store tx.old.conn tx.new.conn result
         (NeedsRows postings.now act.now) (with_act postings.now act.now) }
 {
     write_change(tx, &act.change)?;

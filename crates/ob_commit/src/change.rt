@@ -84,8 +84,7 @@ pub enum Change<'t> {
 /// Makes the change of the row.
 pub fn write_change<S: Alter>(tx: &mut Transaction<'_, S>, change: &Change<'_>) -> Result<(), Stop>
     requires small { HasSmallSeconds change.now }
-    ensures same_reference { tx.new.conn.ghost_name ≡ tx.old.conn.ghost_name }
-    ensures changes { Changes S.Store tx.old.conn.now tx.new.conn.now result
+    ensures { Changes S.Store tx.old.conn tx.new.conn result
         (NeedsRow change.now) (changed_by change.now) }
 {
     match *change {

@@ -31,8 +31,7 @@ pub fn write_move<S: Alter>(
     it: &Moved,
 ) -> Result<(), Stop>
     requires can { CanMove postings.now it.now }
-    ensures same_reference { tx.new.conn.ghost_name ≡ tx.old.conn.ghost_name }
-    ensures changes { Changes S.Store tx.old.conn.now tx.new.conn.now result
+    ensures { Changes S.Store tx.old.conn tx.new.conn result
         (HasPosting (dim_number it.now.dim) it.now.key) (with_move no postings.now it.now) }
 {
     let Moved { dim, key, delta } = *it;
@@ -49,8 +48,7 @@ pub fn write_moves<S: Alter>(
     moves: &[Moved],
 ) -> Result<(), Stop>
     requires can { All (CanMove postings.now) moves.now }
-    ensures same_reference { tx.new.conn.ghost_name ≡ tx.old.conn.ghost_name }
-    ensures changes { ChangesOpen S.Store tx.old.conn.now tx.new.conn.now result
+    ensures { ChangesOpen S.Store tx.old.conn tx.new.conn result
         (HasRows no postings.now moves.now) (with_moves no postings.now moves.now) }
 {
     'moves: for at in 0..moves.len() {

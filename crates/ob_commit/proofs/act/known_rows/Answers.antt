@@ -14,9 +14,9 @@ returns-clause-found g c clean =
     let same : end ≡ c.conn-1.given.0 = search rules in
     let done : HasCleanDisk (state g.S.Store end) = subst (λ x. HasCleanDisk (state g.S.Store x)) (sym same) clean in
     let late : HasCleanDisk last = omega (arith, c.drop-tx.ensures.survives.clean, done) in
-    let quiet : Silent old last = silent_begin g.S.Store h last ((rw c.transaction-tx.ensures.begun at c.find_commands.ensures.silent) refl) in
+    let quiet : Silent old last = silent_begin g.S.Store h last ((rw c.transaction-tx.ensures.begun at c.find_commands.ensures.reads.silent) refl) in
     let first : HasCleanDisk old = omega (arith, quiet.survives.clean, late) in
-    both_ok c.find_commands.result (rw c.transaction-tx.ensures.begun at (c.find_commands.ensures.live late)) (rw c.transaction-tx.ensures.begun at (c.find_commands.ensures.found late))
+    both_ok c.find_commands.result (rw c.transaction-tx.ensures.begun at (c.find_commands.ensures.reads.live late)) (rw c.transaction-tx.ensures.begun at (c.find_commands.ensures.found late))
     (λ rows live found t keeps. let was = keeps.settled first live in found was.schema t was.holds)
 
 pub returns-clause-survives : goal.returns-clause-survives
@@ -26,5 +26,5 @@ returns-clause-survives g c =
     let last = state g.S.Store c.find_commands.new.tx.conn.now in
     let end = c.drop-tx.new.self.0 in
     let same : end ≡ c.conn-1.given.0 = search rules in
-    let quiet : Silent old last = silent_begin g.S.Store h last ((rw c.transaction-tx.ensures.begun at c.find_commands.ensures.silent) refl) in
+    let quiet : Silent old last = silent_begin g.S.Store h last ((rw c.transaction-tx.ensures.begun at c.find_commands.ensures.reads.silent) refl) in
     subst (λ x. Survives old (state g.S.Store x) (λ _. ⊥)) same (survives_drop old last (state g.S.Store end) (λ _. ⊥) quiet c.drop-tx.ensures.survives)

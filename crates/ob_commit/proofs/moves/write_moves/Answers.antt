@@ -16,9 +16,9 @@ moves-preserved g c =
     let step = c.write_move.ensures in
     let low : c.moves.at < length c.args.moves.now = omega (arith, c.moves-test.true) in (
       step.same_reference ∙ c.moves.invariant.0,
-      silent_then old mid new c.moves.invariant.1 step.changes.silent,
+      silent_then old mid new c.moves.invariant.1 step.silent,
       λ late live inside.
-          let early : HasCleanDisk mid = omega (arith, step.changes.silent.survives.clean, late) in
+          let early : HasCleanDisk mid = omega (arith, step.silent.survives.clean, late) in
           let was = c.moves.invariant.2 early live inside in
-          next_move old mid new c.args.no c.args.postings.now c.args.moves.now c.moves.at _ low was (c.in_ok-write_move.ensures.changes.makes late was.inside),
+          next_move old mid new c.args.no c.args.postings.now c.args.moves.now c.moves.at _ low was (c.in_ok-write_move.ensures.makes late was.inside),
     )
