@@ -1,0 +1,40 @@
+use Rattle.std.proofs.Common.{◌∙◌, arith}
+use Rattle.sqlite.specs.State.{HasCleanDisk}
+use Rattle.sqlite.specs.Held.{state}
+use Rattle.ob_tables.specs.Rows.{Always, with_row, command_row}
+use Rattle.ob_tables.specs.declared.table.Table.TheVariants.{Command}
+use Rattle.ob_tables.proofs.Silence.{silent_then}
+use Rattle.ob_commit.specs.Acts.{NeedsRows, with_command}
+use Rattle.ob_commit.specs.Changing.{NeedsRow, changed_by}
+use Rattle.ob_commit.specs.Moves.{HasRows, with_moves}
+use Rattle.ob_commit.proofs.Steps.{on_ok, makes_then}
+use Rattle.ob_commit.proofs.act.write_act.Goals as goal
+
+pub returns : goal.returns
+returns g c =
+    let old = state g.S.Store c.args.tx.now.conn.now in
+    let one = state g.S.Store c.write_change.new.tx.conn.now in
+    let two = state g.S.Store c.add_command.new.tx.conn.now in
+    let new = state g.S.Store c.write_moves.new.tx.conn.now in
+    let act = c.args.act.now in
+    let p = c.args.postings.now in
+    let rows = HasRows act.no p act.moves.now in
+    let add = with_row Command (command_row act.no act.reference.now act.body.now) in
+    let move = with_moves act.no p act.moves.now in
+    let last = c.write_moves.ensures in
+    let quiet = silent_then one two new c.add_command.ensures.silent last.silent in
+    record {
+      same_reference = last.same_reference ∙ (c.add_command.ensures.same_reference ∙ c.write_change.ensures.same_reference);
+      silent = silent_then old one new c.write_change.ensures.silent quiet;
+      faults = last.faults;
+      makes = λ clean.
+          let late : HasCleanDisk two = omega (arith, last.silent.survives.clean, clean) in
+          let early : HasCleanDisk one = omega (arith, quiet.survives.clean, clean) in
+          on_ok c.write_moves.result (last.makes clean) (λ moved inside.
+          let first = c.in_ok-write_change.ensures.makes early inside in
+          let second = c.in_ok-add_command.ensures.makes late first.inside in
+          let both = makes_then old one two (NeedsRow act.change) Always (NeedsRow act.change) (changed_by act.change) add
+          (λ t has. (has, tt)) first second in
+          makes_then old two new (NeedsRow act.change) rows (NeedsRows p act) (with_command act) move
+          (λ t has. (has.change, has.amounts)) both (moved second.stays second.inside));
+    }

@@ -1,0 +1,91 @@
+//! The rows of a command, committed together.
+ghost use Rattle.std.specs.Prelude.{◌≡◌, false, OnOk, IfOk, IfErr, IsPermutation, filter};
+ghost use Rattle.sqlite.specs.Held.{state};
+ghost use Rattle.sqlite.specs.State.{HasCleanDisk, Survives};
+ghost use Rattle.ob_base.specs.Stop.{out_of_memory};
+ghost use Rattle.ob_tables.specs.Steps.{Changes, IsStoreFault};
+ghost use Rattle.ob_tables.specs.Rows.{Tables, is_reference};
+ghost use Rattle.ob_tables.specs.declared.table.Table.{Table as ATable};
+ghost use Rattle.ob_commit.specs.Acts.{CanWrite, NeedsRows, with_act};
+ghost use Rattle.ob_commit.specs.Keeps.{Keeps, KeepsEither, LeavesChanged};
+
+use crate::change::{Change, write_change};
+use crate::moves::write_moves;
+use ob_base::{Fault, Stop};
+use ob_post::{Moved, Postings};
+use ob_tables::{add_command, find_commands};
+use sqlite::{Alter, Connection, Row, Transaction};
+
+/// An accepted command, as the rows show it.
+#[derive(Clone, Copy)]
+pub struct Act<'t> {
+    /// Its number, from 1.
+    pub no: u32,
+    /// Its reference.
+    pub reference: &'t [u8],
+    /// Its body text.
+    pub body: &'t [u8],
+    /// What it does to a row beside its own and those of its amounts.
+    pub change: Change<'t>,
+    /// The amounts that it moves.
+    pub moves: &'t [Moved],
+}
+
+/// Writes the rows of an accepted command: the one that it changes, its own, and those of the amounts that it moves.
+pub fn write_act<S: Alter>(
+    tx: &mut Transaction<'_, S>,
+    act: &Act<'_>,
+    postings: &Postings,
+) -> Result<(), Stop>
+    requires can { CanWrite postings.now act.now }
+    ensures { Changes S.Store tx.old.conn tx.new.conn result
+        (NeedsRows postings.now act.now) (with_act postings.now act.now) }
+{
+    write_change(tx, &act.change)?;
+    add_command(tx, act.no, act.reference, act.body)?;
+    write_moves(tx, act.no, postings, act.moves)
+}
+
+/// The rows of the commands with a reference: one or none. Nothing is written.
+pub fn known_rows<S: Alter>(conn: &mut Connection<S>, reference: &[u8]) -> Result<Vec<Row>, Stop>
+    requires mode { conn.old.in_transaction ≡ false }
+    ensures mode { conn.new.in_transaction ≡ false }
+    ensures faults { IfErr result IsStoreFault }
+    ensures survives { Survives (state S.Store conn.old) (state S.Store conn.new) (λ _. ⊥) }
+    ensures kept { (t : Tables) → Keeps (state S.Store conn.old) t → Keeps (state S.Store conn.new) t }
+    ensures found { HasCleanDisk (state S.Store conn.new)
+        → IfOk result (λ rows. (t : Tables) → Keeps (state S.Store conn.old) t
+        → IsPermutation (filter (is_reference reference.now) (t ATable.Command)) rows.items) }
+{
+    let mut tx = conn.transaction();
+    find_commands(&mut tx, reference)
+}
+
+/// Commits the rows of an accepted command: all or none.
+pub fn commit_act<S: Alter>(
+    conn: &mut Connection<S>,
+    act: &Act<'_>,
+    postings: &Postings,
+) -> Result<(), Stop>
+    requires mode { conn.old.in_transaction ≡ false }
+    requires can { CanWrite postings.now act.now }
+    ensures mode { conn.new.in_transaction ≡ false }
+    ensures faults { IfErr result IsStoreFault }
+    ensures done { OnOk result ((t : Tables) → Keeps (state S.Store conn.old) t → NeedsRows postings.now act.now t
+        → Keeps (state S.Store conn.new) (with_act postings.now act.now t)) }
+    ensures undone { IfErr result (λ stop. stop ≡ out_of_memory
+        → (t : Tables) → Keeps (state S.Store conn.old) t → Keeps (state S.Store conn.new) t) }
+    ensures either { IfErr result (λ stop. (t : Tables) → Keeps (state S.Store conn.old) t
+        → NeedsRows postings.now act.now t
+        → KeepsEither (state S.Store conn.new) t (with_act postings.now act.now t)) }
+    // a crash leaves no more than before, but for the rows of the command
+    ensures survives { Survives (state S.Store conn.old) (state S.Store conn.new)
+        (LeavesChanged (state S.Store conn.old) (NeedsRows postings.now act.now) (with_act postings.now act.now)) }
+{
+    let mut tx = conn.transaction();
+    write_act(&mut tx, act, postings)?;
+    match tx.commit() {
+        Ok(()) => Ok(()),
+        Err(_) => Err(Stop::Fault(Fault::Store)),
+    }
+}

@@ -1,0 +1,132 @@
+//! The row that a command changes beside its own and those of its amounts.
+ghost use Rattle.std.specs.Prelude.{◌≡◌};
+ghost use Rattle.ob_tables.specs.Steps.{Changes};
+ghost use Rattle.ob_commit.specs.Changing.{HasSmallSeconds, NeedsRow, changed_by};
+
+use ob_base::{Pos, Stop};
+use ob_tables::{
+    add_cause, add_customer, add_device, add_entry, add_mark, add_node, correct_entry, drop_mark,
+    set_service, withdraw_entry,
+};
+use sqlite::{Alter, Transaction};
+
+/// What a command does to one row, in plain numbers and bytes. Seconds are Unix seconds, and `until` is None for
+/// without end.
+#[derive(Clone, Copy)]
+pub enum Change<'t> {
+    /// Adds a cause.
+    AddCause {
+        code: u32,
+        name: &'t [u8],
+    },
+    /// Adds a bus (kind 1, feeder 0) or a section (kind 2).
+    AddNode {
+        no: u32,
+        name: &'t [u8],
+        kind: u32,
+        feeder: u32,
+    },
+    /// Adds a device between the nodes numbered `a` and `b`.
+    AddDevice {
+        no: u32,
+        name: &'t [u8],
+        a: u32,
+        b: u32,
+        normal: Pos,
+    },
+    /// Adds a customer of the section of a number.
+    AddCustomer {
+        no: u32,
+        section: u32,
+        since: u64,
+        until: Option<u64>,
+    },
+    /// Gives a customer another service.
+    SetService {
+        no: u32,
+        since: u64,
+        until: Option<u64>,
+    },
+    /// Adds an entry of the sheet, of revision 1 and kept.
+    AddEntry {
+        no: u32,
+        device: u32,
+        act: Pos,
+        second: u64,
+        cause: u32,
+        crew: &'t [u8],
+    },
+    /// Gives an entry another revision, position, second, cause and crew.
+    CorrectEntry {
+        no: u32,
+        revision: u32,
+        act: Pos,
+        second: u64,
+        cause: u32,
+        crew: &'t [u8],
+    },
+    /// Gives an entry another revision, and keeps it no more.
+    WithdrawEntry {
+        no: u32,
+        revision: u32,
+    },
+    /// Marks a day.
+    AddMark {
+        day: u32,
+        engineer: &'t [u8],
+    },
+    /// Takes the mark off a day.
+    DropMark {
+        day: u32,
+    },
+}
+
+/// Makes the change of the row.
+pub fn write_change<S: Alter>(tx: &mut Transaction<'_, S>, change: &Change<'_>) -> Result<(), Stop>
+    requires small { HasSmallSeconds change.now }
+    ensures { Changes S.Store tx.old.conn tx.new.conn result
+        (NeedsRow change.now) (changed_by change.now) }
+{
+    match *change {
+        Change::AddCause { code, name } => add_cause(tx, code, name),
+        Change::AddNode {
+            no,
+            name,
+            kind,
+            feeder,
+        } => add_node(tx, no, name, kind, feeder),
+        Change::AddDevice {
+            no,
+            name,
+            a,
+            b,
+            normal,
+        } => add_device(tx, no, name, a, b, normal),
+        Change::AddCustomer {
+            no,
+            section,
+            since,
+            until,
+        } => add_customer(tx, no, section, since, until),
+        Change::SetService { no, since, until } => set_service(tx, no, since, until),
+        Change::AddEntry {
+            no,
+            device,
+            act,
+            second,
+            cause,
+            crew,
+        } => add_entry(tx, no, device, act, second, cause, crew),
+        Change::CorrectEntry {
+            no,
+            revision,
+            act,
+            second,
+            cause,
+            crew,
+        } => correct_entry(tx, no, revision, act, second, cause, crew),
+        Change::WithdrawEntry { no, revision } => withdraw_entry(tx, no, revision),
+        Change::AddMark { day, engineer } => add_mark(tx, day, engineer),
+        Change::DropMark { day } => drop_mark(tx, day),
+    }
+}
