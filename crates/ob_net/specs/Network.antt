@@ -53,6 +53,10 @@ pub record NetState : Type 0 where
 abbrev pub node_of : Network → List ℕ → Option ℕ
 node_of net name = position (λ n. bytes_eq n.name name) net.nodes
 
+-- the number of the section with a name; None where no node has it, or one that is no section
+abbrev pub section_of : Network → List ℕ → Option ℕ
+section_of net name = option_and_then (λ v. if is_some (home_feeder net v) then Some v else None) (node_of net name)
+
 -- the number of the first device with the name
 abbrev pub device_of : Network → List ℕ → Option ℕ
 device_of net name = position (λ d. bytes_eq d.name name) net.devices

@@ -5,7 +5,7 @@ use Rattle.std.specs.Option.{option_and_then, IfSome}
 use Rattle.std.proofs.lemmas.Bool.{cases_eq, cases_Bool, eq-eqb, ne_eqb, eqb-true, lt-ltb, false≢true}
 use Rattle.std.proofs.lemmas.Bool.Decides.{nat_tests}
 use Rattle.std.proofs.lemmas.List.Elements.{All-head, All-tail}
-use Rattle.ob_net.specs.Network.{Network, home_feeder, node_of, device_of}
+use Rattle.ob_net.specs.Network.{Network, home_feeder, node_of, device_of, section_of}
 use Rattle.ob_sheet.specs.declared.Entry.{Entry}
 use Rattle.ob_sheet.specs.Order.{entry_of}
 use Rattle.ob_sheet.specs.Revisions.{revision_refusal, entry_refusal}
@@ -18,7 +18,7 @@ use Rattle.ob_base.specs.declared.Pos.{Pos}
 use Rattle.ob_base.specs.declared.stop.Refusal.{Refusal}
 use Rattle.ob_base.specs.declared.stop.Refusal.TheVariants.{UnknownName, OutOfPeriod, Full}
 use Rattle.ob_sheet.specs.declared.TheConstants.{MOST_ENTRIES}
-use Rattle.ob_state.specs.State.{BookState, section_of}
+use Rattle.ob_state.specs.State.{BookState}
 use Rattle.ob_state.specs.Refusals.{refusal, connect_refusal_on, if_full, if_outside, if_unknown_cause, refuse_if}
 use Rattle.ob_state.proofs.Firsts.{no_head, no_tail}
 use Rattle.ob_state.proofs.Found.{is_some-find}

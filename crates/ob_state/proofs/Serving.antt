@@ -12,7 +12,8 @@ use Rattle.ob_post.specs.MoveLaws.{AreSmall}
 use Rattle.ob_post.specs.SectionLaws.{Changed, Connected}
 use Rattle.ob_post.specs.TotalLaws.{AmountsAreSmall}
 use Rattle.ob_posting.specs.declared.posting.Posting.{Posting}
-use Rattle.ob_state.specs.State.{BookState, section_of}
+use Rattle.ob_net.specs.Network.{section_of}
+use Rattle.ob_state.specs.State.{BookState}
 use Rattle.ob_state.specs.Amounts.{amount, days_of_book}
 use Rattle.ob_state.specs.Next.{next}
 use Rattle.ob_state.specs.Refusals.{refusal}

@@ -3,12 +3,12 @@ use Rattle.std.proofs.Common.{◌≡◌, ℕ, ◌<◌, ◌≤◌, Bool, true, fa
 use Rattle.std.specs.Option.{option_and_then}
 use Rattle.std.proofs.lemmas.Bool.Decides.{nat_tests}
 use Rattle.ob_base.specs.declared.stop.Refusal.{Refusal}
-use Rattle.ob_net.specs.Network.{Network, home_feeder, node_of}
+use Rattle.ob_net.specs.Network.{Network, home_feeder, node_of, section_of}
 use Rattle.ob_sheet.specs.declared.Entry.{Entry}
 use Rattle.ob_sheet.specs.declared.TheConstants.{MOST_ENTRIES}
 use Rattle.ob_sheet.specs.Revisions.{revision_refusal}
 use Rattle.ob_time.specs.Calendar.{Calendar, first_second_of, end_second_of}
-use Rattle.ob_state.specs.State.{BookState, section_of}
+use Rattle.ob_state.specs.State.{BookState}
 use Rattle.ob_state.specs.Refusals.{first, if_full, if_full_sheet, if_outside, if_unknown_cause, if_unknown_device, refuse_if}
 use Rattle.ob_state.proofs.Firsts.{no_head, no_tail}
 

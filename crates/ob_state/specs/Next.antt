@@ -1,6 +1,6 @@
 -- What an accepted command changes.
 use Rattle.std.specs.Prelude.{ℕ, ◌+◌, List, [], ◌∷◌, ◌++◌, Option, Some, None, is_none, set, unwrap_or, if◌then◌else◌}
-use Rattle.ob_net.specs.Network.{with_node, with_device, device_of}
+use Rattle.ob_net.specs.Network.{with_node, with_device, device_of, section_of}
 use Rattle.ob_sheet.specs.Sheet.{new_entry}
 use Rattle.ob_sheet.specs.Revisions.{change_entry, corrected, withdrawn}
 use Rattle.ob_cust.specs.Roll.{with_customer, with_service}
@@ -8,7 +8,7 @@ use Rattle.ob_time.specs.Calendar.{Calendar, day_on}
 use Rattle.ob_index.specs.Marks.{with_mark, without_mark}
 use Rattle.ob_command.specs.declared.command.Command.{Command}
 use Rattle.ob_command.specs.declared.command.Command.TheVariants.{Cause, Bus, Section, Device, Connect, Revise, Switch, Correct, Withdraw, Mark, Unmark}
-use Rattle.ob_state.specs.State.{BookState, empty_book, section_of}
+use Rattle.ob_state.specs.State.{BookState, empty_book}
 use Rattle.ob_state.specs.Refusals.{refusal}
 use Rattle.jiff.specs.Words.{epoch_day}
 use Rattle.jiff.specs.Types.{Date}

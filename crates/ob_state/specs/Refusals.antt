@@ -2,7 +2,7 @@
 use Rattle.std.specs.Prelude.{ℕ, ◌==◌, ◌||◌, Bool, not, nat_le, nat_lt, List, [], ◌∷◌, ◌++◌, Option, Some, None, is_none, if◌then◌else◌, length}
 use Rattle.ob_base.specs.declared.stop.Refusal.{Refusal}
 use Rattle.ob_base.specs.declared.stop.Refusal.TheVariants.{UnknownName, NameTaken, Sealed, OutOfPeriod, Full, UnknownCause}
-use Rattle.ob_net.specs.Network.{Network, node_refusal, device_refusal, device_of}
+use Rattle.ob_net.specs.Network.{Network, node_refusal, device_refusal, device_of, section_of}
 use Rattle.ob_sheet.specs.declared.Entry.{Entry}
 use Rattle.ob_sheet.specs.Revisions.{revision_refusal}
 use Rattle.ob_cust.specs.Roll.{connect_refusal, revise_refusal}
@@ -11,7 +11,7 @@ use Rattle.ob_time.specs.Calendar.{Calendar, first_second_of, end_second_of, day
 use Rattle.ob_index.specs.Marks.{mark_refusal, unmark_refusal}
 use Rattle.ob_command.specs.declared.command.Command.{Command}
 use Rattle.ob_command.specs.declared.command.Command.TheVariants.{Cause, Bus, Section, Device, Connect, Revise, Switch, Correct, Withdraw, Mark, Unmark}
-use Rattle.ob_state.specs.State.{BookState, has_cause, has_cause_name, section_of}
+use Rattle.ob_state.specs.State.{BookState, has_cause, has_cause_name}
 use Rattle.jiff.specs.Words.{epoch_day}
 
 -- the refusal where the test holds

@@ -40,7 +40,8 @@ impl State {
     ghost use Rattle.std.specs.Prelude.{◌≡◌, ◌<◌, ◌-◌, IfOk, IfErr, OnOk, IfSome, length};
     ghost use Rattle.std.specs.List.{All};
     ghost use Rattle.ob_base.specs.Stop.{out_of_memory};
-    ghost use Rattle.ob_state.specs.State.{empty_book, section_of, cause_name_of};
+    ghost use Rattle.ob_net.specs.Network.{section_of};
+    ghost use Rattle.ob_state.specs.State.{empty_book, cause_name_of};
     ghost use Rattle.ob_state.specs.Effects.{without_device};
     ghost use Rattle.ob_state.specs.States.{AreRunsOf, IsSoundState};
 

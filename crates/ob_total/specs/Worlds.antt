@@ -1,7 +1,7 @@
 -- What a text has said so far: the span, the network, the sheet and the roll; and each command's one change.
-use Rattle.std.specs.Prelude.{ℕ, ◌<◌, ◌==◌, ◌||◌, List, [], ◌∷◌, ◌++◌, length, nat_lt, nat_le, Option, Some, None, Result, Ok, Err, is_some, if◌then◌else◌, option_and_then}
+use Rattle.std.specs.Prelude.{ℕ, ◌<◌, ◌==◌, ◌||◌, List, [], ◌∷◌, ◌++◌, length, nat_lt, nat_le, Option, Some, None, Result, Ok, Err, if◌then◌else◌}
 use Rattle.std.specs.List.{All}
-use Rattle.ob_net.specs.Network.{Network, device_of, device_refusal, grid_alone, home_feeder, node_of, node_refusal, with_device, with_node}
+use Rattle.ob_net.specs.Network.{Network, device_of, device_refusal, grid_alone, node_refusal, section_of, with_device, with_node}
 use Rattle.ob_base.specs.declared.stop.Refusal.{Refusal}
 use Rattle.ob_base.specs.declared.stop.Refusal.TheVariants.{Full, OutOfPeriod, Sealed, UnknownName}
 use Rattle.ob_base.specs.Seconds.{seconds}
@@ -42,10 +42,6 @@ abbrev pub unless_sealed : {A : Type 0} → List Entry → Result A Refusal → 
 unless_sealed [] then_ = then_
 unless_sealed (e ∷ es) then_ = Err Sealed
 
--- the number of the section with a name
-abbrev pub section_named : Network → List ℕ → Option ℕ
-section_named net name = option_and_then (λ v. if is_some (home_feeder net v) then Some v else None) (node_of net name)
-
 -- what follows the number that a name stands for
 abbrev pub with_known : {A : Type 0} → Option ℕ → (ℕ → Result A Refusal) → Result A Refusal
 with_known None rest = Err UnknownName
@@ -66,7 +62,7 @@ next w (Section name feeder) = unless_sealed w.entries (
     unless_refused (node_refusal w.network name) (record w { network = with_node w.network (record { name = name; feeder = Some feeder }) }))
 next w (Device name a b normal) = unless_sealed w.entries (
     unless_refused (device_refusal w.network name a b) (record w { network = with_device w.network name a b normal }))
-next w (Connect customer section since until) = with_known (section_named w.network section) (λ v.
+next w (Connect customer section since until) = with_known (section_of w.network section) (λ v.
     let c : Customer = record { «no» = customer; section = v; since = since; until = until } in
     unless_refused (connect_refusal w.customers c) (record w { customers = with_customer c w.customers }))
 next w (Switch device pos second cause crew) = with_known (device_of w.network device) (λ d.

@@ -31,8 +31,9 @@ impl Model for World {
 impl World {
     ghost use Rattle.std.specs.Prelude.{◌≡◌, ◌<◌, ◌≤◌, ◌≢◌, ◌+◌, ◌^◌, [], length, IfOk, IfErr, IfSome, OnErr, OnOk};
     ghost use Rattle.ob_base.specs.Stop.{out_of_memory};
+    ghost use Rattle.ob_net.specs.Network.{section_of};
     ghost use Rattle.ob_total.specs.Commands.{IsCommand, IsSpan};
-    ghost use Rattle.ob_total.specs.Worlds.{empty_world, next, section_named, customer_seconds_of};
+    ghost use Rattle.ob_total.specs.Worlds.{empty_world, next, customer_seconds_of};
     ghost use Rattle.ob_total.specs.Steps.{StepsAs};
 
     /// A span, GRID alone, nothing entered and nobody connected.
@@ -130,7 +131,7 @@ impl World {
     }
 
     fn section_named(&self, name: &Name) -> Option<u16>
-        ensures section { result ≡ section_named self.now.network name.now }
+        ensures section { result ≡ section_of self.now.network name.now }
         ensures exists { IfSome result (λ v. v < length self.now.network.nodes) }
     {
         let node = self.net.node_of(name)?;

@@ -4,7 +4,7 @@ use Rattle.ob_command.specs.declared.command.Command.TheVariants.{Connect}
 use Rattle.ob_cust.specs.Roll.{connect_refusal}
 use Rattle.ob_post.specs.MoveLaws.{change_from}
 use Rattle.ob_post.specs.Moved.{moves_by}
-use Rattle.ob_state.specs.State.{section_of}
+use Rattle.ob_net.specs.Network.{section_of}
 use Rattle.ob_state.specs.States.{BookValue}
 use Rattle.ob_state.specs.Amounts.{amount}
 use Rattle.ob_state.specs.Next.{next}

@@ -1,7 +1,7 @@
 use Rattle.std.proofs.Common.{◌≡◌, rules, Some, sym}
 use Rattle.ob_cust.specs.declared.Customer.{Customer}
 use Rattle.ob_cust.specs.Roll.{with_customer}
-use Rattle.ob_state.specs.State.{section_of}
+use Rattle.ob_net.specs.Network.{section_of}
 use Rattle.ob_state.specs.contracts.state.State.{the_view}
 use Rattle.ob_state.proofs.Unrefused.{named_section}
 use Rattle.ob_state.proofs.Kept.{connected_is}

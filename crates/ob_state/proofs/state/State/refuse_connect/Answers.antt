@@ -1,4 +1,4 @@
-use Rattle.ob_state.specs.State.{section_of}
+use Rattle.ob_net.specs.Network.{section_of}
 use Rattle.ob_state.proofs.Found.{is_some-find}
 use Rattle.ob_state.proofs.Refused.{connect_refused}
 use Rattle.ob_state.proofs.Testing.{contrary}

@@ -1,0 +1,2 @@
+//! The tables of a new book, made in one transaction.
+#![tactic(auto)]

@@ -1,0 +1,41 @@
+-- What a change of a row, and the rows of a command, make of the tables of a book.
+use Rattle.std.specs.Prelude.{[]}
+use Rattle.std.specs.List.Sorted.{IsPermutation}
+use Rattle.ob_tables.specs.Rows.{Tables}
+use Rattle.ob_tables.specs.declared.table.Table.{Table}
+use Rattle.ob_tables.specs.declared.table.Table.TheVariants.{Meta, Cause, Node, Device, Customer, Entry, Mark}
+use Rattle.ob_post.specs.Postings.{PostedAmounts}
+use Rattle.ob_state.specs.State.{BookState}
+use Rattle.ob_book.specs.Acts.{ActState, Referenced, take_on}
+use Rattle.ob_commit.specs.declared.change.Change.{Change}
+use Rattle.ob_commit.specs.declared.act.Act.{Act}
+use Rattle.ob_commit.specs.Changing.{HasSmallSeconds, NeedsRow, changed_by}
+use Rattle.ob_commit.specs.Acts.{CanWrite, NeedsRows, with_act}
+use Rattle.ob_record.specs.Tables.{tables_of}
+
+-- a book without its commands
+abbrev bare : BookState → ActState
+bare b = record { book = b; accepted = [] }
+
+-- the tables have the rows of a book's parts, in some order: all but those of commands, of what they moved and of the amounts
+pub record HaveParts (b : BookState) (t : Tables) : Type 0 where
+  pub meta : IsPermutation (t Meta) (tables_of (bare b) Meta)
+  pub causes : IsPermutation (t Cause) (tables_of (bare b) Cause)
+  pub nodes : IsPermutation (t Node) (tables_of (bare b) Node)
+  pub devices : IsPermutation (t Device) (tables_of (bare b) Device)
+  pub customers : IsPermutation (t Customer) (tables_of (bare b) Customer)
+  pub entries : IsPermutation (t Entry) (tables_of (bare b) Entry)
+  pub marks : IsPermutation (t Mark) (tables_of (bare b) Mark)
+
+-- the change of a row makes of the rows of one book's parts those of another's
+pub record LeadsParts (b c : BookState) (change : Change) : Type 0 where
+  pub small : HasSmallSeconds change
+  pub needs : (t : Tables) → HaveParts b t → NeedsRow change t
+  pub parts : (t : Tables) → HaveParts b t → HaveParts c (changed_by change t)
+
+-- the rows of a command under a reference can be written, and make of the tables of a book those of the book with the
+-- command
+pub record Records (b : ActState) (a : Referenced) (p : PostedAmounts) (act : Act) : Type 0 where
+  pub can : CanWrite p act
+  pub needs : NeedsRows p act (tables_of b)
+  pub tables : (table : Table) → IsPermutation (with_act p act (tables_of b) table) (tables_of (take_on b a) table)

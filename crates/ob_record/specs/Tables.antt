@@ -1,0 +1,80 @@
+-- The ten tables of a book and its accepted commands: for each table the list of its rows.
+use Rattle.std.specs.Prelude.{ℕ, ◌+◌, ◌==◌, List, [], ◌∷◌, ◌++◌, map, Option, Some, None, is_some, unwrap_or, if◌then◌else◌}
+use Rattle.std.specs.List.Sorted.{IsPermutation}
+use Rattle.sqlite.specs.Tree.{Trees}
+use Rattle.ob_net.specs.declared.net.Node.{Node as NetNode}
+use Rattle.ob_net.specs.declared.net.Device.{Device as NetDevice}
+use Rattle.ob_sheet.specs.declared.Entry.{Entry as SheetEntry}
+use Rattle.ob_cust.specs.declared.Customer.{Customer as RollCustomer}
+use Rattle.ob_time.specs.Calendar.{day_count}
+use Rattle.ob_time.specs.Dates.{day_text}
+use Rattle.ob_post.specs.Keys.{dim_number}
+use Rattle.ob_post.specs.declared.Moved.{Moved as MovedAmount}
+use Rattle.ob_command.specs.Commands.{body_text}
+use Rattle.ob_state.specs.State.{BookState, empty_book}
+use Rattle.ob_state.specs.Next.{next}
+use Rattle.ob_state.specs.Amounts.{amount, moves}
+use Rattle.ob_book.specs.Acts.{ActState, Referenced}
+use Rattle.ob_tables.specs.declared.table.Table.{Table}
+use Rattle.ob_tables.specs.Rows.{Columns, Tables, shown, tree_of, meta_row, cause_row, node_row, device_row, customer_row, entry_row, mark_row, command_row, moved_row}
+use Rattle.ob_tables.specs.declared.table.Table.TheVariants.{Meta, Cause, Node, Device, Customer, Entry, Mark, Command, Moved, Posting}
+use Rattle.ob_commit.specs.Amounts.{amount_rows}
+
+-- the rows that a table of these trees shows, in some order
+abbrev pub Shows : Trees → Table → List Columns → Type 0
+Shows trees table rows = IsPermutation (map (shown table) (trees (tree_of table))) rows
+
+-- a row for each element, with its number; the first has this one
+abbrev pub numbered : {X : Type 0} → (ℕ → X → Columns) → ℕ → List X → List Columns
+numbered row n [] = []
+numbered row n (x ∷ xs) = row n x ∷ numbered row (n + 1) xs
+
+-- a row for each place that holds something; the first place has this number
+abbrev pub present : {X : Type 0} → (ℕ → X → Columns) → ℕ → List (Option X) → List Columns
+present row n [] = []
+present row n (None ∷ xs) = present row (n + 1) xs
+present row n (Some x ∷ xs) = row n x ∷ present row (n + 1) xs
+
+-- 2 for a section, 0 for GRID, which is the node numbered 0, and 1 for a bus
+abbrev pub node_kind : ℕ → NetNode → ℕ
+node_kind id node = if is_some node.feeder then 2 else if id == 0 then 0 else 1
+
+abbrev pub row_of_node : ℕ → NetNode → Columns
+row_of_node id node = node_row id node.name (node_kind id node) (unwrap_or node.feeder 0)
+
+abbrev pub row_of_device : ℕ → NetDevice → Columns
+row_of_device id device = device_row id device.name device.a device.b device.normal
+
+abbrev pub row_of_customer : RollCustomer → Columns
+row_of_customer c = customer_row c.no c.section c.since c.until
+
+abbrev pub row_of_entry : SheetEntry → Columns
+row_of_entry e = entry_row e.no e.rev e.device e.pos e.second e.cause e.crew e.kept
+
+-- the row of an accepted command under its number
+abbrev pub row_of_command : ℕ → Referenced → Columns
+row_of_command id a = command_row id a.reference (body_text a.command)
+
+-- the rows of the amounts that a command moved
+abbrev pub rows_of_moves : ℕ → List MovedAmount → List Columns
+rows_of_moves id moved = map (λ (m : MovedAmount). moved_row id (dim_number m.dim) m.key m.delta) moved
+
+-- the rows of what accepted commands moved, each from the state before it to the one after it; the first has this number
+abbrev pub moved_rows : BookState → ℕ → List Referenced → List Columns
+moved_rows b n [] = []
+moved_rows b n (a ∷ more) =
+    rows_of_moves n (moves b (next b a.command)) ++ moved_rows (next b a.command) (n + 1) more
+
+-- the rows of the tables: those of the state, those of the accepted commands, what each of them moved, and the
+-- customer-seconds without supply of the state
+abbrev pub tables_of : ActState → Tables
+tables_of b Meta = meta_row 1 (day_text b.book.period.first_day) (day_count b.book.period) b.book.period.zone ∷ []
+tables_of b Cause = present cause_row 0 b.book.causes
+tables_of b Node = numbered row_of_node 0 b.book.network.nodes
+tables_of b Device = numbered row_of_device 0 b.book.network.devices
+tables_of b Customer = map row_of_customer b.book.customers
+tables_of b Entry = map row_of_entry b.book.entries
+tables_of b Mark = present mark_row 0 b.book.marks
+tables_of b Command = numbered row_of_command 1 b.accepted
+tables_of b Moved = moved_rows (empty_book b.book.period) 1 b.accepted
+tables_of b Posting = amount_rows (day_count b.book.period) (amount b.book)

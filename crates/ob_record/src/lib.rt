@@ -1,0 +1,2 @@
+//! The rows of a book: what the ten tables hold of its accepted commands, and what each further one makes of them.
+#![tactic(auto)]
