@@ -1,2 +1,8 @@
 //! The keeper of a book: its accepted commands in a store, and the book in memory.
 #![tactic(auto)]
+
+mod keeper;
+mod reply;
+
+pub use keeper::Keeper;
+pub use reply::{Moves, Reply};

@@ -1,0 +1,118 @@
+-- What the rows under a reference say of the accepted commands.
+use Rattle.std.proofs.Common.{◌≡◌, ◌⊎◌, inl, inr, ℕ, ◌+◌, ◌-◌, ◌<◌, ◌&&◌, Bool, true, false, cond, List, [], ◌∷◌, ◌++◌, length, filter, Some, None, Option, refl, sym, ap, ap₂, subst, ◌∙◌, arith, zero, suc, true≢false, Ordering, Less, Equal, Greater, nat_lt}
+use Rattle.std.specs.Prelude.{nat_eq, slice_get}
+use Rattle.std.specs.Ordering.{is_eq, nat_cmp, ordering_then}
+use Rattle.std.specs.Cmp.Lexicographic.{slice_cmp}
+use Rattle.std.specs.List.{position_or_len, position}
+use Rattle.std.specs.Str.{bytes_eq}
+use Rattle.std.proofs.lemmas.Bool.{cases_Bool}
+use Rattle.std.proofs.lemmas.Bool.Decides.{nat_tests}
+use Rattle.sqlite_value.proofs.OrderLemmas.{value_cmp-Text}
+use Rattle.sqlite_sql.specs.Ops.{binary, is_true, from_truth}
+use Rattle.sqlite_schema.specs.Rules.{equal}
+use Rattle.sqlite.specs.declared.types.Value.{Value}
+use Rattle.sqlite.specs.declared.types.Value.TheVariants.{Text, Int}
+use Rattle.sqlite.specs.Collation.TheVariants.{Binary}
+use Rattle.ob_command.specs.Commands.{body_text}
+use Rattle.ob_book.specs.Acts.{ActState, Referenced, number_of}
+use Rattle.ob_tables.specs.Rows.{Columns, command_row, is_reference}
+use Rattle.ob_record.specs.Tables.{numbered, row_of_command}
+
+truth_is : (b : Bool) → is_true (from_truth (Some b)) ≡ b
+truth_is true = refl
+truth_is false = refl
+
+same_numbers : (x y : ℕ) (rest : Ordering) (more : Bool) → is_eq rest ≡ more → is_eq (ordering_then (nat_cmp x y) rest) ≡ (nat_eq x y && more)
+same_numbers x y rest more is = elim (cases_Bool (nat_eq x y)) [
+  | inl same ↦ let e : nat_cmp x y ≡ Equal = grind (arith, nat_tests) in rw (e, same) is
+  | inr other ↦ elim (nat_cmp x y) as (λ o. nat_cmp x y ≡ o → is_eq (ordering_then o rest) ≡ (nat_eq x y && more)) [
+    | Less ↦ λ e. rw other
+    | Equal ↦ λ e. absurd (true≢false (let yes : nat_eq x y ≡ true = grind (arith, nat_tests) in sym yes ∙ other))
+    | Greater ↦ λ e. rw other
+  ] refl
+]
+
+same_texts : (s t : List ℕ) → is_eq (slice_cmp nat_cmp s t) ≡ bytes_eq s t
+same_texts [] [] = refl
+same_texts [] (y ∷ ys) = refl
+same_texts (x ∷ xs) [] = refl
+same_texts (x ∷ xs) (y ∷ ys) = same_numbers x y (slice_cmp nat_cmp xs ys) (bytes_eq xs ys) (same_texts xs ys)
+
+equal_texts : (s t : List ℕ) → equal Binary (Text s) (Text t) ≡ bytes_eq s t
+unfolding binary
+equal_texts s t = truth_is _ ∙ ap is_eq (value_cmp-Text s t) ∙ same_texts s t
+
+-- the test of the rows is that of the references
+test_is : (r : List ℕ) (n : ℕ) (a : Referenced) → is_reference r (row_of_command n a) ≡ bytes_eq a.reference r
+test_is r n a = elim (cases_Bool (bytes_eq a.reference r)) [
+  | inl same ↦ rw (equal_texts a.reference r, same)
+  | inr other ↦ rw (equal_texts a.reference r, other)
+]
+
+module _ (r : List ℕ) where
+  -- the command has the reference
+  abbrev pub has : Referenced → Bool
+  has a = bytes_eq a.reference r
+
+  none_at : (n : ℕ) (list : List Referenced) → filter (is_reference r) (numbered row_of_command n list) ≡ [] → position_or_len has list ≡ length list
+  none_at n [] none = refl
+  none_at n (a ∷ list) none = elim (cases_Bool (bytes_eq a.reference r)) [
+    | inl same ↦ absurd (let some = ap length (rw (test_is r n a, same) at none) in omega (arith, some))
+    | inr other ↦ let rest = none_at (n + 1) list (rw (test_is r n a, other) at none) in let step : 1 + length list ≡ length (a ∷ list) = omega arith in rw (other, rest) step
+  ]
+
+  -- no row has the reference
+  pub is_new : (b : ActState) → filter (is_reference r) (numbered row_of_command 1 b.accepted) ≡ [] → number_of b r ≡ None
+  is_new b none =
+      let at = none_at 1 b.accepted none in
+      let past : nat_lt (length b.accepted) (length b.accepted) ≡ false = grind (arith, nat_tests) in
+      rw (at, past)
+
+  -- the first command with the reference, its place and its body
+  pub record IsFirst (n id : ℕ) (body : List ℕ) (list : List Referenced) : Type 0 where
+    pub place : ℕ
+    pub at : position_or_len has list ≡ place
+    pub low : place < length list
+    pub number : id ≡ n + place
+    pub found : Referenced
+    pub there : slice_get list place ≡ Some found
+    pub body_is : body_text found.command ≡ body
+
+  pub one_at : (n id : ℕ) (body : List ℕ) (list : List Referenced) → filter (is_reference r) (numbered row_of_command n list) ≡ command_row id r body ∷ [] → IsFirst n id body list
+  one_at n id body [] one = absurd (let none = ap length one in omega (arith, none))
+  one_at n id body (a ∷ list) one = elim (cases_Bool (bytes_eq a.reference r)) [
+    | inl same ↦
+        let rows : row_of_command n a ∷ filter (is_reference r) (numbered row_of_command (n + 1) list) ≡ command_row id r body ∷ [] = rw (test_is r n a, same) at one in
+        let id_is : n ≡ id = cc in
+        let body_is : body_text a.command ≡ body = cc in
+        record {
+          place = 0;
+          at = rw same;
+          low = omega arith;
+          number = omega (arith, id_is);
+          found = a;
+          there = refl;
+          body_is = body_is;
+        }
+    | inr other ↦
+        let rest = one_at (n + 1) id body list (rw (test_is r n a, other) at one) in
+        record {
+          place = rest.place + 1;
+          at = let e : 1 + rest.place ≡ rest.place + 1 = omega arith in rw (other, rest.at) e;
+          low = omega (arith, rest.low);
+          number = omega (arith, rest.number);
+          found = rest.found;
+          there = let e : rest.place + 1 ≡ suc rest.place = omega arith in ap (slice_get (a ∷ list)) e ∙ rest.there;
+          body_is = rest.body_is;
+        }
+  ]
+
+  -- a row has the reference: it is that of the first command with it
+  pub is_known : (b : ActState) (id : ℕ) (body : List ℕ) → filter (is_reference r) (numbered row_of_command 1 b.accepted) ≡ command_row id r body ∷ []
+      → (number_of b r ≡ Some id) × ((a : Referenced) × (slice_get b.accepted (id - 1) ≡ Some a) × (body_text a.command ≡ body)) × (id - 1 < length b.accepted)
+  is_known b id body one =
+      let it = one_at 1 id body b.accepted one in
+      let inside : nat_lt it.place (length b.accepted) ≡ true = grind (arith, nat_tests, it.low) in
+      let number : it.place + 1 ≡ id = omega (arith, it.number) in
+      let place : id - 1 ≡ it.place = omega (arith, it.number) in
+      (rw (it.at, inside) (ap Some number), (it.found, ap (slice_get b.accepted) place ∙ it.there, it.body_is), omega (arith, it.low, it.number))
