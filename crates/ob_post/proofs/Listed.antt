@@ -187,12 +187,16 @@ delta_of-moves_by change days dim key k = delta_of-filter (all_changes change da
 pub keys_of_moves_by : (change : Dim → ℕ → ℤ) (days : ℕ) → HaveKeys days (moves_by change days)
 keys_of_moves_by change days = All-filter (λ m. is_nonzero m.delta) (λ m. IsKey days m.dim m.key) (all_changes change days) (all_keyed change days)
 
+-- the moves by a change rise by dimension and then by key
+pub order_of_moves_by : (change : Dim → ℕ → ℤ) (days : ℕ) → AreInOrder (moves_by change days)
+order_of_moves_by change days = AllPairs-filter IsBefore (λ m. is_nonzero m.delta) (all_changes change days) (all_in_order change days)
+
 -- the rows that move by the differences of two lists are those of the changes that these are
 pub listed : (taken given moved : List Moved) (days : ℕ) (change : Dim → ℕ → ℤ) → AreInOrder moved → HaveNoZero moved → ((dim : Dim) (key : ℕ) → delta_of moved dim key ≡ difference taken given dim key) → HaveKeys days taken → HaveKeys days given
     → ((dim : Dim) (key : ℕ) → IsKey days dim key → difference taken given dim key ≡ change dim key) → moved ≡ moves_by change days
 listed taken given moved days change order no_zero each ht hg agrees =
     let all : List Moved = all_changes change days in
-    same_moves moved (moves_by change days) order (AllPairs-filter IsBefore (λ m. is_nonzero m.delta) all (all_in_order change days)) no_zero (filter_no_zero all)
+    same_moves moved (moves_by change days) order (order_of_moves_by change days) no_zero (filter_no_zero all)
     (λ dim key.
     each dim key
     ∙ elim (cases_key days dim key) [

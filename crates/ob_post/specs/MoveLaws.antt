@@ -3,7 +3,7 @@ use Rattle.std.specs.Prelude.{◌≡◌, ℕ, ◌+◌, ◌^◌, ◌<◌, ◌≤�
 use Rattle.std.specs.Int.{w64}
 use Rattle.std.specs.List.{All, AllPairs, Contains, range_with_len, sum_by}
 use Rattle.ob_post.specs.Keys.{IsKey, keys}
-use Rattle.ob_post.specs.Moved.{delta_of, HaveKeys, moves_by}
+use Rattle.ob_post.specs.Moved.{delta_of, AreInOrder, HaveKeys, moves_by}
 use Rattle.ob_post.specs.Postings.{PostedAmounts, amount_of, day_count, amount_after, total_after}
 use Rattle.ob_post.specs.declared.Dim.{Dim}
 use Rattle.ob_post.specs.declared.Moved.{Moved}
@@ -63,6 +63,10 @@ DifferencesFit =
 -- the moves by a change are of amounts that are kept
 abbrev pub MovesHaveKeys : Type 0
 MovesHaveKeys = (change : Dim → ℕ → ℤ) (days : ℕ) → HaveKeys days (moves_by change days)
+
+-- they rise by dimension and then by key
+abbrev pub MovesAreInOrder : Type 0
+MovesAreInOrder = (change : Dim → ℕ → ℤ) (days : ℕ) → AreInOrder (moves_by change days)
 
 -- they move each amount that is kept by its change
 abbrev pub MovesAreOfChange : Type 0

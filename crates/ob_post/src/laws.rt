@@ -1,6 +1,6 @@
 //! Laws of the amounts, for a proof that calls them; they do nothing when they run.
 ghost use Rattle.ob_post.specs.CauseLaws.{ChangedCause, EnteredCause, SameCause};
-ghost use Rattle.ob_post.specs.MoveLaws.{DifferencesFit, HaveKeysOfMore, MovesAreOfChange, MovesHaveKeys, MovesLeadTo, NodeReposted, NodeStays, NoneReposted, RepostedDiffer};
+ghost use Rattle.ob_post.specs.MoveLaws.{DifferencesFit, HaveKeysOfMore, MovesAreInOrder, MovesAreOfChange, MovesHaveKeys, MovesLeadTo, NodeReposted, NodeStays, NoneReposted, RepostedDiffer};
 ghost use Rattle.ob_post.specs.SectionLaws.{BySection, ByRuns, Changed, ChangedInRuns, Connected, ConnectedToRuns, Nobody, OneCustomer, RunsLieWithin, SameByCause, SectionByRuns};
 ghost use Rattle.ob_post.specs.TotalLaws.{AddUp, AmountsAreSmall, TotalsAgree, TotalsAreSmall};
 
@@ -47,6 +47,7 @@ pub fn move_laws()
     ensures more_days { HaveKeysOfMore }
     ensures fit { DifferencesFit }
     ensures keys { MovesHaveKeys }
+    ensures order { MovesAreInOrder }
     ensures change { MovesAreOfChange }
     ensures lead_to { MovesLeadTo }
 {}

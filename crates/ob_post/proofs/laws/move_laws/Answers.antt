@@ -1,4 +1,4 @@
-use Rattle.ob_post.proofs.Listed.{delta_of-moves_by, keys_of_moves_by}
+use Rattle.ob_post.proofs.Listed.{delta_of-moves_by, keys_of_moves_by, order_of_moves_by}
 use Rattle.ob_post.proofs.Reposted.{none_reposted, node_stays, node_reposted, have_keys_of_more, reposted_differ, differences_fit, moves_lead_to}
 use Rattle.ob_post.proofs.laws.move_laws.Goals as goal
 
@@ -28,3 +28,6 @@ returns-clause-change c = delta_of-moves_by
 
 pub returns-clause-lead_to : goal.returns-clause-lead_to
 returns-clause-lead_to c = moves_lead_to
+
+pub returns-clause-order : goal.returns-clause-order
+returns-clause-order c = order_of_moves_by
