@@ -3,6 +3,7 @@
 
 mod keeper;
 mod reply;
+mod stored;
 
 pub use keeper::Keeper;
 pub use reply::{Moves, Reply};

@@ -1,0 +1,40 @@
+//! The stored reply of an accepted command.
+ghost use Rattle.std.specs.Prelude.{◌≡◌, ◌≤◌, false, length, IfOk, IfErr};
+ghost use Rattle.sqlite.specs.Held.{state};
+ghost use Rattle.sqlite.specs.State.{HasCleanDisk, Survives};
+ghost use Rattle.ob_tables.specs.Steps.{IsStoreFault};
+ghost use Rattle.ob_book.specs.Acts.{ActState, reply_of};
+ghost use Rattle.ob_store.specs.Keeping.{KeepsBook};
+ghost use Rattle.ob_store.specs.Acting.{reply_as};
+
+use crate::reply::{Moves, Reply};
+use ob_base::Stop;
+use ob_lookup::stored_moves;
+use ob_post::laws::move_laws;
+use sqlite::{Alter, Connection};
+use std::alloc::Global;
+
+/// The reply of the accepted command of a number, as the tables hold it. Nothing is written.
+pub(crate) fn stored_reply<S: Alter>(
+    alloc: Global,
+    conn: &mut Connection<S>,
+    no: u32,
+) -> Result<Reply, Stop>
+    requires mode { conn.old.in_transaction ≡ false }
+    ensures mode { conn.new.in_transaction ≡ false }
+    ensures faults { IfErr result IsStoreFault }
+    ensures survives { Survives (state S.Store conn.old) (state S.Store conn.new) (λ _. ⊥) }
+    ensures kept { (b : ActState) → KeepsBook (state S.Store conn.old) b → KeepsBook (state S.Store conn.new) b }
+    ensures reply { HasCleanDisk (state S.Store conn.new) → IfOk result (λ r. (b : ActState)
+        → KeepsBook (state S.Store conn.old) b → 1 ≤ no → no ≤ length b.accepted
+        → reply_as r ≡ reply_of b no) }
+{
+    move_laws();
+    match stored_moves(alloc, conn, no) {
+        Ok(moves) => Ok(Reply {
+            no,
+            moved: Moves::new(moves),
+        }),
+        Err(stop) => Err(stop),
+    }
+}
