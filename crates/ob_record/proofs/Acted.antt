@@ -1,5 +1,5 @@
 -- The rows of an accepted command make of the tables of a book those of the book with the command.
-use Rattle.std.proofs.Common.{◌≡◌, ℕ, ◌+◌, ◌==◌, ◌<◌, ◌^◌, ◌≤ℤ◌, ◌<ℤ◌, pos, ℤ, ◌+ℤ◌, ◌-ℤ◌, List, [], ◌∷◌, ◌++◌, map, filter, length, fold, refl, sym, ap, ap₂, subst, ◌∙◌, arith, false}
+use Rattle.std.proofs.Common.{◌≡◌, ℕ, ◌+◌, ◌==◌, ◌<◌, ◌^◌, ◌≤ℤ◌, ◌<ℤ◌, pos, ℤ, ◌+ℤ◌, ◌-ℤ◌, List, [], ◌∷◌, ◌++◌, filter, length, refl, sym, ap, ap₂, subst, ◌∙◌, arith, false}
 use Rattle.std.specs.List.{AllByRecursion}
 use Rattle.std.specs.List.Sorted.{IsPermutation}
 use Rattle.std.specs.Int.RustNames.{unsigned_abs}
@@ -17,7 +17,7 @@ use Rattle.ob_command.specs.Commands.{body_text}
 use Rattle.ob_state.specs.State.{BookState, empty_book}
 use Rattle.ob_state.specs.Next.{next}
 use Rattle.ob_state.specs.Amounts.{amount, moves}
-use Rattle.ob_book.specs.Acts.{ActState, PeriodStays, Referenced, StateIsOfCommands, of_commands, start, take_on}
+use Rattle.ob_book.specs.Acts.{ActState, PeriodStays, Referenced, StateIsOfCommands, take_on}
 use Rattle.ob_book.specs.Books.{ArePosted}
 use Rattle.ob_tables.specs.Rows.{Columns, Tables, command_row, moved_row, tree_of}
 use Rattle.ob_tables.specs.declared.table.Table.{Table}
@@ -27,13 +27,14 @@ use Rattle.ob_commit.specs.declared.change.Change.{Change}
 use Rattle.ob_commit.specs.declared.change.Change.TheVariants.{AddCause, AddNode, AddDevice, AddCustomer, SetService}
 use Rattle.ob_commit.specs.declared.change.Change.TheVariants.{AddEntry, CorrectEntry, WithdrawEntry, AddMark, DropMark}
 use Rattle.ob_commit.specs.Acts.{CanWrite, NeedsRows, with_act, with_command}
-use Rattle.ob_commit.specs.Amounts.{all_keys, amount_row}
+use Rattle.ob_commit.specs.Amounts.{all_keys, amount_rows}
 use Rattle.ob_commit.specs.Changing.{changed_by}
 use Rattle.ob_commit.specs.Moves.{CanMove, moved_to, with_move, with_moves}
 use Rattle.ob_record.specs.Tables.{moved_rows, numbered, row_of_command, rows_of_moves, tables_of}
 use Rattle.ob_record.specs.Reached.{IsReached}
 use Rattle.ob_record.specs.Leading.{HaveParts, LeadsParts, Records}
-use Rattle.ob_record.proofs.Posted.{all_mapped, ends_new, is_at, keys_are, moved_or_same, moves_are, once, put_all, rows_after, rows_there, same_rows}
+use Rattle.ob_record.proofs.Starting.{reached_book, reached_count, state_after}
+use Rattle.ob_record.proofs.Posted.{all_mapped, all_mapped₂, ends_new, is_at, keys_are, moved_or_same, moves_are, once, put_all, rows_after, rows_there, same_rows}
 
 -- ---- which tables stay
 
@@ -80,10 +81,6 @@ more_moved id p (m ∷ ms) t =
     more_moved id p ms (with_move id p m t)
     ∙ append_assoc (t tables.Moved) (moved_row id (dim_number m.dim) m.key m.delta ∷ []) (rows_of_moves id ms)
 
--- the state after accepted commands
-abbrev state_after : BookState → List Referenced → BookState
-state_after b cs = fold (λ (s : BookState) (a : Referenced). next s a.command) b cs
-
 -- one command more has the rows of what it moves
 moved_more : (b : BookState) (n : ℕ) (cs : List Referenced) (a : Referenced)
     → moved_rows b n (cs ++ a ∷ []) ≡ moved_rows b n cs ++ rows_of_moves (n + length cs) (moves (state_after b cs) (next (state_after b cs) a.command))
@@ -97,29 +94,7 @@ moved_more b n (c ∷ cs) a =
     ap (λ l. rows_of_moves n (moves b b') ++ l) (moved_more b' (n + 1) cs a ∙ ap (λ k. moved_rows b' (n + 1) cs ++ rows_of_moves k last) e)
     ∙ sym (append_assoc (rows_of_moves n (moves b b')) (moved_rows b' (n + 1) cs) (rows_of_moves (n + length (c ∷ cs)) last))
 
--- ---- a book of accepted commands
-
-of_its_commands : StateIsOfCommands → (b : ActState) → IsReached b → b ≡ of_commands b.book.period b.accepted
-of_its_commands law b h =
-    sym h.in_turn ∙ law b.book.period b.accepted ∙ ap (λ (s : ActState). of_commands b.book.period s.accepted) h.in_turn
-
-book_of : (s : ActState) (cs : List Referenced) → (fold take_on s cs).book ≡ state_after s.book cs
-book_of s [] = refl
-book_of s (a ∷ cs) = book_of (take_on s a) cs
-
--- the book is what its commands lead to
-reached_book : StateIsOfCommands → (b : ActState) → IsReached b → b.book ≡ state_after (empty_book b.book.period) b.accepted
-reached_book law b h = ap (λ (s : ActState). s.book) (of_its_commands law b h) ∙ book_of (start b.book.period) b.accepted
-
-counted : (b : BookState) (cs : List Referenced) → (state_after b cs).accepted ≡ b.accepted + length cs
-counted b [] = omega arith
-counted b (a ∷ cs) = omega (arith, counted (next b a.command) cs)
-
--- it counts its commands
-reached_count : StateIsOfCommands → (b : ActState) → IsReached b → b.book.accepted ≡ length b.accepted
-reached_count law b h =
-    let same = ap (λ (s : BookState). s.accepted) (reached_book law b h) in
-    omega (arith, same, counted (empty_book b.book.period) b.accepted)
+-- ---- the parts of a book
 
 -- its tables have the rows of its parts
 own_parts : (b : ActState) → HaveParts b.book (tables_of b)
@@ -133,13 +108,10 @@ own_parts b = record {
   marks = IsPermutation-refl (tables_of b tables.Mark);
 }
 
--- ---- one command more
+-- ---- what the moves of a command write
 
 difference : (a b : ℕ) → pos a +ℤ (pos b -ℤ pos a) ≡ pos b
 difference a b = omega (arith, ints)
-
-same_is : {X : Type 0} (xs ys : List X) → xs ≡ ys → IsPermutation xs ys
-same_is xs ys e = subst (IsPermutation xs) e (IsPermutation-refl xs)
 
 -- these are the rows of a command that a state accepts, beside amounts that are posted
 pub record AreRowsOf (s : BookState) (a : Referenced) (p : PostedAmounts) (act : Act) : Type 0 where
@@ -152,129 +124,144 @@ pub record AreRowsOf (s : BookState) (a : Referenced) (p : PostedAmounts) (act :
   pub small : AreSmall (amount s)
   pub still_small : AreSmall (amount (next s a.command))
 
-module _ (keyed : MovesHaveKeys) (of_change : MovesAreOfChange) (stays : PeriodStays) (law : StateIsOfCommands)
-    (b : ActState) (a : Referenced) (p : PostedAmounts) (act : Act) (reached : IsReached b) (rows : AreRowsOf b.book a p act) where
-  abbrev after : BookState
-  after = next b.book a.command
-
+module _ (keyed : MovesHaveKeys) (s : BookState) (a : Referenced) (p : PostedAmounts) (act : Act) (rows : AreRowsOf s a p act) where
   abbrev days : ℕ
-  days = day_count b.book.period
+  days = day_count s.period
+
+  abbrev new : Dim → ℕ → ℕ
+  new = amount (next s a.command)
 
   abbrev ms : List Moved
   ms = act.moves.now
 
-  abbrev change : Dim → ℕ → ℤ
-  change = change_from (amount b.book) (amount after)
+  have_keys : AllByRecursion (λ (m : Moved). IsKey days m.dim m.key) ms
+  have_keys =
+      subst (AllByRecursion (λ (m : Moved). IsKey days m.dim m.key)) (sym rows.moves)
+      (recursion_from_All (λ (m : Moved). IsKey days m.dim m.key) (moves s (next s a.command)) (keyed (change_from (amount s) new) days))
 
-  abbrev old : Tables
-  old = tables_of b
+  have_changes : AllByRecursion (λ (m : Moved). m.delta ≡ change_from (amount s) new m.dim m.key) ms
+  have_changes =
+      subst (AllByRecursion (λ (m : Moved). m.delta ≡ change_from (amount s) new m.dim m.key)) (sym rows.moves)
+      (moves_are (change_from (amount s) new) days)
 
-  abbrev with_own : Tables
-  with_own = with_command act old
+  -- a move leads from the posted amount to the new one
+  moved_is : (m : Moved) → IsKey days m.dim m.key → m.delta ≡ change_from (amount s) new m.dim m.key → moved_to p m ≡ pos (new m.dim m.key)
+  moved_is m key delta =
+      ap₂ (λ x (y : ℤ). pos x +ℤ y) (rows.posted.amounts m.dim m.key key) delta ∙ difference (amount s m.dim m.key) (new m.dim m.key)
 
-  abbrev new : Tables
-  new = with_act p act old
+  can : (m : Moved) → IsKey days m.dim m.key → m.delta ≡ change_from (amount s) new m.dim m.key → CanMove p m
+  can m key delta =
+      let to = moved_is m key delta in
+      record {
+        key = subst (λ n. IsKey n m.dim m.key) (sym rows.posted.days) key;
+        old = subst (λ n. n < 2 ^ 63) (sym (rows.posted.amounts m.dim m.key key)) (rows.small m.dim m.key);
+        floor = subst (λ z. pos 0 ≤ℤ z) (sym to) (omega (arith, ints));
+        ceiling = subst (λ z. z <ℤ pos (2 ^ 63)) (sym to) (omega (arith, ints, rows.still_small m.dim m.key));
+      }
+
+  pub can_write : CanWrite p act
+  can_write = record { change = rows.change.small; moves = All-from_recursion (CanMove p) ms (all_mapped₂ _ _ (CanMove p) can ms have_keys have_changes) }
+
+  leads : AllByRecursion (λ (m : Moved). unsigned_abs (moved_to p m) ≡ new m.dim m.key) ms
+  leads =
+      all_mapped₂ _ _ (λ (m : Moved). unsigned_abs (moved_to p m) ≡ new m.dim m.key) (λ m key delta. ap unsigned_abs (moved_is m key delta)) ms
+      have_keys have_changes
+
+  -- the key of each move stands once among all keys
+  stand_once : AllByRecursion (λ (m : Moved). filter (is_at (dim_number m.dim) m.key) (all_keys days) ≡ (m.dim, m.key) ∷ []) ms
+  stand_once =
+      all_mapped (λ (m : Moved). IsKey days m.dim m.key) (λ (m : Moved). filter (is_at (dim_number m.dim) m.key) (all_keys days) ≡ (m.dim, m.key) ∷ [])
+      (λ m key. once days m.dim m.key key) ms have_keys
+
+  -- from the rows of the amounts before them, the moves make those of the amounts after them
+  moves_write : MovesAreOfChange → (t : Tables) → t tables.Posting ≡ amount_rows days (amount s) → with_moves act.no p ms t tables.Posting ≡ amount_rows days new
+  moves_write of_change t are =
+      let put = put_all act.no p (all_keys days) (amount s) ms in
+      rows_after act.no p (all_keys days) ms (amount s) t are
+      ∙ same_rows put new (all_keys days)
+      (all_mapped (λ (k : Dim × ℕ). IsKey days k.0 k.1) (λ (k : Dim × ℕ). put k.0 k.1 ≡ new k.0 k.1)
+      (λ k h. ends_new act.no p (all_keys days) new k.0 k.1 ms (amount s) leads (moved_or_same of_change (amount s) new days k.0 k.1 h ms rows.moves))
+      (all_keys days) (keys_are days))
+
+-- ---- one command more
+
+same_is : {X : Type 0} (xs ys : List X) → xs ≡ ys → IsPermutation xs ys
+same_is xs ys e = subst (IsPermutation xs) e (IsPermutation-refl xs)
+
+module _ (keyed : MovesHaveKeys) (of_change : MovesAreOfChange) (stays : PeriodStays) (law : StateIsOfCommands)
+    (b : ActState) (a : Referenced) (p : PostedAmounts) (act : Act) (reached : IsReached b) (rows : AreRowsOf b.book a p act) where
+  abbrev before : Tables
+  before = tables_of b
+
+  abbrev after : Tables
+  after = with_act p act before
+
+  -- the first rows of the commands and of what they moved
+  abbrev commands : List Columns
+  commands = before tables.Command
+
+  abbrev moved : List Columns
+  moved = before tables.Moved
 
   number_is : act.no ≡ 1 + length b.accepted
   number_is = omega (arith, rows.id, reached_count law b reached)
 
-  have_keys : AllByRecursion (λ (m : Moved). IsKey days m.dim m.key) ms
-  have_keys =
-      subst (AllByRecursion (λ (m : Moved). IsKey days m.dim m.key)) (sym rows.moves)
-      (recursion_from_All (λ (m : Moved). IsKey days m.dim m.key) (moves b.book after) (keyed change days))
-
-  have_changes : AllByRecursion (λ (m : Moved). m.delta ≡ change m.dim m.key) ms
-  have_changes = subst (AllByRecursion (λ (m : Moved). m.delta ≡ change m.dim m.key)) (sym rows.moves) (moves_are change days)
-
-  -- a row leads from the posted amount to the one after the command
-  moved_is : (m : Moved) → IsKey days m.dim m.key → m.delta ≡ change m.dim m.key → moved_to p m ≡ pos (amount after m.dim m.key)
-  moved_is m key delta =
-      ap₂ (λ x (y : ℤ). pos x +ℤ y) (rows.posted.amounts m.dim m.key key) delta
-      ∙ difference (amount b.book m.dim m.key) (amount after m.dim m.key)
-
-  lead : (xs : List Moved) → AllByRecursion (λ (m : Moved). IsKey days m.dim m.key) xs → AllByRecursion (λ (m : Moved). m.delta ≡ change m.dim m.key) xs
-      → AllByRecursion (λ (m : Moved). unsigned_abs (moved_to p m) ≡ amount after m.dim m.key) xs
-  lead [] k d = tt
-  lead (m ∷ xs) k d = (ap unsigned_abs (moved_is m k.0 d.0), lead xs k.1 d.1)
-
-  can : (xs : List Moved) → AllByRecursion (λ (m : Moved). IsKey days m.dim m.key) xs → AllByRecursion (λ (m : Moved). m.delta ≡ change m.dim m.key) xs
-      → AllByRecursion (CanMove p) xs
-  can [] k d = tt
-  can (m ∷ xs) k d =
-      let to = moved_is m k.0 d.0 in (
-        record {
-          key = subst (λ n. IsKey n m.dim m.key) (sym rows.posted.days) k.0;
-          old = subst (λ n. n < 2 ^ 63) (sym (rows.posted.amounts m.dim m.key k.0)) (rows.small m.dim m.key);
-          floor = subst (λ z. pos 0 ≤ℤ z) (sym to) (omega (arith, ints));
-          ceiling = subst (λ z. z <ℤ pos (2 ^ 63)) (sym to) (omega (arith, ints, rows.still_small m.dim m.key));
-        },
-        can xs k.1 d.1,
-      )
-
-  can_write : CanWrite p act
-  can_write = record { change = rows.change.small; moves = All-from_recursion (CanMove p) ms (can ms have_keys have_changes) }
-
   -- the amounts as they stand when the moves begin
-  amounts_are : with_own tables.Posting ≡ map (amount_row (amount b.book)) (all_keys days)
-  amounts_are = (leaves act.change old).amounts
+  amounts_are : with_command act before tables.Posting ≡ amount_rows (day_count b.book.period) (amount b.book)
+  amounts_are = (leaves act.change before).amounts
 
-  needs_rows : NeedsRows p act old
+  needs_rows : NeedsRows p act before
   needs_rows = record {
-    change = rows.change.needs old (own_parts b);
+    change = rows.change.needs before (own_parts b);
     amounts =
-        rows_there act.no p (all_keys days) ms (amount b.book) with_own
-        (all_mapped (λ (m : Moved). IsKey days m.dim m.key) (λ (m : Moved). filter (is_at (dim_number m.dim) m.key) (all_keys days) ≡ (m.dim, m.key) ∷ [])
-        (λ m h. once days m.dim m.key h) ms have_keys) amounts_are;
+        rows_there act.no p (all_keys (day_count b.book.period)) act.moves.now (amount b.book) (with_command act before)
+        (stand_once keyed b.book a p act rows) amounts_are;
   }
 
-  commands_after : new tables.Command ≡ tables_of (take_on b a) tables.Command
+  commands_after : after tables.Command ≡ tables_of (take_on b a) tables.Command
   commands_after =
-      beside tables.Command refl refl act.no p ms with_own
-      ∙ ap (λ l. l ++ command_row act.no act.reference.now act.body.now ∷ []) (leaves act.change old).commands
-      ∙ ap (λ n. numbered row_of_command 1 b.accepted ++ command_row n act.reference.now act.body.now ∷ []) number_is
-      ∙ ap₂ (λ r t. numbered row_of_command 1 b.accepted ++ command_row (1 + length b.accepted) r t ∷ []) rows.reference rows.body
+      beside tables.Command refl refl act.no p act.moves.now (with_command act before)
+      ∙ ap (λ l. l ++ command_row act.no act.reference.now act.body.now ∷ []) (leaves act.change before).commands
+      ∙ ap (λ n. commands ++ command_row n act.reference.now act.body.now ∷ []) number_is
+      ∙ ap₂ (λ r t. commands ++ command_row (1 + length b.accepted) r t ∷ []) rows.reference rows.body
       ∙ sym (numbered_more row_of_command 1 b.accepted a)
 
-  moved_after : new tables.Moved ≡ tables_of (take_on b a) tables.Moved
+  moved_after : after tables.Moved ≡ tables_of (take_on b a) tables.Moved
   moved_after =
-      more_moved act.no p ms with_own ∙ ap (λ l. l ++ rows_of_moves act.no ms) (leaves act.change old).moved
-      ∙ ap₂ (λ n l. moved_rows (empty_book b.book.period) 1 b.accepted ++ rows_of_moves n l) number_is rows.moves
-      ∙ ap (λ s. moved_rows (empty_book b.book.period) 1 b.accepted ++ rows_of_moves (1 + length b.accepted) (moves s (next s a.command))) (reached_book law b reached)
+      more_moved act.no p act.moves.now (with_command act before)
+      ∙ ap (λ l. l ++ rows_of_moves act.no act.moves.now) (leaves act.change before).moved
+      ∙ ap₂ (λ n l. moved ++ rows_of_moves n l) number_is rows.moves
+      ∙ ap (λ s. moved ++ rows_of_moves (1 + length b.accepted) (moves s (next s a.command))) (reached_book law b reached)
       ∙ sym (moved_more (empty_book b.book.period) 1 b.accepted a)
       ∙ ap (λ c. moved_rows (empty_book c) 1 (b.accepted ++ a ∷ [])) (sym (stays b.book a.command))
 
-  amounts_after : new tables.Posting ≡ tables_of (take_on b a) tables.Posting
+  amounts_after : after tables.Posting ≡ tables_of (take_on b a) tables.Posting
   amounts_after =
-      rows_after act.no p (all_keys days) ms (amount b.book) with_own amounts_are
-      ∙ same_rows (put_all act.no p (all_keys days) (amount b.book) ms) (amount after) (all_keys days)
-      (all_mapped (λ (k : Dim × ℕ). IsKey days k.0 k.1) (λ (k : Dim × ℕ). put_all act.no p (all_keys days) (amount b.book) ms k.0 k.1 ≡ amount after k.0 k.1)
-      (λ k h. ends_new act.no p (all_keys days) (amount after) k.0 k.1 ms (amount b.book) (lead ms have_keys have_changes) (moved_or_same of_change (amount b.book) (amount after) days k.0 k.1 h ms rows.moves))
-      (all_keys days) (keys_are days))
-      ∙ ap (λ c. map (amount_row (amount after)) (all_keys (day_count c))) (sym (stays b.book a.command))
+      moves_write keyed b.book a p act rows of_change (with_command act before) amounts_are
+      ∙ ap (λ c. amount_rows (day_count c) (amount (next b.book a.command))) (sym (stays b.book a.command))
 
-  parts : HaveParts after (changed_by act.change old)
-  parts = rows.change.parts old (own_parts b)
-
-  abbrev Becomes : Table → Type 0
-  Becomes table = IsPermutation (new table) (tables_of (take_on b a) table)
+  parts : HaveParts (next b.book a.command) (changed_by act.change before)
+  parts = rows.change.parts before (own_parts b)
 
   -- a table of the book's parts
-  part : (table : Table) → (12 == tree_of table) ≡ false → (14 == tree_of table) ≡ false → with_own table ≡ changed_by act.change old table
-      → IsPermutation (changed_by act.change old table) (tables_of (take_on b a) table) → Becomes table
+  part : (table : Table) → (12 == tree_of table) ≡ false → (14 == tree_of table) ≡ false
+      → with_command act before table ≡ changed_by act.change before table
+      → IsPermutation (changed_by act.change before table) (tables_of (take_on b a) table) → IsPermutation (after table) (tables_of (take_on b a) table)
   part table no_move no_amount no_command h =
-      subst (λ l. IsPermutation l (tables_of (take_on b a) table)) (sym (beside table no_move no_amount act.no p ms with_own ∙ no_command)) h
+      let same = beside table no_move no_amount act.no p act.moves.now (with_command act before) ∙ no_command in
+      subst (λ l. IsPermutation l (tables_of (take_on b a) table)) (sym same) h
 
-  becomes : (table : Table) → Becomes table
-  becomes tables.Meta = part tables.Meta refl refl refl parts.meta
-  becomes tables.Cause = part tables.Cause refl refl refl parts.causes
-  becomes tables.Node = part tables.Node refl refl refl parts.nodes
-  becomes tables.Device = part tables.Device refl refl refl parts.devices
-  becomes tables.Customer = part tables.Customer refl refl refl parts.customers
-  becomes tables.Entry = part tables.Entry refl refl refl parts.entries
-  becomes tables.Mark = part tables.Mark refl refl refl parts.marks
-  becomes tables.Command = same_is (new tables.Command) (tables_of (take_on b a) tables.Command) commands_after
-  becomes tables.Moved = same_is (new tables.Moved) (tables_of (take_on b a) tables.Moved) moved_after
-  becomes tables.Posting = same_is (new tables.Posting) (tables_of (take_on b a) tables.Posting) amounts_after
+  leads_on : (table : Table) → IsPermutation (after table) (tables_of (take_on b a) table)
+  leads_on tables.Meta = part tables.Meta refl refl refl parts.meta
+  leads_on tables.Cause = part tables.Cause refl refl refl parts.causes
+  leads_on tables.Node = part tables.Node refl refl refl parts.nodes
+  leads_on tables.Device = part tables.Device refl refl refl parts.devices
+  leads_on tables.Customer = part tables.Customer refl refl refl parts.customers
+  leads_on tables.Entry = part tables.Entry refl refl refl parts.entries
+  leads_on tables.Mark = part tables.Mark refl refl refl parts.marks
+  leads_on tables.Command = same_is (after tables.Command) (tables_of (take_on b a) tables.Command) commands_after
+  leads_on tables.Moved = same_is (after tables.Moved) (tables_of (take_on b a) tables.Moved) moved_after
+  leads_on tables.Posting = same_is (after tables.Posting) (tables_of (take_on b a) tables.Posting) amounts_after
 
   pub records : Records b a p act
-  records = record { can = can_write; needs = needs_rows; tables = becomes }
+  records = record { can = can_write keyed b.book a p act rows; needs = needs_rows; tables = leads_on }

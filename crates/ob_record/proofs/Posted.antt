@@ -161,6 +161,10 @@ pub all_mapped : {X : Type 0} (P Q : X → Type 0) → ((x : X) → P x → Q x)
 all_mapped P Q f [] all = tt
 all_mapped P Q f (x ∷ xs) all = (f x all.0, all_mapped P Q f xs all.1)
 
+pub all_mapped₂ : {X : Type 0} (P Q R : X → Type 0) → ((x : X) → P x → Q x → R x) → (xs : List X) → AllByRecursion P xs → AllByRecursion Q xs → AllByRecursion R xs
+all_mapped₂ P Q R f [] ps qs = tt
+all_mapped₂ P Q R f (x ∷ xs) ps qs = (f x ps.0 qs.0, all_mapped₂ P Q R f xs ps.1 qs.1)
+
 -- ---- what the moves leave
 
 -- some row moves the amount under the key

@@ -1,9 +1,9 @@
 -- The states that a book of accepted commands can have.
-use Rattle.std.specs.Prelude.{◌≡◌, [], ◌∷◌, codes, true}
+use Rattle.std.specs.Prelude.{◌≡◌, [], ◌∷◌, length, codes, true}
 use Rattle.ob_time.specs.Calendar.{Calendar, day_count}
 use Rattle.ob_time.specs.Dates.{day_text}
 use Rattle.ob_time.specs.Period.{IsPeriodText}
-use Rattle.ob_book.specs.Acts.{ActState, Referenced, acts, is_accepted, start, take_on}
+use Rattle.ob_book.specs.Acts.{ActState, Referenced, acts, is_accepted, of_commands, start, take_on}
 use Rattle.ob_tables.specs.Rows.{Tables, meta_row, cause_row, node_row}
 use Rattle.ob_tables.specs.declared.table.Table.{Table}
 use Rattle.ob_tables.specs.declared.table.Table.TheVariants.{Meta, Cause, Node, Device, Customer, Entry, Mark, Command, Moved, Posting}
@@ -25,6 +25,14 @@ StartIsReached =
 abbrev pub AcceptedIsReached : Type 0
 AcceptedIsReached =
     (b : ActState) (a : Referenced) → IsReached b → is_accepted b a ≡ true → IsReached (take_on b a)
+
+-- a reached state is that of its commands
+abbrev pub ReachedIsOfCommands : Type 0
+ReachedIsOfCommands = (b : ActState) → IsReached b → b ≡ of_commands b.book.period b.accepted
+
+-- its book counts them
+abbrev pub ReachedCounts : Type 0
+ReachedCounts = (b : ActState) → IsReached b → b.book.accepted ≡ length b.accepted
 
 -- the rows that a book of this period begins with: its period, cause 0, GRID, and an amount of 0 for each key
 abbrev pub first_rows : Calendar → Tables

@@ -8,8 +8,10 @@ ghost use Rattle.ob_state.specs.Next.{next};
 ghost use Rattle.ob_book.specs.Acts.{ActState};
 ghost use Rattle.ob_book.specs.Books.{ArePosted};
 ghost use Rattle.ob_book.specs.Plans.{IsPlan};
+ghost use Rattle.ob_commit.specs.Acts.{CanWrite};
 ghost use Rattle.ob_record.specs.Leading.{LeadsParts, Records};
-ghost use Rattle.ob_record.specs.Reached.{AcceptedIsReached, IsReached, StartIsReached, StartHasFirstRows};
+ghost use Rattle.ob_record.specs.Reached.{AcceptedIsReached, IsReached, ReachedCounts, ReachedIsOfCommands};
+ghost use Rattle.ob_record.specs.Reached.{StartHasFirstRows, StartIsReached};
 
 use ob_book::{Book, Plan, acts_law, next_law};
 use ob_commit::{Act, Change};
@@ -30,6 +32,7 @@ pub fn act_of<'t, T: Timeline>(
     requires change { LeadsParts book.now.state (next book.now.state plan.now.command) change }
     requires small { AreSmall (amount book.now.state) × AreSmall (amount (next book.now.state plan.now.command)) }
     ensures no { result.no ≡ book.now.state.accepted + 1 }
+    ensures can { (p : PostedAmounts) → ArePosted book.now.state p → CanWrite p result }
     ensures records { (b : ActState) → IsReached b → b.book ≡ book.now.state
         → (p : PostedAmounts) → ArePosted book.now.state p
         → Records b (record { reference = reference.now; command = plan.now.command }) p result }
@@ -46,12 +49,15 @@ pub fn act_of<'t, T: Timeline>(
     }
 }
 
-/// A new book is reached, an accepted command leads on, and a new book has the rows that it begins with; this does
-/// nothing when it runs.
+/// A new book is reached, and an accepted command leads on from what is; what is reached is the state of its commands
+/// and counts them; and a new book has the rows that it begins with. This does nothing when it runs.
 pub fn reached_law()
     ensures starts { StartIsReached }
     ensures goes_on { AcceptedIsReached }
+    ensures commands { ReachedIsOfCommands }
+    ensures counts { ReachedCounts }
     ensures empty { StartHasFirstRows }
 {
     next_law();
+    acts_law();
 }
