@@ -1,5 +1,5 @@
 -- The rows of an accepted command make of the tables of a book those of the book with the command.
-use Rattle.std.proofs.Common.{◌≡◌, ℕ, ◌+◌, ◌==◌, ◌<◌, ◌^◌, ◌≤ℤ◌, ◌<ℤ◌, pos, ℤ, ◌+ℤ◌, ◌-ℤ◌, List, [], ◌∷◌, ◌++◌, filter, length, refl, sym, ap, ap₂, subst, ◌∙◌, arith, false}
+use Rattle.std.proofs.Common.{◌≡◌, ℕ, ◌+◌, ◌==◌, ◌<◌, ◌^◌, ◌≤ℤ◌, ◌<ℤ◌, pos, ℤ, ◌+ℤ◌, ◌-ℤ◌, List, [], ◌∷◌, ◌++◌, length, refl, sym, ap, ap₂, subst, ◌∙◌, arith, false}
 use Rattle.std.specs.List.{AllByRecursion}
 use Rattle.std.specs.List.Sorted.{IsPermutation}
 use Rattle.std.specs.Int.RustNames.{unsigned_abs}
@@ -7,6 +7,7 @@ use Rattle.std.proofs.lemmas.Int.{ints}
 use Rattle.std.proofs.lemmas.List.{append-nil, append_assoc}
 use Rattle.std.proofs.lemmas.List.Elements.{recursion_from_All, All-from_recursion}
 use Rattle.std.proofs.lemmas.List.Sorted.{IsPermutation-refl}
+use Rattle.sqlite_trees.proofs.ListLemmas.{all_weaker}
 use Rattle.ob_time.specs.Calendar.{day_count}
 use Rattle.ob_post.specs.Keys.{dim_number, IsKey}
 use Rattle.ob_post.specs.MoveLaws.{AreSmall, MovesAreOfChange, MovesHaveKeys, change_from}
@@ -34,7 +35,7 @@ use Rattle.ob_record.specs.Tables.{moved_rows, numbered, row_of_command, rows_of
 use Rattle.ob_record.specs.Reached.{IsReached}
 use Rattle.ob_record.specs.Leading.{HaveParts, LeadsParts, Records}
 use Rattle.ob_record.proofs.Starting.{reached_book, reached_count, state_after}
-use Rattle.ob_record.proofs.Posted.{all_mapped, all_mapped₂, ends_new, is_at, keys_are, moved_or_same, moves_are, once, put_all, rows_after, rows_there, same_rows}
+use Rattle.ob_record.proofs.Posted.{IsOnce, all_from_both, ends_new, keys_are, moved_or_same, moves_are, once, put_all, rows_after, rows_there, same_rows}
 
 -- ---- which tables stay
 
@@ -83,7 +84,8 @@ more_moved id p (m ∷ ms) t =
 
 -- one command more has the rows of what it moves
 moved_more : (b : BookState) (n : ℕ) (cs : List Referenced) (a : Referenced)
-    → moved_rows b n (cs ++ a ∷ []) ≡ moved_rows b n cs ++ rows_of_moves (n + length cs) (moves (state_after b cs) (next (state_after b cs) a.command))
+    → moved_rows b n (cs ++ a ∷ [])
+    ≡ moved_rows b n cs ++ rows_of_moves (n + length cs) (moves (state_after b cs) (next (state_after b cs) a.command))
 moved_more b n [] a =
     let e : n ≡ n + 0 = omega arith in
     append-nil (rows_of_moves n (moves b (next b a.command))) ∙ ap (λ k. rows_of_moves k (moves b (next b a.command))) e
@@ -145,7 +147,8 @@ module _ (keyed : MovesHaveKeys) (s : BookState) (a : Referenced) (p : PostedAmo
       (moves_are (change_from (amount s) new) days)
 
   -- a move leads from the posted amount to the new one
-  moved_is : (m : Moved) → IsKey days m.dim m.key → m.delta ≡ change_from (amount s) new m.dim m.key → moved_to p m ≡ pos (new m.dim m.key)
+  moved_is : (m : Moved) → IsKey days m.dim m.key → m.delta ≡ change_from (amount s) new m.dim m.key
+      → moved_to p m ≡ pos (new m.dim m.key)
   moved_is m key delta =
       ap₂ (λ x (y : ℤ). pos x +ℤ y) (rows.posted.amounts m.dim m.key key) delta ∙ difference (amount s m.dim m.key) (new m.dim m.key)
 
@@ -160,26 +163,28 @@ module _ (keyed : MovesHaveKeys) (s : BookState) (a : Referenced) (p : PostedAmo
       }
 
   pub can_write : CanWrite p act
-  can_write = record { change = rows.change.small; moves = All-from_recursion (CanMove p) ms (all_mapped₂ _ _ (CanMove p) can ms have_keys have_changes) }
+  can_write = record {
+    change = rows.change.small;
+    moves = All-from_recursion (CanMove p) ms (all_from_both _ _ (CanMove p) can ms have_keys have_changes);
+  }
 
   leads : AllByRecursion (λ (m : Moved). unsigned_abs (moved_to p m) ≡ new m.dim m.key) ms
   leads =
-      all_mapped₂ _ _ (λ (m : Moved). unsigned_abs (moved_to p m) ≡ new m.dim m.key) (λ m key delta. ap unsigned_abs (moved_is m key delta)) ms
+      all_from_both _ _ (λ (m : Moved). unsigned_abs (moved_to p m) ≡ new m.dim m.key) (λ m key delta. ap unsigned_abs (moved_is m key delta)) ms
       have_keys have_changes
 
   -- the key of each move stands once among all keys
-  stand_once : AllByRecursion (λ (m : Moved). filter (is_at (dim_number m.dim) m.key) (all_keys days) ≡ (m.dim, m.key) ∷ []) ms
-  stand_once =
-      all_mapped (λ (m : Moved). IsKey days m.dim m.key) (λ (m : Moved). filter (is_at (dim_number m.dim) m.key) (all_keys days) ≡ (m.dim, m.key) ∷ [])
-      (λ m key. once days m.dim m.key key) ms have_keys
+  stand_once : AllByRecursion (IsOnce act.no p (all_keys days)) ms
+  stand_once = all_weaker (λ (m : Moved). IsKey days m.dim m.key) (IsOnce act.no p (all_keys days)) (λ m key. once days m.dim m.key key) ms have_keys
 
   -- from the rows of the amounts before them, the moves make those of the amounts after them
-  moves_write : MovesAreOfChange → (t : Tables) → t tables.Posting ≡ amount_rows days (amount s) → with_moves act.no p ms t tables.Posting ≡ amount_rows days new
+  moves_write : MovesAreOfChange → (t : Tables) → t tables.Posting ≡ amount_rows days (amount s)
+      → with_moves act.no p ms t tables.Posting ≡ amount_rows days new
   moves_write of_change t are =
       let put = put_all act.no p (all_keys days) (amount s) ms in
       rows_after act.no p (all_keys days) ms (amount s) t are
       ∙ same_rows put new (all_keys days)
-      (all_mapped (λ (k : Dim × ℕ). IsKey days k.0 k.1) (λ (k : Dim × ℕ). put k.0 k.1 ≡ new k.0 k.1)
+      (all_weaker (λ (k : Dim × ℕ). IsKey days k.0 k.1) (λ (k : Dim × ℕ). put k.0 k.1 ≡ new k.0 k.1)
       (λ k h. ends_new act.no p (all_keys days) new k.0 k.1 ms (amount s) leads (moved_or_same of_change (amount s) new days k.0 k.1 h ms rows.moves))
       (all_keys days) (keys_are days))
 
@@ -246,7 +251,8 @@ module _ (keyed : MovesHaveKeys) (of_change : MovesAreOfChange) (stays : PeriodS
   -- a table of the book's parts
   part : (table : Table) → (12 == tree_of table) ≡ false → (14 == tree_of table) ≡ false
       → with_command act before table ≡ changed_by act.change before table
-      → IsPermutation (changed_by act.change before table) (tables_of (take_on b a) table) → IsPermutation (after table) (tables_of (take_on b a) table)
+      → IsPermutation (changed_by act.change before table) (tables_of (take_on b a) table)
+      → IsPermutation (after table) (tables_of (take_on b a) table)
   part table no_move no_amount no_command h =
       let same = beside table no_move no_amount act.no p act.moves.now (with_command act before) ∙ no_command in
       subst (λ l. IsPermutation l (tables_of (take_on b a) table)) (sym same) h

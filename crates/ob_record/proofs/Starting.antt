@@ -70,7 +70,8 @@ none_present row n (suc k) = none_present row (n + 1) k
 no_amount : (p : Calendar) (dim : Dim) (key : ℕ) → amount (empty_book p) dim key ≡ 0
 no_amount p dim key = sum_of_zeros (seconds (first_second_of p) (end_second_of p))
 
-same_amounts : (f g : Dim → ℕ → ℕ) → ((dim : Dim) (key : ℕ) → f dim key ≡ g dim key) → (ks : List (Dim × ℕ)) → map (amount_row f) ks ≡ map (amount_row g) ks
+same_amounts : (f g : Dim → ℕ → ℕ) → ((dim : Dim) (key : ℕ) → f dim key ≡ g dim key) → (ks : List (Dim × ℕ))
+    → map (amount_row f) ks ≡ map (amount_row g) ks
 same_amounts f g same [] = refl
 same_amounts f g same (k ∷ ks) = ap₂ (λ r l. r ∷ l) (ap (posting_row (dim_number k.0) k.1) (same k.0 k.1)) (same_amounts f g same ks)
 
