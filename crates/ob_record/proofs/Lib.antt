@@ -1,1 +1,3 @@
-
+mod Acted
+mod Posted
+pub mod Starting
