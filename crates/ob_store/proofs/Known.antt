@@ -1,5 +1,5 @@
 -- What the rows under a reference say of the accepted commands.
-use Rattle.std.proofs.Common.{◌≡◌, ◌⊎◌, inl, inr, ℕ, ◌+◌, ◌-◌, ◌<◌, ◌&&◌, Bool, true, false, cond, List, [], ◌∷◌, ◌++◌, length, filter, Some, None, Option, refl, sym, ap, ap₂, subst, ◌∙◌, arith, zero, suc, true≢false, Ordering, Less, Equal, Greater, nat_lt}
+use Rattle.std.proofs.Common.{◌≡◌, ◌⊎◌, inl, inr, ℕ, ◌+◌, ◌-◌, ◌<◌, ◌≤◌, ◌&&◌, Bool, true, false, cond, List, [], ◌∷◌, ◌++◌, length, filter, Some, None, Option, refl, sym, ap, ap₂, subst, ◌∙◌, arith, zero, suc, true≢false, Ordering, Less, Equal, Greater, nat_lt}
 use Rattle.std.specs.Prelude.{nat_eq, slice_get}
 use Rattle.std.specs.Ordering.{is_eq, nat_cmp, ordering_then}
 use Rattle.std.specs.Cmp.Lexicographic.{slice_cmp}
@@ -107,12 +107,27 @@ module _ (r : List ℕ) where
         }
   ]
 
+  -- the reference is that of the accepted command of this number, with this body
+  pub record IsKnown (b : ActState) (id : ℕ) (body : List ℕ) : Type 0 where
+    pub number : number_of b r ≡ Some id
+    pub found : Referenced
+    pub there : slice_get b.accepted (id - 1) ≡ Some found
+    pub body_is : body_text found.command ≡ body
+    pub least : 1 ≤ id
+    pub most : id ≤ length b.accepted
+
   -- a row has the reference: it is that of the first command with it
-  pub is_known : (b : ActState) (id : ℕ) (body : List ℕ) → filter (is_reference r) (numbered row_of_command 1 b.accepted) ≡ command_row id r body ∷ []
-      → (number_of b r ≡ Some id) × ((a : Referenced) × (slice_get b.accepted (id - 1) ≡ Some a) × (body_text a.command ≡ body)) × (id - 1 < length b.accepted)
+  pub is_known : (b : ActState) (id : ℕ) (body : List ℕ) → filter (is_reference r) (numbered row_of_command 1 b.accepted) ≡ command_row id r body ∷ [] → IsKnown b id body
   is_known b id body one =
       let it = one_at 1 id body b.accepted one in
       let inside : nat_lt it.place (length b.accepted) ≡ true = grind (arith, nat_tests, it.low) in
       let number : it.place + 1 ≡ id = omega (arith, it.number) in
       let place : id - 1 ≡ it.place = omega (arith, it.number) in
-      (rw (it.at, inside) (ap Some number), (it.found, ap (slice_get b.accepted) place ∙ it.there, it.body_is), omega (arith, it.low, it.number))
+      record {
+        number = rw (it.at, inside) (ap Some number);
+        found = it.found;
+        there = ap (slice_get b.accepted) place ∙ it.there;
+        body_is = it.body_is;
+        least = omega (arith, it.number);
+        most = omega (arith, it.low, it.number);
+      }

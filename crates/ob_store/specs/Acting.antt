@@ -23,14 +23,14 @@ module _ {S : Type 0} (g : Ghosts S) where
   -- what a command under a reference made of the store and of the state in memory, over a book b:
   -- a reply is that of the book, whose next state then stands; a refusal is that of the book, and changes nothing, nor does
   -- want of memory; after a fault of the store a crash leaves the book as it was or with the command
-  abbrev pub Acts : Held S → Held S → BookState → BookState → ActState → Referenced → Result GivenReply Stop → Type 0
-  Acts old new was is b a (Ok reply) =
+  abbrev pub Acts : Held S → BookState → BookState → ActState → Referenced → Result GivenReply Stop → Type 0
+  Acts new was is b a (Ok reply) =
       (answer b a ≡ Ok (reply_as reply)) × KeepsBook (state g new) (act b a) × (is ≡ (act b a).book)
-  Acts old new was is b a (Err (Refused refusal)) =
+  Acts new was is b a (Err (Refused refusal)) =
       (answer b a ≡ Err refusal) × KeepsBook (state g new) b × (is ≡ was)
-  Acts old new was is b a (Err (Fault OutOfMemory)) = KeepsBook (state g new) b × (is ≡ was)
-  Acts old new was is b a (Err (Fault Store)) = KeepsEitherBook (state g new) b (act b a)
-  Acts old new was is b a (Err (Fault fault)) = ⊥
+  Acts new was is b a (Err (Fault OutOfMemory)) = KeepsBook (state g new) b × (is ≡ was)
+  Acts new was is b a (Err (Fault Store)) = KeepsEitherBook (state g new) b (act b a)
+  Acts new was is b a (Err (Fault fault)) = ⊥
 
   -- the same of a keeper; after a fault of the store it has no book
   abbrev pub Acted : KeeperValue S → KeeperValue S → ActState → Referenced → Result GivenReply Stop → Type 0

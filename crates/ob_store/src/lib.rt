@@ -1,6 +1,7 @@
 //! The keeper of a book: its accepted commands in a store, and the book in memory.
 #![tactic(auto)]
 
+mod acting;
 mod keeper;
 mod reply;
 mod stored;

@@ -1,0 +1,68 @@
+//! A command under a reference: what the book answers, and what then stands in the store and in memory.
+ghost use Rattle.std.specs.Prelude.{◌≡◌, false, None, OnErr};
+ghost use Rattle.sqlite.specs.Held.{state};
+ghost use Rattle.sqlite.specs.State.{HasCleanDisk, Survives};
+ghost use Rattle.ob_book.specs.Acts.{ActState, number_of};
+ghost use Rattle.ob_command.specs.Commands.{body_text as body_text_of};
+ghost use Rattle.ob_store.specs.Keeping.{KeepsBook};
+ghost use Rattle.ob_store.specs.Acting.{Acts, under};
+
+use crate::reply::Reply;
+use crate::stored::stored_reply;
+use ob_base::{Fault, Ref, Refusal, Stop};
+use ob_book::{Book, Command, body_text};
+use ob_lookup::{Known, look_up};
+use ob_record::reached_law;
+use ob_sweep::Timeline;
+use sqlite::{Alter, Connection};
+use std::alloc::Global;
+
+/// Acts a command under a reference: answers it again where the reference is known, else decides on it.
+pub(crate) fn act_on<S: Alter, T: Timeline>(
+    alloc: Global,
+    conn: &mut Connection<S>,
+    book: &mut Book<T>,
+    reference: &Ref,
+    command: &Command,
+) -> Result<Reply, Stop>
+    requires mode { conn.old.in_transaction ≡ false }
+    ensures mode { conn.new.in_transaction ≡ false }
+    ensures book { OnErr result (book.new.state ≡ book.old.state) }
+    ensures acts { HasCleanDisk (state S.Store conn.new) → (b : ActState) → KeepsBook (state S.Store conn.old) b
+        → book.old.state ≡ b.book
+        → Acts S.Store conn.new book.old.state book.new.state b (under reference.now command.now) result }
+{
+    reached_law();
+    let body = match body_text(alloc, command) {
+        Ok(body) => body,
+        Err(stop) => return Err(stop),
+    };
+    match look_up(conn, reference.bytes(), &body) {
+        Ok(Known::New) => accept(alloc, conn, book, reference, command, &body),
+        Ok(Known::Same(no)) => stored_reply(alloc, conn, no),
+        Ok(Known::Other(no)) => Err(Stop::Refused(Refusal::RefConflict(no))),
+        Err(stop) => Err(stop),
+    }
+}
+
+/// Decides on a command under a new reference, commits its rows, and adopts it.
+fn accept<S: Alter, T: Timeline>(
+    alloc: Global,
+    conn: &mut Connection<S>,
+    book: &mut Book<T>,
+    reference: &Ref,
+    command: &Command,
+    body: &[u8],
+) -> Result<Reply, Stop>
+    requires mode { conn.old.in_transaction ≡ false }
+    requires body { body.now ≡ body_text_of command.now }
+    ensures mode { conn.new.in_transaction ≡ false }
+    ensures clean { HasCleanDisk (state S.Store conn.new) → HasCleanDisk (state S.Store conn.old) }
+    ensures book { OnErr result (book.new.state ≡ book.old.state) }
+    ensures acts { HasCleanDisk (state S.Store conn.new) → (b : ActState) → KeepsBook (state S.Store conn.old) b
+        → book.old.state ≡ b.book
+        → number_of b reference.now ≡ None
+        → Acts S.Store conn.new book.old.state book.new.state b (under reference.now command.now) result }
+{
+    Err(Stop::Fault(Fault::OutOfMemory))
+}
