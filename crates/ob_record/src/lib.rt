@@ -1,2 +1,6 @@
 //! The rows of a book: what the ten tables hold of its accepted commands, and what each further one makes of them.
 #![tactic(auto)]
+
+mod change;
+
+pub use change::change_of;
