@@ -1,7 +1,5 @@
 -- What is known of a state that accepts a command, as the rows need it.
-use Rattle.std.proofs.Common.{◌≡◌, ℕ, ◌<◌, ◌==◌, ◌||◌, Bool, true, false, cond, not, is_some, List, [], ◌∷◌, length, Option, Some, None, refl, sym, ap, subst, ◌∙◌, arith, inl, inr}
-use Rattle.std.specs.Prelude.{slice_index_or}
-use Rattle.std.specs.List.{find}
+use Rattle.std.proofs.Common.{◌≡◌, ℕ, ◌==◌, ◌||◌, Bool, true, false, cond, is_some, List, Option, Some, None, refl, sym, ap, ap₂, ◌∙◌, inl, inr}
 use Rattle.std.specs.Option.{option_and_then}
 use Rattle.std.proofs.lemmas.Bool.{cases_Bool, eqb-true}
 use Rattle.ob_base.specs.declared.stop.Refusal.{Refusal}
@@ -72,3 +70,8 @@ seen rev (Some e) h = elim (cases_Bool e.kept) [
 
 pub entry_seen : (entries : List Entry) (number rev : ℕ) → revision_refusal entries number rev ≡ None → (e : Entry) × (entry_of entries number ≡ Some e) × (e.rev ≡ rev)
 entry_seen entries number rev h = seen rev (entry_of entries number) h
+
+-- what is found under a key in one part is found in the other, where these are one
+pub found_in : {P Q : Type 0} (look : P → Q → Option ℕ) (part : P) (key : Q) (there : P) (given : Q) (answer : Option ℕ) (x id : ℕ) → there ≡ part → given ≡ key → answer ≡ look there given → answer ≡ Some x → id ≡ x
+    → look part key ≡ Some id
+found_in look part key there given answer x id same named is found at = sym (ap₂ look same named) ∙ sym is ∙ found ∙ ap Some (sym at)

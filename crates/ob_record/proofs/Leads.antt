@@ -1,5 +1,5 @@
 -- The change of a row that each kind of accepted command makes leads to the rows of the state after it.
-use Rattle.std.proofs.Common.{◌≡◌, ℕ, ◌+◌, ◌<◌, ◌^◌, ◌==◌, Bool, true, false, not, codes, List, [], ◌∷◌, ◌++◌, map, filter, set, length, Option, Some, None, Bor, refl, sym, ap, subst, ◌∙◌, arith}
+use Rattle.std.proofs.Common.{◌≡◌, ℕ, ◌+◌, ◌<◌, ◌^◌, ◌==◌, true, false, not, codes, List, [], ◌∷◌, ◌++◌, map, filter, set, length, Option, Some, None, Bor, refl, sym, ap, subst, ◌∙◌, arith}
 use Rattle.std.specs.Prelude.{if◌then◌else◌, unwrap_or, slice_get, IfSome}
 use Rattle.std.specs.List.Sorted.{IsPermutation}
 use Rattle.std.proofs.lemmas.Bool.Decides.{nat_tests}
@@ -18,7 +18,7 @@ use Rattle.ob_sheet.specs.Order.{entry_of}
 use Rattle.ob_sheet.specs.Revisions.{next_revision, change_entry, corrected, withdrawn}
 use Rattle.ob_sheet.specs.Sheet.{AreNumbered, new_entry}
 use Rattle.ob_cust.specs.declared.Customer.{Customer as RollCustomer}
-use Rattle.ob_cust.specs.Roll.{IsRoll, with_customer, with_service, revised}
+use Rattle.ob_cust.specs.Roll.{with_customer, with_service, revised}
 use Rattle.ob_time.specs.Calendar.{day_count, day_on}
 use Rattle.ob_index.specs.Marks.{with_mark, without_mark, mark_refusal, unmark_refusal}
 use Rattle.ob_command.specs.Commands.{IsEnd}
@@ -31,7 +31,7 @@ use Rattle.ob_state.specs.Next.{next}
 use Rattle.ob_state.proofs.Accepted.{connect_accepted, revise_accepted, correct_accepted, entry_number}
 use Rattle.ob_state.proofs.Changing.{changed_found}
 use Rattle.ob_state.proofs.Firsts.{no_head}
-use Rattle.ob_tables.specs.Rows.{Columns, Tables, HasCustomer, HasEntry, HasMark, is_key, change_where, cause_row, node_row, device_row, customer_row, entry_row, mark_row, serve, correct, withdraw}
+use Rattle.ob_tables.specs.Rows.{Columns, Tables, HasEntry, is_key, change_where, cause_row, node_row, device_row, customer_row, entry_row, mark_row, serve, correct, withdraw}
 use Rattle.ob_tables.specs.declared.table.Table.TheVariants.{Cause, Node, Device, Customer, Entry, Mark}
 use Rattle.ob_commit.specs.declared.change.Change.TheVariants.{AddCause, AddNode, AddDevice, AddCustomer, SetService, AddEntry, CorrectEntry, WithdrawEntry, AddMark, DropMark}
 use Rattle.ob_commit.specs.Changing.{changed_by}

@@ -1,5 +1,5 @@
 -- Rows of lists, where one element joins them, is changed or is taken out.
-use Rattle.std.proofs.Common.{◌≡◌, ◌≢◌, ℕ, ◌+◌, ◌<◌, ◌==◌, Bool, true, false, not, zero, suc, List, [], ◌∷◌, ◌++◌, map, filter, set, length, Option, Some, None, refl, sym, ap, ap₂, subst, ◌∙◌, arith, inl, inr, nat_lt}
+use Rattle.std.proofs.Common.{◌≡◌, ℕ, ◌+◌, ◌<◌, ◌==◌, Bool, true, false, not, zero, suc, List, [], ◌∷◌, ◌++◌, map, filter, set, length, Option, Some, None, refl, ap, ap₂, subst, ◌∙◌, arith, inl, inr, nat_lt}
 use Rattle.std.specs.Prelude.{if◌then◌else◌, slice_index_or}
 use Rattle.std.specs.List.{All}
 use Rattle.std.specs.List.Sorted.{IsPermutation}

@@ -1,5 +1,5 @@
 -- The rows of a book's parts, where one part changed and one table with it.
-use Rattle.std.proofs.Common.{◌≡◌, ℕ, ◌+◌, List, [], ◌∷◌, ◌++◌, map, length, Option, sym, subst}
+use Rattle.std.proofs.Common.{◌≡◌, ℕ, List, [], ◌∷◌, ◌++◌, map, Option, sym, subst}
 use Rattle.std.specs.List.Sorted.{IsPermutation}
 use Rattle.std.proofs.lemmas.List.Sorted.{IsPermutation-append_left, IsPermutation-trans}
 use Rattle.ob_net.specs.Network.{Network}
@@ -10,7 +10,6 @@ use Rattle.ob_tables.specs.Rows.{Columns, Tables, with_table, cause_row, mark_ro
 use Rattle.ob_tables.specs.declared.table.Table.TheVariants.{Cause, Node, Device, Customer, Entry, Mark}
 use Rattle.ob_record.specs.Tables.{numbered, present, row_of_node, row_of_device, row_of_customer, row_of_entry}
 use Rattle.ob_record.specs.Leading.{HaveParts}
-use Rattle.ob_record.proofs.Listed.{numbered_push}
 
 -- ---- one part changed, and how many commands were accepted
 module _ (b : BookState) (accepted : ℕ) (change : List Columns → List Columns) (t : Tables) (have : HaveParts b t) where

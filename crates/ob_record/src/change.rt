@@ -14,6 +14,11 @@ use ob_command::{CauseCode, CivilDate, Command, Ends, FeederNumber, Moment, Seri
 use ob_commit::Change;
 use ob_sweep::Timeline;
 
+/// The kind of a bus and that of a section, as the rows of nodes have them.
+const KIND_OF_BUS: u32 = 1;
+
+const KIND_OF_SECTION: u32 = 2;
+
 /// The row that an accepted command changes beside its own and those of its amounts.
 pub fn change_of<'t, T: Timeline>(book: &Book<T>, command: &'t Command) -> Change<'t>
     requires accepted { refusal book.now.state command.now ≡ None }
@@ -72,11 +77,11 @@ fn bus_added<'t, T: Timeline>(book: &Book<T>, name: &'t Name) -> Change<'t>
     requires accepted { refusal book.now.state (Bus name.now) ≡ None }
     ensures { LeadsParts book.now.state (next book.now.state (Bus name.now)) result }
 {
-    // GRID is the node numbered 0, so a bus isn't.
+    // Nodes are numbered by place, and a bus has no home feeder.
     Change::AddNode {
         no: u32::from(book.net().nodes()),
         name: name.bytes(),
-        kind: 1,
+        kind: KIND_OF_BUS,
         feeder: 0,
     }
 }
@@ -92,7 +97,7 @@ fn section_added<'t, T: Timeline>(
     Change::AddNode {
         no: u32::from(book.net().nodes()),
         name: name.bytes(),
-        kind: 2,
+        kind: KIND_OF_SECTION,
         feeder: u32::from(feeder.get()),
     }
 }
@@ -106,6 +111,7 @@ fn device_added<'t, T: Timeline>(
     requires accepted { refusal book.now.state (Device name.now ends.now normal) ≡ None }
     ensures { LeadsParts book.now.state (next book.now.state (Device name.now ends.now normal)) result }
 {
+    // Both ends are nodes, since the command was accepted.
     let net = book.net();
     let Some(a) = net.node_of(ends.a()) else {
         unreachable!();
@@ -184,6 +190,7 @@ fn entry_added<'t, T: Timeline>(
     requires accepted { refusal book.now.state (Switch device.now act second cause crew.now) ≡ None }
     ensures { LeadsParts book.now.state (next book.now.state (Switch device.now act second cause crew.now)) result }
 {
+    // A device has the name, since the command was accepted.
     let Some(device) = book.net().device_of(device) else {
         unreachable!();
     };
@@ -229,11 +236,7 @@ fn entry_corrected<'t, T: Timeline>(
     }
 }
 
-fn entry_withdrawn<'t, T: Timeline>(
-    book: &Book<T>,
-    entry: Serial,
-    revision: Serial,
-) -> Change<'t>
+fn entry_withdrawn<'t, T: Timeline>(book: &Book<T>, entry: Serial, revision: Serial) -> Change<'t>
     requires accepted { refusal book.now.state (Withdraw entry revision) ≡ None }
     ensures { LeadsParts book.now.state (next book.now.state (Withdraw entry revision)) result }
 {
@@ -245,15 +248,11 @@ fn entry_withdrawn<'t, T: Timeline>(
     }
 }
 
-fn mark_added<'t, T: Timeline>(
-    book: &Book<T>,
-    date: CivilDate,
-    engineer: &'t Crew,
-) -> Change<'t>
+fn mark_added<'t, T: Timeline>(book: &Book<T>, date: CivilDate, engineer: &'t Crew) -> Change<'t>
     requires accepted { refusal book.now.state (Mark date engineer.now) ≡ None }
     ensures { LeadsParts book.now.state (next book.now.state (Mark date engineer.now)) result }
 {
-    // There is a place for each day, by a clause of this call.
+    // There is a place for each day, by a clause of this call; and the date is a day, since the command was accepted.
     let _ = book.accepted();
     let Some(day) = book.period().day_index(&date.date()) else {
         unreachable!();
@@ -264,14 +263,11 @@ fn mark_added<'t, T: Timeline>(
     }
 }
 
-fn mark_dropped<'t, T: Timeline>(
-    book: &Book<T>,
-    date: CivilDate,
-    engineer: &Crew,
-) -> Change<'t>
+fn mark_dropped<'t, T: Timeline>(book: &Book<T>, date: CivilDate, engineer: &Crew) -> Change<'t>
     requires accepted { refusal book.now.state (Unmark date engineer.now) ≡ None }
     ensures { LeadsParts book.now.state (next book.now.state (Unmark date engineer.now)) result }
 {
+    // The date is a day of the period, and marked, since the command was accepted.
     let Some(day) = book.period().day_index(&date.date()) else {
         unreachable!();
     };
