@@ -1,3 +1,8 @@
+mod Accepts
 mod Acted
+mod Keyed
+mod Leads
+mod Listed
+mod Parts
 mod Posted
 pub mod Starting

@@ -2,5 +2,7 @@
 #![tactic(auto)]
 
 mod act;
+mod change;
 
 pub use act::{act_of, reached_law};
+pub use change::change_of;

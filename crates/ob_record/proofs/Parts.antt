@@ -1,0 +1,90 @@
+-- The rows of a book's parts, where one part changed and one table with it.
+use Rattle.std.proofs.Common.{◌≡◌, ℕ, List, [], ◌∷◌, ◌++◌, map, Option, sym, subst}
+use Rattle.std.specs.List.Sorted.{IsPermutation}
+use Rattle.std.proofs.lemmas.List.Sorted.{IsPermutation-append_left, IsPermutation-trans}
+use Rattle.ob_net.specs.Network.{Network}
+use Rattle.ob_sheet.specs.declared.Entry.{Entry as SheetEntry}
+use Rattle.ob_cust.specs.declared.Customer.{Customer as RollCustomer}
+use Rattle.ob_state.specs.State.{BookState}
+use Rattle.ob_tables.specs.Rows.{Columns, Tables, with_table, cause_row, mark_row}
+use Rattle.ob_tables.specs.declared.table.Table.TheVariants.{Cause, Node, Device, Customer, Entry, Mark}
+use Rattle.ob_record.specs.Tables.{numbered, present, row_of_node, row_of_device, row_of_customer, row_of_entry}
+use Rattle.ob_record.specs.Leading.{HaveParts}
+
+-- ---- one part changed, and how many commands were accepted
+module _ (b : BookState) (accepted : ℕ) (change : List Columns → List Columns) (t : Tables) (have : HaveParts b t) where
+  pub causes_part : (causes : List (Option (List ℕ))) → IsPermutation (change (t Cause)) (present cause_row 0 causes)
+      → HaveParts (record b { causes = causes; accepted = accepted }) (with_table Cause change t)
+  causes_part causes here = record {
+    meta = have.meta;
+    causes = here;
+    nodes = have.nodes;
+    devices = have.devices;
+    customers = have.customers;
+    entries = have.entries;
+    marks = have.marks;
+  }
+
+  pub nodes_part : (net : Network) → net.devices ≡ b.network.devices → IsPermutation (change (t Node)) (numbered row_of_node 0 net.nodes)
+      → HaveParts (record b { network = net; accepted = accepted }) (with_table Node change t)
+  nodes_part net same here = record {
+    meta = have.meta;
+    causes = have.causes;
+    nodes = here;
+    devices = subst (λ ds. IsPermutation (t Device) (numbered row_of_device 0 ds)) (sym same) have.devices;
+    customers = have.customers;
+    entries = have.entries;
+    marks = have.marks;
+  }
+
+  pub devices_part : (net : Network) → net.nodes ≡ b.network.nodes → IsPermutation (change (t Device)) (numbered row_of_device 0 net.devices)
+      → HaveParts (record b { network = net; accepted = accepted }) (with_table Device change t)
+  devices_part net same here = record {
+    meta = have.meta;
+    causes = have.causes;
+    nodes = subst (λ ns. IsPermutation (t Node) (numbered row_of_node 0 ns)) (sym same) have.nodes;
+    devices = here;
+    customers = have.customers;
+    entries = have.entries;
+    marks = have.marks;
+  }
+
+  pub customers_part : (customers : List RollCustomer) → IsPermutation (change (t Customer)) (map row_of_customer customers)
+      → HaveParts (record b { customers = customers; accepted = accepted }) (with_table Customer change t)
+  customers_part customers here = record {
+    meta = have.meta;
+    causes = have.causes;
+    nodes = have.nodes;
+    devices = have.devices;
+    customers = here;
+    entries = have.entries;
+    marks = have.marks;
+  }
+
+  pub entries_part : (entries : List SheetEntry) → IsPermutation (change (t Entry)) (map row_of_entry entries)
+      → HaveParts (record b { entries = entries; accepted = accepted }) (with_table Entry change t)
+  entries_part entries here = record {
+    meta = have.meta;
+    causes = have.causes;
+    nodes = have.nodes;
+    devices = have.devices;
+    customers = have.customers;
+    entries = here;
+    marks = have.marks;
+  }
+
+  pub marks_part : (marks : List (Option (List ℕ))) → IsPermutation (change (t Mark)) (present mark_row 0 marks)
+      → HaveParts (record b { marks = marks; accepted = accepted }) (with_table Mark change t)
+  marks_part marks here = record {
+    meta = have.meta;
+    causes = have.causes;
+    nodes = have.nodes;
+    devices = have.devices;
+    customers = have.customers;
+    entries = have.entries;
+    marks = here;
+  }
+
+-- ---- a row joins the rows of a part, in whatever order these are
+pub row_joins : (rows known anew : List Columns) (row : Columns) → IsPermutation rows known → IsPermutation (known ++ row ∷ []) anew → IsPermutation (rows ++ row ∷ []) anew
+row_joins rows known anew row same more = IsPermutation-trans _ _ _ (IsPermutation-append_left (row ∷ []) rows known same) more
