@@ -7,12 +7,13 @@ ghost use Rattle.ob_command.specs.Commands.{body_text as body_text_of};
 ghost use Rattle.ob_store.specs.Keeping.{KeepsBook};
 ghost use Rattle.ob_store.specs.Acting.{Acts, under};
 
-use crate::reply::Reply;
+use crate::reply::{Moves, Reply};
 use crate::stored::stored_reply;
 use ob_base::{Fault, Ref, Refusal, Stop};
 use ob_book::{Book, Command, body_text};
+use ob_commit::commit_act;
 use ob_lookup::{Known, look_up};
-use ob_record::reached_law;
+use ob_record::{act_of, change_of, reached_law};
 use ob_sweep::Timeline;
 use sqlite::{Alter, Connection};
 use std::alloc::Global;
@@ -64,5 +65,23 @@ fn accept<S: Alter, T: Timeline>(
         → number_of b reference.now ≡ None
         → Acts S.Store conn.new book.old.state book.new.state b (under reference.now command.now) result }
 {
-    Err(Stop::Fault(Fault::OutOfMemory))
+    reached_law();
+    let plan = match book.decide(command) {
+        Ok(plan) => plan,
+        Err(stop) => return Err(stop),
+    };
+    let moved = match Vec::from_slice(alloc, plan.moves()) {
+        Ok(moved) => Moves::new(moved),
+        Err(_) => return Err(Stop::Fault(Fault::OutOfMemory)),
+    };
+    let change = change_of(book, command);
+    let act = act_of(book, &plan, change, reference.bytes(), body);
+    let no = act.no;
+    match commit_act(conn, &act, book.postings()) {
+        Ok(()) => {
+            book.adopt(plan);
+            Ok(Reply { no, moved })
+        }
+        Err(stop) => Err(stop),
+    }
 }
