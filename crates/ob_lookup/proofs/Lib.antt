@@ -1,1 +1,4 @@
-
+pub mod Knowing
+pub mod Listing
+pub mod Moving
+pub mod Same
