@@ -14,9 +14,10 @@ use ob_command::{CauseCode, CivilDate, Command, Ends, FeederNumber, Moment, Seri
 use ob_commit::Change;
 use ob_sweep::Timeline;
 
-/// The kind of a bus and that of a section, as the rows of nodes have them.
+/// The kind of a bus, as the rows of nodes have it.
 const KIND_OF_BUS: u32 = 1;
 
+/// The kind of a section.
 const KIND_OF_SECTION: u32 = 2;
 
 /// The row that an accepted command changes beside its own and those of its amounts.
@@ -74,7 +75,6 @@ fn cause_added<'t, T: Timeline>(book: &Book<T>, code: CauseCode, name: &'t Name)
 }
 
 fn bus_added<'t, T: Timeline>(book: &Book<T>, name: &'t Name) -> Change<'t>
-    requires accepted { refusal book.now.state (Bus name.now) ≡ None }
     ensures { LeadsParts book.now.state (next book.now.state (Bus name.now)) result }
 {
     // Nodes are numbered by place, and a bus has no home feeder.
@@ -91,7 +91,6 @@ fn section_added<'t, T: Timeline>(
     name: &'t Name,
     feeder: FeederNumber,
 ) -> Change<'t>
-    requires accepted { refusal book.now.state (Section name.now feeder) ≡ None }
     ensures { LeadsParts book.now.state (next book.now.state (Section name.now feeder)) result }
 {
     Change::AddNode {
