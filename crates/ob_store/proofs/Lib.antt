@@ -1,3 +1,4 @@
 pub mod Known
 pub mod Replying
 pub mod Answering
+pub mod Accepting

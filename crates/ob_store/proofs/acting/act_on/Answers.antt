@@ -1,11 +1,10 @@
-use Rattle.std.proofs.Common.{◌≡◌, ℕ, sym, ap, subst, ◌∙◌, arith, refl, filter}
+use Rattle.std.proofs.Common.{◌≡◌, ◌≢◌, ℕ, sym, ap, subst, ◌∙◌, arith, refl, filter}
 use Rattle.sqlite.specs.Held.{state}
 use Rattle.sqlite.specs.State.{HasCleanDisk}
 use Rattle.ob_command.specs.Commands.{body_text}
 use Rattle.ob_book.specs.Acts.{number_of}
 use Rattle.ob_tables.specs.Rows.{command_row, is_reference}
 use Rattle.ob_tables.specs.declared.table.Table.TheVariants as tables
-use Rattle.ob_lookup.specs.Looking.{IsUnder}
 use Rattle.ob_record.specs.Tables.{tables_of}
 use Rattle.ob_store.specs.Acting.{Acts, under}
 use Rattle.ob_store.specs.Keeping.{KeepsBook}
@@ -41,8 +40,8 @@ returns-in-Ok-Other-clause-acts g c clean b keeps same =
     let command = c.args.command.now in
     let still : KeepsBook (state g.S.Store c.look_up.new.conn) b = record { kept = c.look_up.ensures.kept (tables_of b) keeps.kept; reached = keeps.reached } in
     let rows = rw (c.bytes.ensures.value, c.deref.ensures.value, c.in-Ok.ensures.text, c.in-Ok-Other.field-0-is) at (c.in-Ok-Other.ensures.found clean (tables_of b) keeps.kept) in
-    let it = is_known r b c.in-Ok-Other.«no» rows.0 rows.1.1 in
-    let other = λ e. rows.1.0 (sym it.body_is ∙ e) in
+    let it = is_known r b c.in-Ok-Other.«no» rows.0 rows.2 in
+    let other : body_text it.found.command ≢ body_text command = λ e. rows.1 (sym it.body_is ∙ e) in
     (conflict b r command c.in-Ok-Other.«no» it.number it.found it.there other, still, refl)
 
 pub returns-clause-acts : goal.returns-clause-acts

@@ -1,0 +1,99 @@
+-- What stands once a command under a new reference was decided on, and once its rows were committed or not.
+use Rattle.std.proofs.Common.{◌≡◌, ◌⊎◌, inl, inr, ℕ, ◌+◌, List, length, Some, None, Result, Ok, Err, true, refl, sym, ap, ap₂, subst, ◌∙◌, arith}
+use Rattle.std.specs.List.Sorted.{IsPermutation}
+use Rattle.std.proofs.lemmas.List.Sorted.{IsPermutation-trans}
+use Rattle.sqlite_trees.specs.declared.store.Store.{Ghosts}
+use Rattle.sqlite.specs.Tree.{Trees}
+use Rattle.sqlite.specs.Held.{Held, state}
+use Rattle.sqlite.specs.State.{State}
+use Rattle.ob_base.specs.Stop.{out_of_memory}
+use Rattle.ob_base.specs.declared.stop.Stop.{Stop}
+use Rattle.ob_base.specs.declared.stop.Stop.TheVariants.{Refused, Fault}
+use Rattle.ob_base.specs.declared.stop.Refusal.{Refusal}
+use Rattle.ob_base.specs.declared.stop.Fault.{Fault as AFault}
+use Rattle.ob_base.specs.declared.stop.Fault.TheVariants.{OutOfMemory}
+use Rattle.ob_post.specs.Postings.{PostedAmounts}
+use Rattle.ob_state.specs.State.{BookState}
+use Rattle.ob_state.specs.Refusals.{refusal}
+use Rattle.ob_state.specs.Next.{next}
+use Rattle.ob_state.specs.Amounts.{moves}
+use Rattle.ob_book.specs.Acts.{ActState, Referenced, act, answer, is_accepted, number_of, take_on}
+use Rattle.ob_tables.specs.Rows.{Tables, Holds}
+use Rattle.ob_tables.specs.Steps.{IsStoreFault}
+use Rattle.ob_tables.specs.declared.table.Table.{Table}
+use Rattle.ob_commit.specs.declared.act.Act.{Act}
+use Rattle.ob_commit.specs.Acts.{NeedsRows, with_act}
+use Rattle.ob_commit.specs.Keeps.{Keeps, KeepsEither, IsSettled, Leaves}
+use Rattle.ob_record.specs.Leading.{Records}
+use Rattle.ob_record.specs.Reached.{AcceptedIsReached}
+use Rattle.ob_record.specs.Tables.{tables_of}
+use Rattle.ob_store.specs.Keeping.{KeepsBook, KeepsEitherBook}
+use Rattle.ob_store.specs.Acting.{Acts}
+
+module _ (t u : Tables) (same : (table : Table) → IsPermutation (t table) (u table)) where
+  holds_as : (trees : Trees) → Holds trees t → Holds trees u
+  holds_as trees holds = record {
+    rows = λ table. IsPermutation-trans _ (t table) (u table) (holds.rows table) (same table);
+    apart = holds.apart;
+  }
+
+  leaves_as : (trees : Trees) → Leaves t trees → Leaves u trees
+  leaves_as trees leaves = (leaves.0, leaves.1, leaves.2, holds_as trees leaves.3)
+
+  settled_as : (s : State) → IsSettled s t → IsSettled s u
+  settled_as s it = record { schema = it.schema; committed = it.committed; holds = holds_as s.now.trees it.holds }
+
+  -- a store keeps the same rows in any order
+  pub keeps_as : (s : State) → Keeps s t → Keeps s u
+  keeps_as s keeps = record {
+    settled = λ clean live. settled_as s (keeps.settled clean live);
+    left = λ clean trees may. leaves_as trees (keeps.left clean trees may);
+  }
+
+  pub either_as : (s : State) (first : Tables) → KeepsEither s first t → KeepsEither s first u
+  either_as s first keeps = record {
+    settled = keeps.settled;
+    left = λ clean trees may. elim (keeps.left clean trees may) [ inl was ↦ inl was | inr is ↦ inr (leaves_as trees is) ];
+  }
+
+-- a command was refused, or memory was, before anything was written
+pub decided : {S : Type 0} (g : Ghosts S) (conn : Held S) (was is : BookState) (b : ActState) (a : Referenced) → is ≡ was → KeepsBook (state g conn) b → number_of b a.reference ≡ None → (stop : Stop)
+    → ((r : Refusal) → stop ≡ Refused r → refusal b.book a.command ≡ Some r) → ((f : AFault) → stop ≡ Fault f → f ≡ OutOfMemory) → Acts g conn was is b a (Err stop)
+decided g conn was is b a same keeps fresh (Refused r) refused fault = let e = refused r refl in (rw (fresh, e), keeps, same)
+decided g conn was is b a same keeps fresh (Fault f) refused fault = subst (λ x. Acts g conn was is b a (Err (Fault x))) (sym (fault f refl)) (keeps, same)
+
+module _ {S : Type 0} (g : Ghosts S) (old new : Held S) (b : ActState) (a : Referenced) (p : PostedAmounts) (written : Act) (law : AcceptedIsReached) (keeps : KeepsBook (state g old) b)
+    (records : Records b a p written) (fresh : number_of b a.reference ≡ None) (free : refusal b.book a.command ≡ None) where
+  accepted : is_accepted b a ≡ true
+  accepted = rw (fresh, free)
+
+  taken : take_on b a ≡ act b a
+  taken = rw accepted
+
+  pub done : ((t : Tables) → Keeps (state g old) t → NeedsRows p written t → Keeps (state g new) (with_act p written t)) → KeepsBook (state g new) (act b a)
+  done commits = subst (KeepsBook (state g new)) taken
+      (record {
+        kept = keeps_as (with_act p written (tables_of b)) (tables_of (take_on b a)) records.tables (state g new) (commits (tables_of b) keeps.kept records.needs);
+        reached = law b a keeps.reached accepted;
+      })
+
+  either : ((t : Tables) → Keeps (state g old) t → NeedsRows p written t → KeepsEither (state g new) t (with_act p written t)) → KeepsEitherBook (state g new) b (act b a)
+  either commits = subst (KeepsEitherBook (state g new) b) taken
+      (record {
+        kept = either_as (with_act p written (tables_of b)) (tables_of (take_on b a)) records.tables (state g new) (tables_of b) (commits (tables_of b) keeps.kept records.needs);
+        reached = keeps.reached;
+        other_reached = law b a keeps.reached accepted;
+      })
+
+  pub answered : b.book.accepted ≡ length b.accepted → answer b a ≡ Ok (record { number = b.book.accepted + 1; moved = moves b.book (next b.book a.command) })
+  answered counts = rw (fresh, free, counts) refl
+
+  pub book_is : next b.book a.command ≡ (act b a).book
+  book_is = ap (λ s. s.book) taken
+
+  -- a commit failed, or a statement before it
+  pub failed : (was is : BookState) → is ≡ was → (stop : Stop) → IsStoreFault stop → (stop ≡ out_of_memory → (t : Tables) → Keeps (state g old) t → Keeps (state g new) t)
+      → ((t : Tables) → Keeps (state g old) t → NeedsRows p written t → KeepsEither (state g new) t (with_act p written t)) → Acts g new was is b a (Err stop)
+  failed was is same stop (inl memory) undone commits =
+      subst (λ s. Acts g new was is b a (Err s)) (sym memory) (record { kept = undone memory (tables_of b) keeps.kept; reached = keeps.reached }, same)
+  failed was is same stop (inr store) undone commits = subst (λ s. Acts g new was is b a (Err s)) (sym store) (either commits)
