@@ -1,1 +1,2 @@
-
+pub mod NewBook
+pub mod Zeros
