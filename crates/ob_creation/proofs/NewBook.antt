@@ -1,7 +1,7 @@
 -- The tables of a new book: the ten without rows, then the rows that they begin with.
 use Rattle.std.proofs.Common.{◌≡◌, ℕ, List, refl}
 use Rattle.sqlite.specs.State.{State}
-use Rattle.ob_tables.specs.Rows.{Tables, Always}
+use Rattle.ob_tables.specs.Rows.{Always}
 use Rattle.ob_tables.specs.Steps.{Makes}
 use Rattle.ob_tables.specs.Creation.{MakesBook, no_rows}
 use Rattle.ob_tables.specs.declared.table.Table.{Table}

@@ -10,7 +10,7 @@ use Rattle.sqlite.specs.State.{State}
 use Rattle.ob_post.specs.Keys.{dim_number, keys}
 use Rattle.ob_post.specs.declared.Dim.{Dim}
 use Rattle.ob_post.specs.declared.Dim.TheVariants as dim
-use Rattle.ob_tables.specs.Rows.{Columns, Tables, Holds, Always, shown, tree_of, with_row, with_table, posting_row}
+use Rattle.ob_tables.specs.Rows.{Columns, Tables, Holds, Always, shown, tree_of, with_row, posting_row}
 use Rattle.ob_tables.specs.Steps.{Makes}
 use Rattle.ob_tables.specs.declared.table.Table.{Table}
 use Rattle.ob_tables.specs.declared.table.Table.TheVariants.{Posting}
@@ -34,7 +34,7 @@ makes_as a b f h same it = record {
 -- the rows of some keys and then of others are those of all
 join : (here : Bool) (xs ys : List (Dim × ℕ)) (rows : List Columns)
     → (if here then (if here then rows ++ map (amount_row no_amount) xs else rows) ++ map (amount_row no_amount) ys else (if here then rows ++ map (amount_row no_amount) xs else rows))
-      ≡ (if here then rows ++ map (amount_row no_amount) (xs ++ ys) else rows)
+    ≡ (if here then rows ++ map (amount_row no_amount) (xs ++ ys) else rows)
 join true xs ys rows = append_assoc rows (map (amount_row no_amount) xs) (map (amount_row no_amount) ys) ∙ ap (λ l. rows ++ l) (sym (map-append (amount_row no_amount) xs ys))
 join false xs ys rows = refl
 

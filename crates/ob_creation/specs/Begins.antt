@@ -6,7 +6,7 @@ use Rattle.ob_tables.specs.Schema.{no_schema}
 use Rattle.ob_tables.specs.Rows.{Tables}
 use Rattle.ob_commit.specs.Keeps.{Leaves}
 
--- it was open, and it shows and has committed what it did
+-- it was open, it shows what it showed, and has committed what it had
 pub record ShowsAsBefore (old new : State) : Type 0 where
   pub was_open : IsTrue old.is_open
   pub now : new.now ≡ old.now

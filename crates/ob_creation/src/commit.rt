@@ -2,7 +2,6 @@
 ghost use Rattle.std.specs.Prelude.{◌≡◌, ◌≢◌, ◌↔◌, ◌⊎◌, Err, false, IsTrue, OnOk, IfErr};
 ghost use Rattle.sqlite.specs.Held.{state};
 ghost use Rattle.sqlite.specs.State.{Survives};
-ghost use Rattle.ob_base.specs.Stop.{out_of_memory};
 ghost use Rattle.ob_tables.specs.Schema.{no_schema};
 ghost use Rattle.ob_tables.specs.Rows.{Tables};
 ghost use Rattle.ob_tables.specs.Steps.{IsStoreFault};
@@ -27,6 +26,8 @@ pub fn commit_new<S: Alter>(
     ensures faults { IfErr result (λ stop. (stop ≡ Stop.Refused Refusal.BadBook) ⊎ IsStoreFault stop) }
     ensures refused { (result ≡ Err (Stop.Refused Refusal.BadBook))
         ↔ ((state S.Store conn.old).now.schema ≢ no_schema) }
+    ensures empty { result ≢ Err (Stop.Refused Refusal.BadBook)
+        → (state S.Store conn.old).now.schema ≡ no_schema }
     ensures done { OnOk result (Keeps (state S.Store conn.new) (new_tables first_day.now days zone.now)) }
     ensures same { IfErr result (λ stop. stop ≢ Stop.Fault Fault.Store
         → Stays (state S.Store conn.old) (state S.Store conn.new)) }

@@ -1,5 +1,4 @@
 //! The statements that make the tables of a new book, with the rows that they begin with.
-ghost use Rattle.std.specs.Prelude.{◌+◌, ◌<◌, ◌^◌};
 ghost use Rattle.std.specs.List.{range_with_len};
 ghost use Rattle.ob_tables.specs.Steps.{Changes};
 ghost use Rattle.ob_tables.specs.Creation.{Creates};
@@ -12,6 +11,12 @@ use ob_base::Stop;
 use ob_post::Dim;
 use ob_tables::{add_cause, add_meta, add_node, add_posting, create_tables};
 use sqlite::{Alter, Transaction};
+
+/// How many codes causes may have, from 0 on.
+const CAUSES: u16 = 64;
+
+/// How many numbers home feeders may have, from 1 on.
+const FEEDERS: u16 = 255;
 
 /// Makes the tables of a new book. It fails where one of them stands already.
 pub fn write_new<S: Alter>(
@@ -48,8 +53,8 @@ fn write_amounts<S: Alter>(tx: &mut Transaction<'_, S>, days: u16) -> Result<(),
     ensures { ChangesOpen S.Store tx.old.conn tx.new.conn result Always
         (with_zeros (all_keys days)) }
 {
-    write_keys(tx, Dim::Cause, 0, 64)?;
-    write_keys(tx, Dim::Feeder, 1, 255)?;
+    write_keys(tx, Dim::Cause, 0, CAUSES)?;
+    write_keys(tx, Dim::Feeder, 1, FEEDERS)?;
     write_keys(tx, Dim::Day, 0, days)
 }
 

@@ -1,9 +1,9 @@
-use Rattle.std.proofs.Common.{◌≡◌, ◌∙◌, arith}
+use Rattle.std.proofs.Common.{◌∙◌, arith}
 use Rattle.std.specs.Prelude.{codes}
 use Rattle.sqlite.specs.State.{HasCleanDisk}
 use Rattle.sqlite.specs.Held.{state}
 use Rattle.ob_tables.specs.Steps.{Makes}
-use Rattle.ob_tables.specs.Rows.{Tables, Always, with_row, meta_row, cause_row, node_row}
+use Rattle.ob_tables.specs.Rows.{Always, with_row, meta_row, cause_row, node_row}
 use Rattle.ob_tables.specs.declared.table.Table.TheVariants.{Meta, Cause, Node}
 use Rattle.ob_tables.proofs.Silence.{silent_then}
 use Rattle.ob_commit.proofs.Steps.{on_ok, makes_then}
