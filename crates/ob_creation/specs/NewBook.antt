@@ -32,7 +32,7 @@ with_heading first days zone tables =
 
 -- with an amount of 0 under each of these keys
 abbrev pub with_zeros : List (Dim × ℕ) → Tables → Tables
-with_zeros at = with_table Posting (λ rows. rows ++ map (amount_row no_amount) at)
+with_zeros these = with_table Posting (λ rows. rows ++ map (amount_row no_amount) these)
 
 -- these keys of a dimension
 abbrev pub keys_of : Dim → List ℕ → List (Dim × ℕ)
