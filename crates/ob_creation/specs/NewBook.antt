@@ -1,0 +1,47 @@
+-- The tables of a new book.
+use Rattle.std.specs.Prelude.{◌≡◌, ℕ, List, [], ◌∷◌, ◌++◌, map, codes, IsTrue}
+use Rattle.sqlite.specs.State.{State}
+use Rattle.ob_post.specs.declared.Dim.{Dim}
+use Rattle.ob_tables.specs.Schema.{no_schema, book_schema}
+use Rattle.ob_tables.specs.Rows.{Tables, Holds, with_row, with_table, meta_row, cause_row, node_row}
+use Rattle.ob_tables.specs.declared.table.Table.TheVariants.{Meta, Cause, Node, Device, Customer, Entry, Mark, Command, Moved, Posting}
+use Rattle.ob_commit.specs.Amounts.{amount_row, amount_rows}
+
+-- no second is posted under any key
+abbrev pub no_amount : Dim → ℕ → ℕ
+no_amount dim key = 0
+
+-- its period, from this day on for this many days in this zone, cause 0, GRID, and an amount of 0 under each key
+abbrev pub new_tables : List ℕ → ℕ → List ℕ → Tables
+new_tables first days zone Meta = meta_row 1 first days zone ∷ []
+new_tables first days zone Cause = cause_row 0 (codes "UNASSIGNED") ∷ []
+new_tables first days zone Node = node_row 0 (codes "GRID") 0 0 ∷ []
+new_tables first days zone Device = []
+new_tables first days zone Customer = []
+new_tables first days zone Entry = []
+new_tables first days zone Mark = []
+new_tables first days zone Command = []
+new_tables first days zone Moved = []
+new_tables first days zone Posting = amount_rows days no_amount
+
+-- with the rows of the period, of cause 0 and of GRID
+abbrev pub with_heading : List ℕ → ℕ → List ℕ → Tables → Tables
+with_heading first days zone tables =
+    with_row Node (node_row 0 (codes "GRID") 0 0) (with_row Cause (cause_row 0 (codes "UNASSIGNED"))
+    (with_row Meta (meta_row 1 first days zone) tables))
+
+-- with an amount of 0 under each of these keys
+abbrev pub with_zeros : List (Dim × ℕ) → Tables → Tables
+with_zeros these = with_table Posting (λ rows. rows ++ map (amount_row no_amount) these)
+
+-- these keys of a dimension
+abbrev pub keys_of : Dim → List ℕ → List (Dim × ℕ)
+keys_of dim = map (λ key. (dim, key))
+
+-- inside a transaction over an empty database, the tables of a book were made, with these rows
+pub record MakesNew (tables : Tables) (old new : State) : Type 0 where
+  pub live : IsTrue old.is_open
+  pub stays : IsTrue new.is_open
+  pub inside : IsTrue new.in_transaction
+  pub schema : old.now.schema ≡ no_schema → new.now.schema ≡ book_schema
+  pub holds : old.now.schema ≡ no_schema → Holds new.now.trees tables
