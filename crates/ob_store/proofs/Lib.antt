@@ -2,3 +2,4 @@ pub mod Known
 pub mod Replying
 pub mod Answering
 pub mod Accepting
+pub mod Answered

@@ -1,5 +1,5 @@
 //! A command under a reference: what the book answers, and what then stands in the store and in memory.
-ghost use Rattle.std.specs.Prelude.{◌≡◌, false, None, OnErr};
+ghost use Rattle.std.specs.Prelude.{◌≡◌, ◌≢◌, false, None, IfErr, OnErr};
 ghost use Rattle.sqlite.specs.Held.{state};
 ghost use Rattle.sqlite.specs.State.{HasCleanDisk, Survives};
 ghost use Rattle.ob_book.specs.Acts.{ActState, number_of};
@@ -28,6 +28,7 @@ pub(crate) fn act_on<S: Alter, T: Timeline>(
 ) -> Result<Reply, Stop>
     requires mode { conn.old.in_transaction ≡ false }
     ensures mode { conn.new.in_transaction ≡ false }
+    ensures faults { IfErr result (λ stop. stop ≢ Stop.Fault Fault.Reopen) }
     ensures book { OnErr result (book.new.state ≡ book.old.state) }
     ensures acts { HasCleanDisk (state S.Store conn.new) → (b : ActState) → KeepsBook (state S.Store conn.old) b
         → book.old.state ≡ b.book
@@ -58,6 +59,7 @@ fn accept<S: Alter, T: Timeline>(
     requires mode { conn.old.in_transaction ≡ false }
     requires body { body.now ≡ body_text_of command.now }
     ensures mode { conn.new.in_transaction ≡ false }
+    ensures faults { IfErr result (λ stop. stop ≢ Stop.Fault Fault.Reopen) }
     ensures clean { HasCleanDisk (state S.Store conn.new) → HasCleanDisk (state S.Store conn.old) }
     ensures book { OnErr result (book.new.state ≡ book.old.state) }
     ensures acts { HasCleanDisk (state S.Store conn.new) → (b : ActState) → KeepsBook (state S.Store conn.old) b

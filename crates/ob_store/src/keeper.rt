@@ -1,5 +1,9 @@
 //! The keeper: a book, and the connection to the store that keeps its tables.
-use ob_book::Book;
+use crate::acting::act_on;
+use crate::reply::Reply;
+use crate::stored::reply_at;
+use ob_base::{Fault, Ref, Stop};
+use ob_book::{Book, Command};
 use ob_sweep::Timeline;
 use sqlite::{Alter, Connection};
 use std::alloc::Global;
@@ -30,7 +34,13 @@ impl<S: Alter, T: Timeline> Model for Keeper<S, T> {
 }
 
 impl<S: Alter, T: Timeline> Keeper<S, T> {
-    ghost use Rattle.std.specs.Prelude.{◌≡◌, false, None, Some};
+    ghost use Rattle.std.specs.Prelude.{◌≡◌, ◌↔◌, false, None, Some, Err, IsSome};
+    ghost use Rattle.sqlite.specs.Held.{state};
+    ghost use Rattle.sqlite.specs.State.{HasCleanDisk, Survives};
+    ghost use Rattle.ob_book.specs.Acts.{ActState};
+    ghost use Rattle.ob_store.specs.Keeping.{Ties};
+    ghost use Rattle.ob_store.specs.Acting.{Acted, under};
+    ghost use Rattle.ob_store.specs.Replying.{Replied};
     ghost use Rattle.std.specs.Option.{option_map};
 
     /// A keeper over a connection with no open transaction; it has no book yet.
@@ -43,6 +53,50 @@ impl<S: Alter, T: Timeline> Keeper<S, T> {
             alloc,
             conn,
             book: None,
+        }
+    }
+
+    /// Acts a command under a reference, in one transaction: it is decided on, its rows are written and committed, and then
+    /// the book adopts it. Under a known reference an equal command is answered its reply again and changes nothing, and
+    /// another one is refused as `RefConflict`. `Reopen` where there is no book.
+    pub fn act(&mut self, reference: Ref, command: Command) -> Result<Reply, Stop>
+        ensures reopen { (self.old.book ≡ None) ↔ (result ≡ Err (Stop.Fault Fault.Reopen)) }
+        ensures unopened { self.old.book ≡ None → self.new ≡ self.old }
+        ensures acted { HasCleanDisk (state S.Store self.new.conn) → (b : ActState) → Ties S.Store self.old b
+            → IsSome self.old.book → Acted S.Store self.old self.new b (under reference command) result }
+    {
+        let Some(book) = &mut self.book else {
+            return Err(Stop::Fault(Fault::Reopen));
+        };
+        match act_on(self.alloc, &mut self.conn, book, &reference, &command) {
+            Ok(reply) => Ok(reply),
+            Err(Stop::Fault(Fault::Store)) => {
+                self.book = None;
+                Err(Stop::Fault(Fault::Store))
+            }
+            Err(stop) => Err(stop),
+        }
+    }
+
+    /// The stored reply of the accepted command of a number, from 1; None where there is none. `Reopen` where there is no
+    /// book.
+    pub fn reply_of(&mut self, no: u32) -> Result<Option<Reply>, Stop>
+        ensures reopen { (self.old.book ≡ None) ↔ (result ≡ Err (Stop.Fault Fault.Reopen)) }
+        ensures unopened { self.old.book ≡ None → self.new ≡ self.old }
+        ensures survives { Survives (state S.Store self.old.conn) (state S.Store self.new.conn) (λ _. ⊥) }
+        ensures replied { HasCleanDisk (state S.Store self.new.conn) → (b : ActState) → Ties S.Store self.old b
+            → IsSome self.old.book → Replied S.Store self.old self.new b no result }
+    {
+        let Some(book) = &self.book else {
+            return Err(Stop::Fault(Fault::Reopen));
+        };
+        match reply_at(self.alloc, &mut self.conn, book, no) {
+            Ok(reply) => Ok(reply),
+            Err(Stop::Fault(Fault::Store)) => {
+                self.book = None;
+                Err(Stop::Fault(Fault::Store))
+            }
+            Err(stop) => Err(stop),
         }
     }
 

@@ -1,16 +1,20 @@
 //! The stored reply of an accepted command.
-ghost use Rattle.std.specs.Prelude.{◌≡◌, ◌≤◌, false, length, IfOk, IfErr};
+ghost use Rattle.std.specs.Prelude.{◌≡◌, ◌≢◌, ◌≤◌, false, length, IfOk, IfErr};
 ghost use Rattle.sqlite.specs.Held.{state};
 ghost use Rattle.sqlite.specs.State.{HasCleanDisk, Survives};
 ghost use Rattle.ob_tables.specs.Steps.{IsStoreFault};
 ghost use Rattle.ob_book.specs.Acts.{ActState, reply_of};
 ghost use Rattle.ob_store.specs.Keeping.{KeepsBook};
 ghost use Rattle.ob_store.specs.Acting.{reply_as};
+ghost use Rattle.ob_store.specs.Replying.{Replies};
 
 use crate::reply::{Moves, Reply};
-use ob_base::Stop;
+use ob_base::{Fault, Stop};
+use ob_book::Book;
 use ob_lookup::stored_moves;
 use ob_post::laws::move_laws;
+use ob_record::reached_law;
+use ob_sweep::Timeline;
 use sqlite::{Alter, Connection};
 use std::alloc::Global;
 
@@ -35,6 +39,33 @@ pub(crate) fn stored_reply<S: Alter>(
             no,
             moved: Moves::new(moves),
         }),
+        Err(stop) => Err(stop),
+    }
+}
+
+/// The reply of the accepted command of a number; None where there is none. Nothing is written.
+pub(crate) fn reply_at<S: Alter, T: Timeline>(
+    alloc: Global,
+    conn: &mut Connection<S>,
+    book: &Book<T>,
+    no: u32,
+) -> Result<Option<Reply>, Stop>
+    requires mode { conn.old.in_transaction ≡ false }
+    ensures mode { conn.new.in_transaction ≡ false }
+    ensures faults { IfErr result (λ stop. stop ≢ Stop.Fault Fault.Reopen) }
+    ensures survives { Survives (state S.Store conn.old) (state S.Store conn.new) (λ _. ⊥) }
+    ensures replies { HasCleanDisk (state S.Store conn.new) → (b : ActState)
+        → KeepsBook (state S.Store conn.old) b → book.now.state ≡ b.book → Replies S.Store conn.new b no result }
+{
+    reached_law();
+    if no == 0 {
+        return Ok(None);
+    }
+    if book.accepted() < no {
+        return Ok(None);
+    }
+    match stored_reply(alloc, conn, no) {
+        Ok(reply) => Ok(Some(reply)),
         Err(stop) => Err(stop),
     }
 }
