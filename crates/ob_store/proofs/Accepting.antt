@@ -37,7 +37,7 @@ module _ (t u : Tables) (same : (table : Table) → IsPermutation (t table) (u t
     apart = holds.apart;
   }
 
-  leaves_as : (trees : Trees) → Leaves t trees → Leaves u trees
+  pub leaves_as : (trees : Trees) → Leaves t trees → Leaves u trees
   leaves_as trees leaves = (leaves.0, leaves.1, leaves.2, holds_as trees leaves.3)
 
   settled_as : (s : State) → IsSettled s t → IsSettled s u

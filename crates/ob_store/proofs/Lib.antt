@@ -3,3 +3,4 @@ pub mod Replying
 pub mod Answering
 pub mod Accepting
 pub mod Answered
+pub mod Beginning

@@ -1,3 +1,4 @@
 pub mod Keeping
 pub mod Acting
 pub mod Replying
+pub mod Creating

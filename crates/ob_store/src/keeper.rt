@@ -1,5 +1,6 @@
 //! The keeper: a book, and the connection to the store that keeps its tables.
 use crate::acting::act_on;
+use crate::creating::create_on;
 use crate::reply::Reply;
 use crate::stored::reply_at;
 use ob_base::{Fault, Ref, Stop};
@@ -41,6 +42,7 @@ impl<S: Alter, T: Timeline> Keeper<S, T> {
     ghost use Rattle.ob_store.specs.Keeping.{Ties};
     ghost use Rattle.ob_store.specs.Acting.{Acted, under};
     ghost use Rattle.ob_store.specs.Replying.{Replied};
+    ghost use Rattle.ob_store.specs.Creating.{Created};
     ghost use Rattle.std.specs.Option.{option_map};
 
     /// A keeper over a connection with no open transaction; it has no book yet.
@@ -53,6 +55,25 @@ impl<S: Alter, T: Timeline> Keeper<S, T> {
             alloc,
             conn,
             book: None,
+        }
+    }
+
+    /// Makes the tables of a new book in a database that holds none, and the book: of so many days (1 to 366) from the date
+    /// `YYYY-MM-DD` on, in the zone of a POSIX rule. `BadPeriod` where there is no such period, `BadBook` where the database
+    /// holds a table.
+    pub fn create(&mut self, first: &[u8], days: u16, zone: &[u8]) -> Result<(), Stop>
+        ensures created { Created S.Store self.old self.new first.now days zone.now result }
+    {
+        match create_on(self.alloc, &mut self.conn, first, days, zone) {
+            Ok(book) => {
+                self.book = Some(book);
+                Ok(())
+            }
+            Err(Stop::Fault(Fault::Store)) => {
+                self.book = None;
+                Err(Stop::Fault(Fault::Store))
+            }
+            Err(stop) => Err(stop),
         }
     }
 

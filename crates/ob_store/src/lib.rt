@@ -2,6 +2,7 @@
 #![tactic(auto)]
 
 mod acting;
+mod creating;
 mod keeper;
 mod reply;
 mod stored;

@@ -1,0 +1,113 @@
+-- A new book: why there is none, and its tables.
+use Rattle.std.proofs.Common.{◌≡◌, ◌≢◌, ◌⊎◌, inl, inr, ℕ, ◌+◌, ◌-◌, List, Result, Ok, Err, refl, sym, ap, ap₂, subst, ◌∙◌, arith, IsTrue}
+use Rattle.std.specs.List.Sorted.{IsPermutation}
+use Rattle.std.proofs.lemmas.List.Sorted.{IsPermutation-refl, IsPermutation-trans}
+use Rattle.sqlite_trees.specs.declared.store.Store.{Ghosts}
+use Rattle.sqlite.specs.Tree.{Trees}
+use Rattle.sqlite.specs.Held.{Held, state}
+use Rattle.sqlite.specs.State.{State, HasCleanDisk, Survives}
+use Rattle.ob_base.specs.Stop.{IsRefusedOrNoMemory, out_of_memory}
+use Rattle.ob_base.specs.declared.stop.Stop.{Stop}
+use Rattle.ob_base.specs.declared.stop.Stop.TheVariants.{Refused, Fault}
+use Rattle.ob_base.specs.declared.stop.Refusal.TheVariants.{BadPeriod, BadBook}
+use Rattle.ob_base.specs.declared.stop.Fault.TheVariants.{OutOfMemory, Store}
+use Rattle.ob_time.specs.Calendar.{Calendar, day_count}
+use Rattle.ob_time.specs.Dates.{day_text}
+use Rattle.ob_time.specs.Period.{IsPeriodText}
+use Rattle.ob_state.specs.State.{empty_book}
+use Rattle.ob_state.specs.States.{BookValue}
+use Rattle.ob_book.specs.Acts.{ActState, start}
+use Rattle.ob_tables.specs.Rows.{Tables, Holds}
+use Rattle.ob_tables.specs.Schema.{no_schema}
+use Rattle.ob_tables.specs.Steps.{IsStoreFault}
+use Rattle.ob_tables.specs.declared.table.Table.{Table}
+use Rattle.ob_tables.specs.declared.table.Table.TheVariants.{Meta, Cause, Node, Device, Customer, Entry, Mark, Command, Moved, Posting}
+use Rattle.ob_commit.specs.Keeps.{Keeps, Leaves}
+use Rattle.ob_creation.specs.NewBook.{new_tables}
+use Rattle.ob_creation.specs.Begins.{Begins, ShowsAsBefore, Stays, StaysOrBegins}
+use Rattle.ob_record.specs.Reached.{IsReached, StartHasFirstRows, StartIsReached, first_rows}
+use Rattle.ob_record.specs.Tables.{tables_of}
+use Rattle.ob_store.specs.Keeping.{KeepsBook}
+use Rattle.ob_store.specs.Creating.{Creates, HasNoPeriodText, LeavesAll, MayBegin}
+use Rattle.ob_store.proofs.Accepting.{keeps_as, leaves_as}
+
+survives_same : (s : State) → Survives s s (λ _. ⊥)
+survives_same s = record {
+  clean = omega arith;
+  shield = λ shielded. shielded;
+  counts = omega arith;
+  limit = refl;
+  closes = λ clean live. inl live;
+  crash = λ clean trees may. inl may;
+}
+
+all_left : {S : Type 0} (g : Ghosts S) (conn : Held S) → LeavesAll g conn conn
+all_left g conn = record {
+  stays = record { shown = λ clean live. record { was_open = live; now = refl; committed = refl }; survives = survives_same (state g conn) };
+  kept = λ b keeps. keeps;
+}
+
+module _ {S : Type 0} (g : Ghosts S) (conn : Held S) (first : List ℕ) (days : ℕ) (zone : List ℕ) where
+  -- memory was refused before anything was written
+  pub no_memory : (stop : Stop) → stop ≡ out_of_memory → Creates g conn conn first days zone (Err stop)
+  no_memory stop is = subst (λ s. Creates g conn conn first days zone (Err s)) (sym is) (all_left g conn)
+
+  -- the texts name no period
+  pub no_period : (stop : Stop) → IsRefusedOrNoMemory BadPeriod stop → (stop ≡ Refused BadPeriod → HasNoPeriodText first days zone) → Creates g conn conn first days zone (Err stop)
+  no_period (Refused r) is none = subst (λ x. Creates g conn conn first days zone (Err (Refused x))) (sym is) (none (ap Refused is), all_left g conn)
+  no_period (Fault f) is none = subst (λ x. Creates g conn conn first days zone (Err (Fault x))) (sym is) (all_left g conn)
+
+module _ (p : Calendar) (first text : List ℕ) (days : ℕ) (zone : List ℕ) (of_text : IsPeriodText first days zone p) (text_is : text ≡ day_text p.first_day) (first_is : first ≡ text) where
+  days_is : days ≡ day_count p
+  days_is = omega (arith, of_text.period.midnights.count)
+
+  pub reached : StartIsReached → IsReached (start p)
+  reached law =
+      let dated = subst (λ f. IsPeriodText f days zone p) (first_is ∙ text_is) of_text in
+      let counted = subst (λ n. IsPeriodText (day_text p.first_day) n zone p) days_is dated in
+      law p (subst (λ z. IsPeriodText (day_text p.first_day) (day_count p) z p) (sym of_text.zone_is) counted)
+
+  first_table : (table : Table) → new_tables (day_text p.first_day) (day_count p) p.zone table ≡ first_rows p table
+  first_table Meta = refl
+  first_table Cause = refl
+  first_table Node = refl
+  first_table Device = refl
+  first_table Customer = refl
+  first_table Entry = refl
+  first_table Mark = refl
+  first_table Command = refl
+  first_table Moved = refl
+  first_table Posting = refl
+
+  -- the tables of a new book are those of no command
+  pub tables_are : StartHasFirstRows → (table : Table) → IsPermutation (new_tables text days zone table) (tables_of (start p) table)
+  tables_are law table =
+      let parts : new_tables text days zone table ≡ new_tables (day_text p.first_day) (day_count p) p.zone table =
+      ap (λ f. new_tables f days zone table) text_is ∙ ap₂ (λ n z. new_tables (day_text p.first_day) n z table) days_is (sym of_text.zone_is) in
+      subst (IsPermutation (new_tables text days zone table)) (parts ∙ first_table table ∙ sym (law p table)) (IsPermutation-refl (new_tables text days zone table))
+
+  module _ {S : Type 0} (g : Ghosts S) (old new : Held S) (firsts : StartHasFirstRows) where
+    pub kept : StartIsReached → Keeps (state g new) (new_tables text days zone) → KeepsBook (state g new) (start p)
+    kept law keeps = record { kept = keeps_as (new_tables text days zone) (tables_of (start p)) (tables_are firsts) (state g new) keeps; reached = reached law }
+
+    may_begin : StaysOrBegins (state g old) (state g new) (new_tables text days zone) → MayBegin g old new first days zone
+    may_begin it = (p, of_text, record {
+      shown = it.shown;
+      left = λ clean trees may. elim (it.left clean trees may) [
+        | inl before ↦ inl before
+        | inr begins ↦ inr (begins.0, leaves_as (new_tables text days zone) (tables_of (start p)) (tables_are firsts) trees begins.1)
+      ];
+    })
+
+    -- the commit failed, or what goes before it
+    pub failed : (stop : Stop) → (stop ≡ Refused BadBook) ⊎ IsStoreFault stop → (stop ≡ Refused BadBook → (state g old).now.schema ≢ no_schema) → (stop ≢ Fault Store → Stays (state g old) (state g new))
+        → (stop ≢ Fault Store → (t : Tables) → Keeps (state g old) t → Keeps (state g new) t) → StaysOrBegins (state g old) (state g new) (new_tables text days zone) → Creates g old new first days zone (Err stop)
+    failed stop (inl taken) full stays keeps either =
+        let other : stop ≢ Fault Store = λ e. absurd (cc) in
+        subst (λ s. Creates g old new first days zone (Err s)) (sym taken)
+        (full taken, record { stays = stays other; kept = λ b k. record { kept = keeps other (tables_of b) k.kept; reached = k.reached } })
+    failed stop (inr (inl memory)) full stays keeps either =
+        let other : stop ≢ Fault Store = λ e. absurd (cc) in
+        subst (λ s. Creates g old new first days zone (Err s)) (sym memory)
+        (record { stays = stays other; kept = λ b k. record { kept = keeps other (tables_of b) k.kept; reached = k.reached } })
+    failed stop (inr (inr store)) full stays keeps either = subst (λ s. Creates g old new first days zone (Err s)) (sym store) (may_begin either)

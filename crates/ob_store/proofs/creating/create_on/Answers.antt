@@ -1,0 +1,46 @@
+use Rattle.std.proofs.Common.{◌≡◌, ℕ, List, Err, sym, ap, subst, ◌∙◌, refl, pos, ◌+ℤ◌, ℤ, arith}
+use Rattle.std.proofs.lemmas.Int.{ints}
+use Rattle.std.specs.String.{string_bytes}
+use Rattle.ob_time.specs.Dates.{day_text}
+use Rattle.ob_time.specs.Moment.{IsTextOfDay}
+use Rattle.ob_store.proofs.Beginning.{no_memory, no_period, kept, failed}
+use Rattle.ob_store.proofs.creating.create_on.Goals as goal
+
+pub returns-in-Err-clause-creates : goal.returns-in-Err-clause-creates
+returns-in-Err-clause-creates g c =
+    no_period g.S.Store c.args.conn.now c.args.first.now c.args.days c.args.zone.now c.in-Err.stop c.in-Err.ensures.errors (λ e. c.in-Err.ensures.refused.0 (ap Err e))
+
+pub returns-in-Err-date_text-clause-creates : goal.returns-in-Err-date_text-clause-creates
+returns-in-Err-date_text-clause-creates g c = no_memory g.S.Store c.args.conn.now c.args.first.now c.args.days c.args.zone.now c.in-Err-date_text.stop c.in-Err-date_text.ensures.errors
+
+pub returns-in-Err-new-clause-creates : goal.returns-in-Err-new-clause-creates
+returns-in-Err-new-clause-creates g c = no_memory g.S.Store c.args.conn.now c.args.first.now c.args.days c.args.zone.now c.in-Err-new.stop c.in-Err-new.ensures.err
+
+pub returns-in-Ok-commit_new-clause-creates : goal.returns-in-Ok-commit_new-clause-creates
+returns-in-Ok-commit_new-clause-creates g c =
+    let p = c.in-Ok.period in
+    let text = c.as_bytes.result.now in
+    let of_text = c.in-Ok.ensures.ok in
+    let at : p.first_day +ℤ pos 0 ≡ p.first_day = omega (arith, ints) in
+    let text_is : text ≡ day_text p.first_day = c.as_bytes.ensures.value ∙ c.in-Ok-date_text.ensures.value ∙ ap day_text at in
+    let dated : IsTextOfDay c.args.first.now (p.first_day +ℤ pos 0) = (of_text.date, sym of_text.period.first ∙ sym at, of_text.date_is) in
+    let first_is : c.args.first.now ≡ text = c.in-Ok-date_text.ensures.only c.args.first.now dated ∙ sym c.as_bytes.ensures.value in
+    (
+      p,
+      of_text,
+      kept p c.args.first.now text c.args.days c.args.zone.now of_text text_is first_is g.S.Store c.args.conn.now c.commit_new.new.conn c.reached_law.ensures.empty c.reached_law.ensures.starts c.in-Ok-commit_new.ensures.done,
+      c.in-Ok-new.ensures.state,
+    )
+
+pub returns-clause-creates : goal.returns-clause-creates
+returns-clause-creates g c =
+    let p = c.in-Ok.period in
+    let text = c.as_bytes.result.now in
+    let of_text = c.in-Ok.ensures.ok in
+    let at : p.first_day +ℤ pos 0 ≡ p.first_day = omega (arith, ints) in
+    let text_is : text ≡ day_text p.first_day = c.as_bytes.ensures.value ∙ c.in-Ok-date_text.ensures.value ∙ ap day_text at in
+    let dated : IsTextOfDay c.args.first.now (p.first_day +ℤ pos 0) = (of_text.date, sym of_text.period.first ∙ sym at, of_text.date_is) in
+    let first_is : c.args.first.now ≡ text = c.in-Ok-date_text.ensures.only c.args.first.now dated ∙ sym c.as_bytes.ensures.value in
+    let it = c.in-Err-commit_new in
+    failed p c.args.first.now text c.args.days c.args.zone.now of_text text_is first_is g.S.Store c.args.conn.now c.commit_new.new.conn c.reached_law.ensures.empty
+    it.stop it.ensures.faults (λ e. it.ensures.refused.0 (ap Err e)) it.ensures.same it.ensures.kept it.ensures.either

@@ -1,0 +1,43 @@
+//! A new book, in an empty database and in memory.
+ghost use Rattle.std.specs.Prelude.{◌≡◌, false};
+ghost use Rattle.ob_store.specs.Creating.{Creates};
+
+use ob_base::{Fault, Stop};
+use ob_book::Book;
+use ob_creation::commit_new;
+use ob_record::reached_law;
+use ob_sweep::Timeline;
+use ob_time::Period;
+use sqlite::{Alter, Connection};
+use std::alloc::Global;
+
+/// Makes the tables of a new book in an empty database, and the book.
+pub(crate) fn create_on<S: Alter, T: Timeline>(
+    alloc: Global,
+    conn: &mut Connection<S>,
+    first: &[u8],
+    days: u16,
+    zone: &[u8],
+) -> Result<Book<T>, Stop>
+    requires mode { conn.old.in_transaction ≡ false }
+    ensures mode { conn.new.in_transaction ≡ false }
+    ensures creates { Creates S.Store conn.old conn.new first.now days zone.now result }
+{
+    reached_law();
+    let period = match Period::from_text(alloc, first, days, zone) {
+        Ok(period) => period,
+        Err(stop) => return Err(stop),
+    };
+    let date = match period.date_text(0) {
+        Ok(date) => date,
+        Err(stop) => return Err(stop),
+    };
+    let book = match Book::new(alloc, period) {
+        Ok(book) => book,
+        Err(stop) => return Err(stop),
+    };
+    match commit_new(conn, date.as_bytes(), days, zone) {
+        Ok(()) => Ok(book),
+        Err(stop) => Err(stop),
+    }
+}
