@@ -1,1 +1,3 @@
-
+mod Same
+mod Selects
+mod Cursor
