@@ -1,2 +1,4 @@
 //! The ten tables, read back row by row and compared with what a book of their commands has.
 #![tactic(auto)]
+
+mod rows;
