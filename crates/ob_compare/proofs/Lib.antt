@@ -1,3 +1,4 @@
-mod Same
+pub mod Listing
+pub mod Same
 mod Selects
-mod Cursor
+mod Places

@@ -10,9 +10,10 @@ ghost use Rattle.ob_tables.specs.Rows.{Columns};
 ghost use Rattle.ob_tables.specs.Steps.{IsStoreFault};
 ghost use Rattle.ob_tables.specs.declared.table.Table.{Table as ATable};
 ghost use Rattle.ob_record.specs.Tables.{Shows};
-ghost use Rattle.ob_compare.specs.Parts.{Compares, Goes, row_cmp, select_of, standing};
+ghost use Rattle.ob_compare.specs.Listing.{Goes};
+ghost use Rattle.ob_compare.specs.Parts.{Compares, listing_of, row_cmp, select_of, standing};
 
-use crate::rows::stop_of;
+use crate::rows::{advance, is_over, stop_of};
 use ob_base::Stop;
 use ob_tables::Table;
 use sqlite::{Alter, Connection, Row, Rows};
@@ -79,17 +80,15 @@ fn goes_on<S: Alter, L: Listed>(
         → IsUnchanged (state S.Store rows.old.conn.now) (state S.Store rows.new.conn.now)) }
     ensures goes { HasCleanDisk (state S.Store rows.new.conn.now) → IfOk result (λ is. (state S.Store rows.old.conn.now).now.schema ≡ book_schema
         → (given : List ARow) → HasGiven S.Store (select_of L.table) [] rows.old.conn.now given
-        → Goes S.Store L.table is rows.new.conn.now given (standing (slice_index_or (L.places listed.now) at None ∷ []))) }
+        → Goes S.Store (listing_of L.table) is rows.new.conn.now given (standing (slice_index_or (L.places listed.now) at None ∷ []))) }
 {
     if !listed.has_row(at) {
         return Ok(true);
     }
-    match rows.advance() {
-        Ok(()) => match rows.get() {
-            Some(row) => Ok(listed.is_row(at, row)),
-            None => Ok(false),
-        },
-        Err(error) => Err(stop_of(error)),
+    advance(rows)?;
+    match rows.get() {
+        Some(row) => Ok(listed.is_row(at, row)),
+        None => Ok(false),
     }
 }
 
@@ -104,7 +103,7 @@ fn follows<S: Alter, L: Listed>(rows: &mut Rows<'_, S>, listed: &L) -> Result<bo
     ensures goes { HasCleanDisk (state S.Store rows.new.conn.now) → IfOk result (λ is. IsTrue (state S.Store rows.old.conn.now).is_open
         → (state S.Store rows.old.conn.now).now.schema ≡ book_schema
         → (given : List ARow) → HasGiven S.Store (select_of L.table) [] rows.old.conn.now given
-        → Goes S.Store L.table is rows.new.conn.now given (standing (L.places listed.now))) }
+        → Goes S.Store (listing_of L.table) is rows.new.conn.now given (standing (L.places listed.now))) }
 {
     'places: for at in 0..listed.len() {
         if !goes_on(rows, listed, at)? {
@@ -127,18 +126,10 @@ fn matches<S: Alter, L: Listed>(rows: &mut Rows<'_, S>, listed: &L) -> Result<bo
         → (state S.Store rows.old.conn.now).now.schema ≡ book_schema → HasGiven S.Store (select_of L.table) [] rows.old.conn.now []
         → IsTrue is ↔ Shows (state S.Store rows.old.conn.now).now.trees L.table (standing (L.places listed.now))) }
 {
-    match follows(rows, listed) {
-        Ok(true) => {}
-        Ok(false) => return Ok(false),
-        Err(stop) => return Err(stop),
+    if !follows(rows, listed)? {
+        return Ok(false);
     }
-    match rows.advance() {
-        Ok(()) => match rows.get() {
-            Some(_) => Ok(false),
-            None => Ok(true),
-        },
-        Err(error) => Err(stop_of(error)),
-    }
+    is_over(rows)
 }
 
 /// Whether a table holds just the rows of a part of a book, which rise by key. Nothing is written.

@@ -3,8 +3,10 @@ use Rattle.sqlite.specs.Effect.{Database}
 use Rattle.sqlite.specs.State.{HasCleanDisk, IsUnchanged, Survives}
 use Rattle.sqlite.specs.Held.{state}
 use Rattle.sqlite.proofs.Callers.{unchanged_then}
-use Rattle.ob_compare.specs.Parts.{Compares, standing, select_of}
-use Rattle.ob_compare.proofs.Cursor.{still_then, quiet, begins, rows_alike, if_ok, on_ok}
+use Rattle.ob_compare.specs.Parts.{Compares, listing_of, standing, select_of}
+use Rattle.ob_compare.proofs.Listing.{still_then, quiet, begins}
+use Rattle.ob_compare.proofs.Places.{rows_alike, if_ok, on_ok}
+use Rattle.ob_compare.proofs.Selects.{is_listing}
 use Rattle.ob_compare.proofs.listed.holds.Goals as goal
 
 pub returns-in-Ok-query_prepared : goal.returns-in-Ok-query_prepared
@@ -29,15 +31,15 @@ returns-in-Ok-query_prepared g c =
       mode = λ idle. c.matches.ensures.mode (c.in-Ok-query_prepared.ensures.mode (c.prepare.ensures.mode idle));
       survives = λ has.
           still_then old start last
-          (still_then old mid start c.prepare.ensures.survives (quiet t old mid start text ready has c.in-Ok-query_prepared.ensures.survives)) c.matches.ensures.survives;
+          (still_then old mid start c.prepare.ensures.survives (quiet (listing_of t) (is_listing t) old mid start text ready has c.in-Ok-query_prepared.ensures.survives)) c.matches.ensures.survives;
       faults = c.matches.ensures.faults;
       same = λ clean.
           on_ok c.matches.result (c.matches.ensures.same clean) (λ step has.
-          let b = begins g.S.Store t at_old at_mid at_start text (ready (early clean)) has (c.in-Ok-query_prepared.ensures.begun (begun clean)) in
+          let b = begins g.S.Store (listing_of t) (is_listing t) at_old at_mid at_start text (ready (early clean)) has (c.in-Ok-query_prepared.ensures.begun (begun clean)) in
           unchanged_then old start last b.1 (step b.1.0.is_open));
       holds = λ clean.
           if_ok c.matches.result (c.matches.ensures.holds clean) (λ is tells has rows shown.
-          let b = begins g.S.Store t at_old at_mid at_start text (ready (early clean)) has (c.in-Ok-query_prepared.ensures.begun (begun clean)) in
+          let b = begins g.S.Store (listing_of t) (is_listing t) at_old at_mid at_start text (ready (early clean)) has (c.in-Ok-query_prepared.ensures.begun (begun clean)) in
           rows_alike t start.now old.now is expected rows b.1.0.now_is shown (tells b.1.0.is_open (ap (λ (d : Database). d.schema) b.1.0.now_is ∙ has) b.0));
     })
 
@@ -53,7 +55,7 @@ returns g c =
     let refused = rw c.in-Err-query_prepared.is at c.query_prepared.follows.holds-at-none in
     record {
       mode = λ idle. refused.mode (c.prepare.ensures.mode idle);
-      survives = λ has. still_then old mid end c.prepare.ensures.survives (quiet t old mid end text ready has refused.survives);
+      survives = λ has. still_then old mid end c.prepare.ensures.survives (quiet (listing_of t) (is_listing t) old mid end text ready has refused.survives);
       faults = c.stop_of-in-Err-query_prepared.ensures;
       same = λ clean. tt;
       holds = λ clean. tt;

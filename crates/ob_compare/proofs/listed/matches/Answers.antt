@@ -1,55 +1,36 @@
-use Rattle.std.proofs.Common.{◌≡◌, [], Some, None, true≢false, sym, ap, refl, ◌∙◌, subst, arith}
+use Rattle.std.proofs.Common.{[], true≢false, sym, ap, ◌∙◌, arith}
 use Rattle.sqlite.specs.Effect.{Database}
 use Rattle.sqlite.specs.State.{HasCleanDisk}
 use Rattle.sqlite.specs.Held.{state}
-use Rattle.sqlite.specs.Given.{GivesOn, row_if}
-use Rattle.ob_compare.specs.Parts.{select_of, standing}
-use Rattle.ob_compare.proofs.Cursor.{went_off, ends_alike, ends_longer, all_given}
-use Rattle.ob_compare.proofs.Selects.{same_state}
+use Rattle.ob_compare.specs.Parts.{listing_of, standing}
+use Rattle.ob_compare.proofs.Listing.{goes_given}
+use Rattle.ob_compare.proofs.Places.{went_off, ended, if_both}
+use Rattle.ob_compare.proofs.Selects.{is_listing}
 use Rattle.ob_compare.proofs.listed.matches.Goals as goal
 
-pub returns-in-Ok-false-clause-holds : goal.returns-in-Ok-false-clause-holds
-returns-in-Ok-false-clause-holds g c late live has it =
+pub returns-then-not-branch-clause-holds : goal.returns-then-not-branch-clause-holds
+returns-then-not-branch-clause-holds g c late live has it =
     let start = c.args.rows.now.conn.now in
     let new = c.follows.new.rows.conn.now in
     let t = g.L.Listed.table in
     let expected = standing (g.L.Listed.places c.args.listed.now) in
-    let same = c.in-Ok-false.ensures.same late live in
-    let there = ap (λ (d : Database). d.schema) same.0.now_is ∙ has in
-    let goes = c.in-Ok-false.ensures.goes late live has [] it in (
+    let same = c.in_ok-follows.ensures.same late live in
+    let goes = c.in_ok-follows.ensures.goes late live has [] it in (
       λ e. absurd (true≢false (sym e)),
-      λ shows. absurd (went_off g.S.Store t expected c.requires.rises start new new there same.0.now_is
-          (same_state (state g.S.Store new) same.0.is_open) c.in-Ok-false.field-0 c.in-Ok-false.field-0-test goes shows),
+      λ shows. absurd (went_off g.S.Store t expected c.requires.rises start new same.0.now_is c.in_ok-follows.field-0 c.if-not-branch.true goes shows),
     )
 
-pub returns-in-Some-clause-holds : goal.returns-in-Some-clause-holds
-returns-in-Some-clause-holds g c late live has it =
+pub returns-clause-holds : goal.returns-clause-holds
+returns-clause-holds g c late =
     let start = c.args.rows.now.conn.now in
     let mid = c.follows.new.rows.conn.now in
-    let new = c.advance.new.self.conn.now in
+    let new = c.is_over.new.rows.conn.now in
     let t = g.L.Listed.table in
+    let l = listing_of t in
     let expected = standing (g.L.Listed.places c.args.listed.now) in
-    let early : HasCleanDisk (state g.S.Store mid) = omega (arith, c.advance.ensures.survives.clean, late) in
-    let same = c.in-Ok-true.ensures.same early live in
+    let early : HasCleanDisk (state g.S.Store mid) = omega (arith, c.is_over.ensures.survives.clean, late) in
+    if_both c.is_over.result (c.is_over.ensures.over late) (c.is_over.ensures.same late) (λ over ends later live has it.
+    let same = c.in_ok-follows.ensures.same early live in
     let there = ap (λ (d : Database). d.schema) same.0.now_is ∙ has in
-    let given = all_given g.S.Store t mid expected c.in-Ok-true.field-0 c.in-Ok-true.field-0-test (c.in-Ok-true.ensures.goes early live has [] it) in
-    let at : row_if c.advance.new.self.has_row new ≡ Some c.in-Some.field-0.now = sym (rw c.in-Some.is at c.get.ensures) in
-    let more = subst (GivesOn g.S.Store (select_of t) [] mid new expected) at (c.in-Ok.ensures.ok late (select_of t) [] expected given) in (
-      λ e. absurd (true≢false (sym e)),
-      λ shows. absurd (ends_longer g.S.Store t expected c.requires.rises start mid new there same.0.now_is (c.in-Ok.ensures.same late) c.in-Some.field-0.now more shows),
-    )
-
-pub returns-in-None-clause-holds : goal.returns-in-None-clause-holds
-returns-in-None-clause-holds g c late live has it =
-    let start = c.args.rows.now.conn.now in
-    let mid = c.follows.new.rows.conn.now in
-    let new = c.advance.new.self.conn.now in
-    let t = g.L.Listed.table in
-    let expected = standing (g.L.Listed.places c.args.listed.now) in
-    let early : HasCleanDisk (state g.S.Store mid) = omega (arith, c.advance.ensures.survives.clean, late) in
-    let same = c.in-Ok-true.ensures.same early live in
-    let there = ap (λ (d : Database). d.schema) same.0.now_is ∙ has in
-    let given = all_given g.S.Store t mid expected c.in-Ok-true.field-0 c.in-Ok-true.field-0-test (c.in-Ok-true.ensures.goes early live has [] it) in
-    let at : row_if c.advance.new.self.has_row new ≡ None = sym (rw c.in-None.is at c.get.ensures) in
-    let shown = subst (GivesOn g.S.Store (select_of t) [] mid new expected) at (c.in-Ok.ensures.ok late (select_of t) [] expected given) in
-    (λ _. ends_alike g.S.Store t expected c.requires.rises start mid new there same.0.now_is (c.in-Ok.ensures.same late) shown, λ _. refl)
+    let given = goes_given g.S.Store l mid [] expected c.in_ok-follows.field-0 (c.in_ok-follows.ensures.goes early live has [] it) c.if-not-branch.false in
+    ended g.S.Store t expected c.requires.rises start new (later.0.now_is ∙ same.0.now_is) over (ends there l (is_listing t) expected given))
