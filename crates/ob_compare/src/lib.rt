@@ -1,5 +1,14 @@
 //! The ten tables, read back row by row and compared with what a book of their commands has.
 #![tactic(auto)]
 
+mod ends;
+mod fields;
 mod listed;
+mod parts;
 mod rows;
+
+pub use ends::Ends;
+pub use parts::{
+    holds_amounts, holds_causes, holds_customers, holds_devices, holds_entries, holds_heading,
+    holds_marks, holds_nodes,
+};

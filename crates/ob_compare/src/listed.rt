@@ -31,7 +31,7 @@ pub(crate) trait Listed {
         ensures { result ≡ table };
 
     /// How many places there are.
-    fn len(&self) -> usize
+    fn count(&self) -> usize
         ensures { result ≡ length (places self.now) };
 
     /// Whether a place has a row.
@@ -105,7 +105,7 @@ fn follows<S: Alter, L: Listed>(rows: &mut Rows<'_, S>, listed: &L) -> Result<bo
         → (given : List ARow) → HasGiven S.Store (select_of L.table) [] rows.old.conn.now given
         → Goes S.Store (listing_of L.table) is rows.new.conn.now given (standing (L.places listed.now))) }
 {
-    'places: for at in 0..listed.len() {
+    'places: for at in 0..listed.count() {
         if !goes_on(rows, listed, at)? {
             return Ok(false);
         }
