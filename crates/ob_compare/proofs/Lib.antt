@@ -1,2 +1,4 @@
 pub mod Listing
+pub mod Order
+pub mod Rowing
 pub mod Same
