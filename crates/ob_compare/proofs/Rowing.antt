@@ -171,10 +171,6 @@ pub if_ok : {X E : Type 0} (r : Result X E) {P Q : X → Type 0} → IfOk r P �
 if_ok (Ok x) h f = f x h
 if_ok (Err e) h f = h
 
-pub on_ok : {X E : Type 0} (r : Result X E) {P Q : Type 0} → OnOk r P → (P → Q) → OnOk r Q
-on_ok (Ok x) h f = f h
-on_ok (Err e) h f = h
-
 pub if_ok_and : {X E : Type 0} (r : Result X E) {P Q : X → Type 0} {O : Type 0} → IfOk r P → OnOk r O → ((x : X) → P x → O → Q x) → IfOk r Q
 if_ok_and (Ok x) h o f = f x h o
 if_ok_and (Err e) h o f = h

@@ -83,6 +83,9 @@ Ends g l true new given = Lists l (state g new).now given
 Ends g l false new given =
     (row : Row) × (rest : List Row) × Lists l (state g new).now (given ++ (row ∷ rest))
 
+abbrev pub referenced : Filed → Referenced
+referenced f = record { reference = f.reference; command = f.command }
+
 -- the commands under their references
 abbrev pub filed_of : List Filed → List Referenced
-filed_of list = map (λ (f : Filed). record { reference = f.reference; command = f.command }) list
+filed_of list = map referenced list

@@ -95,8 +95,3 @@ returns-clause-moved g c late =
     let all = all_given b first (c.commands.at + 1) c.commands.at list at.0 end at.2 in
     let leading = sym c.commands.invariant.4 ∙ leads_here b list c.commands.at end in
     over g.S.Store c.args.rows.now.conn.now new first b list at.0 table is (same.0.now_is ∙ (was.0 live).0.now_is) leading all shows (ends there moved_listing moved_is at.0 at.1))
-
-pub returns-clause-book : goal.returns-clause-book
-returns-clause-book g c is =
-    let end : length c.args.commands.now ≤ c.commands.at = omega (arith, c.commands-test.false) in
-    sym c.commands.invariant.4 ∙ leads_here c.commands.book.state c.args.commands.now c.commands.at end

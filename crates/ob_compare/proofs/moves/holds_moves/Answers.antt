@@ -7,7 +7,8 @@ use Rattle.ob_record.specs.Tables.{Shows}
 use Rattle.ob_tables.specs.declared.table.Table.TheVariants.{Moved as MovedTable}
 use Rattle.ob_compare.specs.Moves.{moved_listing}
 use Rattle.ob_compare.proofs.Listing.{still_then, quiet, begins}
-use Rattle.ob_compare.proofs.Rowing.{if_ok, on_ok, moved_is}
+use Rattle.ob_commit.proofs.Steps.{on_ok}
+use Rattle.ob_compare.proofs.Rowing.{if_ok, moved_is}
 use Rattle.ob_compare.proofs.moves.holds_moves.Goals as goal
 
 pub returns-in-Ok-query_prepared-clause-survives : goal.returns-in-Ok-query_prepared-clause-survives
