@@ -1,4 +1,6 @@
 pub mod Listing
+pub mod Order
+pub mod Rowing
 pub mod Same
 mod Selects
 mod Places

@@ -1,14 +1,11 @@
 -- The rows of each table by rising key, and what stands at the places of a part of a book.
-use Rattle.std.specs.Prelude.{◌≡◌, ℕ, ◌+◌, map, Bool, false, List, [], ◌∷◌, codes, Option, Some, None, Result, Ok, IsTrue, IfOk, IfErr, OnOk, ◌↔◌}
+use Rattle.std.specs.Prelude.{◌≡◌, ℕ, ◌+◌, Bool, false, List, [], ◌∷◌, codes, Option, Some, None, Result, Ok, IsTrue, IfOk, IfErr, OnOk, ◌↔◌}
 use Rattle.std.specs.List.Sorted.{IsPermutation}
 use Rattle.std.specs.declared.cmp.Ordering.{Ordering}
 use Rattle.sqlite.specs.Query.{output_cmp}
 use Rattle.sqlite.specs.State.{HasCleanDisk, IsUnchanged, Survives}
 use Rattle.sqlite_trees.specs.declared.store.Store.{Ghosts}
 use Rattle.sqlite.specs.Held.{Held, state}
-use Rattle.ob_net.specs.Network.{Network}
-use Rattle.ob_net.specs.declared.net.Device.{Device as NetDevice}
-use Rattle.ob_compare.specs.declared.ends.Ends.{Ends}
 use Rattle.ob_base.specs.declared.stop.Stop.{Stop}
 use Rattle.ob_tables.specs.Schema.{book_schema}
 use Rattle.ob_tables.specs.Rows.{Columns}
@@ -66,10 +63,6 @@ abbrev pub placed : {X : Type 0} → (ℕ → X → Columns) → ℕ → List (O
 placed row n [] = []
 placed row n (None ∷ xs) = None ∷ placed row (n + 1) xs
 placed row n (Some x ∷ xs) = Some (row n x) ∷ placed row (n + 1) xs
-
--- the two nodes of each device
-abbrev pub ends_of : Network → List Ends
-ends_of net = map (λ (d : NetDevice). record { a = d.a; b = d.b }) net.devices
 
 -- what stands at places, of which some are empty
 abbrev pub standing : {X : Type 0} → List (Option X) → List X

@@ -3,11 +3,15 @@
 
 mod ends;
 mod fields;
+mod filed;
 mod listed;
+mod moves;
 mod parts;
 mod rows;
 
 pub use ends::Ends;
+pub use filed::Filed;
+pub use moves::holds_moves;
 pub use parts::{
     holds_amounts, holds_causes, holds_customers, holds_devices, holds_entries, holds_heading,
     holds_marks, holds_nodes,

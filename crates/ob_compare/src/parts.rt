@@ -6,7 +6,8 @@ ghost use Rattle.ob_post.specs.Keys.{IsKey};
 ghost use Rattle.ob_post.specs.Postings.{amount_of, day_count};
 ghost use Rattle.ob_record.specs.Tables.{numbered, present, row_of_customer, row_of_device, row_of_entry, row_of_node};
 ghost use Rattle.ob_tables.specs.Rows.{cause_row, mark_row, meta_row};
-ghost use Rattle.ob_compare.specs.Parts.{Compares, ends_of};
+ghost use Rattle.ob_compare.specs.Moves.{ends_of};
+ghost use Rattle.ob_compare.specs.Parts.{Compares};
 
 use crate::Ends;
 use crate::fields::{Field, bit, has_fields, number_or_nothing, position_number};

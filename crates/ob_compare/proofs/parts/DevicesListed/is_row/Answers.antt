@@ -2,7 +2,6 @@ use Rattle.std.proofs.Common.{◌≡◌, ◌<◌, IsTrue, ◌∙◌, Some, lengt
 use Rattle.std.specs.Prelude.{◌↔◌, slice_get}
 use Rattle.ob_net.specs.declared.net.Device.{Device}
 use Rattle.ob_compare.specs.declared.ends.Ends.{Ends}
-use Rattle.ob_compare.specs.Parts.{ends_of}
 use Rattle.ob_record.specs.Tables.{row_of_device}
 use Rattle.std.proofs.lemmas.List.{length-map}
 use Rattle.ob_compare.proofs.Network.{device_columns}
