@@ -3,9 +3,9 @@ use Rattle.std.proofs.Common.{◌≡◌, ℕ, zero, suc, ◌+◌, ◌-◌, ◌<�
 use Rattle.std.specs.Prelude.{slice_get}
 use Rattle.std.specs.List.{AllByRecursion, range_with_len}
 use Rattle.std.specs.List.Sorted.{IsStrictlySortedBy}
-use Rattle.std.specs.Ordering.{nat_cmp, int_cmp}
+use Rattle.std.specs.Ordering.{nat_cmp}
 use Rattle.std.proofs.lemmas.Bool.Decides.{nat_tests}
-use Rattle.std.proofs.lemmas.List.{append-nil, length-map}
+use Rattle.std.proofs.lemmas.List.{append-nil}
 use Rattle.sqlite_value.proofs.OrderLemmas.{value_cmp-Int}
 use Rattle.ob_post.specs.Keys.{dim_number, keys}
 use Rattle.ob_post.specs.declared.Dim.{Dim}
@@ -58,8 +58,15 @@ keys_are days = refl
 
 pub length_keys : (days : ℕ) → length (all_keys days) ≡ 319 + days
 length_keys days =
-    omega (arith, ap length (keys_are days), length_append causes (feeders ++ days_of days), length_append feeders (days_of days), length_range {X = Key} (λ (key : ℕ). (Cause, key)) 0 64,
-    length_range {X = Key} (λ (key : ℕ). (Feeder, key)) 1 255, length_range {X = Key} (λ (key : ℕ). (Day, key)) 0 days)
+    omega (
+      arith,
+      ap length (keys_are days),
+      length_append causes (feeders ++ days_of days),
+      length_append feeders (days_of days),
+      length_range {X = Key} (λ (key : ℕ). (Cause, key)) 0 64,
+      length_range {X = Key} (λ (key : ℕ). (Feeder, key)) 1 255,
+      length_range {X = Key} (λ (key : ℕ). (Day, key)) 0 days,
+    )
 
 pub cause_key : (days at : ℕ) → at < 64 → slice_get (all_keys days) at ≡ Some (Cause, at)
 cause_key days at low =
@@ -121,9 +128,9 @@ module _ (amount : Dim → ℕ → ℕ) where
       let no_more : days_of days ++ [] ≡ days_of days = append-nil (days_of days) in
       let up_days : Rises (days_of days) = subst Rises no_more (rise_range Day 0 days [] tt tt) in
       let after_feeders : AllByRecursion (λ (l : Key). 2 < dim_number l.0) (days_of days) =
-          subst (AllByRecursion (λ (l : Key). 2 < dim_number l.0)) no_more (later Feeder Day 0 days [] (omega arith) tt) in
+      subst (AllByRecursion (λ (l : Key). 2 < dim_number l.0)) no_more (later Feeder Day 0 days [] (omega arith) tt) in
       let after_causes : AllByRecursion (λ (l : Key). 1 < dim_number l.0) (days_of days) =
-          subst (AllByRecursion (λ (l : Key). 1 < dim_number l.0)) no_more (later Cause Day 0 days [] (omega arith) tt) in
+      subst (AllByRecursion (λ (l : Key). 1 < dim_number l.0)) no_more (later Cause Day 0 days [] (omega arith) tt) in
       subst Rises (sym (keys_are days))
       (rise_range Cause 0 64 (feeders ++ days_of days) (later Cause Feeder 1 255 (days_of days) (omega arith) after_causes)
       (rise_range Feeder 1 255 (days_of days) after_feeders up_days))

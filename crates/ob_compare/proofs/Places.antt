@@ -1,5 +1,5 @@
 -- Rows of a table that are read one after another, against what stands at places.
-use Rattle.std.proofs.Common.{true≢false, ◌≡◌, ℕ, zero, suc, ◌+◌, ◌<◌, List, [], ◌∷◌, ◌++◌, map, length, take, drop, slice_index_or, Bool, true, false, is_some, Option, Some, None, IsTrue, refl, sym, ap, subst, ◌∙◌, arith}
+use Rattle.std.proofs.Common.{true≢false, ◌≡◌, ℕ, zero, suc, ◌+◌, ◌<◌, List, [], ◌∷◌, ◌++◌, length, take, drop, slice_index_or, Bool, true, false, is_some, Option, Some, None, IsTrue, refl, sym, ap, subst, ◌∙◌, arith}
 use Rattle.std.specs.Prelude.{◌↔◌, Result, Ok, Err, IfOk, OnOk}
 use Rattle.std.specs.List.Sorted.{IsPermutation, IsStrictlySortedBy}
 use Rattle.std.proofs.lemmas.List.{append-nil}
@@ -7,7 +7,7 @@ use Rattle.std.proofs.lemmas.List.Sorted.{IsPermutation-sym, IsPermutation-trans
 use Rattle.sqlite.specs.Order.{Row}
 use Rattle.sqlite.specs.Query.{output_cmp}
 use Rattle.sqlite.specs.Effect.{Database}
-use Rattle.sqlite.specs.State.{State, IsUnchanged}
+use Rattle.sqlite.specs.State.{IsUnchanged}
 use Rattle.sqlite.specs.Held.{Held, state}
 use Rattle.sqlite.specs.Given.{HasGiven, GivesOn}
 use Rattle.sqlite_trees.specs.declared.store.Store.{Ghosts}
@@ -15,7 +15,7 @@ use Rattle.ob_tables.specs.Schema.{book_schema}
 use Rattle.ob_tables.specs.Rows.{Columns}
 use Rattle.ob_tables.specs.declared.table.Table.{Table}
 use Rattle.ob_record.specs.Tables.{Shows}
-use Rattle.ob_compare.specs.Listing.{Listing, IsListing, Lists, IsOff, Goes, Ends, keyed, list_query}
+use Rattle.ob_compare.specs.Listing.{Listing, Lists, IsOff, Goes, Ends, keyed, list_query}
 use Rattle.ob_compare.specs.Parts.{listing_of, row_cmp, standing}
 use Rattle.ob_compare.proofs.Listing as listing
 use Rattle.ob_compare.proofs.Listing.{append_last, lists_rows, no_more}
@@ -67,9 +67,12 @@ split (Some x ∷ ps) (suc at) d rest low = ap (λ l. x ∷ l) (split ps at d re
 off_at : (l : Listing) (db : Database) (ps : List (Option Columns)) (at : ℕ) (d : Option Columns) (given : List Row) → at < length ps
     → IsOff l db (given ++ standing (take at ps)) (standing (slice_index_or ps at d ∷ [])) → IsOff l db given (standing ps)
 off_at l db ps at d given low off =
-    let here = standing (slice_index_or ps at d ∷ []) in
-    (off.0, off.1, λ rest e. off.2 (standing (drop (suc at) ps) ++ rest)
-    (e ∙ sym (append_last given (standing (take at ps)) (here ++ (standing (drop (suc at) ps) ++ rest)) ∙ ap (λ k. given ++ k) (split ps at d rest low))))
+    let here = standing (slice_index_or ps at d ∷ []) in (
+      off.0,
+      off.1,
+      λ rest e. off.2 (standing (drop (suc at) ps) ++ rest)
+          (e ∙ sym (append_last given (standing (take at ps)) (here ++ (standing (drop (suc at) ps) ++ rest)) ∙ ap (λ k. given ++ k) (split ps at d rest low))),
+    )
 
 module _ {S : Type 0} (g : Ghosts S) (l : Listing) (new : Held S) (ps : List (Option Columns)) (at : ℕ) (d : Option Columns) (given : List Row)
     (ok : Bool) (low : at < length ps) (goes : Goes g l ok new (given ++ standing (take at ps)) (standing (slice_index_or ps at d ∷ []))) where

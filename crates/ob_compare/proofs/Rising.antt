@@ -1,14 +1,11 @@
 -- Rows that rise by the number in their first field.
-use Rattle.std.proofs.Common.{true≢false, ap₂, Bool, false, IsTrue, ◌≡◌, ℕ, zero, suc, ◌+◌, ◌<◌, pos, List, [], ◌∷◌, length, map, get_or, slice_index_or, Option, Some, None, is_some, true, Less, refl, sym, ap, subst, ◌∙◌, arith}
-use Rattle.std.specs.Prelude.{◌↔◌, ◌==◌, slice_get}
-use Rattle.std.specs.List.{AllByRecursion, AllPairs, find}
+use Rattle.std.proofs.Common.{true≢false, ap₂, Bool, false, IsTrue, ◌≡◌, ℕ, zero, suc, ◌+◌, ◌<◌, pos, List, [], ◌∷◌, length, map, get_or, slice_index_or, Option, Some, None, is_some, true, Less, refl, sym, ap, ◌∙◌, arith}
+use Rattle.std.specs.Prelude.{◌↔◌, slice_get}
+use Rattle.std.specs.List.{AllByRecursion, AllPairs}
 use Rattle.std.specs.List.Sorted.{IsStrictlySortedBy}
 use Rattle.std.specs.Ordering.{nat_cmp, int_cmp}
 use Rattle.std.proofs.lemmas.Bool.Decides.{nat_tests}
 use Rattle.sqlite_value.proofs.OrderLemmas.{value_cmp-Int}
-use Rattle.ob_sheet.specs.declared.Entry.{Entry}
-use Rattle.ob_sheet.specs.Order.{entry_of}
-use Rattle.ob_sheet.specs.Sheet.{AreNumbered}
 use Rattle.ob_tables.specs.Rows.{Columns, number}
 use Rattle.ob_tables.specs.declared.table.Table.TheVariants.{Customer}
 use Rattle.ob_record.specs.Tables.{present, numbered}

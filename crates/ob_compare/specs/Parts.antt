@@ -1,5 +1,5 @@
 -- The rows of each table by rising key, and what stands at the places of a part of a book.
-use Rattle.std.specs.Prelude.{◌≡◌, ℕ, ◌+◌, Bool, false, List, [], ◌∷◌, codes, Option, Some, None, Result, Ok, IsTrue, IfOk, IfErr, OnOk, ◌↔◌}
+use Rattle.std.specs.Prelude.{◌≡◌, ℕ, ◌+◌, Bool, false, List, [], ◌∷◌, codes, Option, Some, None, Result, IsTrue, IfOk, IfErr, OnOk, ◌↔◌}
 use Rattle.std.specs.List.Sorted.{IsPermutation}
 use Rattle.std.specs.declared.cmp.Ordering.{Ordering}
 use Rattle.sqlite.specs.Query.{output_cmp}

@@ -66,11 +66,7 @@ pub(crate) fn select_of(table: Table) -> &'static str
 }
 
 /// Whether the rows go on with that of a place, if it has one.
-fn goes_on<S: Alter, L: Listed>(
-    rows: &mut Rows<'_, S>,
-    listed: &L,
-    at: usize,
-) -> Result<bool, Stop>
+fn goes_on<S: Alter, L: Listed>(rows: &mut Rows<'_, S>, listed: &L, at: usize) -> Result<bool, Stop>
     requires { at < length (L.places listed.now) }
     ensures same_reference { rows.new.conn.ghost_name ≡ rows.old.conn.ghost_name }
     ensures survives { Survives (state S.Store rows.old.conn.now) (state S.Store rows.new.conn.now) (λ _. ⊥) }
@@ -133,10 +129,7 @@ fn matches<S: Alter, L: Listed>(rows: &mut Rows<'_, S>, listed: &L) -> Result<bo
 }
 
 /// Whether a table holds just the rows of a part of a book, which rise by key. Nothing is written.
-pub(crate) fn holds<S: Alter, L: Listed>(
-    conn: &mut Connection<S>,
-    listed: &L,
-) -> Result<bool, Stop>
+pub(crate) fn holds<S: Alter, L: Listed>(conn: &mut Connection<S>, listed: &L) -> Result<bool, Stop>
     requires rises { IsStrictlySortedBy (row_cmp L.table) (standing (L.places listed.now)) }
     ensures { Compares S.Store L.table (standing (L.places listed.now)) conn.old conn.new result }
 {

@@ -16,4 +16,4 @@ invariant-places g l =
     (l.rows.conn.ghost_name ≡ l.fn.rows.conn.ghost_name) × Survives old now (λ _. ⊥) × (l.fn.rows.conn.now.in_transaction ≡ false → l.rows.conn.now.in_transaction ≡ false)
     × (HasCleanDisk now → (IsTrue old.is_open → IsUnchanged old now)
     × (IsTrue old.is_open → old.now.schema ≡ book_schema → (given : List Row) → HasGiven g.S.Store (select_of t) [] l.fn.rows.conn.now given
-        → HasGiven g.S.Store (select_of t) [] l.rows.conn.now (given ++ standing (take l.at (g.L.Listed.places l.listed)))))
+    → HasGiven g.S.Store (select_of t) [] l.rows.conn.now (given ++ standing (take l.at (g.L.Listed.places l.listed)))))

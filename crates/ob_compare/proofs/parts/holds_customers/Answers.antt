@@ -12,7 +12,7 @@ pub holds-requires : goal.holds-requires
 holds-requires g c =
     let cs = c.args.roll.now.customers in
     let rising = subst (λ l. IsStrictlySortedBy (row_cmp Customer) (map row_of_customer l)) c.customers.ensures.customers
-        (rise_mapped (λ (x : RollCustomer). x.no) (λ (x : RollCustomer). number x.section ∷ number x.since ∷ number_or_null x.until ∷ []) c.customers.result.now c.customers.ensures.rising) in
+    (rise_mapped (λ (x : RollCustomer). x.no) (λ (x : RollCustomer). number x.section ∷ number x.since ∷ number_or_null x.until ∷ []) c.customers.result.now c.customers.ensures.rising) in
     record { rises = subst (IsStrictlySortedBy (row_cmp Customer)) (sym (standing_all row_of_customer cs)) rising }
 
 pub returns : goal.returns

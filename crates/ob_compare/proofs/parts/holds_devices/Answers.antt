@@ -1,4 +1,4 @@
-use Rattle.std.proofs.Common.{ℕ, Some, List, [], ◌∷◌, map, sym, subst, ◌∙◌}
+use Rattle.std.proofs.Common.{ℕ, Some, [], ◌∷◌, map, sym, subst, ◌∙◌}
 use Rattle.std.specs.List.Sorted.{IsStrictlySortedBy}
 use Rattle.ob_net.specs.declared.net.Device.{Device as NetDevice}
 use Rattle.ob_tables.specs.Rows.{number, position_number}
@@ -12,8 +12,10 @@ use Rattle.ob_compare.proofs.parts.holds_devices.Goals as goal
 pub holds-requires : goal.holds-requires
 holds-requires g c =
     let xs = c.args.net.now.network.devices in
-    record { rises = subst (IsStrictlySortedBy (row_cmp Device)) (sym (standing_placed row_of_device 0 (map Some xs)))
-        (rise_present (λ (id : ℕ) (d : NetDevice). Text d.name ∷ number d.a ∷ number d.b ∷ number (position_number d.normal) ∷ []) 0 (map Some xs)) }
+    record {
+      rises = subst (IsStrictlySortedBy (row_cmp Device)) (sym (standing_placed row_of_device 0 (map Some xs)))
+          (rise_present (λ (id : ℕ) (d : NetDevice). Text d.name ∷ number d.a ∷ number d.b ∷ number (position_number d.normal) ∷ []) 0 (map Some xs));
+    }
 
 pub returns : goal.returns
 returns g c =

@@ -1,4 +1,4 @@
-use Rattle.std.proofs.Common.{[], ◌∷◌, map, sym, subst}
+use Rattle.std.proofs.Common.{[], ◌∷◌, sym, subst}
 use Rattle.std.specs.List.Sorted.{IsStrictlySortedBy}
 use Rattle.ob_sheet.specs.declared.Entry.{Entry as SheetEntry}
 use Rattle.ob_tables.specs.Rows.{bit, number, position_number}
@@ -14,8 +14,8 @@ pub holds-requires : goal.holds-requires
 holds-requires g c =
     let es = c.args.sheet.now.entries in
     let rising = rise_mapped (λ (e : SheetEntry). e.«no»)
-        (λ (e : SheetEntry). number e.rev ∷ number e.device ∷ number (position_number e.pos) ∷ number e.second ∷ number e.cause ∷ Text e.crew ∷ number (bit e.kept) ∷ [])
-        es (entries_rise es c.entry.ensures.numbered) in
+    (λ (e : SheetEntry). number e.rev ∷ number e.device ∷ number (position_number e.pos) ∷ number e.second ∷ number e.cause ∷ Text e.crew ∷ number (bit e.kept) ∷ [])
+    es (entries_rise es c.entry.ensures.numbered) in
     record { rises = subst (IsStrictlySortedBy (row_cmp Entry)) (sym (standing_all row_of_entry es)) rising }
 
 pub returns : goal.returns

@@ -1,4 +1,4 @@
-use Rattle.std.proofs.Common.{ℕ, Some, List, [], ◌∷◌, map, sym, subst, ◌∙◌}
+use Rattle.std.proofs.Common.{ℕ, Some, [], ◌∷◌, map, sym, subst, ◌∙◌}
 use Rattle.std.specs.Prelude.{unwrap_or}
 use Rattle.std.specs.List.Sorted.{IsStrictlySortedBy}
 use Rattle.ob_net.specs.declared.net.Node.{Node as NetNode}
@@ -13,8 +13,10 @@ use Rattle.ob_compare.proofs.parts.holds_nodes.Goals as goal
 pub holds-requires : goal.holds-requires
 holds-requires g c =
     let xs = c.args.net.now.network.nodes in
-    record { rises = subst (IsStrictlySortedBy (row_cmp Node)) (sym (standing_placed row_of_node 0 (map Some xs)))
-        (rise_present (λ (id : ℕ) (n : NetNode). Text n.name ∷ number (node_kind id n) ∷ number (unwrap_or n.feeder 0) ∷ []) 0 (map Some xs)) }
+    record {
+      rises = subst (IsStrictlySortedBy (row_cmp Node)) (sym (standing_placed row_of_node 0 (map Some xs)))
+          (rise_present (λ (id : ℕ) (n : NetNode). Text n.name ∷ number (node_kind id n) ∷ number (unwrap_or n.feeder 0) ∷ []) 0 (map Some xs));
+    }
 
 pub returns : goal.returns
 returns g c =

@@ -1,4 +1,4 @@
-use Rattle.std.proofs.Common.{◌≡◌, ◌<◌, ◌∙◌, Some, None, slice_index_or, sym, arith, refl}
+use Rattle.std.proofs.Common.{◌≡◌, ◌<◌, ◌∙◌, Some, None, slice_index_or, sym, arith}
 use Rattle.ob_tables.specs.Rows.{cause_row}
 use Rattle.ob_compare.proofs.Rising.{at_placed, decides, length_placed, none_here, none_placed}
 use Rattle.ob_compare.proofs.parts.CausesListed.is_row.Goals as goal

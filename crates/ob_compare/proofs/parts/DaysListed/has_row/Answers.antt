@@ -1,4 +1,4 @@
-use Rattle.std.proofs.Common.{◌≡◌, ◌<◌, ◌∙◌, None, is_some, length, slice_index_or, ap, arith}
+use Rattle.std.proofs.Common.{◌<◌, ◌∙◌, None, is_some, length, slice_index_or, ap, arith}
 use Rattle.ob_tables.specs.Rows.{mark_row}
 use Rattle.ob_compare.proofs.Rising.{length_placed, some_placed}
 use Rattle.ob_compare.proofs.parts.DaysListed.has_row.Goals as goal

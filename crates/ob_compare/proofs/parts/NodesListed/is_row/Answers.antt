@@ -1,4 +1,4 @@
-use Rattle.std.proofs.Common.{◌≡◌, ◌<◌, IsTrue, ◌∙◌, Some, length, map, sym, ap, subst, arith}
+use Rattle.std.proofs.Common.{◌≡◌, ◌<◌, IsTrue, ◌∙◌, Some, length, map, ap, subst, arith}
 use Rattle.std.specs.Prelude.{◌↔◌, slice_get}
 use Rattle.std.specs.Option.{option_and_then}
 use Rattle.ob_net.specs.declared.net.Node.{Node}
@@ -41,6 +41,6 @@ returns c =
     let name_is = value_of (λ (n : Node). n.name) xs c.args.at x c.element-name.result it.1 (subst (λ l. slice_get l c.args.at ≡ Some c.element-name.result) c.args.self.now.all c.element-name.ensures) in
     let feeder_is : c.feeder_of-feeder.result ≡ x.feeder = c.feeder_of-feeder.ensures ∙ ap (option_and_then (λ (n : Node). n.feeder)) it.1 in
     let columns = node_columns c.args.at x c.bytes.result.now c.kind_of.result c.from.result c.feeder_of-feeder.result
-        (c.bytes.ensures.value ∙ name_is) feeder_is c.kind_of.ensures (c.from.ensures ∙ c.unwrap_or.ensures) in
+    (c.bytes.ensures.value ∙ name_is) feeder_is c.kind_of.ensures (c.from.ensures ∙ c.unwrap_or.ensures) in
     decides _ _ c.args.row.now (row_of_node c.args.at x) (subst (λ e. IsTrue c.has_fields.result ↔ (c.args.row.now ≡ e)) columns c.has_fields.ensures)
     (at_placed row_of_node 0 (map Some xs) c.args.at x (place_of (λ x. x) xs c.args.at x it.1) c.args.at (omega arith))
