@@ -6,12 +6,14 @@ mod fields;
 mod filed;
 mod listed;
 mod moves;
+mod part;
 mod parts;
 mod rows;
 
 pub use ends::Ends;
 pub use filed::Filed;
 pub use moves::holds_moves;
+pub use part::holds_part;
 pub use parts::{
     holds_amounts, holds_causes, holds_customers, holds_devices, holds_entries, holds_heading,
     holds_marks, holds_nodes,
