@@ -25,7 +25,8 @@ use sqlite::{Alter, Connection};
 
 /// Whether the table of the heading holds that of a period. Nothing is written.
 fn holds_period<S: Alter>(conn: &mut Connection<S>, period: &Period) -> Result<bool, Stop>
-    ensures { Compares S.Store ATable.Meta (meta_row 1 (day_text period.now.first_day) (day_count period.now) period.now.zone ∷ [])
+    ensures { Compares S.Store ATable.Meta
+        (meta_row 1 (day_text period.now.first_day) (day_count period.now) period.now.zone ∷ [])
         conn.old conn.new result }
 {
     let days = period.days();
@@ -58,7 +59,8 @@ pub fn holds_part<S: Alter, T: Timeline>(
     requires part { IsPart table }
     requires names { names.now ≡ map (λ n. n.name) book.now.state.network.nodes }
     requires ends { ends.now ≡ ends_of book.now.state.network }
-    ensures { (b : ActState) → b.book ≡ book.now.state → Compares S.Store table (tables_of b table) conn.old conn.new result }
+    ensures { (b : ActState) → b.book ≡ book.now.state
+        → Compares S.Store table (tables_of b table) conn.old conn.new result }
 {
     match table {
         Table::Meta => holds_period(conn, book.period()),
