@@ -1,2 +1,20 @@
 //! The ten tables, read back row by row and compared with what a book of their commands has.
 #![tactic(auto)]
+
+mod ends;
+mod fields;
+mod filed;
+mod listed;
+mod moves;
+mod part;
+mod parts;
+mod rows;
+
+pub use ends::Ends;
+pub use filed::Filed;
+pub use moves::holds_moves;
+pub use part::holds_part;
+pub use parts::{
+    holds_amounts, holds_causes, holds_customers, holds_devices, holds_entries, holds_heading,
+    holds_marks, holds_nodes,
+};
