@@ -1,0 +1,46 @@
+-- What the tables of a database say of a book.
+use Rattle.std.specs.Prelude.{◌≡◌, ◌≢◌, ◌⊎◌, ◌<◌, ◌≤◌, ℕ, [], ◌∷◌, false, List, length, Option, Some, None, Result, IsTrue, IfOk, IfErr, OnOk}
+use Rattle.std.specs.List.{AllByRecursion}
+use Rattle.sqlite_trees.specs.declared.store.Store.{Ghosts}
+use Rattle.sqlite.specs.Tree.{Trees}
+use Rattle.sqlite.specs.Held.{Held, state}
+use Rattle.sqlite.specs.State.{HasCleanDisk, IsUnchanged, Survives}
+use Rattle.ob_base.specs.declared.stop.Stop.{Stop}
+use Rattle.ob_book.specs.Acts.{ActState}
+use Rattle.ob_tables.specs.Creation.{before}
+use Rattle.ob_tables.specs.Schema.{book_schema}
+use Rattle.ob_tables.specs.declared.table.Table.{Table}
+use Rattle.ob_tables.specs.declared.table.Table.TheVariants.{Meta, Command}
+use Rattle.ob_record.specs.Reached.{IsReached}
+use Rattle.ob_record.specs.Tables.{Shows, tables_of}
+use Rattle.ob_compare.specs.Reading.{IsReadFault, IsReferenced, bad_book}
+
+-- the heading and the commands in these trees are those of the book, which its commands lead to
+pub record IsBookOf (trees : Trees) (b : ActState) : Type 0 where
+  pub reached : IsReached b
+  -- what references and commands always are
+  pub valid : AllByRecursion IsReferenced b.accepted
+  pub heading : Shows trees Meta (tables_of b Meta)
+  pub commands : Shows trees Command (tables_of b Command)
+
+-- they are those of no book
+abbrev pub HasNoBook : Trees → Type 0
+HasNoBook trees = (b : ActState) → ¬ (IsBookOf trees b)
+
+-- each table has the rows of the book; or this is the first that hasn't
+abbrev pub Differs : Trees → ActState → Option Table → Type 0
+Differs trees b None = (table : Table) → Shows trees table (tables_of b table)
+Differs trees b (Some table) =
+    (¬ (Shows trees table (tables_of b table)))
+    × ((other : Table) → before other < before table → Shows trees other (tables_of b other))
+
+module _ {S : Type 0} (g : Ghosts S) where
+  -- the tables were read, and nothing was written: what was found is so of them, and where they are told to be no book's
+  -- they aren't
+  pub record Finds {X : Type 0} (Good : Trees → X → Type 0) (Bad : Trees → Type 0) (old new : Held S) (result : Result X Stop) : Type 0 where
+    pub mode : old.in_transaction ≡ false → new.in_transaction ≡ false
+    pub survives : old.schema ≡ book_schema → Survives (state g old) (state g new) (λ _. ⊥)
+    pub faults : IfErr result IsReadFault
+    pub same : HasCleanDisk (state g new) → OnOk result (old.schema ≡ book_schema → IsUnchanged (state g old) (state g new))
+    pub good : HasCleanDisk (state g new) → IfOk result (λ x. old.schema ≡ book_schema → Good (state g old).now.trees x)
+    pub bad : HasCleanDisk (state g new) → IfErr result (λ stop. stop ≡ bad_book → old.schema ≡ book_schema → Bad (state g old).now.trees)
