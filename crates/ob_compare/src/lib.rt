@@ -1,2 +1,8 @@
 //! The ten tables, read back row by row and compared with what a book of their commands has.
 #![tactic(auto)]
+
+mod columns;
+mod commands;
+mod filed;
+
+pub use filed::Filed;
