@@ -1,1 +1,3 @@
-
+pub mod Filing
+pub mod Listing
+pub mod Same

@@ -16,11 +16,7 @@ pub(crate) fn filed_in(row: &Row, no: u32) -> Option<Filed>
     if row.column_count() != 3 || !has_number(row, 0, no) {
         return None;
     }
-    let (Some(reference), Some(body)) = (text_at(row, 1), text_at(row, 2)) else {
-        return None;
-    };
-    match (Ref::read(reference), read_body(body)) {
-        (Some(reference), Some(command)) => Some(Filed { reference, command }),
-        _ => None,
-    }
+    let reference = Ref::read(text_at(row, 1)?)?;
+    let command = read_body(text_at(row, 2)?)?;
+    Some(Filed { reference, command })
 }

@@ -4,5 +4,6 @@
 mod columns;
 mod commands;
 mod filed;
+mod rows;
 
 pub use filed::Filed;

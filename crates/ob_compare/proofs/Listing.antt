@@ -1,0 +1,211 @@
+-- What a listing of a table answers.
+use Rattle.std.proofs.Common.{true≢false, ◌≡◌, ◌≢◌, ℕ, zero, suc, ◌+◌, ◌<◌, List, [], ◌∷◌, ◌++◌, map, filter, take, Bool, true, false, Some, None, IsTrue, refl, sym, ap, ap₂, subst, subst₂, ◌∙◌, arith, inl, inr, length, get_or, drop}
+use Rattle.std.specs.Prelude.{◌↔◌, Result, Ok, Err}
+use Rattle.std.specs.List.Sorted.{IsPermutation, IsStrictlySortedBy}
+use Rattle.std.proofs.lemmas.List.Sorted.{IsPermutation-map, IsPermutation-sym, IsPermutation-trans}
+use Rattle.sqlite_value.specs.declared.value.Value.TheVariants.{Null}
+use Rattle.sqlite_value.specs.declared.keys.Key.{Key}
+use Rattle.sqlite.specs.Order.{Row, column}
+use Rattle.sqlite.specs.Term.{Term, col, eval_all}
+use Rattle.sqlite_sql.proofs.QueryLemmas.{output_cmp_total}
+use Rattle.sqlite.specs.Program.{given_at}
+use Rattle.sqlite.specs.Query.{Output, output, output_cmp}
+use Rattle.sqlite.specs.Listing.{understood, reads_listing, IsSourceOf}
+use Rattle.sqlite.specs.Effect.{Database}
+use Rattle.sqlite.specs.Command.{Command as SqlCommand}
+use Rattle.sqlite.specs.State.{State, HasCleanDisk, Shown, IsStatement, IsUnchanged, Survives, CommitsShowing}
+use Rattle.sqlite.specs.Clock.{timed}
+use Rattle.sqlite.specs.Held.{Held, state}
+use Rattle.sqlite.specs.Given.{HasGiven, HasBegun, GivesOn}
+use Rattle.sqlite_trees.specs.declared.store.Store.{Ghosts}
+use Rattle.sqlite_resolve.specs.declared.compiled.Compiled.{Compiled}
+use Rattle.sqlite_resolve.specs.declared.error.CompileError.{CompileError}
+use Rattle.sqlite.proofs.StateLemmas.{survives_then}
+use Rattle.sqlite.proofs.Callers.{IsPlain, EndsIn, command_of, reads_as, given_begin, begins_shown, begun_plain, never_commits, unchanged_then}
+use Rattle.ob_tables.specs.Schema.{book_schema}
+use Rattle.ob_tables.specs.Rows.{shown, places_of, tree_of}
+use Rattle.ob_tables.specs.declared.table.Table.{Table}
+use Rattle.ob_tables.specs.declared.table.Table.TheVariants.{Meta, Cause, Node, Device, Customer, Entry, Mark, Command, Moved, Posting}
+use Rattle.ob_tables.proofs.Answers.{answered_in_order}
+use Rattle.ob_record.specs.Tables.{Shows}
+use Rattle.ob_compare.specs.Listing.{Listing, IsListing, Means, list_query, list_command, keyed, upward, Lists, IsOff, Goes, Ends}
+use Rattle.ob_compare.proofs.Same.{same_when_sorted}
+
+-- ---- what the text means
+means_command : (it : Result Compiled CompileError) (command : SqlCommand) → Means it command → command_of it ≡ command
+means_command (Ok c) command h = h
+means_command (Err e) command h = absurd h
+
+-- the rows that are shown are an answer
+pub listed : (l : Listing) → IsListing l → (old new : State) (rows : List Row) → old.now.schema ≡ book_schema → Shown l.text [] old new rows → Lists l old.now rows
+listed l means old new rows has h = reads_as l.text [] old new book_schema has (list_command l) (means_command (understood book_schema l.text) (list_command l) means.means) means.plain means.unlisted rows h
+
+pub still : (a : State) → Survives a a (λ _. ⊥)
+still a = record { clean = omega arith; shield = λ x. x; counts = omega arith; limit = refl; closes = λ clean live. inl live; crash = λ clean db may. inl may }
+
+pub still_then : (a b c : State) → Survives a b (λ _. ⊥) → Survives b c (λ _. ⊥) → Survives a c (λ _. ⊥)
+still_then a b c one two = survives_then a b c _ _ (λ _. ⊥) (λ _ db none. none) (λ _ db none. none) one two
+
+pub same_state : (s : State) → IsTrue s.is_open → IsUnchanged s s
+same_state s live = (record { was_open = live; is_open = live; now_is = refl; committed_is = refl; mode = refl }, record { changes = refl; last_rowid = refl }, refl)
+
+-- rows that were given begin an answer
+pub begun_list : {S : Type 0} (g : Ghosts S) (l : Listing) → IsListing l → (h : Held S) (given : List Row) → (state g h).now.schema ≡ book_schema → IsTrue (state g h).is_open → HasGiven g l.text [] h given
+    → (tail : List Row) × Lists l (state g h).now (given ++ tail)
+begun_list g l means h given has live it =
+    let s = state g h in
+    let ends : (c : Compiled) (db : Database) (is : IsStatement s l.text [] c) → IsSourceOf (reads_listing s.now.schema l.text) s.now db → EndsIn c.command db (timed [] c.formats is.now) =
+    λ c db is source. subst (λ k. EndsIn k db (timed [] c.formats is.now)) (sym (means_command (understood book_schema l.text) (list_command l) means.means) ∙ ap (λ x. command_of (understood x l.text)) (sym has) ∙ ap command_of is.is) tt in
+    let all = begins_shown l.text [] s s given (given_begin g l.text [] h given it) (same_state s live) ends in
+    (all.0, listed l means s s (given ++ all.0) has all.1)
+
+-- ---- an answer against rows that rise by their key
+terms_are : (params row : Row) (places : List ℕ) → eval_all (map (col 1) places) (params ∷ row ∷ []) ≡ map (column row) places
+terms_are params row [] = refl
+terms_are params row (p ∷ places) = ap (λ r. column row p ∷ r) (terms_are params row places)
+
+keys_are : (params row : Row) (n : ℕ) (places : List ℕ) → eval_all (map (λ (k : Term × Key). k.0) (map (λ place. (col 1 place, upward)) (take n places))) (params ∷ row ∷ []) ≡ take n (map (column row) places)
+keys_are params row zero places = refl
+keys_are params row (suc n) [] = refl
+keys_are params row (suc n) (p ∷ places) = ap (λ r. column row p ∷ r) (keys_are params row n places)
+
+output_is : (l : Listing) (params row : Row) → output (list_query l) (params ∷ row ∷ []) ≡ keyed l (shown l.table row)
+output_is l params row = ap₂ (λ a b. (a, b)) (keys_are params row l.keys (places_of l.table)) (terms_are params row (places_of l.table))
+
+plain_tree : (table : Table) → given_at [] (tree_of table) ≡ None
+plain_tree Meta = refl
+plain_tree Cause = refl
+plain_tree Node = refl
+plain_tree Device = refl
+plain_tree Customer = refl
+plain_tree Entry = refl
+plain_tree Mark = refl
+plain_tree Command = refl
+plain_tree Moved = refl
+plain_tree Posting = refl
+
+all_pass : (rows : List Row) → filter (λ r. true) rows ≡ rows
+all_pass [] = refl
+all_pass (r ∷ rows) = ap (λ l. r ∷ l) (all_pass rows)
+
+shows : (l : Listing) (rows : List Row) → map (λ (o : Output). o.1) (map (keyed l) rows) ≡ rows
+shows l [] = refl
+shows l (x ∷ rows) = ap (λ r. x ∷ r) (shows l rows)
+
+-- an answer is what is expected exactly where the table is, in some order
+pub lists_rows : (l : Listing) (db : Database) (answer expected : List Row) → Lists l db answer → IsStrictlySortedBy (output_cmp (list_query l)) (map (keyed l) expected)
+    → (answer ≡ expected) ↔ Shows db.trees l.table expected
+lists_rows l db answer expected h rises =
+    let q = list_query l in
+    let tree = db.trees (tree_of l.table) in
+    let it = answered_in_order [] q.project q.order (tree_of l.table) db.trees [] answer (plain_tree l.table) (h.answer Null) in
+    let ordered = it.0 in
+    let kept : map (λ r. output q ([] ∷ r ∷ [])) (filter (λ r. true) tree) ≡ map (keyed l) (map (shown l.table) tree) =
+    ap (map (λ r. output q ([] ∷ r ∷ []))) (all_pass tree) ∙ outputs tree in
+    let moved : IsPermutation (map (keyed l) (map (shown l.table) tree)) ordered = subst (λ k. IsPermutation k ordered) kept it.1 in (
+      λ is. subst₂ IsPermutation (shows l (map (shown l.table) tree)) (sym it.3 ∙ is) (IsPermutation-map (λ (o : Output). o.1) _ ordered moved),
+      λ all.
+          let same : IsPermutation ordered (map (keyed l) expected) = IsPermutation-trans _ _ _ (IsPermutation-sym _ _ moved) (IsPermutation-map (keyed l) _ _ all) in
+          it.3 ∙ ap (map (λ (o : Output). o.1)) (same_when_sorted (output_cmp q) (output_cmp_total q) ordered _ same it.2 rises) ∙ shows l expected,
+    )
+  where
+    outputs : (rows : List Row) → map (λ r. output (list_query l) ([] ∷ r ∷ [])) rows ≡ map (keyed l) (map (shown l.table) rows)
+    outputs [] = refl
+    outputs (r ∷ rows) = ap₂ (λ a b. a ∷ b) (output_is l [] r) (outputs rows)
+
+-- ---- lists
+same_first : {X : Type 0} (given : List X) (x y : X) (xs ys : List X) → (given ++ x ∷ []) ++ xs ≡ given ++ (y ∷ ys) → x ≡ y
+same_first [] x y xs ys e = cc
+same_first (a ∷ given) x y xs ys e = let rest : (given ++ x ∷ []) ++ xs ≡ given ++ (y ∷ ys) = cc in same_first given x y xs ys rest
+
+pub no_more : {X : Type 0} (given : List X) (y : X) (ys : List X) → given ≢ given ++ (y ∷ ys)
+no_more [] y ys e = absurd cc
+no_more (a ∷ given) y ys e = let rest : given ≡ given ++ (y ∷ ys) = cc in no_more given y ys rest
+
+pub append_last : {X : Type 0} (xs ys zs : List X) → (xs ++ ys) ++ zs ≡ xs ++ (ys ++ zs)
+append_last [] ys zs = refl
+append_last (x ∷ xs) ys zs = ap (λ l. x ∷ l) (append_last xs ys zs)
+
+-- ---- the next row
+module _ {S : Type 0} (g : Ghosts S) (l : Listing) (means : IsListing l) (old new : Held S) (has : (state g old).now.schema ≡ book_schema) (same : IsUnchanged (state g old) (state g new)) (given : List Row) where
+  there : (state g new).now.schema ≡ book_schema
+  there = ap (λ (d : Database). d.schema) same.0.now_is ∙ has
+
+  -- there is one
+  pub goes_on : (ok : Bool) (row expected : Row) → IsTrue ok ↔ (row ≡ expected) → GivesOn g l.text [] old new given (Some row) → Goes g l ok new given (expected ∷ [])
+  goes_on true row expected is more = subst (λ r. HasGiven g l.text [] new (given ++ r ∷ [])) (is.0 refl) more
+  goes_on false row expected is more =
+      let all = begun_list g l means new (given ++ row ∷ []) there same.0.is_open more in
+      ((given ++ row ∷ []) ++ all.0, all.1, λ rest e. true≢false (sym (is.1 (same_first given row expected all.0 rest e))))
+
+  -- those so far are the answer
+  pub whole_list : GivesOn g l.text [] old new given None → Lists l (state g new).now given
+  whole_list h = subst (λ (d : Database). Lists l d given) (sym same.0.now_is) (listed l means (state g old) (state g new) given has h)
+
+  -- there is none where one is expected
+  pub ends_off : (expected : Row) → GivesOn g l.text [] old new given None → Goes g l false new given (expected ∷ [])
+  ends_off expected h = (given, whole_list h, λ rest e. no_more given expected rest e)
+
+  -- there is one where none is expected
+  pub one_left : (row : Row) → GivesOn g l.text [] old new given (Some row) → Ends g l false new given
+  one_left row more =
+      let all = begun_list g l means new (given ++ row ∷ []) there same.0.is_open more in
+      (row, all.0, subst (Lists l (state g new).now) (append_last given (row ∷ []) all.0) all.1)
+
+-- ---- a listing begins
+-- and commits nothing
+pub quiet : (l : Listing) → IsListing l → (old mid new : State) (text : List ℕ) → (HasCleanDisk mid → (text ≡ l.text) × IsUnchanged old mid) → old.now.schema ≡ book_schema → Survives mid new (CommitsShowing text [] mid) → Survives mid new (λ _. ⊥)
+quiet l means old mid new text prepared has s = record {
+  clean = s.clean;
+  shield = s.shield;
+  counts = s.counts;
+  limit = s.limit;
+  closes = s.closes;
+  crash = λ clean db may.
+      let early : HasCleanDisk mid = omega (arith, s.clean, clean) in
+      let it = prepared early in
+      let there : mid.now.schema ≡ book_schema = ap (λ (d : Database). d.schema) it.1.0.now_is ∙ has in
+      let plain : IsPlain (understood mid.now.schema l.text) = subst (λ x. IsPlain (understood x l.text)) (sym there) means.plain in
+      elim (s.crash clean db may) [ inl before ↦ inl before | inr commits ↦ absurd (never_commits l.text [] mid db plain (subst (λ x. CommitsShowing x [] mid db) it.0 commits)) ];
+}
+
+pub begins : {S : Type 0} (g : Ghosts S) (l : Listing) → IsListing l → (old mid new : Held S) (text : List ℕ) → (text ≡ l.text) × IsUnchanged (state g old) (state g mid) → (state g old).now.schema ≡ book_schema → HasBegun g text [] mid new
+    → HasGiven g l.text [] new [] × IsUnchanged (state g old) (state g new)
+begins g l means old mid new text prepared has begun =
+    let there : (state g mid).now.schema ≡ book_schema = ap (λ (d : Database). d.schema) prepared.1.0.now_is ∙ has in
+    let plain : IsPlain (understood mid.schema l.text) = subst (λ x. IsPlain (understood x l.text)) (sym there) means.plain in
+    let it = begun_plain g l.text [] mid new plain (subst (λ x. HasBegun g x [] mid new) prepared.0 begun) in
+    (it.0, unchanged_then (state g old) (state g mid) (state g new) prepared.1 it.1)
+
+-- ---- from row to row
+-- where a row is off, so are the rows of which it is one
+pub off_here : (l : Listing) (db : Database) (given before rest rows : List Row) (row : Row) → rows ≡ before ++ (row ∷ rest) → IsOff l db (given ++ before) (row ∷ []) → IsOff l db given rows
+off_here l db given before rest rows row e off =
+    (off.0, off.1, λ tail same. off.2 (rest ++ tail) (same ∙ ap (λ r. given ++ (r ++ tail)) e ∙ ap (λ r. given ++ r) (append_last before (row ∷ rest) tail) ∙ sym (append_last given before (row ∷ (rest ++ tail)))))
+
+split_at : {X : Type 0} (rows : List X) (at : ℕ) (d : X) → at < length rows → rows ≡ take at rows ++ (get_or rows at d ∷ drop (suc at) rows)
+split_at [] at d low = absurd (omega (arith, low))
+split_at (r ∷ rows) zero d low = refl
+split_at (r ∷ rows) (suc at) d low = ap (λ l. r ∷ l) (split_at rows at d (omega (arith, low)))
+
+one_more : {X : Type 0} (rows : List X) (at : ℕ) (d : X) → at < length rows → take at rows ++ get_or rows at d ∷ [] ≡ take (suc at) rows
+one_more [] at d low = absurd (omega (arith, low))
+one_more (r ∷ rows) zero d low = refl
+one_more (r ∷ rows) (suc at) d low = ap (λ l. r ∷ l) (one_more rows at d (omega (arith, low)))
+
+pub goes_off : {S : Type 0} (g : Ghosts S) (l : Listing) (new : Held S) (given expected : List Row) (ok : Bool) → Goes g l ok new given expected → ok ≡ false → IsOff l (state g new).now given expected
+goes_off g l new given expected ok goes is = subst (λ b. Goes g l b new given expected) is goes
+
+pub goes_given : {S : Type 0} (g : Ghosts S) (l : Listing) (new : Held S) (given expected : List Row) (ok : Bool) → Goes g l ok new given expected → ok ≡ true → HasGiven g l.text [] new (given ++ expected)
+goes_given g l new given expected ok goes is = subst (λ b. Goes g l b new given expected) is goes
+
+module _ {S : Type 0} (g : Ghosts S) (l : Listing) (new : Held S) (rows : List Row) (at : ℕ) (d : Row) (given : List Row) (ok : Bool) (low : at < length rows) (goes : Goes g l ok new (given ++ take at rows) (get_or rows at d ∷ [])) where
+  -- the row at this place is off
+  pub row_off : ok ≡ false → IsOff l (state g new).now given rows
+  row_off is = off_here l (state g new).now given (take at rows) (drop (suc at) rows) rows (get_or rows at d) (split_at rows at d low) (goes_off g l new _ _ ok goes is)
+
+  -- the rows up to this place were given, and this one
+  pub row_on : ok ≡ true → HasGiven g l.text [] new (given ++ take (at + 1) rows)
+  row_on is =
+      let e : suc at ≡ at + 1 = omega arith in
+      subst (HasGiven g l.text [] new) (append_last given (take at rows) (get_or rows at d ∷ []) ∙ ap (λ r. given ++ r) (one_more rows at d low ∙ ap (λ n. take n rows) e)) (goes_given g l new _ _ ok goes is)

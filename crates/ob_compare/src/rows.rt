@@ -1,0 +1,96 @@
+//! Rows of a query, one after another, against what is expected.
+ghost use Rattle.std.specs.Prelude.{◌≡◌, ◌↔◌, false, List, [], map, IsTrue, IfOk, IfErr, OnOk};
+ghost use Rattle.sqlite.specs.Order.{Row as ARow};
+ghost use Rattle.sqlite.specs.Held.{state};
+ghost use Rattle.sqlite.specs.Given.{Advances, HasGiven, row_if};
+ghost use Rattle.sqlite.specs.State.{HasCleanDisk, IsUnchanged, Survives};
+ghost use Rattle.sqlite_value.specs.Value.{owned};
+ghost use Rattle.sqlite.specs.declared.types.Value.TheVariants.{Int};
+ghost use Rattle.ob_tables.specs.Schema.{book_schema};
+ghost use Rattle.ob_tables.specs.Rows.{number};
+ghost use Rattle.ob_tables.specs.Steps.{IsStoreFault};
+ghost use Rattle.ob_compare.specs.Listing.{Listing, IsListing, Ends};
+
+use ob_base::{Fault, Stop};
+use sqlite::{Alter, Error, ErrorCode, Row, Rows};
+use sqlite_value::order::is_same;
+use sqlite_value::value::ValueRef;
+
+/// A failure of the store as a fault.
+pub(crate) fn stop_of(error: Error) -> Stop
+    ensures { IsStoreFault result }
+{
+    match error {
+        Error::SqliteFailure(ErrorCode::OutOfMemory) => Stop::Fault(Fault::OutOfMemory),
+        _ => Stop::Fault(Fault::Store),
+    }
+}
+
+/// A number as a value.
+pub(crate) fn int(n: u32) -> ValueRef<'static>
+    ensures { owned result ≡ number n }
+{
+    ValueRef::Int(i64::from(n))
+}
+
+/// A number that may be below 0 as a value.
+pub(crate) fn signed(n: i64) -> ValueRef<'static>
+    ensures { owned result ≡ Int n }
+{
+    ValueRef::Int(n)
+}
+
+/// Whether the row has these values.
+pub(crate) fn is_row(row: &Row, values: &[ValueRef<'_>]) -> bool
+    ensures { IsTrue result ↔ (row.now ≡ map owned values.now) }
+{
+    if row.column_count() != values.len() {
+        return false;
+    }
+    'columns: for at in 0..values.len() {
+        let Ok(value) = row.get_ref(at) else {
+            return false;
+        };
+        if !is_same(value, values[at]) {
+            return false;
+        }
+    }
+    true
+}
+
+/// Moves to the next row, or past the last.
+pub(crate) fn advance<S: Alter>(rows: &mut Rows<'_, S>) -> Result<(), Stop>
+    ensures same_reference { rows.new.conn.ghost_name ≡ rows.old.conn.ghost_name }
+    ensures survives { Survives (state S.Store rows.old.conn.now) (state S.Store rows.new.conn.now) (λ _. ⊥) }
+    ensures mode { rows.old.conn.now.in_transaction ≡ false → rows.new.conn.now.in_transaction ≡ false }
+    ensures faults { IfErr result IsStoreFault }
+    ensures same { HasCleanDisk (state S.Store rows.new.conn.now)
+        → OnOk result (IsUnchanged (state S.Store rows.old.conn.now) (state S.Store rows.new.conn.now)) }
+    ensures goes { HasCleanDisk (state S.Store rows.new.conn.now) → OnOk result
+        (Advances S.Store rows.old.conn.now rows.new.conn.now (row_if rows.new.has_row rows.new.conn.now)) }
+{
+    match rows.advance() {
+        Ok(()) => Ok(()),
+        Err(error) => Err(stop_of(error)),
+    }
+}
+
+/// Whether no row is left.
+pub(crate) fn is_over<S: Alter>(rows: &mut Rows<'_, S>) -> Result<bool, Stop>
+    ensures same_reference { rows.new.conn.ghost_name ≡ rows.old.conn.ghost_name }
+    ensures survives { Survives (state S.Store rows.old.conn.now) (state S.Store rows.new.conn.now) (λ _. ⊥) }
+    ensures mode { rows.old.conn.now.in_transaction ≡ false → rows.new.conn.now.in_transaction ≡ false }
+    ensures faults { IfErr result IsStoreFault }
+    ensures same { HasCleanDisk (state S.Store rows.new.conn.now)
+        → OnOk result (IsUnchanged (state S.Store rows.old.conn.now) (state S.Store rows.new.conn.now)) }
+    ensures over { HasCleanDisk (state S.Store rows.new.conn.now) → IfOk result (λ is.
+        (state S.Store rows.old.conn.now).now.schema ≡ book_schema → (l : Listing) → IsListing l
+        → (given : List ARow) → HasGiven S.Store l.text [] rows.old.conn.now given
+        → Ends S.Store l is rows.new.conn.now given) }
+{
+    advance(rows)?;
+    match rows.get() {
+        Some(_) => Ok(false),
+        None => Ok(true),
+    }
+}
