@@ -1,3 +1,5 @@
+pub mod Asking
 pub mod Filing
+pub mod Headings
 pub mod Listing
 pub mod Same

@@ -4,6 +4,9 @@
 mod columns;
 mod commands;
 mod filed;
+mod heading;
+mod query;
 mod rows;
 
 pub use filed::Filed;
+pub use heading::Heading;

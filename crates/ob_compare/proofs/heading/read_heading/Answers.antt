@@ -1,0 +1,25 @@
+use Rattle.std.proofs.Common.{◌≡◌, List, refl, subst}
+use Rattle.sqlite.specs.Held.{state}
+use Rattle.sqlite.specs.Order.{Row}
+use Rattle.ob_compare.specs.Reading.{IsHeading}
+use Rattle.ob_compare.proofs.Headings.{meta_listing, meta_means, heading_read, if_ok, ok_always}
+use Rattle.ob_compare.proofs.heading.read_heading.Goals as goal
+
+pub returns-in-Ok-clause-survives : goal.returns-in-Ok-clause-survives
+returns-in-Ok-clause-survives g c = c.list_all.ensures.survives meta_listing meta_means refl
+
+pub returns-in-Ok-clause-same : goal.returns-in-Ok-clause-same
+returns-in-Ok-clause-same g c clean = ok_always c.heading_in.result (λ has. (c.in-Ok.ensures.listed clean meta_listing meta_means refl has).1)
+
+pub returns-in-Ok-clause-read : goal.returns-in-Ok-clause-read
+returns-in-Ok-clause-read g c clean =
+    let old = state g.S.Store c.args.conn.now in
+    if_ok c.heading_in.result c.heading_in.ensures.heading (λ found is has rows shows.
+    let there : IsHeading found c.in-Ok.rows.items = subst (λ (l : List Row). IsHeading found l) c.deref.ensures.value is in
+    heading_read old.now c.in-Ok.rows.items rows found (c.in-Ok.ensures.listed clean meta_listing meta_means refl has).0 shows there)
+
+pub returns-in-Err-clause-survives : goal.returns-in-Err-clause-survives
+returns-in-Err-clause-survives g c = c.list_all.ensures.survives meta_listing meta_means refl
+
+pub returns-in-Err-clause-foreign : goal.returns-in-Err-clause-foreign
+returns-in-Err-clause-foreign g c clean bad = c.in-Err.ensures.foreign clean bad meta_listing meta_means refl
