@@ -3,3 +3,4 @@ pub mod Filing
 pub mod Headings
 pub mod Listing
 pub mod Same
+pub mod Standing
