@@ -120,3 +120,6 @@ pub too_many : (db : Database) (items : List Filed) (row : Row) (rest shows : Li
 too_many db items row rest shows long lists there = λ list low all same.
     let e = ap length (table_is db _ shows list lists there same) in
     absurd (omega (arith, e, length-append (command_rows (filed_of items)) (row ∷ rest), rows_length items, numbered_length row_of_command 1 list, long, low))
+
+pub pushed_length : {X : Type 0} (xs : List X) (x : X) (at : ℕ) → length xs ≡ at → length (xs ++ x ∷ []) ≡ at + 1
+pushed_length xs x at long = omega (arith, length-append xs (x ∷ []), long)
