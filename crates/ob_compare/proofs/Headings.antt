@@ -69,3 +69,7 @@ if_ok (Err e) h f = h
 pub ok_always : {X E : Type 0} (r : Result X E) {P : Type 0} → P → OnOk r P
 ok_always (Ok x) h = h
 ok_always (Err e) h = tt
+
+pub on_ok : {X E : Type 0} (r : Result X E) {P Q : Type 0} → OnOk r P → (P → Q) → OnOk r Q
+on_ok (Ok x) h f = f h
+on_ok (Err e) h f = h
