@@ -88,7 +88,11 @@ fn filed_rows<S: Alter>(alloc: Global, rows: &mut Rows<'_, S>) -> Result<Option<
             Next::End => return Ok(Some(list)),
         }
     }
-    if is_over(rows)? { Ok(Some(list)) } else { Ok(None) }
+    if is_over(rows)? {
+        Ok(Some(list))
+    } else {
+        Ok(None)
+    }
 }
 
 /// The commands of the table `cmd`, by number; None where its rows aren't those of commands numbered from 1 under
