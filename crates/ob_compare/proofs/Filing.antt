@@ -6,9 +6,9 @@ use Rattle.sqlite_value.specs.declared.value.Value.{Value}
 use Rattle.sqlite_value.specs.declared.value.Value.TheVariants.{Text}
 use Rattle.sqlite.specs.Order.{column}
 use Rattle.ob_command.specs.Commands.{body_text}
-use Rattle.ob_tables.specs.Rows.{Columns, number}
+use Rattle.ob_tables.specs.Rows.{Columns}
 use Rattle.ob_compare.specs.declared.filed.Filed.{Filed}
-use Rattle.ob_compare.specs.Reading.{IsFiled, row_of_filed}
+use Rattle.ob_compare.specs.Reading.{row_of_filed}
 
 -- a row of three columns is known by them
 pub three_columns : (row : Columns) (a b c : Value) → length row ≡ 3 → column row 0 ≡ a → column row 1 ≡ b → column row 2 ≡ c → row ≡ a ∷ b ∷ c ∷ []

@@ -1,21 +1,24 @@
 -- The row of a heading, and the listing of its table.
-use Rattle.std.proofs.Common.{◌≡◌, ◌≢◌, ℕ, ◌<◌, List, [], ◌∷◌, length, codes, Option, Some, None, refl, sym, ap, ap₂, subst, ◌∙◌, arith}
+use Rattle.std.proofs.Common.{◌≡◌, ℕ, ◌<◌, List, [], ◌∷◌, length, codes, Option, Some, None, refl, sym, ap, subst, ◌∙◌, arith}
 use Rattle.std.specs.Prelude.{Result, Ok, Err, IfOk, OnOk}
-use Rattle.std.specs.List.Sorted.{IsPermutation, IsStrictlySortedBy}
+use Rattle.std.specs.List.Sorted.{IsStrictlySortedBy}
 use Rattle.std.proofs.lemmas.List.Sorted.{IsPermutation-sym, IsPermutation-trans}
 use Rattle.sqlite_value.specs.declared.value.Value.{Value}
 use Rattle.sqlite.specs.Order.{Row, column}
 use Rattle.sqlite.specs.Effect.{Database}
 use Rattle.sqlite.specs.Query.{output_cmp}
-use Rattle.sqlite.specs.Listing.{understood}
+use Rattle.sqlite.specs.Listing.{understood, listing_schema}
+use Rattle.sqlite.specs.Schema.{Schema}
+use Rattle.sqlite_resolve.specs.declared.error.CompileError.TheVariants.{NoSuchTable}
+use Rattle.ob_tables.specs.Schema.{no_schema}
 use Rattle.sqlite_tied.specs.Compute.{everything}
 use Rattle.sqlite.proofs.Callers.{one_permutation}
-use Rattle.ob_tables.specs.Rows.{Columns, number, meta_row}
+use Rattle.ob_tables.specs.Rows.{Columns, meta_row}
 use Rattle.ob_tables.specs.declared.table.Table.TheVariants.{Meta}
 use Rattle.ob_record.specs.Tables.{Shows}
 use Rattle.ob_compare.specs.declared.heading.Heading.{Heading}
 use Rattle.ob_compare.specs.Listing.{Listing, IsListing, Lists, list_query, keyed}
-use Rattle.ob_compare.specs.Reading.{IsHeading}
+use Rattle.ob_compare.specs.Reading.{HasNoMeaning, IsHeading}
 use Rattle.ob_compare.proofs.Listing.{lists_rows}
 
 -- a row of five columns is known by them
@@ -43,6 +46,14 @@ meta_listing = record {
 pub meta_means : IsListing meta_listing
 unfolding understood everything
 meta_means = record { means = refl; plain = (refl, refl); unlisted = refl }
+
+-- without tables the text means nothing
+meta_missing : understood no_schema meta_listing.text ≡ Err NoSuchTable
+unfolding understood everything listing_schema
+meta_missing = refl
+
+pub no_meaning : (schema : Schema) → schema ≡ no_schema → HasNoMeaning schema meta_listing.text
+no_meaning schema is c known = absurd (let e = sym meta_missing ∙ sym (ap (λ s. understood s meta_listing.text) is) ∙ known in cc)
 
 one_rises : (row : Row) → IsStrictlySortedBy (output_cmp (list_query meta_listing)) (keyed meta_listing row ∷ [])
 unfolding IsStrictlySortedBy

@@ -2,5 +2,7 @@ pub mod Asking
 pub mod Filing
 pub mod Headings
 pub mod Listing
+pub mod Order
+pub mod Rowing
 pub mod Same
 pub mod Standing

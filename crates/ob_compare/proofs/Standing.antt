@@ -1,8 +1,8 @@
 -- The commands that a listing of their table holds.
-use Rattle.std.proofs.Common.{◌≡◌, ◌≢◌, ℕ, zero, suc, ◌+◌, ◌<◌, ◌≤◌, pos, List, [], ◌∷◌, ◌++◌, map, length, codes, Option, Some, None, Ordering, Less, refl, sym, ap, ap₂, subst, ◌∙◌, arith, length-append}
+use Rattle.std.proofs.Common.{◌≡◌, ◌≢◌, ℕ, suc, ◌+◌, ◌<◌, ◌≤◌, pos, List, [], ◌∷◌, ◌++◌, map, length, Some, None, Less, refl, sym, ap, subst, ◌∙◌, arith, length-append}
 use Rattle.std.specs.List.{AllByRecursion}
 use Rattle.std.specs.List.Sorted.{IsPermutation, IsStrictlySortedBy}
-use Rattle.std.specs.Ordering.{nat_cmp, int_cmp}
+use Rattle.std.specs.Ordering.{int_cmp}
 use Rattle.std.proofs.lemmas.Bool.Decides.{nat_tests}
 use Rattle.std.proofs.lemmas.List.Sorted.{IsPermutation-sym, IsPermutation-trans}
 use Rattle.sqlite_value.proofs.OrderLemmas.{value_cmp-Int}
@@ -10,9 +10,9 @@ use Rattle.sqlite.specs.Order.{Row}
 use Rattle.sqlite.specs.Query.{output_cmp}
 use Rattle.sqlite.specs.Effect.{Database}
 use Rattle.sqlite.specs.Listing.{understood}
-use Rattle.sqlite.specs.State.{State, IsUnchanged}
+use Rattle.sqlite.specs.State.{IsUnchanged}
 use Rattle.sqlite.specs.Held.{Held, state}
-use Rattle.sqlite.specs.Given.{HasGiven, GivesOn}
+use Rattle.sqlite.specs.Given.{GivesOn}
 use Rattle.sqlite_tied.specs.Compute.{everything}
 use Rattle.sqlite_trees.specs.declared.store.Store.{Ghosts}
 use Rattle.ob_book.specs.Acts.{Referenced}
@@ -21,9 +21,9 @@ use Rattle.ob_tables.specs.Rows.{Columns}
 use Rattle.ob_tables.specs.declared.table.Table.TheVariants.{Command}
 use Rattle.ob_record.specs.Tables.{Shows, numbered, row_of_command}
 use Rattle.ob_compare.specs.declared.filed.Filed.{Filed}
-use Rattle.ob_compare.specs.Listing.{IsListing, Lists, list_query, keyed}
+use Rattle.ob_compare.specs.Listing.{IsListing, Lists, list_query, keyed, referenced, filed_of}
 use Rattle.ob_state.specs.declared.TheConstants.{MOST_COMMANDS}
-use Rattle.ob_compare.specs.Reading.{IsCommands, IsFiled, IsReferenced, referenced, filed_of, row_of_filed, command_listing, command_rows}
+use Rattle.ob_compare.specs.Reading.{IsCommands, IsFiled, IsReferenced, row_of_filed, command_listing, command_rows}
 use Rattle.ob_compare.proofs.Listing.{append_last, begun_list, lists_rows}
 
 pub command_means : IsListing command_listing

@@ -15,9 +15,11 @@ use Rattle.sqlite_resolve.specs.declared.compiled.Compiled.{Compiled}
 use Rattle.sqlite_resolve.specs.declared.error.CompileError.{CompileError}
 use Rattle.sqlite.specs.Held.{Held, state}
 use Rattle.sqlite.specs.Given.{HasGiven, IsPlain}
+use Rattle.ob_book.specs.Acts.{Referenced}
 use Rattle.ob_tables.specs.Schema.{book_schema}
 use Rattle.ob_tables.specs.Rows.{tree_of, places_of}
 use Rattle.ob_tables.specs.declared.table.Table.{Table}
+use Rattle.ob_compare.specs.declared.filed.Filed.{Filed}
 
 -- a query of the rows of a table, all columns of each, by rising key
 pub record Listing : Type 0 where
@@ -80,3 +82,10 @@ abbrev pub Ends : {S : Type 0} (g : Ghosts S) → Listing → Bool → Held S �
 Ends g l true new given = Lists l (state g new).now given
 Ends g l false new given =
     (row : Row) × (rest : List Row) × Lists l (state g new).now (given ++ (row ∷ rest))
+
+abbrev pub referenced : Filed → Referenced
+referenced f = record { reference = f.reference; command = f.command }
+
+-- the commands under their references
+abbrev pub filed_of : List Filed → List Referenced
+filed_of list = map referenced list

@@ -1,10 +1,16 @@
 -- What the tables of the heading and of the commands are read as.
-use Rattle.std.specs.Prelude.{◌≡◌, ◌≢◌, ◌⊎◌, ℕ, ◌<◌, ◌≤◌, ◌^◌, ⊤, true, List, [], ◌∷◌, ◌++◌, map, length, codes, Option, Some, None, Vec}
+use Rattle.std.specs.Prelude.{◌≡◌, ◌≢◌, ◌⊎◌, ℕ, ◌<◌, ◌≤◌, ◌^◌, ⊤, true, List, [], ◌∷◌, ◌++◌, length, codes, Option, Some, None, Result, Ok, Err, Vec}
 use Rattle.std.specs.declared.alloc.Global.{Global}
 use Rattle.std.specs.List.{AllByRecursion}
 use Rattle.std.specs.List.Sorted.{IsPermutation}
 use Rattle.sqlite.specs.Order.{Row}
 use Rattle.sqlite.specs.Held.{Held, state}
+use Rattle.sqlite.specs.Listing.{understood}
+use Rattle.sqlite.specs.Schema.{Schema}
+use Rattle.sqlite.specs.State.{State, HasCause}
+use Rattle.sqlite_trees.specs.declared.error.StoreError.TheVariants.{Io, Broken}
+use Rattle.sqlite_resolve.specs.declared.compiled.Compiled.{Compiled}
+use Rattle.ob_base.specs.Stop.{out_of_memory}
 use Rattle.sqlite.specs.Given.{HasGiven}
 use Rattle.sqlite_trees.specs.declared.store.Store.{Ghosts}
 use Rattle.sqlite.specs.declared.error.Error.{Error}
@@ -24,17 +30,11 @@ use Rattle.ob_compare.specs.declared.filed.Filed.{Filed}
 use Rattle.ob_compare.specs.declared.heading.Heading.{Heading}
 use Rattle.ob_compare.specs.declared.commands.Next.{Next}
 use Rattle.ob_compare.specs.declared.commands.Next.TheVariants.{Due, Other, End}
-use Rattle.ob_compare.specs.Listing.{Listing, Lists}
+use Rattle.ob_compare.specs.Listing.{Listing, Lists, referenced, filed_of}
 
 -- the reference is one, and so is the command
 abbrev pub IsReferenced : Referenced → Type 0
 IsReferenced a = (is_identifier 40 a.reference ≡ true) × IsCommand a.command
-
-abbrev pub referenced : Filed → Referenced
-referenced f = record { reference = f.reference; command = f.command }
-
-abbrev pub filed_of : List Filed → List Referenced
-filed_of list = map referenced list
 
 abbrev pub IsFiled : Filed → Type 0
 IsFiled f = IsReferenced (referenced f)
@@ -48,6 +48,19 @@ bad_book = Refused BadBook
 -- memory was refused, the store failed, or the tables aren't those of a book
 abbrev pub IsReadFault : Stop → Type 0
 IsReadFault stop = IsStoreFault stop ⊎ (stop ≡ bad_book)
+
+-- memory was refused, the disk failed, or the store was shut before
+abbrev pub HasTrouble : State → State → Stop → Type 0
+HasTrouble old new stop = (stop ≡ out_of_memory) ⊎ (HasCause old new ⊥ Io ⊎ HasCause old new ⊥ Broken)
+
+-- the tables aren't those of a book, unless other trouble came before
+abbrev pub IsMissed : {X : Type 0} → State → State → Result X Stop → Type 0
+IsMissed old new (Ok x) = ⊥
+IsMissed old new (Err stop) = (stop ≡ bad_book) ⊎ HasTrouble old new stop
+
+-- the schema gives the text no meaning
+abbrev pub HasNoMeaning : Schema → List ℕ → Type 0
+HasNoMeaning schema sql = (c : Compiled) → understood schema sql ≢ Ok c
 
 -- a text wasn't understood
 abbrev pub IsInputError : Error → Type 0

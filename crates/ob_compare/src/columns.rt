@@ -9,7 +9,8 @@ use sqlite_value::value::ValueRef;
 
 /// The text in a column.
 pub(crate) fn text_at(row: &Row, at: usize) -> Option<&[u8]>
-    ensures { (t : List ℕ) → (option_copied result ≡ Some t) ↔ ((at < length row.now) × (column row.now at ≡ Text t)) }
+    ensures { (t : List ℕ) → (option_copied result ≡ Some t)
+        ↔ ((at < length row.now) × (column row.now at ≡ Text t)) }
 {
     match row.get_ref(at) {
         Ok(ValueRef::Text(text)) => Some(text),
@@ -29,7 +30,8 @@ pub(crate) fn has_number(row: &Row, at: usize, n: u32) -> bool
 
 /// The number in a column, where it is small.
 pub(crate) fn small_at(row: &Row, at: usize) -> Option<u16>
-    ensures { (n : ℕ) → (result ≡ Some n) ↔ ((n < 2 ^ 16) × (at < length row.now) × (column row.now at ≡ number n)) }
+    ensures { (n : ℕ) → (result ≡ Some n)
+        ↔ ((n < 2 ^ 16) × (at < length row.now) × (column row.now at ≡ number n)) }
 {
     match row.get_ref(at) {
         Ok(ValueRef::Int(found)) => u16::try_from(found).ok(),

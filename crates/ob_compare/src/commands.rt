@@ -10,7 +10,8 @@ ghost use Rattle.ob_tables.specs.Steps.{IsStoreFault};
 ghost use Rattle.ob_tables.specs.declared.table.Table.{Table as ATable};
 ghost use Rattle.ob_record.specs.Tables.{Shows};
 ghost use Rattle.ob_compare.specs.declared.filed.Filed.{Filed as AFiled};
-ghost use Rattle.ob_compare.specs.Reading.{IsFiled, IsReadFault, IsCommands, Stands, bad_book, command_listing, row_of_filed};
+ghost use Rattle.ob_compare.specs.Reading.{IsCommands, IsFiled, IsReadFault, Stands};
+ghost use Rattle.ob_compare.specs.Reading.{bad_book, command_listing, row_of_filed};
 
 use crate::columns::{has_number, text_at};
 use crate::filed::Filed;
@@ -73,12 +74,14 @@ fn filed_rows<S: Alter>(alloc: Global, rows: &mut Rows<'_, S>) -> Result<Option<
     ensures survives { Survives (state S.Store rows.old.conn.now) (state S.Store rows.new.conn.now) (λ _. ⊥) }
     ensures mode { rows.old.conn.now.in_transaction ≡ false → rows.new.conn.now.in_transaction ≡ false }
     ensures faults { IfErr result IsStoreFault }
-    ensures same { HasCleanDisk (state S.Store rows.new.conn.now) → OnOk result (IsTrue (state S.Store rows.old.conn.now).is_open
+    ensures same { HasCleanDisk (state S.Store rows.new.conn.now) → OnOk result
+        (IsTrue (state S.Store rows.old.conn.now).is_open
         → IsUnchanged (state S.Store rows.old.conn.now) (state S.Store rows.new.conn.now)) }
     ensures read { HasCleanDisk (state S.Store rows.new.conn.now) → IfOk result (λ found.
         IsTrue (state S.Store rows.old.conn.now).is_open → (state S.Store rows.old.conn.now).now.schema ≡ book_schema
         → HasGiven S.Store command_listing.text [] rows.old.conn.now []
-        → (shown : List Columns) → Shows (state S.Store rows.old.conn.now).now.trees ATable.Command shown → IsCommands found shown) }
+        → (shown : List Columns) → Shows (state S.Store rows.old.conn.now).now.trees ATable.Command shown
+        → IsCommands found shown) }
 {
     let mut list = Vec::new(alloc);
     'commands: for at in 0..MOST_COMMANDS {
@@ -102,13 +105,16 @@ pub(crate) fn read_commands<S: Alter>(
     conn: &mut Connection<S>,
 ) -> Result<Option<Vec<Filed>>, Stop>
     ensures mode { conn.old.in_transaction ≡ false → conn.new.in_transaction ≡ false }
-    ensures survives { conn.old.schema ≡ book_schema → Survives (state S.Store conn.old) (state S.Store conn.new) (λ _. ⊥) }
+    ensures survives { conn.old.schema ≡ book_schema
+        → Survives (state S.Store conn.old) (state S.Store conn.new) (λ _. ⊥) }
     ensures faults { IfErr result IsReadFault }
-    ensures foreign { HasCleanDisk (state S.Store conn.new) → IfErr result (λ stop. stop ≡ bad_book → conn.old.schema ≢ book_schema) }
+    ensures foreign { HasCleanDisk (state S.Store conn.new)
+        → IfErr result (λ stop. stop ≡ bad_book → conn.old.schema ≢ book_schema) }
     ensures same { HasCleanDisk (state S.Store conn.new) → OnOk result (conn.old.schema ≡ book_schema
         → IsUnchanged (state S.Store conn.old) (state S.Store conn.new)) }
     ensures read { HasCleanDisk (state S.Store conn.new) → IfOk result (λ found. conn.old.schema ≡ book_schema
-        → (rows : List Columns) → Shows (state S.Store conn.old).now.trees ATable.Command rows → IsCommands found rows) }
+        → (rows : List Columns) → Shows (state S.Store conn.old).now.trees ATable.Command rows
+        → IsCommands found rows) }
 {
     let statement = match prepare(conn, "SELECT id, ref, body FROM cmd ORDER BY id") {
         Ok(statement) => statement,

@@ -3,11 +3,11 @@ ghost use Rattle.std.specs.Prelude.{◌≡◌, ◌≢◌, false, List, IfOk, IfE
 ghost use Rattle.sqlite.specs.Held.{state};
 ghost use Rattle.sqlite.specs.State.{HasCleanDisk, IsUnchanged, Survives};
 ghost use Rattle.ob_base.specs.Stop.{out_of_memory};
-ghost use Rattle.ob_tables.specs.Schema.{book_schema};
+ghost use Rattle.ob_tables.specs.Schema.{book_schema, no_schema};
 ghost use Rattle.ob_tables.specs.Rows.{Columns};
 ghost use Rattle.ob_tables.specs.declared.table.Table.{Table as ATable};
 ghost use Rattle.ob_record.specs.Tables.{Shows};
-ghost use Rattle.ob_compare.specs.Reading.{IsReadFault, bad_book, IsHeading, IsHeadingRow};
+ghost use Rattle.ob_compare.specs.Reading.{IsHeading, IsHeadingRow, IsMissed, IsReadFault, bad_book};
 
 use crate::columns::{has_number, small_at, text_at};
 use crate::query::list_all;
@@ -63,16 +63,23 @@ fn heading_in(alloc: Global, rows: &[Row]) -> Result<Option<Heading>, Stop>
     heading_of(alloc, &rows[0])
 }
 
-/// The row of `meta`, where it is that of a book under the first version of its tables; None where `meta` holds anything else.
+/// The row of `meta`, where it is that of a book under the first version of its tables; None where `meta` holds
+/// anything else. A database without tables is refused as no book's.
 pub(crate) fn read_heading<S: Alter>(
     alloc: Global,
     conn: &mut Connection<S>,
 ) -> Result<Option<Heading>, Stop>
     ensures mode { conn.old.in_transaction ≡ false → conn.new.in_transaction ≡ false }
-    ensures survives { conn.old.schema ≡ book_schema → Survives (state S.Store conn.old) (state S.Store conn.new) (λ _. ⊥) }
+    ensures survives { conn.old.schema ≡ book_schema
+        → Survives (state S.Store conn.old) (state S.Store conn.new) (λ _. ⊥) }
     ensures faults { IfErr result IsReadFault }
-    ensures foreign { HasCleanDisk (state S.Store conn.new) → IfErr result (λ stop. stop ≡ bad_book → conn.old.schema ≢ book_schema) }
-    ensures same { HasCleanDisk (state S.Store conn.new) → OnOk result (conn.old.schema ≡ book_schema → IsUnchanged (state S.Store conn.old) (state S.Store conn.new)) }
+    ensures foreign { HasCleanDisk (state S.Store conn.new)
+        → IfErr result (λ stop. stop ≡ bad_book → conn.old.schema ≢ book_schema) }
+    ensures empty { conn.old.schema ≡ no_schema
+        → Survives (state S.Store conn.old) (state S.Store conn.new) (λ _. ⊥)
+        × (HasCleanDisk (state S.Store conn.new) → IsMissed (state S.Store conn.old) (state S.Store conn.new) result) }
+    ensures same { HasCleanDisk (state S.Store conn.new) → OnOk result (conn.old.schema ≡ book_schema
+        → IsUnchanged (state S.Store conn.old) (state S.Store conn.new)) }
     ensures read { HasCleanDisk (state S.Store conn.new) → IfOk result (λ found. conn.old.schema ≡ book_schema
         → (rows : List Columns) → Shows (state S.Store conn.old).now.trees ATable.Meta rows → IsHeading found rows) }
 {

@@ -3,10 +3,14 @@
 
 mod columns;
 mod commands;
+mod ends;
 mod filed;
 mod heading;
+mod moves;
 mod query;
 mod rows;
 
+pub use ends::Ends;
 pub use filed::Filed;
 pub use heading::Heading;
+pub use moves::holds_moves;

@@ -1,12 +1,11 @@
-use Rattle.std.proofs.Common.{◌≡◌, ◌+◌, ◌≤◌, [], ◌∷◌, ◌++◌, true, false, length, sym, ap, subst, ◌∙◌, arith}
+use Rattle.std.proofs.Common.{◌≡◌, ◌+◌, ◌≤◌, [], ◌∷◌, ◌++◌, length, sym, ap, subst, ◌∙◌, arith}
 use Rattle.sqlite.specs.Effect.{Database}
 use Rattle.sqlite.specs.State.{HasCleanDisk}
 use Rattle.sqlite.specs.Held.{state}
 use Rattle.sqlite.specs.Given.{HasGiven}
 use Rattle.sqlite.proofs.Callers.{unchanged_then}
-use Rattle.ob_compare.specs.declared.commands.Next.TheVariants.{Due, Other, End}
-use Rattle.ob_compare.specs.Listing.{Lists, Ends}
-use Rattle.ob_compare.specs.Reading.{Stands, command_listing, command_rows, filed_of, row_of_filed}
+use Rattle.ob_compare.specs.Listing.{Lists, Ends, filed_of}
+use Rattle.ob_compare.specs.Reading.{Stands, command_listing, command_rows}
 use Rattle.ob_compare.proofs.Listing.{still_then}
 use Rattle.ob_compare.proofs.Standing.{command_means, one_filed, all_filed, other_filed, too_many, pushed_length}
 use Rattle.ob_compare.proofs.commands.filed_rows.Goals as goal

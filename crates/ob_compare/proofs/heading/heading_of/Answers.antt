@@ -1,7 +1,6 @@
-use Rattle.std.proofs.Common.{◌≡◌, refl, sym, ap, ◌∙◌, arith}
+use Rattle.std.proofs.Common.{refl, sym, ap, ◌∙◌, arith}
 use Rattle.std.specs.Option.{option_copied}
 use Rattle.sqlite_value.specs.declared.value.Value.TheVariants.{Text}
-use Rattle.ob_tables.specs.Rows.{number}
 use Rattle.ob_compare.proofs.Filing.{none_some}
 use Rattle.ob_compare.proofs.Headings.{five_columns, meta_there}
 use Rattle.ob_compare.proofs.heading.heading_of.Goals as goal

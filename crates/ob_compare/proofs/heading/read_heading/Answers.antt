@@ -1,8 +1,8 @@
-use Rattle.std.proofs.Common.{◌≡◌, List, refl, subst}
+use Rattle.std.proofs.Common.{List, refl, subst}
 use Rattle.sqlite.specs.Held.{state}
 use Rattle.sqlite.specs.Order.{Row}
 use Rattle.ob_compare.specs.Reading.{IsHeading}
-use Rattle.ob_compare.proofs.Headings.{meta_listing, meta_means, heading_read, if_ok, ok_always}
+use Rattle.ob_compare.proofs.Headings.{meta_listing, meta_means, heading_read, if_ok, no_meaning, ok_always}
 use Rattle.ob_compare.proofs.heading.read_heading.Goals as goal
 
 pub returns-in-Ok-clause-survives : goal.returns-in-Ok-clause-survives
@@ -23,3 +23,9 @@ returns-in-Err-clause-survives g c = c.list_all.ensures.survives meta_listing me
 
 pub returns-in-Err-clause-foreign : goal.returns-in-Err-clause-foreign
 returns-in-Err-clause-foreign g c clean bad = c.in-Err.ensures.foreign clean bad meta_listing meta_means refl
+
+pub returns-in-Ok-clause-empty : goal.returns-in-Ok-clause-empty
+returns-in-Ok-clause-empty g c none = let it = c.in-Ok.ensures.missed (no_meaning c.args.conn.now.schema none) in (it.0, λ late. absurd (it.1 late))
+
+pub returns-in-Err-clause-empty : goal.returns-in-Err-clause-empty
+returns-in-Err-clause-empty g c none = c.in-Err.ensures.missed (no_meaning c.args.conn.now.schema none)

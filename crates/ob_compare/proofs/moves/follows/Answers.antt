@@ -1,0 +1,97 @@
+use Rattle.std.proofs.Common.{◌≡◌, ◌<◌, ◌≤◌, ◌+◌, ◌++◌, None, Ok, drop, get_or, length, sym, ap, subst, ◌∙◌, arith, true≢false}
+use Rattle.sqlite.specs.Effect.{Database}
+use Rattle.sqlite.specs.State.{HasCleanDisk}
+use Rattle.sqlite.specs.Held.{state}
+use Rattle.sqlite.proofs.Callers.{unchanged_then}
+use Rattle.ob_state.specs.Refusals.{refusal}
+use Rattle.ob_compare.specs.declared.filed.Filed.{Filed}
+use Rattle.ob_state.specs.State.{BookState}
+use Rattle.ob_state.specs.Next.{next}
+use Rattle.ob_state.specs.Amounts.{moves}
+use Rattle.ob_record.specs.Tables.{rows_of_moves}
+use Rattle.ob_compare.specs.Listing.{IsOff}
+use Rattle.ob_compare.specs.Moves.{moved_listing}
+use Rattle.ob_compare.proofs.Listing.{still_then, goes_off, goes_given}
+use Rattle.ob_compare.proofs.Rowing.{leads, expected, leads_on, front_more, leads_here, all_given, off_all, over, if_ok_and, moved_is}
+use Rattle.ob_compare.proofs.moves.follows.Goals as goal
+
+pub overflow_cast-at : goal.overflow_cast-at
+overflow_cast-at g c = omega (arith, c.commands.invariant.3, c.accepted.ensures.few, c.accepted.ensures.accepted)
+
+pub commands-preserved : goal.commands-preserved
+commands-preserved g c =
+    let b = c.commands.book.state in
+    let list = c.args.commands.now in
+    let f = get_or list c.commands.at c.index-commands-at.result in
+    let here : f ≡ get_or list c.commands.at f = ap (λ (d : Filed). get_or list c.commands.at d) c.index-commands-at.is in
+    let first = c.args.book.now.state in
+    let old = state g.S.Store c.args.rows.now.conn.now in
+    let mid = state g.S.Store c.commands.rows.conn.now in
+    let new = c.takes_on.new.rows.conn.now in
+    let step = c.takes_on.ensures in
+    let low : c.commands.at < length list = omega (arith, c.commands-test.true) in
+    let taken = step.book (c.in-Ok-true.is ∙ ap Ok c.in-Ok-true.field-0-test) in
+    let next_is : c.takes_on.new.book.state ≡ next b f.command = taken.1 in (
+      step.same_reference ∙ c.commands.invariant.0,
+      still_then old mid (state g.S.Store new) c.commands.invariant.1 step.survives,
+      λ idle. step.mode (c.commands.invariant.2 idle),
+      ap (λ (s : BookState). s.accepted) next_is ∙ ap (λ n. n + 1) c.commands.invariant.3 ∙ omega arith,
+      ap (λ (s : BookState). leads s (drop (c.commands.at + 1) list)) next_is ∙ leads_on b list c.commands.at f low here taken.0 ∙ c.commands.invariant.4,
+      λ noted. step.noted (c.in-Ok-true.is ∙ ap Ok c.in-Ok-true.field-0-test) (c.commands.invariant.5 noted),
+      λ late.
+          let early : HasCleanDisk mid = omega (arith, step.survives.clean, late) in
+          let was = c.commands.invariant.6 early in (
+            λ live. unchanged_then old mid (state g.S.Store new) (was.0 live) (c.in-Ok-true.ensures.same late (was.0 live).0.is_open),
+            λ live has given.
+                let at = was.1 live has given in
+                let there = ap (λ (d : Database). d.schema) (was.0 live).0.now_is ∙ has in
+                let rows = rows_of_moves (c.commands.at + 1) (moves b (next b f.command)) in
+                let goes = c.in-Ok-true.ensures.goes late (was.0 live).0.is_open there at.0 at.1 taken.0 in (
+                  at.0 ++ rows,
+                  goes_given g.S.Store moved_listing new at.0 rows c.in-Ok-true.field-0 goes c.in-Ok-true.field-0-test,
+                  ap (λ (s : BookState). (at.0 ++ rows) ++ expected s (c.commands.at + 1 + 1) (drop (c.commands.at + 1) list)) next_is
+                      ∙ front_more b first (c.commands.at + 1) c.commands.at list f at.0 low here at.2,
+                ),
+          ),
+    )
+
+pub returns-in-Ok-false-clause-moved : goal.returns-in-Ok-false-clause-moved
+returns-in-Ok-false-clause-moved g c late live has given table shows =
+    let b = c.commands.book.state in
+    let list = c.args.commands.now in
+    let f = get_or list c.commands.at c.index-commands-at.result in
+    let here : f ≡ get_or list c.commands.at f = ap (λ (d : Filed). get_or list c.commands.at d) c.index-commands-at.is in
+    let first = c.args.book.now.state in
+    let old = state g.S.Store c.args.rows.now.conn.now in
+    let mid = state g.S.Store c.commands.rows.conn.now in
+    let new = c.takes_on.new.rows.conn.now in
+    let step = c.takes_on.ensures in
+    let low : c.commands.at < length list = omega (arith, c.commands-test.true) in
+    let early : HasCleanDisk mid = omega (arith, step.survives.clean, late) in
+    let was = c.commands.invariant.6 early in
+    let at = was.1 live has given in
+    let live_mid = (was.0 live).0.is_open in
+    let there = ap (λ (d : Database). d.schema) (was.0 live).0.now_is ∙ has in
+    let db : (state g.S.Store new).now ≡ old.now = (c.in-Ok-false.ensures.same late live_mid).0.now_is ∙ (was.0 live).0.now_is in
+    let rows = rows_of_moves (c.commands.at + 1) (moves b (next b f.command)) in
+    let off : refusal b f.command ≡ None → IsOff moved_listing old.now at.0 rows = λ none. subst (λ (d : Database). IsOff moved_listing d at.0 rows) db
+    (goes_off g.S.Store moved_listing new at.0 rows c.in-Ok-false.field-0 (c.in-Ok-false.ensures.goes late live_mid there at.0 at.1 none) c.in-Ok-false.field-0-test) in
+    (λ e. absurd (true≢false (sym e)), λ it. absurd (off_all old.now b first (c.commands.at + 1) c.commands.at list f at.0 table low here c.commands.invariant.4 at.2 off shows it))
+
+pub returns-clause-moved : goal.returns-clause-moved
+returns-clause-moved g c late =
+    let b = c.commands.book.state in
+    let list = c.args.commands.now in
+    let first = c.args.book.now.state in
+    let mid = c.commands.rows.conn.now in
+    let new = c.is_over.new.rows.conn.now in
+    let step = c.is_over.ensures in
+    let end : length list ≤ c.commands.at = omega (arith, c.commands-test.false) in
+    let early : HasCleanDisk (state g.S.Store mid) = omega (arith, step.survives.clean, late) in
+    let was = c.commands.invariant.6 early in
+    if_ok_and c.is_over.result (step.over late) (step.same late) (λ is ends same live has given table shows.
+    let at = was.1 live has given in
+    let there = ap (λ (d : Database). d.schema) (was.0 live).0.now_is ∙ has in
+    let all = all_given b first (c.commands.at + 1) c.commands.at list at.0 end at.2 in
+    let leading = sym c.commands.invariant.4 ∙ leads_here b list c.commands.at end in
+    over g.S.Store c.args.rows.now.conn.now new first b list at.0 table is (same.0.now_is ∙ (was.0 live).0.now_is) leading all shows (ends there moved_listing moved_is at.0 at.1))

@@ -1,0 +1,57 @@
+use Rattle.std.proofs.Common.{◌≡◌, sym, ap, subst, ◌∙◌, arith, rules}
+use Rattle.sqlite.specs.Effect.{Database}
+use Rattle.sqlite.specs.State.{HasCleanDisk, IsUnchanged, Survives}
+use Rattle.sqlite.specs.Held.{state}
+use Rattle.sqlite.proofs.Callers.{unchanged_then}
+use Rattle.ob_record.specs.Tables.{Shows}
+use Rattle.ob_tables.specs.declared.table.Table.TheVariants.{Moved as MovedTable}
+use Rattle.ob_compare.specs.Moves.{moved_listing}
+use Rattle.ob_compare.proofs.Listing.{still_then, quiet, begins}
+use Rattle.ob_commit.proofs.Steps.{on_ok}
+use Rattle.ob_compare.proofs.Rowing.{if_ok, moved_is}
+use Rattle.ob_compare.proofs.moves.holds_moves.Goals as goal
+
+pub returns-in-Ok-query_prepared-clause-survives : goal.returns-in-Ok-query_prepared-clause-survives
+returns-in-Ok-query_prepared-clause-survives g c has =
+    let old = state g.S.Store c.args.conn.now in
+    let mid = state g.S.Store c.prepare.new.self in
+    let start = state g.S.Store c.in-Ok-query_prepared.rows.conn.now in
+    let last = c.follows.new.rows.conn.now in
+    let same : last ≡ c.conn-1.given.0 = search rules in
+    subst (λ x. Survives old (state g.S.Store x) (λ _. ⊥)) same
+    (still_then old start (state g.S.Store last) (still_then old mid start c.prepare.ensures.survives (quiet moved_listing moved_is old mid start c.in-Ok.statement.text c.in-Ok.ensures.ok has c.in-Ok-query_prepared.ensures.survives)) c.follows.ensures.survives)
+
+pub returns-in-Ok-query_prepared-clause-same : goal.returns-in-Ok-query_prepared-clause-same
+returns-in-Ok-query_prepared-clause-same g c clean =
+    let old = c.args.conn.now in
+    let mid = c.prepare.new.self in
+    let start = c.in-Ok-query_prepared.rows.conn.now in
+    let last = c.follows.new.rows.conn.now in
+    let same : last ≡ c.conn-1.given.0 = search rules in
+    let late : HasCleanDisk (state g.S.Store last) = subst (λ x. HasCleanDisk (state g.S.Store x)) (sym same) clean in
+    let begun : HasCleanDisk (state g.S.Store start) = omega (arith, c.follows.ensures.survives.clean, late) in
+    let early : HasCleanDisk (state g.S.Store mid) = omega (arith, c.in-Ok-query_prepared.ensures.survives.clean, begun) in
+    on_ok c.follows.result (c.follows.ensures.same late) (λ step has.
+    let b = begins g.S.Store moved_listing moved_is old mid start c.in-Ok.statement.text (c.in-Ok.ensures.ok early) has (c.in-Ok-query_prepared.ensures.begun begun) in
+    subst (λ x. IsUnchanged (state g.S.Store old) (state g.S.Store x)) same (unchanged_then (state g.S.Store old) (state g.S.Store start) (state g.S.Store last) b.1 (step b.1.0.is_open)))
+
+pub returns-in-Ok-query_prepared-clause-moved : goal.returns-in-Ok-query_prepared-clause-moved
+returns-in-Ok-query_prepared-clause-moved g c clean =
+    let old = c.args.conn.now in
+    let mid = c.prepare.new.self in
+    let start = c.in-Ok-query_prepared.rows.conn.now in
+    let last = c.follows.new.rows.conn.now in
+    let same : last ≡ c.conn-1.given.0 = search rules in
+    let late : HasCleanDisk (state g.S.Store last) = subst (λ x. HasCleanDisk (state g.S.Store x)) (sym same) clean in
+    let begun : HasCleanDisk (state g.S.Store start) = omega (arith, c.follows.ensures.survives.clean, late) in
+    let early : HasCleanDisk (state g.S.Store mid) = omega (arith, c.in-Ok-query_prepared.ensures.survives.clean, begun) in
+    if_ok c.follows.result (c.follows.ensures.moved late) (λ is tells has table shows.
+    let b = begins g.S.Store moved_listing moved_is old mid start c.in-Ok.statement.text (c.in-Ok.ensures.ok early) has (c.in-Ok-query_prepared.ensures.begun begun) in
+    tells b.1.0.is_open (ap (λ (d : Database). d.schema) b.1.0.now_is ∙ has) b.0 table (subst (λ (d : Database). Shows d.trees MovedTable table) (sym b.1.0.now_is) shows))
+
+pub returns-clause-survives : goal.returns-clause-survives
+returns-clause-survives g c has =
+    let old = state g.S.Store c.args.conn.now in
+    let mid = state g.S.Store c.prepare.new.self in
+    let end = state g.S.Store c.query_prepared.follows.lender-at-none in
+    still_then old mid end c.prepare.ensures.survives (quiet moved_listing moved_is old mid end c.in-Ok.statement.text c.in-Ok.ensures.ok has (rw c.in-Err-query_prepared.is at c.query_prepared.follows.holds-at-none).survives)

@@ -1,0 +1,35 @@
+-- What commands under references move, as the rows of a table, and the ends of the devices of a network.
+use Rattle.std.specs.Prelude.{◌≡◌, List, [], ◌∷◌, Some, map, codes}
+use Rattle.std.specs.List.Sorted.{IsPermutation}
+use Rattle.ob_net.specs.Network.{Network}
+use Rattle.ob_net.specs.declared.net.Device.{Device}
+use Rattle.ob_command.specs.declared.command.Command.{Command}
+use Rattle.ob_state.specs.State.{BookState}
+use Rattle.ob_state.specs.Next.{next_all}
+use Rattle.ob_book.specs.Acts.{Referenced}
+use Rattle.ob_tables.specs.Rows.{Columns}
+use Rattle.ob_tables.specs.declared.table.Table.TheVariants.{Moved}
+use Rattle.ob_record.specs.Tables.{moved_rows}
+use Rattle.ob_compare.specs.declared.ends.Ends.{Ends}
+use Rattle.ob_compare.specs.Listing.{Listing}
+
+-- the rows of moved amounts, by number, dimension and key
+abbrev pub moved_listing : Listing
+moved_listing = record {
+  table = Moved;
+  keys = 3;
+  names = codes "cmd" ∷ codes "dim" ∷ codes "k" ∷ codes "delta" ∷ [];
+  text = codes "SELECT cmd, dim, k, delta FROM moved ORDER BY cmd, dim, k";
+}
+
+abbrev pub commands_of : List Referenced → List Command
+commands_of list = map (λ (a : Referenced). a.command) list
+
+-- each command is accepted in its turn, and the table has the rows of what they move, and no other
+abbrev pub HasMoved : List Columns → BookState → List Referenced → Type 0
+HasMoved table b list =
+    (c : BookState) × (next_all b (commands_of list) ≡ Some c) × IsPermutation table (moved_rows b 1 list)
+
+-- the numbers of the nodes that each device joins
+abbrev pub ends_of : Network → List Ends
+ends_of net = map (λ (d : Device). record { a = d.a; b = d.b }) net.devices

@@ -1,0 +1,8 @@
+//! The nodes that a device joins.
+
+/// The numbers of the two nodes that a device joins.
+#[derive(Clone, Copy)]
+pub struct Ends {
+    pub a: u16,
+    pub b: u16,
+}

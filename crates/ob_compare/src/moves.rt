@@ -1,0 +1,222 @@
+//! What the table of moved amounts holds, against what commands move: row by row, in one query.
+ghost use Rattle.std.specs.Prelude.{◌∷◌, ◌≡◌, ◌↔◌, false, true, List, [], IsTrue, IfOk, IfErr, OnOk, Ok, Some, None};
+ghost use Rattle.sqlite.specs.Order.{Row as ARow};
+ghost use Rattle.sqlite.specs.Held.{state};
+ghost use Rattle.sqlite.specs.Given.{HasGiven};
+ghost use Rattle.sqlite.specs.State.{HasCleanDisk, IsUnchanged, Survives};
+ghost use Rattle.ob_base.specs.Stop.{out_of_memory};
+ghost use Rattle.ob_post.specs.Keys.{dim_number};
+ghost use Rattle.ob_state.specs.Amounts.{moves as moves_of};
+ghost use Rattle.ob_state.specs.Next.{next, next_all};
+ghost use Rattle.ob_state.specs.Refusals.{refusal as refusal_to};
+ghost use Rattle.ob_tables.specs.Schema.{book_schema};
+ghost use Rattle.ob_tables.specs.Rows.{Columns, moved_row};
+ghost use Rattle.ob_tables.specs.Steps.{IsStoreFault};
+ghost use Rattle.ob_tables.specs.declared.table.Table.{Table as ATable};
+ghost use Rattle.ob_record.specs.Tables.{Shows, rows_of_moves};
+ghost use Rattle.ob_compare.specs.Listing.{Goes, filed_of};
+ghost use Rattle.ob_compare.specs.Moves.{HasMoved, commands_of, ends_of, moved_listing};
+
+use crate::ends::Ends;
+use crate::filed::Filed;
+use crate::rows::{advance, int, is_over, is_row, signed, stop_of};
+use ob_base::Stop;
+use ob_book::Book;
+use ob_command::Command;
+use ob_post::Moved;
+use ob_sweep::Timeline;
+use sqlite::{Alter, Connection, Row, Rows};
+
+/// Whether the row is that of an amount that a command moved.
+fn is_moved(row: &Row, no: u32, it: &Moved) -> bool
+    ensures { IsTrue result ↔ (row.now ≡ moved_row no (dim_number it.now.dim) it.now.key it.now.delta) }
+{
+    let Moved { dim, key, delta } = *it;
+    is_row(
+        row,
+        &[
+            int(no),
+            int(u32::from(dim.number())),
+            int(u32::from(key)),
+            signed(delta),
+        ],
+    )
+}
+
+/// Whether the next row is that of an amount that a command moved.
+fn next_is<S: Alter>(rows: &mut Rows<'_, S>, no: u32, it: &Moved) -> Result<bool, Stop>
+    ensures same_reference { rows.new.conn.ghost_name ≡ rows.old.conn.ghost_name }
+    ensures survives { Survives (state S.Store rows.old.conn.now) (state S.Store rows.new.conn.now) (λ _. ⊥) }
+    ensures mode { rows.old.conn.now.in_transaction ≡ false → rows.new.conn.now.in_transaction ≡ false }
+    ensures faults { IfErr result IsStoreFault }
+    ensures same { HasCleanDisk (state S.Store rows.new.conn.now)
+        → OnOk result (IsUnchanged (state S.Store rows.old.conn.now) (state S.Store rows.new.conn.now)) }
+    ensures goes { HasCleanDisk (state S.Store rows.new.conn.now) → IfOk result (λ is.
+        (state S.Store rows.old.conn.now).now.schema ≡ book_schema → (given : List ARow)
+        → HasGiven S.Store moved_listing.text [] rows.old.conn.now given → Goes S.Store moved_listing is
+        rows.new.conn.now given (moved_row no (dim_number it.now.dim) it.now.key it.now.delta ∷ [])) }
+{
+    advance(rows)?;
+    match rows.get() {
+        Some(row) => Ok(is_moved(row, no, it)),
+        None => Ok(false),
+    }
+}
+
+/// Whether the next rows are those of what a command moved.
+fn matches<S: Alter>(rows: &mut Rows<'_, S>, no: u32, moves: &[Moved]) -> Result<bool, Stop>
+    ensures same_reference { rows.new.conn.ghost_name ≡ rows.old.conn.ghost_name }
+    ensures survives { Survives (state S.Store rows.old.conn.now) (state S.Store rows.new.conn.now) (λ _. ⊥) }
+    ensures mode { rows.old.conn.now.in_transaction ≡ false → rows.new.conn.now.in_transaction ≡ false }
+    ensures faults { IfErr result IsStoreFault }
+    ensures same { HasCleanDisk (state S.Store rows.new.conn.now)
+        → OnOk result (IsTrue (state S.Store rows.old.conn.now).is_open
+        → IsUnchanged (state S.Store rows.old.conn.now) (state S.Store rows.new.conn.now)) }
+    ensures goes { HasCleanDisk (state S.Store rows.new.conn.now) → IfOk result (λ is.
+        IsTrue (state S.Store rows.old.conn.now).is_open → (state S.Store rows.old.conn.now).now.schema ≡ book_schema
+        → (given : List ARow) → HasGiven S.Store moved_listing.text [] rows.old.conn.now given
+        → Goes S.Store moved_listing is rows.new.conn.now given (rows_of_moves no moves.now)) }
+{
+    'moves: for at in 0..moves.len() {
+        if !next_is(rows, no, &moves[at])? {
+            return Ok(false);
+        }
+    }
+    Ok(true)
+}
+
+/// With the ends of a book's devices, those of the device that an accepted command adds.
+fn note_ends<T: Timeline>(
+    noted: &mut Vec<Ends>,
+    book: &Book<T>,
+    command: &Command,
+) -> Result<(), Stop>
+    ensures noted { OnOk result (noted.old.items ≡ ends_of book.now.state.network
+        → noted.new.items ≡ ends_of (next book.now.state command.now).network) }
+    ensures faults { IfErr result (λ stop. stop ≡ out_of_memory) }
+{
+    if let Command::Device { ends, .. } = command {
+        let net = book.net();
+        noted.push(Ends {
+            a: net.node_of(ends.a()).unwrap_or(0),
+            b: net.node_of(ends.b()).unwrap_or(0),
+        })?;
+    }
+    Ok(())
+}
+
+/// Whether a command is accepted, and the next rows are those of what it moves. If so, the book adopts it, and the ends
+/// of the device that it adds are noted.
+fn takes_on<S: Alter, T: Timeline>(
+    rows: &mut Rows<'_, S>,
+    book: &mut Book<T>,
+    no: u32,
+    command: &Command,
+    noted: &mut Vec<Ends>,
+) -> Result<bool, Stop>
+    ensures same_reference { rows.new.conn.ghost_name ≡ rows.old.conn.ghost_name }
+    ensures survives { Survives (state S.Store rows.old.conn.now) (state S.Store rows.new.conn.now) (λ _. ⊥) }
+    ensures mode { rows.old.conn.now.in_transaction ≡ false → rows.new.conn.now.in_transaction ≡ false }
+    ensures faults { IfErr result IsStoreFault }
+    ensures same { HasCleanDisk (state S.Store rows.new.conn.now)
+        → OnOk result (IsTrue (state S.Store rows.old.conn.now).is_open
+        → IsUnchanged (state S.Store rows.old.conn.now) (state S.Store rows.new.conn.now)) }
+    ensures goes { HasCleanDisk (state S.Store rows.new.conn.now) → IfOk result (λ is.
+        IsTrue (state S.Store rows.old.conn.now).is_open → (state S.Store rows.old.conn.now).now.schema ≡ book_schema
+        → (given : List ARow) → HasGiven S.Store moved_listing.text [] rows.old.conn.now given
+        → refusal_to book.old.state command.now ≡ None → Goes S.Store moved_listing is rows.new.conn.now given
+        (rows_of_moves no (moves_of book.old.state (next book.old.state command.now)))) }
+    ensures book { result ≡ Ok true → (refusal_to book.old.state command.now ≡ None)
+        × (book.new.state ≡ next book.old.state command.now) }
+    ensures noted { result ≡ Ok true → noted.old.items ≡ ends_of book.old.state.network
+        → noted.new.items ≡ ends_of book.new.state.network }
+{
+    let plan = match book.decide(command) {
+        Ok(plan) => plan,
+        Err(Stop::Refused(_)) => return Ok(false),
+        Err(fault) => return Err(fault),
+    };
+    match matches(rows, no, plan.moves()) {
+        Ok(true) => {}
+        Ok(false) => return Ok(false),
+        Err(stop) => return Err(stop),
+    }
+    match note_ends(noted, book, command) {
+        Ok(()) => {
+            book.adopt(plan);
+            Ok(true)
+        }
+        Err(stop) => Err(stop),
+    }
+}
+
+/// Whether the rows to come are those of what the commands move, each accepted in its turn. The book is led along, and
+/// the ends of its devices are noted.
+fn follows<S: Alter, T: Timeline>(
+    rows: &mut Rows<'_, S>,
+    book: &mut Book<T>,
+    commands: &[Filed],
+    noted: &mut Vec<Ends>,
+) -> Result<bool, Stop>
+    ensures same_reference { rows.new.conn.ghost_name ≡ rows.old.conn.ghost_name }
+    ensures survives { Survives (state S.Store rows.old.conn.now) (state S.Store rows.new.conn.now) (λ _. ⊥) }
+    ensures mode { rows.old.conn.now.in_transaction ≡ false → rows.new.conn.now.in_transaction ≡ false }
+    ensures faults { IfErr result IsStoreFault }
+    ensures same { HasCleanDisk (state S.Store rows.new.conn.now)
+        → OnOk result (IsTrue (state S.Store rows.old.conn.now).is_open
+        → IsUnchanged (state S.Store rows.old.conn.now) (state S.Store rows.new.conn.now)) }
+    ensures moved { HasCleanDisk (state S.Store rows.new.conn.now) → IfOk result (λ is.
+        IsTrue (state S.Store rows.old.conn.now).is_open → (state S.Store rows.old.conn.now).now.schema ≡ book_schema
+        → HasGiven S.Store moved_listing.text [] rows.old.conn.now [] → (table : List Columns)
+        → Shows (state S.Store rows.old.conn.now).now.trees ATable.Moved table
+        → IsTrue is ↔ HasMoved table book.old.state (filed_of commands.now)) }
+    ensures book { result ≡ Ok true
+        → next_all book.old.state (commands_of (filed_of commands.now)) ≡ Some book.new.state }
+    ensures noted { result ≡ Ok true → noted.old.items ≡ ends_of book.old.state.network
+        → noted.new.items ≡ ends_of book.new.state.network }
+{
+    'commands: for at in 0..commands.len() {
+        // A book has a million commands at most, so that the number is small.
+        let _ = book.accepted();
+        match takes_on(rows, book, at as u32 + 1, &commands[at].command, noted) {
+            Ok(true) => {}
+            Ok(false) => return Ok(false),
+            Err(stop) => return Err(stop),
+        }
+    }
+    is_over(rows)
+}
+
+/// Whether the table of moved amounts holds what the commands move, each accepted in its turn, and no other row. The
+/// book is led along, and the ends of its devices are noted. Nothing is written.
+pub fn holds_moves<S: Alter, T: Timeline>(
+    conn: &mut Connection<S>,
+    book: &mut Book<T>,
+    commands: &[Filed],
+    noted: &mut Vec<Ends>,
+) -> Result<bool, Stop>
+    ensures mode { conn.old.in_transaction ≡ false → conn.new.in_transaction ≡ false }
+    ensures survives { conn.old.schema ≡ book_schema
+        → Survives (state S.Store conn.old) (state S.Store conn.new) (λ _. ⊥) }
+    ensures faults { IfErr result IsStoreFault }
+    ensures same { HasCleanDisk (state S.Store conn.new) → OnOk result (conn.old.schema ≡ book_schema
+        → IsUnchanged (state S.Store conn.old) (state S.Store conn.new)) }
+    ensures moved { HasCleanDisk (state S.Store conn.new) → IfOk result (λ is. conn.old.schema ≡ book_schema
+        → (table : List Columns) → Shows (state S.Store conn.old).now.trees ATable.Moved table
+        → IsTrue is ↔ HasMoved table book.old.state (filed_of commands.now)) }
+    ensures book { result ≡ Ok true
+        → next_all book.old.state (commands_of (filed_of commands.now)) ≡ Some book.new.state }
+    ensures noted { result ≡ Ok true → noted.old.items ≡ ends_of book.old.state.network
+        → noted.new.items ≡ ends_of book.new.state.network }
+{
+    let statement = match conn.prepare(
+        "SELECT cmd, dim, k, delta FROM moved ORDER BY cmd, dim, k",
+    ) {
+        Ok(statement) => statement,
+        Err(error) => return Err(stop_of(error)),
+    };
+    match conn.query_prepared(&statement, &[]) {
+        Ok(mut rows) => follows(&mut rows, book, commands, noted),
+        Err(error) => Err(stop_of(error)),
+    }
+}
