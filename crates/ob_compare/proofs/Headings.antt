@@ -1,6 +1,6 @@
 -- The row of a heading, and the listing of its table.
 use Rattle.std.proofs.Common.{◌≡◌, ℕ, ◌<◌, List, [], ◌∷◌, length, codes, Option, Some, None, refl, sym, ap, subst, ◌∙◌, arith}
-use Rattle.std.specs.Prelude.{Result, Ok, Err, IfOk, OnOk}
+use Rattle.std.specs.Prelude.{Result, Ok, Err, OnOk}
 use Rattle.std.specs.List.Sorted.{IsStrictlySortedBy}
 use Rattle.std.proofs.lemmas.List.Sorted.{IsPermutation-sym, IsPermutation-trans}
 use Rattle.sqlite_value.specs.declared.value.Value.{Value}
@@ -73,14 +73,6 @@ pub heading_read : (db : Database) (answer rows : List Row) (found : Option Head
 heading_read db answer rows (Some h) lists shows is = one_row db answer rows _ lists shows is
 heading_read db answer rows None lists shows is = λ first_day days zone low e. is first_day days zone low (one_answer db answer rows _ lists shows e)
 
-pub if_ok : {X E : Type 0} (r : Result X E) {P Q : X → Type 0} → IfOk r P → ((x : X) → P x → Q x) → IfOk r Q
-if_ok (Ok x) h f = f x h
-if_ok (Err e) h f = h
-
 pub ok_always : {X E : Type 0} (r : Result X E) {P : Type 0} → P → OnOk r P
 ok_always (Ok x) h = h
 ok_always (Err e) h = tt
-
-pub on_ok : {X E : Type 0} (r : Result X E) {P Q : Type 0} → OnOk r P → (P → Q) → OnOk r Q
-on_ok (Ok x) h f = f h
-on_ok (Err e) h f = h

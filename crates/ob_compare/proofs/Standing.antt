@@ -88,6 +88,11 @@ map_length : {X Y : Type 0} (f : X → Y) (xs : List X) → length (map f xs) �
 map_length f [] = refl
 map_length f (x ∷ xs) = ap suc (map_length f xs)
 
+-- a command more is under a reference, too
+pub all_referenced : (items : List Filed) (f : Filed) → AllByRecursion IsReferenced (filed_of items) → IsFiled f → AllByRecursion IsReferenced (filed_of (items ++ f ∷ []))
+all_referenced [] f all is = (is, tt)
+all_referenced (g ∷ items) f all is = (all.0, all_referenced items f all.1 is)
+
 -- one more
 pub one_filed : (items : List Filed) (at : ℕ) (f : Filed) → length items ≡ at → command_rows (filed_of items) ++ row_of_filed (at + 1) f ∷ [] ≡ command_rows (filed_of (items ++ f ∷ []))
 one_filed items at f long =

@@ -89,6 +89,11 @@ IsCommands None rows =
     (list : List Referenced) → length list ≤ MOST_COMMANDS → AllByRecursion IsReferenced list
     → ¬ IsPermutation rows (command_rows list)
 
+-- the commands are as many as a book takes, under references
+abbrev pub AreFiled : Option (Vec Filed Global) → Type 0
+AreFiled (Some list) = (length list.items ≤ MOST_COMMANDS) × AllByRecursion IsReferenced (filed_of list.items)
+AreFiled None = ⊤
+
 -- the query of the commands
 abbrev pub command_listing : Listing
 command_listing = record {
@@ -97,6 +102,12 @@ command_listing = record {
   names = codes "id" ∷ codes "ref" ∷ codes "body" ∷ [];
   text = codes "SELECT id, ref, body FROM cmd ORDER BY id";
 }
+
+-- what is due is a command under a reference
+abbrev pub IsDue : Next → Type 0
+IsDue (Due f) = IsFiled f
+IsDue Other = ⊤
+IsDue End = ⊤
 
 -- what stands behind the rows that were given: the command of the number, a row of none, or the end
 abbrev pub Stands : {S : Type 0} (g : Ghosts S) → ℕ → Next → Held S → List Row → Type 0

@@ -10,7 +10,7 @@ ghost use Rattle.ob_tables.specs.Steps.{IsStoreFault};
 ghost use Rattle.ob_tables.specs.declared.table.Table.{Table as ATable};
 ghost use Rattle.ob_record.specs.Tables.{Shows};
 ghost use Rattle.ob_compare.specs.declared.filed.Filed.{Filed as AFiled};
-ghost use Rattle.ob_compare.specs.Reading.{IsCommands, IsFiled, IsReadFault, Stands};
+ghost use Rattle.ob_compare.specs.Reading.{AreFiled, IsCommands, IsDue, IsFiled, IsReadFault, Stands};
 ghost use Rattle.ob_compare.specs.Reading.{bad_book, command_listing, row_of_filed};
 
 use crate::columns::{has_number, text_at};
@@ -51,6 +51,7 @@ fn next_filed<S: Alter>(rows: &mut Rows<'_, S>, no: u32) -> Result<Next, Stop>
     ensures survives { Survives (state S.Store rows.old.conn.now) (state S.Store rows.new.conn.now) (λ _. ⊥) }
     ensures mode { rows.old.conn.now.in_transaction ≡ false → rows.new.conn.now.in_transaction ≡ false }
     ensures faults { IfErr result IsStoreFault }
+    ensures valid { IfOk result IsDue }
     ensures same { HasCleanDisk (state S.Store rows.new.conn.now)
         → OnOk result (IsUnchanged (state S.Store rows.old.conn.now) (state S.Store rows.new.conn.now)) }
     ensures stands { HasCleanDisk (state S.Store rows.new.conn.now) → IfOk result (λ next.
@@ -74,6 +75,7 @@ fn filed_rows<S: Alter>(alloc: Global, rows: &mut Rows<'_, S>) -> Result<Option<
     ensures survives { Survives (state S.Store rows.old.conn.now) (state S.Store rows.new.conn.now) (λ _. ⊥) }
     ensures mode { rows.old.conn.now.in_transaction ≡ false → rows.new.conn.now.in_transaction ≡ false }
     ensures faults { IfErr result IsStoreFault }
+    ensures valid { IfOk result AreFiled }
     ensures same { HasCleanDisk (state S.Store rows.new.conn.now) → OnOk result
         (IsTrue (state S.Store rows.old.conn.now).is_open
         → IsUnchanged (state S.Store rows.old.conn.now) (state S.Store rows.new.conn.now)) }
@@ -108,6 +110,7 @@ pub(crate) fn read_commands<S: Alter>(
     ensures survives { conn.old.schema ≡ book_schema
         → Survives (state S.Store conn.old) (state S.Store conn.new) (λ _. ⊥) }
     ensures faults { IfErr result IsReadFault }
+    ensures valid { IfOk result AreFiled }
     ensures foreign { HasCleanDisk (state S.Store conn.new)
         → IfErr result (λ stop. stop ≡ bad_book → conn.old.schema ≢ book_schema) }
     ensures same { HasCleanDisk (state S.Store conn.new) → OnOk result (conn.old.schema ≡ book_schema

@@ -1,13 +1,15 @@
-use Rattle.std.proofs.Common.{◌≡◌, ◌+◌, ◌≤◌, [], ◌∷◌, ◌++◌, length, sym, ap, subst, ◌∙◌, arith}
+use Rattle.std.proofs.Common.{List, ◌≡◌, ◌+◌, ◌≤◌, [], ◌∷◌, ◌++◌, length, sym, ap, subst, ◌∙◌, arith}
+use Rattle.std.specs.List.{AllByRecursion}
 use Rattle.sqlite.specs.Effect.{Database}
 use Rattle.sqlite.specs.State.{HasCleanDisk}
 use Rattle.sqlite.specs.Held.{state}
 use Rattle.sqlite.specs.Given.{HasGiven}
 use Rattle.sqlite.proofs.Callers.{unchanged_then}
 use Rattle.ob_compare.specs.Listing.{Lists, Ends, filed_of}
-use Rattle.ob_compare.specs.Reading.{Stands, command_listing, command_rows}
+use Rattle.ob_compare.specs.declared.filed.Filed.{Filed}
+use Rattle.ob_compare.specs.Reading.{IsDue, IsReferenced, Stands, command_listing, command_rows}
 use Rattle.ob_compare.proofs.Listing.{still_then}
-use Rattle.ob_compare.proofs.Standing.{command_means, one_filed, all_filed, other_filed, too_many, pushed_length}
+use Rattle.ob_compare.proofs.Standing.{all_referenced, command_means, one_filed, all_filed, other_filed, too_many, pushed_length}
 use Rattle.ob_compare.proofs.commands.filed_rows.Goals as goal
 
 pub returns-in-Other-clause-read : goal.returns-in-Other-clause-read
@@ -57,6 +59,7 @@ commands-preserved g c =
                 let next = subst (λ n. Stands g.S.Store (c.commands.at + 1) n new front) c.in-Due.is (c.in_ok-filed.ensures.stands late schema front (was.1 live has given)) in
                 subst (HasGiven g.S.Store command_listing.text [] new) (one_filed c.commands.list.items c.commands.at c.in-Due.filed c.commands.invariant.3 ∙ ap (λ items. command_rows (filed_of items)) (sym pushed)) next,
           ),
+      subst (λ (items : List Filed). AllByRecursion IsReferenced (filed_of items)) (sym pushed) (all_referenced c.commands.list.items c.in-Due.filed c.commands.invariant.5 (subst IsDue c.in-Due.is c.in_ok-filed.ensures.valid)),
     )
 
 pub returns-then-branch-clause-read : goal.returns-then-branch-clause-read

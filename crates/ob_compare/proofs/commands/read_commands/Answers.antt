@@ -5,10 +5,11 @@ use Rattle.sqlite.specs.Held.{state}
 use Rattle.sqlite.proofs.Callers.{unchanged_then}
 use Rattle.ob_tables.specs.declared.table.Table.TheVariants.{Command}
 use Rattle.ob_record.specs.Tables.{Shows}
+use Rattle.ob_commit.proofs.Steps.{on_ok}
 use Rattle.ob_compare.specs.Reading.{command_listing}
 use Rattle.ob_compare.proofs.Asking.{foreign_tables, listing_quiet}
-use Rattle.ob_compare.proofs.Headings.{if_ok, on_ok}
 use Rattle.ob_compare.proofs.Listing.{begins, still_then}
+use Rattle.ob_compare.proofs.Rowing.{if_ok}
 use Rattle.ob_compare.proofs.Standing.{command_means}
 use Rattle.ob_compare.proofs.commands.read_commands.Goals as goal
 

@@ -2,7 +2,8 @@ use Rattle.std.proofs.Common.{List, refl, subst}
 use Rattle.sqlite.specs.Held.{state}
 use Rattle.sqlite.specs.Order.{Row}
 use Rattle.ob_compare.specs.Reading.{IsHeading}
-use Rattle.ob_compare.proofs.Headings.{meta_listing, meta_means, heading_read, if_ok, no_meaning, ok_always}
+use Rattle.ob_compare.proofs.Headings.{meta_listing, meta_means, heading_read, no_meaning, ok_always}
+use Rattle.ob_compare.proofs.Rowing.{if_ok}
 use Rattle.ob_compare.proofs.heading.read_heading.Goals as goal
 
 pub returns-in-Ok-clause-survives : goal.returns-in-Ok-clause-survives
