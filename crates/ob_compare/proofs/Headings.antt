@@ -18,6 +18,7 @@ use Rattle.ob_tables.specs.declared.table.Table.TheVariants.{Meta}
 use Rattle.ob_record.specs.Tables.{Shows}
 use Rattle.ob_compare.specs.declared.heading.Heading.{Heading}
 use Rattle.ob_compare.specs.Listing.{Listing, IsListing, Lists, list_query, keyed}
+use Rattle.ob_compare.specs.Parts.{listing_of}
 use Rattle.ob_compare.specs.Reading.{HasNoMeaning, IsHeading}
 use Rattle.ob_compare.proofs.Listing.{lists_rows}
 
@@ -36,24 +37,15 @@ pub meta_there : (row : Columns) (first_day : List ℕ) (days : ℕ) (zone : Lis
 meta_there row first_day days zone at is low = (omega (arith, ap length is, low), ap (λ r. column r at) is)
 
 abbrev pub meta_listing : Listing
-meta_listing = record {
-  table = Meta;
-  keys = 1;
-  names = codes "id" ∷ codes "version" ∷ codes "day0" ∷ codes "days" ∷ codes "zone" ∷ [];
-  text = codes "SELECT id, version, day0, days, zone FROM meta ORDER BY id";
-}
-
-pub meta_means : IsListing meta_listing
-unfolding understood everything
-meta_means = record { means = refl; plain = (refl, refl); unlisted = refl }
+meta_listing = listing_of Meta
 
 -- without tables the text means nothing
 meta_missing : understood no_schema meta_listing.text ≡ Err NoSuchTable
 unfolding understood everything listing_schema
 meta_missing = refl
 
-pub no_meaning : (schema : Schema) → schema ≡ no_schema → HasNoMeaning schema meta_listing.text
-no_meaning schema is c known = absurd (let e = sym meta_missing ∙ sym (ap (λ s. understood s meta_listing.text) is) ∙ known in cc)
+pub no_meaning : (schema : Schema) (sql : List ℕ) → schema ≡ no_schema → sql ≡ meta_listing.text → HasNoMeaning schema sql
+no_meaning schema sql is text c known = absurd (let e = sym meta_missing ∙ sym (ap (understood no_schema) text) ∙ sym (ap (λ s. understood s sql) is) ∙ known in cc)
 
 one_rises : (row : Row) → IsStrictlySortedBy (output_cmp (list_query meta_listing)) (keyed meta_listing row ∷ [])
 unfolding IsStrictlySortedBy

@@ -6,3 +6,9 @@ pub mod Order
 pub mod Rowing
 pub mod Same
 pub mod Standing
+mod Selects
+mod Places
+mod Rising
+mod Numbered
+mod Network
+mod Keyed

@@ -24,17 +24,14 @@ use Rattle.ob_compare.specs.declared.filed.Filed.{Filed}
 use Rattle.ob_compare.specs.Listing.{IsListing, Lists, list_query, keyed, referenced, filed_of}
 use Rattle.ob_state.specs.declared.TheConstants.{MOST_COMMANDS}
 use Rattle.ob_compare.specs.Reading.{IsCommands, IsFiled, IsReferenced, row_of_filed, command_listing, command_rows}
+use Rattle.ob_compare.proofs.Selects.{is_listing}
 use Rattle.ob_compare.proofs.Listing.{append_last, begun_list, lists_rows}
-
-pub command_means : IsListing command_listing
-unfolding understood everything
-command_means = record { means = refl; plain = (refl, refl); unlisted = refl }
 
 -- a row that stands next
 pub one_stands : {S : Type 0} (g : Ghosts S) (old new : Held S) → (state g old).now.schema ≡ book_schema → IsUnchanged (state g old) (state g new) → (given : List Row) (row : Row) → GivesOn g command_listing.text [] old new given (Some row)
     → (rest : List Row) × Lists command_listing (state g new).now (given ++ (row ∷ rest))
 one_stands g old new has same given row more =
-    let all = begun_list g command_listing command_means new (given ++ row ∷ []) (ap (λ (d : Database). d.schema) same.0.now_is ∙ has) same.0.is_open more in
+    let all = begun_list g command_listing (is_listing Command) new (given ++ row ∷ []) (ap (λ (d : Database). d.schema) same.0.now_is ∙ has) same.0.is_open more in
     (all.0, subst (Lists command_listing (state g new).now) (append_last given (row ∷ []) all.0) all.1)
 
 -- ---- rows under numbers

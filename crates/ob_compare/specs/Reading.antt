@@ -31,6 +31,7 @@ use Rattle.ob_compare.specs.declared.heading.Heading.{Heading}
 use Rattle.ob_compare.specs.declared.commands.Next.{Next}
 use Rattle.ob_compare.specs.declared.commands.Next.TheVariants.{Due, Other, End}
 use Rattle.ob_compare.specs.Listing.{Listing, Lists, referenced, filed_of}
+use Rattle.ob_compare.specs.Parts.{listing_of}
 
 -- the reference is one, and so is the command
 abbrev pub IsReferenced : Referenced → Type 0
@@ -96,12 +97,7 @@ AreFiled None = ⊤
 
 -- the query of the commands
 abbrev pub command_listing : Listing
-command_listing = record {
-  table = Command;
-  keys = 1;
-  names = codes "id" ∷ codes "ref" ∷ codes "body" ∷ [];
-  text = codes "SELECT id, ref, body FROM cmd ORDER BY id";
-}
+command_listing = listing_of Command
 
 -- what is due is a command under a reference
 abbrev pub IsDue : Next → Type 0

@@ -15,11 +15,13 @@ ghost use Rattle.ob_compare.specs.Reading.{bad_book, command_listing, row_of_fil
 
 use crate::columns::{has_number, text_at};
 use crate::filed::Filed;
+use crate::listed::select_of;
 use crate::query::prepare;
 use crate::rows::{advance, is_over, stop_of};
 use ob_base::{Ref, Stop};
 use ob_book::MOST_COMMANDS;
 use ob_command::read_body;
+use ob_tables::Table;
 use sqlite::{Alter, Connection, Row, Rows};
 use std::alloc::Global;
 
@@ -119,7 +121,7 @@ pub(crate) fn read_commands<S: Alter>(
         → (rows : List Columns) → Shows (state S.Store conn.old).now.trees ATable.Command rows
         → IsCommands found rows) }
 {
-    let statement = match prepare(conn, "SELECT id, ref, body FROM cmd ORDER BY id") {
+    let statement = match prepare(conn, select_of(Table::Command)) {
         Ok(statement) => statement,
         Err(stop) => return Err(stop),
     };

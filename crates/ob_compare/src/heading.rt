@@ -10,8 +10,10 @@ ghost use Rattle.ob_record.specs.Tables.{Shows};
 ghost use Rattle.ob_compare.specs.Reading.{IsHeading, IsHeadingRow, IsMissed, IsReadFault, bad_book};
 
 use crate::columns::{has_number, small_at, text_at};
+use crate::listed::select_of;
 use crate::query::list_all;
 use ob_base::Stop;
+use ob_tables::Table;
 use sqlite::{Alter, Connection, Row};
 use std::alloc::Global;
 
@@ -83,10 +85,7 @@ pub(crate) fn read_heading<S: Alter>(
     ensures read { HasCleanDisk (state S.Store conn.new) → IfOk result (λ found. conn.old.schema ≡ book_schema
         → (rows : List Columns) → Shows (state S.Store conn.old).now.trees ATable.Meta rows → IsHeading found rows) }
 {
-    match list_all(
-        conn,
-        "SELECT id, version, day0, days, zone FROM meta ORDER BY id",
-    ) {
+    match list_all(conn, select_of(Table::Meta)) {
         Ok(rows) => heading_in(alloc, &rows),
         Err(stop) => Err(stop),
     }

@@ -4,9 +4,12 @@
 mod columns;
 mod commands;
 mod ends;
+mod fields;
 mod filed;
 mod heading;
+mod listed;
 mod moves;
+mod parts;
 mod query;
 mod rows;
 
@@ -14,3 +17,7 @@ pub use ends::Ends;
 pub use filed::Filed;
 pub use heading::Heading;
 pub use moves::holds_moves;
+pub use parts::{
+    holds_amounts, holds_causes, holds_customers, holds_devices, holds_entries, holds_heading,
+    holds_marks, holds_nodes,
+};

@@ -5,11 +5,13 @@ use Rattle.sqlite.specs.State.{HasCleanDisk}
 use Rattle.sqlite.specs.Held.{state}
 use Rattle.sqlite.specs.Given.{HasGiven}
 use Rattle.sqlite.proofs.Callers.{unchanged_then}
+use Rattle.ob_tables.specs.declared.table.Table.TheVariants.{Command}
 use Rattle.ob_compare.specs.Listing.{Lists, Ends, filed_of}
 use Rattle.ob_compare.specs.declared.filed.Filed.{Filed}
 use Rattle.ob_compare.specs.Reading.{IsDue, IsReferenced, Stands, command_listing, command_rows}
 use Rattle.ob_compare.proofs.Listing.{still_then}
-use Rattle.ob_compare.proofs.Standing.{all_referenced, command_means, one_filed, all_filed, other_filed, too_many, pushed_length}
+use Rattle.ob_compare.proofs.Selects.{is_listing}
+use Rattle.ob_compare.proofs.Standing.{all_referenced, one_filed, all_filed, other_filed, too_many, pushed_length}
 use Rattle.ob_compare.proofs.commands.filed_rows.Goals as goal
 
 pub returns-in-Other-clause-read : goal.returns-in-Other-clause-read
@@ -71,7 +73,7 @@ returns-then-branch-clause-read g c late live has given shows there =
     let was = c.commands.invariant.4 early in
     let schema = ap (λ (d : Database). d.schema) (was.0 live).0.now_is ∙ has in
     let front = command_rows (filed_of c.commands.list.items) in
-    let ends = subst (λ b. Ends g.S.Store command_listing b new front) c.if-branch.true (c.in_ok-is_over.ensures.over late schema command_listing command_means front (was.1 live has given)) in
+    let ends = subst (λ b. Ends g.S.Store command_listing b new front) c.if-branch.true (c.in_ok-is_over.ensures.over late schema command_listing (is_listing Command) front (was.1 live has given)) in
     let db : (state g.S.Store new).now ≡ old.now = (c.in_ok-is_over.ensures.same late).0.now_is ∙ (was.0 live).0.now_is in
     all_filed old.now c.commands.list.items shows (subst (λ (d : Database). Lists command_listing d front) db ends) there
 
@@ -84,7 +86,7 @@ returns-else-branch-clause-read g c late live has given shows there =
     let was = c.commands.invariant.4 early in
     let schema = ap (λ (d : Database). d.schema) (was.0 live).0.now_is ∙ has in
     let front = command_rows (filed_of c.commands.list.items) in
-    let ends = subst (λ b. Ends g.S.Store command_listing b new front) c.if-branch.false (c.in_ok-is_over.ensures.over late schema command_listing command_means front (was.1 live has given)) in
+    let ends = subst (λ b. Ends g.S.Store command_listing b new front) c.if-branch.false (c.in_ok-is_over.ensures.over late schema command_listing (is_listing Command) front (was.1 live has given)) in
     let db : (state g.S.Store new).now ≡ old.now = (c.in_ok-is_over.ensures.same late).0.now_is ∙ (was.0 live).0.now_is in
     let many : 1000000 ≤ length c.commands.list.items = omega (arith, c.commands-test.false, c.commands.invariant.3) in
     too_many old.now c.commands.list.items ends.0 ends.1 shows many (subst (λ (d : Database). Lists command_listing d (front ++ (ends.0 ∷ ends.1))) db ends.2) there

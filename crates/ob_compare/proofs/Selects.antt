@@ -1,0 +1,21 @@
+-- What the queries of whole tables mean.
+use Rattle.std.proofs.Common.{refl}
+use Rattle.sqlite.specs.Listing.{understood}
+use Rattle.sqlite_tied.specs.Compute.{everything}
+use Rattle.ob_tables.specs.declared.table.Table.{Table}
+use Rattle.ob_tables.specs.declared.table.Table.TheVariants.{Meta, Cause, Node, Device, Customer, Entry, Mark, Command, Moved, Posting}
+use Rattle.ob_compare.specs.Listing.{IsListing}
+use Rattle.ob_compare.specs.Parts.{listing_of}
+
+pub is_listing : (t : Table) → IsListing (listing_of t)
+unfolding understood everything
+is_listing Meta = record { means = refl; plain = (refl, refl); unlisted = refl }
+is_listing Cause = record { means = refl; plain = (refl, refl); unlisted = refl }
+is_listing Node = record { means = refl; plain = (refl, refl); unlisted = refl }
+is_listing Device = record { means = refl; plain = (refl, refl); unlisted = refl }
+is_listing Customer = record { means = refl; plain = (refl, refl); unlisted = refl }
+is_listing Entry = record { means = refl; plain = (refl, refl); unlisted = refl }
+is_listing Mark = record { means = refl; plain = (refl, refl); unlisted = refl }
+is_listing Command = record { means = refl; plain = (refl, refl); unlisted = refl }
+is_listing Moved = record { means = refl; plain = (refl, refl); unlisted = refl }
+is_listing Posting = record { means = refl; plain = (refl, refl); unlisted = refl }

@@ -1,0 +1,44 @@
+use Rattle.std.proofs.Common.{◌<◌, ◌++◌, length, take, ap, ◌∙◌, arith}
+use Rattle.sqlite.specs.Effect.{Database}
+use Rattle.sqlite.specs.State.{HasCleanDisk}
+use Rattle.sqlite.specs.Held.{state}
+use Rattle.sqlite.proofs.Callers.{unchanged_then}
+use Rattle.ob_compare.specs.Parts.{listing_of, standing}
+use Rattle.ob_compare.proofs.Listing.{still_then}
+use Rattle.ob_compare.proofs.Places.{place_on, place_off}
+use Rattle.ob_compare.proofs.listed.follows.Goals as goal
+
+pub returns-then-not-branch-clause-goes : goal.returns-then-not-branch-clause-goes
+returns-then-not-branch-clause-goes g c late live has given it =
+    let mid = state g.S.Store c.places.rows.conn.now in
+    let new = c.goes_on.new.rows.conn.now in
+    let ps = g.L.Listed.places c.args.listed.now in
+    let step = c.goes_on.ensures in
+    let low : c.places.at < length ps = omega (arith, c.places-test.true) in
+    let early : HasCleanDisk mid = omega (arith, step.survives.clean, late) in
+    let was = c.places.invariant.3 early in
+    let there = ap (λ (d : Database). d.schema) (was.0 live).0.now_is ∙ has in
+    place_off g.S.Store (listing_of g.L.Listed.table) new ps c.places.at _ given c.in_ok-goes_on.field-0 low
+    (c.in_ok-goes_on.ensures.goes late there (given ++ standing (take c.places.at ps)) (was.1 live has given it)) c.if-not-branch.true
+
+pub places-preserved : goal.places-preserved
+places-preserved g c =
+    let old = state g.S.Store c.args.rows.now.conn.now in
+    let mid = state g.S.Store c.places.rows.conn.now in
+    let new = c.goes_on.new.rows.conn.now in
+    let ps = g.L.Listed.places c.args.listed.now in
+    let step = c.goes_on.ensures in
+    let low : c.places.at < length ps = omega (arith, c.places-test.true) in (
+      step.same_reference ∙ c.places.invariant.0,
+      still_then old mid (state g.S.Store new) c.places.invariant.1 step.survives,
+      λ idle. step.mode (c.places.invariant.2 idle),
+      λ late.
+          let early : HasCleanDisk mid = omega (arith, step.survives.clean, late) in
+          let was = c.places.invariant.3 early in (
+            λ live. unchanged_then old mid (state g.S.Store new) (was.0 live) (c.in_ok-goes_on.ensures.same late (was.0 live).0.is_open),
+            λ live has given it.
+                let there = ap (λ (d : Database). d.schema) (was.0 live).0.now_is ∙ has in
+                place_on g.S.Store (listing_of g.L.Listed.table) new ps c.places.at _ given c.in_ok-goes_on.field-0 low
+                (c.in_ok-goes_on.ensures.goes late there (given ++ standing (take c.places.at ps)) (was.1 live has given it)) c.if-not-branch.false,
+          ),
+    )

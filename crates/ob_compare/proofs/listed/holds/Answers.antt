@@ -1,0 +1,62 @@
+use Rattle.std.proofs.Common.{◌≡◌, ap, subst, ◌∙◌, arith, rules}
+use Rattle.sqlite.specs.Effect.{Database}
+use Rattle.sqlite.specs.State.{HasCleanDisk, IsUnchanged}
+use Rattle.sqlite.specs.Held.{state}
+use Rattle.sqlite.proofs.Callers.{unchanged_then}
+use Rattle.ob_compare.specs.Parts.{Compares, listing_of, standing, select_of}
+use Rattle.ob_compare.proofs.Listing.{still_then, quiet, begins}
+use Rattle.ob_compare.proofs.Places.{rows_alike, if_ok, on_ok}
+use Rattle.ob_compare.proofs.Selects.{is_listing}
+use Rattle.ob_compare.proofs.listed.holds.Goals as goal
+
+pub returns-in-Ok-query_prepared : goal.returns-in-Ok-query_prepared
+returns-in-Ok-query_prepared g c =
+    let t = g.L.Listed.table in
+    let expected = standing (g.L.Listed.places c.args.listed.now) in
+    let at_old = c.args.conn.now in
+    let at_mid = c.prepare.new.self in
+    let at_start = c.in-Ok-query_prepared.rows.conn.now in
+    let at_last = c.matches.new.rows.conn.now in
+    let old = state g.S.Store at_old in
+    let mid = state g.S.Store at_mid in
+    let start = state g.S.Store at_start in
+    let last = state g.S.Store at_last in
+    let text = c.in-Ok.statement.text in
+    let text_is : c.select_of.result.now ≡ select_of t = c.select_of.ensures ∙ ap select_of c.table.ensures in
+    let ready : HasCleanDisk mid → (text ≡ select_of t) × IsUnchanged old mid = λ clean. let it = c.in-Ok.ensures.ok clean in (it.0 ∙ text_is, it.1) in
+    let begun : HasCleanDisk last → HasCleanDisk start = λ clean. omega (arith, c.matches.ensures.survives.clean, clean) in
+    let early : HasCleanDisk last → HasCleanDisk mid = λ clean. omega (arith, c.in-Ok-query_prepared.ensures.survives.clean, c.matches.ensures.survives.clean, clean) in
+    let same : at_last ≡ c.conn-1.given.0 = search rules in
+    subst (λ x. Compares g.S.Store t expected at_old x c.matches.result) same (record {
+      mode = λ idle. c.matches.ensures.mode (c.in-Ok-query_prepared.ensures.mode (c.prepare.ensures.mode idle));
+      survives = λ has.
+          still_then old start last
+          (still_then old mid start c.prepare.ensures.survives (quiet (listing_of t) (is_listing t) old mid start text ready has c.in-Ok-query_prepared.ensures.survives)) c.matches.ensures.survives;
+      faults = c.matches.ensures.faults;
+      same = λ clean.
+          on_ok c.matches.result (c.matches.ensures.same clean) (λ step has.
+          let b = begins g.S.Store (listing_of t) (is_listing t) at_old at_mid at_start text (ready (early clean)) has (c.in-Ok-query_prepared.ensures.begun (begun clean)) in
+          unchanged_then old start last b.1 (step b.1.0.is_open));
+      holds = λ clean.
+          if_ok c.matches.result (c.matches.ensures.holds clean) (λ is tells has rows shown.
+          let b = begins g.S.Store (listing_of t) (is_listing t) at_old at_mid at_start text (ready (early clean)) has (c.in-Ok-query_prepared.ensures.begun (begun clean)) in
+          rows_alike t start.now old.now is expected rows b.1.0.now_is shown (tells b.1.0.is_open (ap (λ (d : Database). d.schema) b.1.0.now_is ∙ has) b.0));
+    })
+
+pub returns : goal.returns
+returns g c =
+    let t = g.L.Listed.table in
+    let old = state g.S.Store c.args.conn.now in
+    let mid = state g.S.Store c.prepare.new.self in
+    let end = state g.S.Store c.query_prepared.follows.lender-at-none in
+    let text = c.in-Ok.statement.text in
+    let text_is : c.select_of.result.now ≡ select_of t = c.select_of.ensures ∙ ap select_of c.table.ensures in
+    let ready : HasCleanDisk mid → (text ≡ select_of t) × IsUnchanged old mid = λ clean. let it = c.in-Ok.ensures.ok clean in (it.0 ∙ text_is, it.1) in
+    let refused = rw c.in-Err-query_prepared.is at c.query_prepared.follows.holds-at-none in
+    record {
+      mode = λ idle. refused.mode (c.prepare.ensures.mode idle);
+      survives = λ has. still_then old mid end c.prepare.ensures.survives (quiet (listing_of t) (is_listing t) old mid end text ready has refused.survives);
+      faults = c.stop_of-in-Err-query_prepared.ensures;
+      same = λ clean. tt;
+      holds = λ clean. tt;
+    }

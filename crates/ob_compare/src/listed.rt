@@ -1,0 +1,144 @@
+//! The rows of a table against what stands at the places of a part of a book, one after another.
+ghost use Rattle.std.specs.Prelude.{◌≡◌, ◌↔◌, ◌<◌, ℕ, List, Option, Some, None, [], false, is_some, length, slice_index_or, IsTrue, IfOk, IfErr, OnOk, ◌∷◌};
+ghost use Rattle.std.specs.List.Sorted.{IsStrictlySortedBy};
+ghost use Rattle.sqlite.specs.Order.{Row as ARow};
+ghost use Rattle.sqlite.specs.Held.{state};
+ghost use Rattle.sqlite.specs.Given.{HasGiven};
+ghost use Rattle.sqlite.specs.State.{HasCleanDisk, IsUnchanged, Survives};
+ghost use Rattle.ob_tables.specs.Schema.{book_schema};
+ghost use Rattle.ob_tables.specs.Rows.{Columns};
+ghost use Rattle.ob_tables.specs.Steps.{IsStoreFault};
+ghost use Rattle.ob_tables.specs.declared.table.Table.{Table as ATable};
+ghost use Rattle.ob_record.specs.Tables.{Shows};
+ghost use Rattle.ob_compare.specs.Listing.{Goes};
+ghost use Rattle.ob_compare.specs.Parts.{Compares, listing_of, row_cmp, select_of, standing};
+
+use crate::rows::{advance, is_over, stop_of};
+use ob_base::Stop;
+use ob_tables::Table;
+use sqlite::{Alter, Connection, Row, Rows};
+
+/// A part of a book as rows of a table: each of its places has one or none. They rise by key.
+pub(crate) trait Listed {
+    /// The table that the rows are of.
+    ghost table: { ATable };
+
+    /// For each place its row, where it has one.
+    ghost places: { Self → List (Option Columns) };
+
+    /// The table that the rows are of.
+    fn table(&self) -> Table
+        ensures { result ≡ table };
+
+    /// How many places there are.
+    fn count(&self) -> usize
+        ensures { result ≡ length (places self.now) };
+
+    /// Whether a place has a row.
+    fn has_row(&self, at: usize) -> bool
+        requires { at < length (places self.now) }
+        ensures { result ≡ is_some (slice_index_or (places self.now) at None) };
+
+    /// Whether a row is that of a place.
+    fn is_row(&self, at: usize, row: &Row) -> bool
+        requires { at < length (places self.now) }
+        ensures { IsTrue result ↔ (slice_index_or (places self.now) at None ≡ Some row.now) };
+}
+
+/// The query of all rows of a table, by key.
+pub(crate) fn select_of(table: Table) -> &'static str
+    ensures { result.now ≡ select_of table }
+{
+    match table {
+        Table::Meta => "SELECT id, version, day0, days, zone FROM meta ORDER BY id",
+        Table::Cause => "SELECT code, name FROM cause ORDER BY code",
+        Table::Node => "SELECT id, name, kind, feeder FROM node ORDER BY id",
+        Table::Device => "SELECT id, name, a, b, normal FROM device ORDER BY id",
+        Table::Customer => "SELECT id, section, since, until FROM customer ORDER BY id",
+        Table::Entry => {
+            "SELECT id, rev, device, pos, second, cause, crew, kept FROM entry ORDER BY id"
+        }
+        Table::Mark => "SELECT day, engineer FROM mark ORDER BY day",
+        Table::Command => "SELECT id, ref, body FROM cmd ORDER BY id",
+        Table::Moved => "SELECT cmd, dim, k, delta FROM moved ORDER BY cmd, dim, k",
+        Table::Posting => "SELECT dim, k, amount FROM posting ORDER BY dim, k",
+    }
+}
+
+/// Whether the rows go on with that of a place, if it has one.
+fn goes_on<S: Alter, L: Listed>(rows: &mut Rows<'_, S>, listed: &L, at: usize) -> Result<bool, Stop>
+    requires { at < length (L.places listed.now) }
+    ensures same_reference { rows.new.conn.ghost_name ≡ rows.old.conn.ghost_name }
+    ensures survives { Survives (state S.Store rows.old.conn.now) (state S.Store rows.new.conn.now) (λ _. ⊥) }
+    ensures mode { rows.old.conn.now.in_transaction ≡ false → rows.new.conn.now.in_transaction ≡ false }
+    ensures faults { IfErr result IsStoreFault }
+    ensures same { HasCleanDisk (state S.Store rows.new.conn.now) → OnOk result (IsTrue (state S.Store rows.old.conn.now).is_open
+        → IsUnchanged (state S.Store rows.old.conn.now) (state S.Store rows.new.conn.now)) }
+    ensures goes { HasCleanDisk (state S.Store rows.new.conn.now) → IfOk result (λ is. (state S.Store rows.old.conn.now).now.schema ≡ book_schema
+        → (given : List ARow) → HasGiven S.Store (select_of L.table) [] rows.old.conn.now given
+        → Goes S.Store (listing_of L.table) is rows.new.conn.now given (standing (slice_index_or (L.places listed.now) at None ∷ []))) }
+{
+    if !listed.has_row(at) {
+        return Ok(true);
+    }
+    advance(rows)?;
+    match rows.get() {
+        Some(row) => Ok(listed.is_row(at, row)),
+        None => Ok(false),
+    }
+}
+
+/// Whether the next rows are those of the places, one after another.
+fn follows<S: Alter, L: Listed>(rows: &mut Rows<'_, S>, listed: &L) -> Result<bool, Stop>
+    ensures same_reference { rows.new.conn.ghost_name ≡ rows.old.conn.ghost_name }
+    ensures survives { Survives (state S.Store rows.old.conn.now) (state S.Store rows.new.conn.now) (λ _. ⊥) }
+    ensures mode { rows.old.conn.now.in_transaction ≡ false → rows.new.conn.now.in_transaction ≡ false }
+    ensures faults { IfErr result IsStoreFault }
+    ensures same { HasCleanDisk (state S.Store rows.new.conn.now) → OnOk result (IsTrue (state S.Store rows.old.conn.now).is_open
+        → IsUnchanged (state S.Store rows.old.conn.now) (state S.Store rows.new.conn.now)) }
+    ensures goes { HasCleanDisk (state S.Store rows.new.conn.now) → IfOk result (λ is. IsTrue (state S.Store rows.old.conn.now).is_open
+        → (state S.Store rows.old.conn.now).now.schema ≡ book_schema
+        → (given : List ARow) → HasGiven S.Store (select_of L.table) [] rows.old.conn.now given
+        → Goes S.Store (listing_of L.table) is rows.new.conn.now given (standing (L.places listed.now))) }
+{
+    'places: for at in 0..listed.count() {
+        if !goes_on(rows, listed, at)? {
+            return Ok(false);
+        }
+    }
+    Ok(true)
+}
+
+/// Whether the rows to come are those of the places, and no other.
+fn matches<S: Alter, L: Listed>(rows: &mut Rows<'_, S>, listed: &L) -> Result<bool, Stop>
+    requires rises { IsStrictlySortedBy (row_cmp L.table) (standing (L.places listed.now)) }
+    ensures same_reference { rows.new.conn.ghost_name ≡ rows.old.conn.ghost_name }
+    ensures survives { Survives (state S.Store rows.old.conn.now) (state S.Store rows.new.conn.now) (λ _. ⊥) }
+    ensures mode { rows.old.conn.now.in_transaction ≡ false → rows.new.conn.now.in_transaction ≡ false }
+    ensures faults { IfErr result IsStoreFault }
+    ensures same { HasCleanDisk (state S.Store rows.new.conn.now) → OnOk result (IsTrue (state S.Store rows.old.conn.now).is_open
+        → IsUnchanged (state S.Store rows.old.conn.now) (state S.Store rows.new.conn.now)) }
+    ensures holds { HasCleanDisk (state S.Store rows.new.conn.now) → IfOk result (λ is. IsTrue (state S.Store rows.old.conn.now).is_open
+        → (state S.Store rows.old.conn.now).now.schema ≡ book_schema → HasGiven S.Store (select_of L.table) [] rows.old.conn.now []
+        → IsTrue is ↔ Shows (state S.Store rows.old.conn.now).now.trees L.table (standing (L.places listed.now))) }
+{
+    if !follows(rows, listed)? {
+        return Ok(false);
+    }
+    is_over(rows)
+}
+
+/// Whether a table holds just the rows of a part of a book, which rise by key. Nothing is written.
+pub(crate) fn holds<S: Alter, L: Listed>(conn: &mut Connection<S>, listed: &L) -> Result<bool, Stop>
+    requires rises { IsStrictlySortedBy (row_cmp L.table) (standing (L.places listed.now)) }
+    ensures { Compares S.Store L.table (standing (L.places listed.now)) conn.old conn.new result }
+{
+    let statement = match conn.prepare(select_of(listed.table())) {
+        Ok(statement) => statement,
+        Err(error) => return Err(stop_of(error)),
+    };
+    match conn.query_prepared(&statement, &[]) {
+        Ok(mut rows) => matches(&mut rows, listed),
+        Err(error) => Err(stop_of(error)),
+    }
+}
