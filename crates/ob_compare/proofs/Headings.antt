@@ -1,5 +1,5 @@
 -- The row of a heading, and the listing of its table.
-use Rattle.std.proofs.Common.{◌≡◌, ℕ, ◌<◌, List, [], ◌∷◌, length, codes, Option, Some, None, refl, sym, ap, subst, ◌∙◌, arith}
+use Rattle.std.proofs.Common.{◌≡◌, ℕ, ◌<◌, List, [], ◌∷◌, length, Option, Some, None, refl, sym, ap, subst, ◌∙◌, arith}
 use Rattle.std.specs.Prelude.{Result, Ok, Err, OnOk}
 use Rattle.std.specs.List.Sorted.{IsStrictlySortedBy}
 use Rattle.std.proofs.lemmas.List.Sorted.{IsPermutation-sym, IsPermutation-trans}
@@ -17,7 +17,7 @@ use Rattle.ob_tables.specs.Rows.{Columns, meta_row}
 use Rattle.ob_tables.specs.declared.table.Table.TheVariants.{Meta}
 use Rattle.ob_record.specs.Tables.{Shows}
 use Rattle.ob_compare.specs.declared.heading.Heading.{Heading}
-use Rattle.ob_compare.specs.Listing.{Listing, IsListing, Lists, list_query, keyed}
+use Rattle.ob_compare.specs.Listing.{Listing, Lists, list_query, keyed}
 use Rattle.ob_compare.specs.Parts.{listing_of}
 use Rattle.ob_compare.specs.Reading.{HasNoMeaning, IsHeading}
 use Rattle.ob_compare.proofs.Listing.{lists_rows}

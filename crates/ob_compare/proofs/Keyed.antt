@@ -1,5 +1,5 @@
 -- The keys of amounts, and the rows of the amounts under them.
-use Rattle.std.proofs.Common.{◌≡◌, ℕ, zero, suc, ◌+◌, ◌-◌, ◌<◌, pos, List, [], ◌∷◌, ◌++◌, length, map, Some, Less, Equal, refl, sym, ap, subst, ◌∙◌, arith}
+use Rattle.std.proofs.Common.{◌≡◌, ℕ, zero, suc, ◌+◌, ◌-◌, ◌<◌, pos, List, [], ◌∷◌, ◌++◌, length, map, Some, Less, Equal, refl, sym, ap, subst, ◌∙◌, arith, ap₂, ◌≤◌}
 use Rattle.std.specs.Prelude.{slice_get}
 use Rattle.std.specs.List.{AllByRecursion, range_with_len}
 use Rattle.std.specs.List.Sorted.{IsStrictlySortedBy}
@@ -7,12 +7,12 @@ use Rattle.std.specs.Ordering.{nat_cmp}
 use Rattle.std.proofs.lemmas.Bool.Decides.{nat_tests}
 use Rattle.std.proofs.lemmas.List.{append-nil}
 use Rattle.sqlite_value.proofs.OrderLemmas.{value_cmp-Int}
-use Rattle.ob_post.specs.Keys.{dim_number, keys}
+use Rattle.ob_post.specs.Keys.{IsKey, dim_number, keys}
 use Rattle.ob_post.specs.declared.Dim.{Dim}
 use Rattle.ob_post.specs.declared.Dim.TheVariants.{Cause, Feeder, Day}
 use Rattle.ob_tables.specs.Rows.{Columns, number}
 use Rattle.ob_tables.specs.declared.table.Table.TheVariants.{Posting}
-use Rattle.ob_commit.specs.Amounts.{all_keys, amount_row}
+use Rattle.ob_commit.specs.Amounts.{all_keys, amount_row, amount_rows}
 use Rattle.ob_compare.specs.Parts.{row_cmp}
 use Rattle.ob_compare.proofs.Rising.{nat_less, same_pos}
 
@@ -138,3 +138,27 @@ module _ (amount : Dim → ℕ → ℕ) where
 pub amount_columns : (amount : Dim → ℕ → ℕ) (key : Key) (d k a : ℕ) → d ≡ dim_number key.0 → k ≡ key.1 → a ≡ amount key.0 key.1
     → ◌≡◌ {A = Columns} (number d ∷ number k ∷ number a ∷ []) (amount_row amount key)
 amount_columns amount key d k a d_is k_is a_is = rw (d_is, k_is, a_is)
+
+module _ (f h : Dim → ℕ → ℕ) where
+  same_here : (d : Dim) (a n : ℕ) → ((key : ℕ) → a ≤ key → key < a + n → f d key ≡ h d key)
+      → map (amount_row f) (map (λ key. (d, key)) (range_with_len a n)) ≡ map (amount_row h) (map (λ key. (d, key)) (range_with_len a n))
+  same_here d a zero same = refl
+  same_here d a (suc n) same =
+      ap₂ (λ (k : ℕ) (l : List Columns). (number (dim_number d) ∷ number a ∷ number k ∷ []) ∷ l) (same a (omega arith) (omega arith))
+      (same_here d (a + 1) n (λ key low high. same key (omega (arith, low)) (omega (arith, high))))
+
+  -- amounts that agree under each key have the same rows
+  pub same_rows : (days : ℕ) → ((d : Dim) (key : ℕ) → IsKey days d key → f d key ≡ h d key) → amount_rows days f ≡ amount_rows days h
+  same_rows days same =
+      ap (map (amount_row f)) (keys_are days)
+      ∙ map-append (amount_row f) causes (feeders ++ days_of days)
+      ∙ ap₂ (λ k l. k ++ l) (same_here Cause 0 64 (λ key low high. same Cause key (omega (arith, high))))
+      (map-append (amount_row f) feeders (days_of days)
+      ∙ ap₂ (λ k l. k ++ l) (same_here Feeder 1 255 (λ key low high. same Feeder key (low, omega (arith, high)))) (same_here Day 0 days (λ key low high. same Day key (omega (arith, high))))
+      ∙ sym (map-append (amount_row h) feeders (days_of days)))
+      ∙ sym (map-append (amount_row h) causes (feeders ++ days_of days))
+      ∙ sym (ap (map (amount_row h)) (keys_are days))
+    where
+      map-append : {X Y : Type 0} (m : X → Y) (xs ys : List X) → map m (xs ++ ys) ≡ map m xs ++ map m ys
+      map-append m [] ys = refl
+      map-append m (x ∷ xs) ys = ap (λ l. m x ∷ l) (map-append m xs ys)

@@ -9,11 +9,9 @@ use Rattle.sqlite_value.proofs.OrderLemmas.{value_cmp-Int}
 use Rattle.sqlite.specs.Order.{Row}
 use Rattle.sqlite.specs.Query.{output_cmp}
 use Rattle.sqlite.specs.Effect.{Database}
-use Rattle.sqlite.specs.Listing.{understood}
 use Rattle.sqlite.specs.State.{IsUnchanged}
 use Rattle.sqlite.specs.Held.{Held, state}
 use Rattle.sqlite.specs.Given.{GivesOn}
-use Rattle.sqlite_tied.specs.Compute.{everything}
 use Rattle.sqlite_trees.specs.declared.store.Store.{Ghosts}
 use Rattle.ob_book.specs.Acts.{Referenced}
 use Rattle.ob_tables.specs.Schema.{book_schema}
@@ -21,7 +19,7 @@ use Rattle.ob_tables.specs.Rows.{Columns}
 use Rattle.ob_tables.specs.declared.table.Table.TheVariants.{Command}
 use Rattle.ob_record.specs.Tables.{Shows, numbered, row_of_command}
 use Rattle.ob_compare.specs.declared.filed.Filed.{Filed}
-use Rattle.ob_compare.specs.Listing.{IsListing, Lists, list_query, keyed, referenced, filed_of}
+use Rattle.ob_compare.specs.Listing.{Lists, list_query, keyed, referenced, filed_of}
 use Rattle.ob_state.specs.declared.TheConstants.{MOST_COMMANDS}
 use Rattle.ob_compare.specs.Reading.{IsCommands, IsFiled, IsReferenced, row_of_filed, command_listing, command_rows}
 use Rattle.ob_compare.proofs.Selects.{is_listing}

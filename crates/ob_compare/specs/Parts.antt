@@ -1,5 +1,5 @@
 -- The rows of each table by rising key, and what stands at the places of a part of a book.
-use Rattle.std.specs.Prelude.{◌≡◌, ℕ, ◌+◌, Bool, false, List, [], ◌∷◌, codes, Option, Some, None, Result, IsTrue, IfOk, IfErr, OnOk, ◌↔◌}
+use Rattle.std.specs.Prelude.{◌≡◌, ⊤, ℕ, ◌+◌, Bool, false, List, [], ◌∷◌, codes, Option, Some, None, Result, IsTrue, IfOk, IfErr, OnOk, ◌↔◌}
 use Rattle.std.specs.List.Sorted.{IsPermutation}
 use Rattle.std.specs.declared.cmp.Ordering.{Ordering}
 use Rattle.sqlite.specs.Query.{output_cmp}
@@ -80,3 +80,9 @@ module _ {S : Type 0} (g : Ghosts S) where
     -- the table has just these rows, in some order
     pub holds : HasCleanDisk (state g new) → IfOk result (λ is. old.schema ≡ book_schema → (rows : List Columns)
         → Shows (state g old).now.trees table rows → IsTrue is ↔ IsPermutation rows expected)
+
+-- the table isn't that of commands nor that of what they moved
+abbrev pub IsPart : Table → Type 0
+IsPart Command = ⊥
+IsPart Moved = ⊥
+IsPart _ = ⊤

@@ -9,6 +9,7 @@ mod filed;
 mod heading;
 mod listed;
 mod moves;
+mod part;
 mod parts;
 mod query;
 mod rows;
@@ -17,6 +18,7 @@ pub use ends::Ends;
 pub use filed::Filed;
 pub use heading::Heading;
 pub use moves::holds_moves;
+pub use part::holds_part;
 pub use parts::{
     holds_amounts, holds_causes, holds_customers, holds_devices, holds_entries, holds_heading,
     holds_marks, holds_nodes,

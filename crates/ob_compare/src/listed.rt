@@ -1,5 +1,6 @@
 //! The rows of a table against what stands at the places of a part of a book, one after another.
-ghost use Rattle.std.specs.Prelude.{◌≡◌, ◌↔◌, ◌<◌, ℕ, List, Option, Some, None, [], false, is_some, length, slice_index_or, IsTrue, IfOk, IfErr, OnOk, ◌∷◌};
+ghost use Rattle.std.specs.Prelude.{◌≡◌, ◌↔◌, ◌<◌, ℕ, List, Option, Some, None, []};
+ghost use Rattle.std.specs.Prelude.{false, is_some, length, slice_index_or, IsTrue, IfOk, IfErr, OnOk, ◌∷◌};
 ghost use Rattle.std.specs.List.Sorted.{IsStrictlySortedBy};
 ghost use Rattle.sqlite.specs.Order.{Row as ARow};
 ghost use Rattle.sqlite.specs.Held.{state};
@@ -72,11 +73,14 @@ fn goes_on<S: Alter, L: Listed>(rows: &mut Rows<'_, S>, listed: &L, at: usize) -
     ensures survives { Survives (state S.Store rows.old.conn.now) (state S.Store rows.new.conn.now) (λ _. ⊥) }
     ensures mode { rows.old.conn.now.in_transaction ≡ false → rows.new.conn.now.in_transaction ≡ false }
     ensures faults { IfErr result IsStoreFault }
-    ensures same { HasCleanDisk (state S.Store rows.new.conn.now) → OnOk result (IsTrue (state S.Store rows.old.conn.now).is_open
+    ensures same { HasCleanDisk (state S.Store rows.new.conn.now)
+        → OnOk result (IsTrue (state S.Store rows.old.conn.now).is_open
         → IsUnchanged (state S.Store rows.old.conn.now) (state S.Store rows.new.conn.now)) }
-    ensures goes { HasCleanDisk (state S.Store rows.new.conn.now) → IfOk result (λ is. (state S.Store rows.old.conn.now).now.schema ≡ book_schema
+    ensures goes { HasCleanDisk (state S.Store rows.new.conn.now) → IfOk result (λ is.
+        rows.old.conn.now.schema ≡ book_schema
         → (given : List ARow) → HasGiven S.Store (select_of L.table) [] rows.old.conn.now given
-        → Goes S.Store (listing_of L.table) is rows.new.conn.now given (standing (slice_index_or (L.places listed.now) at None ∷ []))) }
+        → Goes S.Store (listing_of L.table) is rows.new.conn.now given
+        (standing (slice_index_or (L.places listed.now) at None ∷ []))) }
 {
     if !listed.has_row(at) {
         return Ok(true);
@@ -94,10 +98,11 @@ fn follows<S: Alter, L: Listed>(rows: &mut Rows<'_, S>, listed: &L) -> Result<bo
     ensures survives { Survives (state S.Store rows.old.conn.now) (state S.Store rows.new.conn.now) (λ _. ⊥) }
     ensures mode { rows.old.conn.now.in_transaction ≡ false → rows.new.conn.now.in_transaction ≡ false }
     ensures faults { IfErr result IsStoreFault }
-    ensures same { HasCleanDisk (state S.Store rows.new.conn.now) → OnOk result (IsTrue (state S.Store rows.old.conn.now).is_open
+    ensures same { HasCleanDisk (state S.Store rows.new.conn.now)
+        → OnOk result (IsTrue (state S.Store rows.old.conn.now).is_open
         → IsUnchanged (state S.Store rows.old.conn.now) (state S.Store rows.new.conn.now)) }
-    ensures goes { HasCleanDisk (state S.Store rows.new.conn.now) → IfOk result (λ is. IsTrue (state S.Store rows.old.conn.now).is_open
-        → (state S.Store rows.old.conn.now).now.schema ≡ book_schema
+    ensures goes { HasCleanDisk (state S.Store rows.new.conn.now) → IfOk result (λ is.
+        IsTrue (state S.Store rows.old.conn.now).is_open → rows.old.conn.now.schema ≡ book_schema
         → (given : List ARow) → HasGiven S.Store (select_of L.table) [] rows.old.conn.now given
         → Goes S.Store (listing_of L.table) is rows.new.conn.now given (standing (L.places listed.now))) }
 {
@@ -116,10 +121,12 @@ fn matches<S: Alter, L: Listed>(rows: &mut Rows<'_, S>, listed: &L) -> Result<bo
     ensures survives { Survives (state S.Store rows.old.conn.now) (state S.Store rows.new.conn.now) (λ _. ⊥) }
     ensures mode { rows.old.conn.now.in_transaction ≡ false → rows.new.conn.now.in_transaction ≡ false }
     ensures faults { IfErr result IsStoreFault }
-    ensures same { HasCleanDisk (state S.Store rows.new.conn.now) → OnOk result (IsTrue (state S.Store rows.old.conn.now).is_open
+    ensures same { HasCleanDisk (state S.Store rows.new.conn.now)
+        → OnOk result (IsTrue (state S.Store rows.old.conn.now).is_open
         → IsUnchanged (state S.Store rows.old.conn.now) (state S.Store rows.new.conn.now)) }
-    ensures holds { HasCleanDisk (state S.Store rows.new.conn.now) → IfOk result (λ is. IsTrue (state S.Store rows.old.conn.now).is_open
-        → (state S.Store rows.old.conn.now).now.schema ≡ book_schema → HasGiven S.Store (select_of L.table) [] rows.old.conn.now []
+    ensures holds { HasCleanDisk (state S.Store rows.new.conn.now) → IfOk result (λ is.
+        IsTrue (state S.Store rows.old.conn.now).is_open → rows.old.conn.now.schema ≡ book_schema
+        → HasGiven S.Store (select_of L.table) [] rows.old.conn.now []
         → IsTrue is ↔ Shows (state S.Store rows.old.conn.now).now.trees L.table (standing (L.places listed.now))) }
 {
     if !follows(rows, listed)? {

@@ -1,5 +1,6 @@
 //! Each table against the part of a book that it holds.
-ghost use Rattle.std.specs.Prelude.{◌≡◌, [], ◌∷◌, ◌==◌, ◌↔◌, is_some, if◌then◌else◌, ◌<◌, ◌+◌, Some, IsTrue, length, map, slice_get};
+ghost use Rattle.std.specs.Prelude.{◌≡◌, [], ◌∷◌, ◌==◌, ◌↔◌, is_some, if◌then◌else◌};
+ghost use Rattle.std.specs.Prelude.{◌<◌, ◌+◌, Some, IsTrue, length, map, slice_get};
 ghost use Rattle.ob_tables.specs.declared.table.Table.{Table as ATable};
 ghost use Rattle.ob_commit.specs.Amounts.{all_keys, amount_rows};
 ghost use Rattle.ob_post.specs.Keys.{IsKey};
@@ -366,7 +367,8 @@ pub fn holds_devices<S: Alter>(
     ends: &[Ends],
 ) -> Result<bool, Stop>
     requires { ends.now ≡ ends_of net.now.network }
-    ensures { Compares S.Store ATable.Device (numbered row_of_device 0 net.now.network.devices) conn.old conn.new result }
+    ensures { Compares S.Store ATable.Device (numbered row_of_device 0 net.now.network.devices)
+        conn.old conn.new result }
 {
     holds(conn, &Devices { net, ends })
 }
