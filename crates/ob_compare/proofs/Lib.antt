@@ -1,7 +1,11 @@
+pub mod Asking
+pub mod Filing
+pub mod Headings
 pub mod Listing
 pub mod Order
 pub mod Rowing
 pub mod Same
+pub mod Standing
 mod Selects
 mod Places
 mod Rising

@@ -1,0 +1,132 @@
+//! The commands, read back from the rows of their table.
+ghost use Rattle.std.specs.Prelude.{◌≡◌, ◌≢◌, ◌↔◌, false, List, [], Some, IsTrue, IfOk, IfErr, OnOk};
+ghost use Rattle.sqlite.specs.Order.{Row as ARow};
+ghost use Rattle.sqlite.specs.Held.{state};
+ghost use Rattle.sqlite.specs.Given.{HasGiven};
+ghost use Rattle.sqlite.specs.State.{HasCleanDisk, IsUnchanged, Survives};
+ghost use Rattle.ob_tables.specs.Schema.{book_schema};
+ghost use Rattle.ob_tables.specs.Rows.{Columns};
+ghost use Rattle.ob_tables.specs.Steps.{IsStoreFault};
+ghost use Rattle.ob_tables.specs.declared.table.Table.{Table as ATable};
+ghost use Rattle.ob_record.specs.Tables.{Shows};
+ghost use Rattle.ob_compare.specs.declared.filed.Filed.{Filed as AFiled};
+ghost use Rattle.ob_compare.specs.Reading.{AreFiled, IsCommands, IsDue, IsFiled, IsReadFault, Stands};
+ghost use Rattle.ob_compare.specs.Reading.{bad_book, command_listing, row_of_filed};
+
+use crate::columns::{has_number, text_at};
+use crate::filed::Filed;
+use crate::listed::select_of;
+use crate::query::prepare;
+use crate::rows::{advance, is_over, stop_of};
+use ob_base::{Ref, Stop};
+use ob_book::MOST_COMMANDS;
+use ob_command::read_body;
+use ob_tables::Table;
+use sqlite::{Alter, Connection, Row, Rows};
+use std::alloc::Global;
+
+/// The command whose row it is, under this number.
+pub(crate) fn filed_in(row: &Row, no: u32) -> Option<Filed>
+    ensures { (f : AFiled) → (result ≡ Some f) ↔ (IsFiled f × (row.now ≡ row_of_filed no f)) }
+{
+    if row.column_count() != 3 || !has_number(row, 0, no) {
+        return None;
+    }
+    let reference = Ref::read(text_at(row, 1)?)?;
+    let command = read_body(text_at(row, 2)?)?;
+    Some(Filed { reference, command })
+}
+
+/// What stands next in the table of commands.
+enum Next {
+    /// The command whose number is due.
+    Due(Filed),
+    /// A row of none.
+    Other,
+    /// No row.
+    End,
+}
+
+/// What stands next, where this number is due.
+fn next_filed<S: Alter>(rows: &mut Rows<'_, S>, no: u32) -> Result<Next, Stop>
+    ensures same_reference { rows.new.conn.ghost_name ≡ rows.old.conn.ghost_name }
+    ensures survives { Survives (state S.Store rows.old.conn.now) (state S.Store rows.new.conn.now) (λ _. ⊥) }
+    ensures mode { rows.old.conn.now.in_transaction ≡ false → rows.new.conn.now.in_transaction ≡ false }
+    ensures faults { IfErr result IsStoreFault }
+    ensures valid { IfOk result IsDue }
+    ensures same { HasCleanDisk (state S.Store rows.new.conn.now)
+        → OnOk result (IsUnchanged (state S.Store rows.old.conn.now) (state S.Store rows.new.conn.now)) }
+    ensures stands { HasCleanDisk (state S.Store rows.new.conn.now) → IfOk result (λ next.
+        (state S.Store rows.old.conn.now).now.schema ≡ book_schema
+        → (given : List ARow) → HasGiven S.Store command_listing.text [] rows.old.conn.now given
+        → Stands S.Store no next rows.new.conn.now given) }
+{
+    advance(rows)?;
+    let Some(row) = rows.get() else {
+        return Ok(Next::End);
+    };
+    match filed_in(row, no) {
+        Some(filed) => Ok(Next::Due(filed)),
+        None => Ok(Next::Other),
+    }
+}
+
+/// The commands that the rows hold.
+fn filed_rows<S: Alter>(alloc: Global, rows: &mut Rows<'_, S>) -> Result<Option<Vec<Filed>>, Stop>
+    ensures same_reference { rows.new.conn.ghost_name ≡ rows.old.conn.ghost_name }
+    ensures survives { Survives (state S.Store rows.old.conn.now) (state S.Store rows.new.conn.now) (λ _. ⊥) }
+    ensures mode { rows.old.conn.now.in_transaction ≡ false → rows.new.conn.now.in_transaction ≡ false }
+    ensures faults { IfErr result IsStoreFault }
+    ensures valid { IfOk result AreFiled }
+    ensures same { HasCleanDisk (state S.Store rows.new.conn.now) → OnOk result
+        (IsTrue (state S.Store rows.old.conn.now).is_open
+        → IsUnchanged (state S.Store rows.old.conn.now) (state S.Store rows.new.conn.now)) }
+    ensures read { HasCleanDisk (state S.Store rows.new.conn.now) → IfOk result (λ found.
+        IsTrue (state S.Store rows.old.conn.now).is_open → (state S.Store rows.old.conn.now).now.schema ≡ book_schema
+        → HasGiven S.Store command_listing.text [] rows.old.conn.now []
+        → (shown : List Columns) → Shows (state S.Store rows.old.conn.now).now.trees ATable.Command shown
+        → IsCommands found shown) }
+{
+    let mut list = Vec::new(alloc);
+    'commands: for at in 0..MOST_COMMANDS {
+        match next_filed(rows, at + 1)? {
+            Next::Due(filed) => list.push(filed)?,
+            Next::Other => return Ok(None),
+            Next::End => return Ok(Some(list)),
+        }
+    }
+    if is_over(rows)? {
+        Ok(Some(list))
+    } else {
+        Ok(None)
+    }
+}
+
+/// The commands of the table `cmd`, by number; None where its rows aren't those of commands numbered from 1 under
+/// references, no more than a book takes.
+pub(crate) fn read_commands<S: Alter>(
+    alloc: Global,
+    conn: &mut Connection<S>,
+) -> Result<Option<Vec<Filed>>, Stop>
+    ensures mode { conn.old.in_transaction ≡ false → conn.new.in_transaction ≡ false }
+    ensures survives { conn.old.schema ≡ book_schema
+        → Survives (state S.Store conn.old) (state S.Store conn.new) (λ _. ⊥) }
+    ensures faults { IfErr result IsReadFault }
+    ensures valid { IfOk result AreFiled }
+    ensures foreign { HasCleanDisk (state S.Store conn.new)
+        → IfErr result (λ stop. stop ≡ bad_book → conn.old.schema ≢ book_schema) }
+    ensures same { HasCleanDisk (state S.Store conn.new) → OnOk result (conn.old.schema ≡ book_schema
+        → IsUnchanged (state S.Store conn.old) (state S.Store conn.new)) }
+    ensures read { HasCleanDisk (state S.Store conn.new) → IfOk result (λ found. conn.old.schema ≡ book_schema
+        → (rows : List Columns) → Shows (state S.Store conn.old).now.trees ATable.Command rows
+        → IsCommands found rows) }
+{
+    let statement = match prepare(conn, select_of(Table::Command)) {
+        Ok(statement) => statement,
+        Err(stop) => return Err(stop),
+    };
+    match conn.query_prepared(&statement, &[]) {
+        Ok(mut rows) => filed_rows(alloc, &mut rows),
+        Err(error) => Err(stop_of(error)),
+    }
+}

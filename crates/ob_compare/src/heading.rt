@@ -1,0 +1,92 @@
+//! The heading of a book, read back from its table.
+ghost use Rattle.std.specs.Prelude.{◌≡◌, ◌≢◌, false, List, IfOk, IfErr, OnOk};
+ghost use Rattle.sqlite.specs.Held.{state};
+ghost use Rattle.sqlite.specs.State.{HasCleanDisk, IsUnchanged, Survives};
+ghost use Rattle.ob_base.specs.Stop.{out_of_memory};
+ghost use Rattle.ob_tables.specs.Schema.{book_schema, no_schema};
+ghost use Rattle.ob_tables.specs.Rows.{Columns};
+ghost use Rattle.ob_tables.specs.declared.table.Table.{Table as ATable};
+ghost use Rattle.ob_record.specs.Tables.{Shows};
+ghost use Rattle.ob_compare.specs.Reading.{IsHeading, IsHeadingRow, IsMissed, IsReadFault, bad_book};
+
+use crate::columns::{has_number, small_at, text_at};
+use crate::listed::select_of;
+use crate::query::list_all;
+use ob_base::Stop;
+use ob_tables::Table;
+use sqlite::{Alter, Connection, Row};
+use std::alloc::Global;
+
+/// The row of `meta` of a book under the first version of its tables: the texts as they stand.
+#[derive(Drop)]
+pub struct Heading {
+    /// The text of the first day.
+    pub first_day: Vec<u8>,
+    /// The count of days.
+    pub days: u16,
+    /// The name of the time zone.
+    pub zone: Vec<u8>,
+}
+
+/// The heading that a row holds.
+fn heading_of(alloc: Global, row: &Row) -> Result<Option<Heading>, Stop>
+    ensures heading { IfOk result (λ found. IsHeadingRow found row.now) }
+    ensures err { IfErr result (λ stop. stop ≡ out_of_memory) }
+{
+    if row.column_count() != 5 || !has_number(row, 0, 1) || !has_number(row, 1, 1) {
+        return Ok(None);
+    }
+    let Some(first_day) = text_at(row, 2) else {
+        return Ok(None);
+    };
+    let Some(days) = small_at(row, 3) else {
+        return Ok(None);
+    };
+    let Some(zone) = text_at(row, 4) else {
+        return Ok(None);
+    };
+    let first_day = Vec::from_slice(alloc, first_day)?;
+    let zone = Vec::from_slice(alloc, zone)?;
+    Ok(Some(Heading {
+        first_day,
+        days,
+        zone,
+    }))
+}
+
+/// The heading, where there is one row and it holds one.
+fn heading_in(alloc: Global, rows: &[Row]) -> Result<Option<Heading>, Stop>
+    ensures heading { IfOk result (λ found. IsHeading found rows.now) }
+    ensures err { IfErr result (λ stop. stop ≡ out_of_memory) }
+{
+    if rows.len() != 1 {
+        return Ok(None);
+    }
+    heading_of(alloc, &rows[0])
+}
+
+/// The row of `meta`, where it is that of a book under the first version of its tables; None where `meta` holds
+/// anything else. A database without tables is refused as no book's.
+pub(crate) fn read_heading<S: Alter>(
+    alloc: Global,
+    conn: &mut Connection<S>,
+) -> Result<Option<Heading>, Stop>
+    ensures mode { conn.old.in_transaction ≡ false → conn.new.in_transaction ≡ false }
+    ensures survives { conn.old.schema ≡ book_schema
+        → Survives (state S.Store conn.old) (state S.Store conn.new) (λ _. ⊥) }
+    ensures faults { IfErr result IsReadFault }
+    ensures foreign { HasCleanDisk (state S.Store conn.new)
+        → IfErr result (λ stop. stop ≡ bad_book → conn.old.schema ≢ book_schema) }
+    ensures empty { conn.old.schema ≡ no_schema
+        → Survives (state S.Store conn.old) (state S.Store conn.new) (λ _. ⊥)
+        × (HasCleanDisk (state S.Store conn.new) → IsMissed (state S.Store conn.old) (state S.Store conn.new) result) }
+    ensures same { HasCleanDisk (state S.Store conn.new) → OnOk result (conn.old.schema ≡ book_schema
+        → IsUnchanged (state S.Store conn.old) (state S.Store conn.new)) }
+    ensures read { HasCleanDisk (state S.Store conn.new) → IfOk result (λ found. conn.old.schema ≡ book_schema
+        → (rows : List Columns) → Shows (state S.Store conn.old).now.trees ATable.Meta rows → IsHeading found rows) }
+{
+    match list_all(conn, select_of(Table::Meta)) {
+        Ok(rows) => heading_in(alloc, &rows),
+        Err(stop) => Err(stop),
+    }
+}

@@ -1,0 +1,70 @@
+//! Queries of the rows of a table.
+ghost use Rattle.std.specs.Prelude.{◌≡◌, ◌≢◌, false, IfOk, IfErr};
+ghost use Rattle.sqlite.specs.Held.{state};
+ghost use Rattle.sqlite.specs.State.{HasCleanDisk, IsUnchanged, Survives};
+ghost use Rattle.ob_base.specs.Stop.{out_of_memory};
+ghost use Rattle.ob_tables.specs.Schema.{book_schema};
+ghost use Rattle.ob_compare.specs.Listing.{Listing, IsListing, Lists};
+ghost use Rattle.ob_compare.specs.Reading.{HasNoMeaning, IsInputError, IsMissed, IsReadFault, bad_book};
+
+use crate::rows::stop_of;
+use ob_base::{Fault, Refusal, Stop};
+use sqlite::{Alter, Connection, Error, ErrorCode, Row, Statement};
+
+/// Why a text wasn't prepared: the tables lack what it names, as those of no book, or the store failed.
+fn unprepared(error: Error) -> Stop
+    ensures faults { IsReadFault result }
+    ensures foreign { result ≡ bad_book → IsInputError error }
+    ensures missed { IsInputError error → result ≡ bad_book }
+    ensures memory { error ≡ Error.SqliteFailure ErrorCode.OutOfMemory → result ≡ out_of_memory }
+{
+    match error {
+        Error::SqlInputError(_) => Stop::Refused(Refusal::BadBook),
+        Error::SqliteFailure(ErrorCode::OutOfMemory) => Stop::Fault(Fault::OutOfMemory),
+        _ => Stop::Fault(Fault::Store),
+    }
+}
+
+/// Prepares a query. It is refused where the tables lack what it names, as those of no book.
+pub(crate) fn prepare<S: Alter>(conn: &mut Connection<S>, sql: &str) -> Result<Statement, Stop>
+    ensures mode { conn.old.in_transaction ≡ false → conn.new.in_transaction ≡ false }
+    ensures survives { Survives (state S.Store conn.old) (state S.Store conn.new) (λ _. ⊥) }
+    ensures faults { IfErr result IsReadFault }
+    ensures foreign { HasCleanDisk (state S.Store conn.new) → IfErr result (λ stop. stop ≡ bad_book
+        → HasNoMeaning conn.old.schema sql.now × IsUnchanged (state S.Store conn.old) (state S.Store conn.new)) }
+    ensures missed { HasCleanDisk (state S.Store conn.new) → HasNoMeaning conn.old.schema sql.now
+        → IsMissed (state S.Store conn.old) (state S.Store conn.new) result }
+    ensures prepared { HasCleanDisk (state S.Store conn.new) → IfOk result (λ statement.
+        (statement.text ≡ sql.now) × IsUnchanged (state S.Store conn.old) (state S.Store conn.new)) }
+{
+    match conn.prepare(sql) {
+        Ok(statement) => Ok(statement),
+        Err(error) => Err(unprepared(error)),
+    }
+}
+
+/// All rows of a table, by rising key. It is for tables of a few rows.
+pub(crate) fn list_all<S: Alter>(conn: &mut Connection<S>, sql: &str) -> Result<Vec<Row>, Stop>
+    ensures mode { conn.old.in_transaction ≡ false → conn.new.in_transaction ≡ false }
+    ensures faults { IfErr result IsReadFault }
+    ensures foreign { HasCleanDisk (state S.Store conn.new) → IfErr result (λ stop. stop ≡ bad_book
+        → (l : Listing) → IsListing l → l.text ≡ sql.now → conn.old.schema ≢ book_schema) }
+    ensures missed { HasNoMeaning conn.old.schema sql.now
+        → Survives (state S.Store conn.old) (state S.Store conn.new) (λ _. ⊥)
+        × (HasCleanDisk (state S.Store conn.new) → IsMissed (state S.Store conn.old) (state S.Store conn.new) result) }
+    ensures survives { (l : Listing) → IsListing l → l.text ≡ sql.now → conn.old.schema ≡ book_schema
+        → Survives (state S.Store conn.old) (state S.Store conn.new) (λ _. ⊥) }
+    ensures listed { HasCleanDisk (state S.Store conn.new) → IfOk result (λ rows.
+        (l : Listing) → IsListing l → l.text ≡ sql.now → conn.old.schema ≡ book_schema
+        → Lists l (state S.Store conn.old).now rows.items
+        × IsUnchanged (state S.Store conn.old) (state S.Store conn.new)) }
+{
+    let statement = match prepare(conn, sql) {
+        Ok(statement) => statement,
+        Err(stop) => return Err(stop),
+    };
+    match statement.query_all(conn, &[]) {
+        Ok(rows) => Ok(rows),
+        Err(error) => Err(stop_of(error)),
+    }
+}
