@@ -75,6 +75,7 @@ module _ {S : Type 0} (g : Ghosts S) where
   pub record Compares (table : Table) (expected : List Columns) (old new : Held S) (result : Result Bool Stop) : Type 0 where
     pub mode : old.in_transaction ≡ false → new.in_transaction ≡ false
     pub survives : old.schema ≡ book_schema → Survives (state g old) (state g new) (λ _. ⊥)
+    pub clean : HasCleanDisk (state g new) → HasCleanDisk (state g old)
     pub faults : IfErr result IsStoreFault
     pub same : HasCleanDisk (state g new) → OnOk result (old.schema ≡ book_schema → IsUnchanged (state g old) (state g new))
     -- the table has just these rows, in some order

@@ -104,13 +104,14 @@ fn filed_rows<S: Alter>(alloc: Global, rows: &mut Rows<'_, S>) -> Result<Option<
 
 /// The commands of the table `cmd`, by number; None where its rows aren't those of commands numbered from 1 under
 /// references, no more than a book takes.
-pub(crate) fn read_commands<S: Alter>(
+pub fn read_commands<S: Alter>(
     alloc: Global,
     conn: &mut Connection<S>,
 ) -> Result<Option<Vec<Filed>>, Stop>
     ensures mode { conn.old.in_transaction ≡ false → conn.new.in_transaction ≡ false }
     ensures survives { conn.old.schema ≡ book_schema
         → Survives (state S.Store conn.old) (state S.Store conn.new) (λ _. ⊥) }
+    ensures clean { HasCleanDisk (state S.Store conn.new) → HasCleanDisk (state S.Store conn.old) }
     ensures faults { IfErr result IsReadFault }
     ensures valid { IfOk result AreFiled }
     ensures foreign { HasCleanDisk (state S.Store conn.new)

@@ -67,13 +67,14 @@ fn heading_in(alloc: Global, rows: &[Row]) -> Result<Option<Heading>, Stop>
 
 /// The row of `meta`, where it is that of a book under the first version of its tables; None where `meta` holds
 /// anything else. A database without tables is refused as no book's.
-pub(crate) fn read_heading<S: Alter>(
+pub fn read_heading<S: Alter>(
     alloc: Global,
     conn: &mut Connection<S>,
 ) -> Result<Option<Heading>, Stop>
     ensures mode { conn.old.in_transaction ≡ false → conn.new.in_transaction ≡ false }
     ensures survives { conn.old.schema ≡ book_schema
         → Survives (state S.Store conn.old) (state S.Store conn.new) (λ _. ⊥) }
+    ensures clean { HasCleanDisk (state S.Store conn.new) → HasCleanDisk (state S.Store conn.old) }
     ensures faults { IfErr result IsReadFault }
     ensures foreign { HasCleanDisk (state S.Store conn.new)
         → IfErr result (λ stop. stop ≡ bad_book → conn.old.schema ≢ book_schema) }

@@ -16,7 +16,8 @@ mod rows;
 
 pub use ends::Ends;
 pub use filed::Filed;
-pub use heading::Heading;
+pub use commands::read_commands;
+pub use heading::{Heading, read_heading};
 pub use moves::holds_moves;
 pub use part::holds_part;
 pub use parts::{

@@ -198,6 +198,7 @@ pub fn holds_moves<S: Alter, T: Timeline>(
     ensures mode { conn.old.in_transaction ≡ false → conn.new.in_transaction ≡ false }
     ensures survives { conn.old.schema ≡ book_schema
         → Survives (state S.Store conn.old) (state S.Store conn.new) (λ _. ⊥) }
+    ensures clean { HasCleanDisk (state S.Store conn.new) → HasCleanDisk (state S.Store conn.old) }
     ensures faults { IfErr result IsStoreFault }
     ensures same { HasCleanDisk (state S.Store conn.new) → OnOk result (conn.old.schema ≡ book_schema
         → IsUnchanged (state S.Store conn.old) (state S.Store conn.new)) }

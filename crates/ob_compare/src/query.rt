@@ -46,6 +46,7 @@ pub(crate) fn prepare<S: Alter>(conn: &mut Connection<S>, sql: &str) -> Result<S
 /// All rows of a table, by rising key. It is for tables of a few rows.
 pub(crate) fn list_all<S: Alter>(conn: &mut Connection<S>, sql: &str) -> Result<Vec<Row>, Stop>
     ensures mode { conn.old.in_transaction ≡ false → conn.new.in_transaction ≡ false }
+    ensures clean { HasCleanDisk (state S.Store conn.new) → HasCleanDisk (state S.Store conn.old) }
     ensures faults { IfErr result IsReadFault }
     ensures foreign { HasCleanDisk (state S.Store conn.new) → IfErr result (λ stop. stop ≡ bad_book
         → (l : Listing) → IsListing l → l.text ≡ sql.now → conn.old.schema ≢ book_schema) }

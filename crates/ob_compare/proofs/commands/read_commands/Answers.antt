@@ -60,3 +60,13 @@ returns-clause-survives g c has =
     let mid = state g.S.Store c.prepare.new.conn in
     let end = state g.S.Store c.query_prepared.follows.lender-at-none in
     listing_quiet command_listing (is_listing Command) old mid end c.in-Ok.statement.text (λ ready. let it = c.in-Ok.ensures.prepared ready in (it.0 ∙ c.select_of.ensures, it.1)) has c.prepare.ensures.survives (rw c.in-Err-query_prepared.is at c.query_prepared.follows.holds-at-none).survives
+
+pub returns-in-Ok-query_prepared-clause-clean : goal.returns-in-Ok-query_prepared-clause-clean
+returns-in-Ok-query_prepared-clause-clean g c clean =
+    let last = c.filed_rows.new.rows.conn.now in
+    let same : last ≡ c.conn-1.given.0 = search rules in
+    let late : HasCleanDisk (state g.S.Store last) = subst (λ x. HasCleanDisk (state g.S.Store x)) (sym same) clean in
+    omega (arith, c.prepare.ensures.survives.clean, c.in-Ok-query_prepared.ensures.survives.clean, c.filed_rows.ensures.survives.clean, late)
+
+pub returns-clause-clean : goal.returns-clause-clean
+returns-clause-clean g c clean = omega (arith, c.prepare.ensures.survives.clean, (rw c.in-Err-query_prepared.is at c.query_prepared.follows.holds-at-none).survives.clean, clean)

@@ -32,6 +32,7 @@ returns-in-Ok-query_prepared g c =
       survives = λ has.
           still_then old start last
           (still_then old mid start c.prepare.ensures.survives (quiet (listing_of t) (is_listing t) old mid start text ready has c.in-Ok-query_prepared.ensures.survives)) c.matches.ensures.survives;
+      clean = λ clean. omega (arith, c.prepare.ensures.survives.clean, c.in-Ok-query_prepared.ensures.survives.clean, c.matches.ensures.survives.clean, clean);
       faults = c.matches.ensures.faults;
       same = λ clean.
           on_ok c.matches.result (c.matches.ensures.same clean) (λ step has.
@@ -56,6 +57,7 @@ returns g c =
     record {
       mode = λ idle. refused.mode (c.prepare.ensures.mode idle);
       survives = λ has. still_then old mid end c.prepare.ensures.survives (quiet (listing_of t) (is_listing t) old mid end text ready has refused.survives);
+      clean = λ clean. omega (arith, c.prepare.ensures.survives.clean, refused.survives.clean, clean);
       faults = c.stop_of-in-Err-query_prepared.ensures;
       same = λ clean. tt;
       holds = λ clean. tt;
