@@ -4,3 +4,5 @@ pub mod Answering
 pub mod Accepting
 pub mod Answered
 pub mod Beginning
+pub mod Reading
+pub mod Naming

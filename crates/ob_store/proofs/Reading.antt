@@ -6,20 +6,55 @@ use Rattle.sqlite.specs.Tree.{Trees}
 use Rattle.sqlite.specs.Effect.{Database}
 use Rattle.sqlite.specs.Held.{Held, state}
 use Rattle.sqlite.specs.State.{State, HasCleanDisk, IsUnchanged, Survives}
-use Rattle.sqlite.proofs.StateLemmas.{survives_then}
-use Rattle.ob_base.specs.Stop.{out_of_memory}
+use Rattle.sqlite.proofs.Callers.{unchanged_then}
 use Rattle.ob_base.specs.declared.stop.Stop.{Stop}
 use Rattle.ob_tables.specs.Schema.{book_schema}
 use Rattle.ob_compare.specs.Reading.{IsReadFault, bad_book}
 use Rattle.ob_store.specs.Finding.{Finds}
 
+on_ok : {X E : Type 0} {P Q : Type 0} (r : Result X E) → OnOk r P → (P → Q) → OnOk r Q
+on_ok (Ok x) p f = f p
+on_ok (Err e) p f = p
+
+if_ok : {X E : Type 0} {P Q : X → Type 0} (r : Result X E) → IfOk r P → ((x : X) → P x → Q x) → IfOk r Q
+if_ok (Ok x) p f = f x p
+if_ok (Err e) p f = p
+
+if_err : {X E : Type 0} {P Q : E → Type 0} (r : Result X E) → IfErr r P → ((e : E) → P e → Q e) → IfErr r Q
+if_err (Ok x) p f = p
+if_err (Err e) p f = f e p
+
+-- a crash leaves no more than before
+pub no_more : (old new : State) → Survives old new (λ _. ⊥) → HasCleanDisk new → (trees : Trees) → new.may_leave trees → old.may_leave trees
+no_more old new survives clean trees may = elim (survives.crash clean trees may) [ inl was ↦ was | inr none ↦ absurd none ]
+
 module _ {S : Type 0} (g : Ghosts S) where
+  -- one reading after another
+  pub then_more : {X Z : Type 0} (Good : Trees → X → Type 0) (Bad : Trees → Type 0) (More : Trees → Z → Type 0) (Less : Trees → Type 0) (old mid new : Held S) (x : X) (r : Result Z Stop)
+      → Finds g Good Bad old mid (Ok x) → Finds g More Less mid new r → Finds g (λ trees z. Good trees x × More trees z) (λ trees. Good trees x × Less trees) old new r
+  then_more Good Bad More Less old mid new x r first second =
+      let at : HasCleanDisk (state g new) → old.schema ≡ book_schema → (IsUnchanged (state g old) (state g mid)) × (mid.schema ≡ book_schema) = λ clean schema.
+      let it = first.same (second.clean clean) schema in (it, ap (λ (d : Database). d.schema) it.0.now_is ∙ schema) in
+      let seen : HasCleanDisk (state g new) → old.schema ≡ book_schema → (state g mid).now ≡ (state g old).now = λ clean schema. (at clean schema).0.0.now_is in
+      record {
+        mode = λ idle. second.mode (first.mode idle);
+        clean = λ clean. first.clean (second.clean clean);
+        left = λ clean schema trees may. first.left (second.clean clean) schema trees (second.left clean (at clean schema).1 trees may);
+        faults = second.faults;
+        same = λ clean. on_ok r (second.same clean) (λ step schema. unchanged_then (state g old) (state g mid) (state g new) (at clean schema).0 (step (at clean schema).1));
+        good = λ clean. if_ok r (second.good clean) (λ z found schema.
+            (first.good (second.clean clean) schema, subst (λ (d : Database). More d.trees z) (seen clean schema) (found (at clean schema).1)));
+        bad = λ clean. if_err r (second.bad clean) (λ stop none is schema.
+            (first.good (second.clean clean) schema, subst (λ (d : Database). Less d.trees) (seen clean schema) (none is (at clean schema).1)));
+      }
+
   -- an error is one of whatever was looked for
   pub fails : {X Y : Type 0} (Good : Trees → X → Type 0) (Bad : Trees → Type 0) (Good' : Trees → Y → Type 0) (Bad' : Trees → Type 0) (old new : Held S) (stop : Stop) → ((trees : Trees) → Bad trees → Bad' trees)
       → Finds g Good Bad old new (Err stop) → Finds g Good' Bad' old new (Err stop)
   fails Good Bad Good' Bad' old new stop worse it = record {
     mode = it.mode;
-    survives = it.survives;
+    clean = it.clean;
+    left = it.left;
     faults = it.faults;
     same = it.same;
     good = λ clean. tt;
@@ -31,7 +66,8 @@ module _ {S : Type 0} (g : Ghosts S) where
     pub then_fault : (stop : Stop) → IsReadFault stop → stop ≢ bad_book → Finds g Good' Bad' old mid (Err stop)
     then_fault stop fault other = record {
       mode = first.mode;
-      survives = first.survives;
+      clean = first.clean;
+      left = first.left;
       faults = fault;
       same = λ clean. tt;
       good = λ clean. tt;
@@ -42,7 +78,8 @@ module _ {S : Type 0} (g : Ghosts S) where
     pub then_bad : ((trees : Trees) → Good trees x → Bad' trees) → Finds g Good' Bad' old mid (Err bad_book)
     then_bad none = record {
       mode = first.mode;
-      survives = first.survives;
+      clean = first.clean;
+      left = first.left;
       faults = inr refl;
       same = λ clean. tt;
       good = λ clean. tt;
@@ -53,18 +90,39 @@ module _ {S : Type 0} (g : Ghosts S) where
     pub then_good : (y : Y) → ((trees : Trees) → Good trees x → Good' trees y) → Finds g Good' Bad' old mid (Ok y)
     then_good y found = record {
       mode = first.mode;
-      survives = first.survives;
+      clean = first.clean;
+      left = first.left;
       faults = tt;
       same = first.same;
       good = λ clean schema. found (state g old).now.trees (first.good clean schema);
       bad = λ clean. tt;
     }
 
-    -- and then more was read
-    module _ {Z : Type 0} (More : Trees → Z → Type 0) (Less : Trees → Type 0) (new : Held S) where
-      start : Survives (state g mid) (state g new) (λ _. ⊥) → HasCleanDisk (state g new) → old.schema ≡ book_schema → IsUnchanged (state g old) (state g mid)
-      start second clean schema = first.same (omega (arith, second.clean, clean)) schema
 
-      -- the schema after the first reading, on a disk that may have failed, isn't known; so it is asked of the code
-      pub then_read : (mid.schema ≡ old.schema) → (r : Result Z Stop) → Finds g More Less mid new r → (r' : Result Y Stop) → (IsErrOf r r') → ((trees : Trees) → Good trees x → Less trees → Bad' trees) → Finds g Good' Bad' old new r'
-      then_read = ?
+module _ {S : Type 0} (g : Ghosts S) {X : Type 0} (Good : Trees → X → Type 0) (Bad : Trees → Type 0) (old new : Held S) where
+  -- a reading that answered
+  pub read_ok : (x : X) → (old.in_transaction ≡ false → new.in_transaction ≡ false) → (old.schema ≡ book_schema → Survives (state g old) (state g new) (λ _. ⊥)) → (HasCleanDisk (state g new) → HasCleanDisk (state g old))
+      → (HasCleanDisk (state g new) → old.schema ≡ book_schema → IsUnchanged (state g old) (state g new)) → (HasCleanDisk (state g new) → old.schema ≡ book_schema → Good (state g old).now.trees x)
+      → Finds g Good Bad old new (Ok x)
+  read_ok x mode survives clean same good = record {
+    mode = mode;
+    clean = clean;
+    left = λ is schema. no_more (state g old) (state g new) (survives schema) is;
+    faults = tt;
+    same = same;
+    good = good;
+    bad = λ is. tt;
+  }
+
+  -- a reading that failed, or found the tables of no book
+  pub read_err : (stop : Stop) → (old.in_transaction ≡ false → new.in_transaction ≡ false) → (old.schema ≡ book_schema → Survives (state g old) (state g new) (λ _. ⊥)) → (HasCleanDisk (state g new) → HasCleanDisk (state g old))
+      → IsReadFault stop → (HasCleanDisk (state g new) → stop ≡ bad_book → old.schema ≢ book_schema) → Finds g Good Bad old new (Err stop)
+  read_err stop mode survives clean fault foreign = record {
+    mode = mode;
+    clean = clean;
+    left = λ is schema. no_more (state g old) (state g new) (survives schema) is;
+    faults = fault;
+    same = λ is. tt;
+    good = λ is. tt;
+    bad = λ is bad schema. absurd (foreign is bad schema);
+  }

@@ -1,10 +1,10 @@
 -- What the tables of a database say of a book.
-use Rattle.std.specs.Prelude.{◌≡◌, ◌≢◌, ◌⊎◌, ◌<◌, ◌≤◌, ℕ, [], ◌∷◌, false, List, length, Option, Some, None, Result, IsTrue, IfOk, IfErr, OnOk}
+use Rattle.std.specs.Prelude.{◌≡◌, ◌<◌, ℕ, [], ◌∷◌, ◌≤◌, length, false, List, Option, Some, None, Result, IsTrue, IfOk, IfErr, OnOk}
 use Rattle.std.specs.List.{AllByRecursion}
 use Rattle.sqlite_trees.specs.declared.store.Store.{Ghosts}
 use Rattle.sqlite.specs.Tree.{Trees}
 use Rattle.sqlite.specs.Held.{Held, state}
-use Rattle.sqlite.specs.State.{HasCleanDisk, IsUnchanged, Survives}
+use Rattle.sqlite.specs.State.{HasCleanDisk, IsUnchanged}
 use Rattle.ob_base.specs.declared.stop.Stop.{Stop}
 use Rattle.ob_book.specs.Acts.{ActState}
 use Rattle.ob_tables.specs.Creation.{before}
@@ -13,19 +13,29 @@ use Rattle.ob_tables.specs.declared.table.Table.{Table}
 use Rattle.ob_tables.specs.declared.table.Table.TheVariants.{Meta, Command}
 use Rattle.ob_record.specs.Reached.{IsReached}
 use Rattle.ob_record.specs.Tables.{Shows, tables_of}
-use Rattle.ob_compare.specs.Reading.{IsReadFault, IsReferenced, bad_book}
+use Rattle.ob_compare.specs.Reading.{IsReadFault, IsReferenced, bad_book, command_rows}
+use Rattle.ob_compare.specs.Listing.{filed_of}
+use Rattle.ob_tables.specs.Rows.{meta_row}
+use Rattle.ob_store.specs.declared.named.Named.{Named}
 
 -- the heading and the commands in these trees are those of the book, which its commands lead to
 pub record IsBookOf (trees : Trees) (b : ActState) : Type 0 where
   pub reached : IsReached b
-  -- what references and commands always are
+  -- what references and commands always are, and how many a book takes
   pub valid : AllByRecursion IsReferenced b.accepted
+  pub few : length b.accepted ≤ 1_000_000
   pub heading : Shows trees Meta (tables_of b Meta)
   pub commands : Shows trees Command (tables_of b Command)
 
 -- they are those of no book
 abbrev pub HasNoBook : Trees → Type 0
 HasNoBook trees = (b : ActState) → ¬ (IsBookOf trees b)
+
+-- these are the heading and the commands in the trees
+pub record IsNamed (trees : Trees) (it : Named) : Type 0 where
+  pub heading : Shows trees Meta (meta_row 1 it.heading.first_day.items it.heading.days it.heading.zone.items ∷ [])
+  pub commands : Shows trees Command (command_rows (filed_of it.commands.items))
+  pub valid : AllByRecursion IsReferenced (filed_of it.commands.items)
 
 -- each table has the rows of the book; or this is the first that hasn't
 abbrev pub Differs : Trees → ActState → Option Table → Type 0
@@ -39,7 +49,10 @@ module _ {S : Type 0} (g : Ghosts S) where
   -- they aren't
   pub record Finds {X : Type 0} (Good : Trees → X → Type 0) (Bad : Trees → Type 0) (old new : Held S) (result : Result X Stop) : Type 0 where
     pub mode : old.in_transaction ≡ false → new.in_transaction ≡ false
-    pub survives : old.schema ≡ book_schema → Survives (state g old) (state g new) (λ _. ⊥)
+    pub clean : HasCleanDisk (state g new) → HasCleanDisk (state g old)
+    -- a crash leaves no more than before
+    pub left : HasCleanDisk (state g new) → old.schema ≡ book_schema → (trees : Trees) → (state g new).may_leave trees
+        → (state g old).may_leave trees
     pub faults : IfErr result IsReadFault
     pub same : HasCleanDisk (state g new) → OnOk result (old.schema ≡ book_schema → IsUnchanged (state g old) (state g new))
     pub good : HasCleanDisk (state g new) → IfOk result (λ x. old.schema ≡ book_schema → Good (state g old).now.trees x)

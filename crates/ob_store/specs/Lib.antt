@@ -2,3 +2,4 @@ pub mod Keeping
 pub mod Acting
 pub mod Replying
 pub mod Creating
+pub mod Finding
