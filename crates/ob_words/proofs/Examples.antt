@@ -27,16 +27,18 @@ table_of_the_default_book : job_of (codes "outagebook" ∷ codes "table" ∷ [])
 unfolding defaults_fault walk_fault walked
 table_of_the_default_book = refl
 
-audit_of_a_book : job_of (codes "outagebook" ∷ codes "audit" ∷ codes "--book" ∷ codes "a.db" ∷ []) ≡ Some (Audit (codes "a.db"))
+audit_of_a_book : job_of (codes "outagebook" ∷ codes "audit" ∷ codes "--book" ∷ codes "a.db" ∷ [])
+    ≡ Some (Audit (codes "a.db"))
 unfolding defaults_fault walk_fault walked
 audit_of_a_book = refl
 
--- `init` over 31 days from 2026-01-01, with these words after them
+-- `init` from 2026-01-01 for these days, with these words after them
 abbrev init_words : Text → List Text → List Text
 init_words days rest =
     codes "outagebook" ∷ codes "init" ∷ codes "--first" ∷ codes "2026-01-01" ∷ codes "--days" ∷ days ∷ rest
 
-init_is_a_job : job_of (init_words (codes "31") (codes "--zone=EST5" ∷ [])) ≡ Some (Init (codes "book.db") (codes "2026-01-01") 31 (codes "EST5"))
+init_is_a_job : job_of (init_words (codes "31") (codes "--zone=EST5" ∷ []))
+    ≡ Some (Init (codes "book.db") (codes "2026-01-01") 31 (codes "EST5"))
 unfolding defaults_fault walk_fault walked
 init_is_a_job = refl
 
@@ -44,6 +46,7 @@ init_wants_a_zone : errors_of (init_words (codes "31") []) ≡ kind.MissingRequi
 unfolding defaults_fault walk_fault walked
 init_wants_a_zone = refl
 
-init_is_of_65535_days_at_most : errors_of (init_words (codes "65536") (codes "--zone=EST5" ∷ [])) ≡ kind.ValueValidation ∷ []
+init_is_of_65535_days_at_most : errors_of (init_words (codes "65536") (codes "--zone=EST5" ∷ []))
+    ≡ kind.ValueValidation ∷ []
 unfolding defaults_fault walk_fault walked
 init_is_of_65535_days_at_most = refl
