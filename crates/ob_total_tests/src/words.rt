@@ -2,20 +2,20 @@
 use ob_words::{Job, WrongWords, read_words};
 use std::alloc::Global;
 
-// Whether words are refused, and the usage is told.
-fn are_refused(alloc: Global, words: &[&str]) -> bool {
+// Whether words are refused, and this is told.
+fn are_refused(alloc: Global, words: &[&str], told: &str) -> bool {
     match read_words(alloc, words) {
-        Err(WrongWords::Wrong(text)) => text.contains("Usage: outagebook"),
+        Err(WrongWords::Wrong(text)) => text.contains(told),
         Err(WrongWords::Help(_text)) => false,
         Err(WrongWords::Fault(_fault)) => false,
         Ok(_job) => false,
     }
 }
 
-// Whether words ask for help, which names `total`.
-fn show_total(alloc: Global, words: &[&str]) -> bool {
+// Whether words ask for help, and this is told.
+fn show(alloc: Global, words: &[&str], told: &str) -> bool {
     match read_words(alloc, words) {
-        Err(WrongWords::Help(text)) => text.contains("total"),
+        Err(WrongWords::Help(text)) => text.contains(told),
         Err(WrongWords::Wrong(_text)) => false,
         Err(WrongWords::Fault(_fault)) => false,
         Ok(_job) => false,
@@ -25,7 +25,46 @@ fn show_total(alloc: Global, words: &[&str]) -> bool {
 // Whether words name the job `total`.
 fn name_total(alloc: Global, words: &[&str]) -> bool {
     match read_words(alloc, words) {
-        Ok(job) => job == Job::Total,
+        Ok(job) => matches!(&job, Job::Total),
+        Err(_wrong) => false,
+    }
+}
+
+// Whether words name the job `init` of this book, from 2026-01-01, for these days, in EST5.
+fn name_init(alloc: Global, words: &[&str], file: &str, number: u16) -> bool {
+    match read_words(alloc, words) {
+        Ok(
+            Job::Init {
+                book,
+                first,
+                days,
+                zone,
+            },
+        ) => {
+            book.as_str() == file
+                && first.as_str() == "2026-01-01"
+                && days == number
+                && zone.as_str() == "EST5"
+        }
+        Ok(_job) => false,
+        Err(_wrong) => false,
+    }
+}
+
+// Whether words name the job `table` of this book.
+fn name_table(alloc: Global, words: &[&str], file: &str) -> bool {
+    match read_words(alloc, words) {
+        Ok(Job::Table { book }) => book.as_str() == file,
+        Ok(_job) => false,
+        Err(_wrong) => false,
+    }
+}
+
+// Whether words name the job `audit` of this book.
+fn name_audit(alloc: Global, words: &[&str], file: &str) -> bool {
+    match read_words(alloc, words) {
+        Ok(Job::Audit { book }) => book.as_str() == file,
+        Ok(_job) => false,
         Err(_wrong) => false,
     }
 }
@@ -36,24 +75,126 @@ fn reads_total(rt: HostRuntime) {
 }
 
 #[test]
+fn reads_init(rt: HostRuntime) {
+    let alloc = rt.alloc();
+    let of_default = &[
+        "outagebook",
+        "init",
+        "--first",
+        "2026-01-01",
+        "--days",
+        "31",
+        "--zone",
+        "EST5",
+    ];
+    let of_a_file = &[
+        "outagebook",
+        "init",
+        "--zone=EST5",
+        "--days=65535",
+        "--book=a.db",
+        "--first=2026-01-01",
+    ];
+    assert!(rt; name_init(alloc, of_default, "book.db", 31));
+    assert!(rt; name_init(alloc, of_a_file, "a.db", 65_535));
+}
+
+#[test]
+fn reads_table_and_audit(rt: HostRuntime) {
+    let alloc = rt.alloc();
+    assert!(rt; name_table(alloc, &["outagebook", "table"], "book.db"));
+    assert!(rt;
+        name_table(
+            alloc,
+            &["outagebook", "table", "--book", "a b.db"],
+            "a b.db"
+        )
+    );
+    assert!(rt; name_audit(alloc, &["outagebook", "audit"], "book.db"));
+    assert!(rt; name_audit(alloc, &["outagebook", "audit", "--book=büch.db"], "büch.db"));
+}
+
+#[test]
 fn refuses_words(rt: HostRuntime) {
     let alloc = rt.alloc();
-    assert!(rt; are_refused(alloc, &[]));
-    assert!(rt; are_refused(alloc, &["outagebook"]));
-    assert!(rt; are_refused(alloc, &["outagebook", ""]));
-    assert!(rt; are_refused(alloc, &["outagebook", "totals"]));
-    assert!(rt; are_refused(alloc, &["outagebook", "total", "more"]));
-    assert!(rt; are_refused(alloc, &["outagebook", "total", "--fast"]));
-    assert!(rt; are_refused(alloc, &["outagebook", "--fast", "total"]));
-    assert!(rt; are_refused(alloc, &["outagebook", "--version"]));
+    let usage = "Usage: outagebook";
+    assert!(rt; are_refused(alloc, &[], usage));
+    assert!(rt; are_refused(alloc, &["outagebook"], usage));
+    assert!(rt; are_refused(alloc, &["outagebook", ""], usage));
+    assert!(rt; are_refused(alloc, &["outagebook", "totals"], usage));
+    assert!(rt; are_refused(alloc, &["outagebook", "total", "more"], usage));
+    assert!(rt; are_refused(alloc, &["outagebook", "total", "--fast"], usage));
+    assert!(rt; are_refused(alloc, &["outagebook", "--fast", "total"], usage));
+    assert!(rt; are_refused(alloc, &["outagebook", "--version"], usage));
+    assert!(rt; are_refused(alloc, &["outagebook", "--book=a.db", "table"], usage));
+    assert!(rt; are_refused(alloc, &["outagebook", "table", "a.db"], usage));
+    assert!(rt; are_refused(alloc, &["outagebook", "audit", "--days=1"], usage));
+    assert!(rt;
+        are_refused(
+            alloc,
+            &["outagebook", "table", "--book=a", "--book=b"],
+            "--book <FILE>"
+        )
+    );
+    assert!(rt; are_refused(alloc, &["outagebook", "table", "--book"], "--book <FILE>"));
+}
+
+// The words of an `init` without one of its options.
+const NO_FIRST: &[&str] = &["outagebook", "init", "--days=1", "--zone=EST5"];
+
+const NO_DAYS: &[&str] = &["outagebook", "init", "--first=2026-01-01", "--zone=EST5"];
+
+const NO_ZONE: &[&str] = &["outagebook", "init", "--first=2026-01-01", "--days=1"];
+
+#[test]
+fn refuses_an_init_without_an_option(rt: HostRuntime) {
+    let alloc = rt.alloc();
+    assert!(rt; are_refused(alloc, NO_FIRST, "--first <DATE>"));
+    assert!(rt; are_refused(alloc, NO_DAYS, "--days <N>"));
+    assert!(rt; are_refused(alloc, NO_ZONE, "--zone <TEXT>"));
+    assert!(rt; are_refused(alloc, &["outagebook", "init"], "--first <DATE>"));
+}
+
+// Whether an `init` of days written so is refused, and this is told.
+fn refused_days(alloc: Global, days: &str, told: &str) -> bool {
+    let words = &[
+        "outagebook",
+        "init",
+        "--first=2026-01-01",
+        "--zone=EST5",
+        "--days",
+        days,
+    ];
+    are_refused(alloc, words, told)
+}
+
+#[test]
+fn refuses_days_that_are_no_number_of_days(rt: HostRuntime) {
+    let alloc = rt.alloc();
+    assert!(rt; refused_days(alloc, "65536", "65536 is not in 0..=65535"));
+    assert!(rt; refused_days(alloc, "x", "invalid value 'x' for '--days <N>'"));
+    assert!(rt; refused_days(alloc, "", "--days <N>"));
+    assert!(rt; refused_days(alloc, "1.5", "invalid value '1.5' for '--days <N>'"));
+    assert!(rt; refused_days(alloc, "-1", "unexpected argument '-1'"));
 }
 
 #[test]
 fn shows_help(rt: HostRuntime) {
     let alloc = rt.alloc();
-    assert!(rt; show_total(alloc, &["outagebook", "--help"]));
-    assert!(rt; show_total(alloc, &["outagebook", "-h"]));
-    assert!(rt; show_total(alloc, &["outagebook", "help"]));
-    assert!(rt; show_total(alloc, &["outagebook", "help", "total"]));
-    assert!(rt; show_total(alloc, &["outagebook", "total", "--help"]));
+    assert!(rt; show(alloc, &["outagebook", "--help"], "total"));
+    assert!(rt; show(alloc, &["outagebook", "--help"], "init"));
+    assert!(rt; show(alloc, &["outagebook", "-h"], "table"));
+    assert!(rt; show(alloc, &["outagebook", "help"], "audit"));
+    assert!(rt; show(alloc, &["outagebook", "help", "total"], "total"));
+    assert!(rt; show(alloc, &["outagebook", "total", "--help"], "total"));
+    assert!(rt; show(alloc, &["outagebook", "init", "--help"], "--days <N>"));
+    assert!(rt; show(alloc, &["outagebook", "help", "init"], "--zone <TEXT>"));
+    assert!(rt;
+        show(
+            alloc,
+            &["outagebook", "table", "--help"],
+            "[default: book.db]"
+        )
+    );
+    assert!(rt; show(alloc, &["outagebook", "audit", "-h"], "--book <FILE>"));
 }

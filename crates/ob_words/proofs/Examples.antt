@@ -1,10 +1,11 @@
 -- Examples of the definitions, computed.
-use Rattle.std.proofs.Common.{◌≡◌, [], ◌∷◌, Some, None, codes, refl}
+use Rattle.std.proofs.Common.{◌≡◌, List, [], ◌∷◌, Some, None, codes, refl}
 use Rattle.clap.specs.Faults.{defaults_fault, walk_fault}
 use Rattle.clap.specs.Walk.{walked}
+use Rattle.clap.specs.Words.{Text}
 use Rattle.clap.specs.declared.error.kind.ErrorKind.TheVariants as kind
 use Rattle.ob_words.specs.Jobs.{errors_of, job_of}
-use Rattle.ob_words.specs.declared.job.Job.TheVariants.{Total}
+use Rattle.ob_words.specs.declared.job.Job.TheVariants.{Total, Init, Table, Audit}
 
 total_is_a_job : job_of (codes "outagebook" ∷ codes "total" ∷ []) ≡ Some Total
 unfolding defaults_fault walk_fault walked
@@ -21,3 +22,31 @@ another_word_is_no_job = refl
 total_asks_for_help : errors_of (codes "outagebook" ∷ codes "total" ∷ codes "--help" ∷ []) ≡ kind.DisplayHelp ∷ []
 unfolding defaults_fault walk_fault walked
 total_asks_for_help = refl
+
+table_of_the_default_book : job_of (codes "outagebook" ∷ codes "table" ∷ []) ≡ Some (Table (codes "book.db"))
+unfolding defaults_fault walk_fault walked
+table_of_the_default_book = refl
+
+audit_of_a_book : job_of (codes "outagebook" ∷ codes "audit" ∷ codes "--book" ∷ codes "a.db" ∷ [])
+    ≡ Some (Audit (codes "a.db"))
+unfolding defaults_fault walk_fault walked
+audit_of_a_book = refl
+
+-- `init` from 2026-01-01 for these days, with these words after them
+abbrev init_words : Text → List Text → List Text
+init_words days rest =
+    codes "outagebook" ∷ codes "init" ∷ codes "--first" ∷ codes "2026-01-01" ∷ codes "--days" ∷ days ∷ rest
+
+init_is_a_job : job_of (init_words (codes "31") (codes "--zone=EST5" ∷ []))
+    ≡ Some (Init (codes "book.db") (codes "2026-01-01") 31 (codes "EST5"))
+unfolding defaults_fault walk_fault walked
+init_is_a_job = refl
+
+init_wants_a_zone : errors_of (init_words (codes "31") []) ≡ kind.MissingRequiredArgument ∷ []
+unfolding defaults_fault walk_fault walked
+init_wants_a_zone = refl
+
+init_is_of_65535_days_at_most : errors_of (init_words (codes "65536") (codes "--zone=EST5" ∷ []))
+    ≡ kind.ValueValidation ∷ []
+unfolding defaults_fault walk_fault walked
+init_is_of_65535_days_at_most = refl

@@ -62,13 +62,13 @@ pub matched_is_job : (a : App) (words : List Text) (Rows : Type 0) (found : Opti
     (job : Option Job) → a ≡ outagebook_app
     → (is_simple_and_free a ≡ true → fault_of a words ≡ [])
     → (is_simple a ≡ true → Rows × (found ≡ subcommand_of a words))
-    → job ≡ option_and_then (λ p. job_named p.0) found → job_of words ≡ job
+    → job ≡ option_and_then job_named found → job_of words ≡ job
 matched_is_job a words Rows found job is_app kinds matches job_is =
     let found_is = (matches (ap is_simple is_app ∙ is_simple_app)).1
     ∙ ap (λ x. subcommand_of x words) is_app in
-    ap (λ ks. where_matched ks (option_and_then (λ p. job_named p.0) (subcommand_of outagebook_app words)))
+    ap (λ ks. where_matched ks (option_and_then job_named (subcommand_of outagebook_app words)))
     (no_errors a words is_app kinds)
-    ∙ sym (job_is ∙ ap (option_and_then (λ p. job_named p.0)) found_is)
+    ∙ sym (job_is ∙ ap (option_and_then job_named) found_is)
 
 not_empty : (k : ErrorKind) → [] ≢ k ∷ []
 not_empty k e = cc

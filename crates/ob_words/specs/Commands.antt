@@ -1,10 +1,53 @@
 -- The command line: each subcommand with its options, as `clap` reads them.
-use Rattle.std.specs.Prelude.{List, [], ◌∷◌, true, codes}
-use Rattle.clap.specs.Words.{App, new_app, with_subcommand}
+use Rattle.std.specs.Prelude.{List, [], ◌∷◌, Some, true, codes, pos}
+use Rattle.clap.specs.Words.{App, Rule, Text, new_app, new_rule, with_rule, with_subcommand}
+use Rattle.clap.specs.declared.builder.value_parser.ValueParser.TheVariants as parser
+
+-- an option with one value, `--name VALUE`
+abbrev pub option_rule : Text → Rule
+option_rule name = record (new_rule name) { long = Some name; value_names = 1 }
+
+-- one that must be given
+abbrev pub required_rule : Text → Rule
+required_rule name = record (option_rule name) { required = true }
+
+-- one that must be given, whose value is a number of 16 bits
+abbrev pub number_rule : Text → Rule
+number_rule name = record (required_rule name) { parser = Some (parser.Signed (pos 0) (pos 65535)) }
+
+-- the book that the program works on where the words name none
+abbrev pub default_book : Text
+default_book = codes "book.db"
+
+-- `--book FILE`
+abbrev pub book_rule : Rule
+book_rule = record (option_rule (codes "book")) { defaults = default_book ∷ [] }
+
+-- a command with these options, in their order
+abbrev pub with_rules : App → List Rule → App
+with_rules a [] = a
+with_rules a (r ∷ rest) = with_rules (with_rule a r) rest
+
+-- a subcommand that works on a book
+abbrev pub over_book : Text → App
+over_book name = with_rule (new_app name) book_rule
 
 -- `total`, without options
 abbrev pub total_app : App
 total_app = new_app (codes "total")
+
+-- `init --book FILE --first DATE --days N --zone TEXT`
+abbrev pub init_app : App
+init_app = with_rules (over_book (codes "init"))
+    (required_rule (codes "first") ∷ number_rule (codes "days") ∷ required_rule (codes "zone") ∷ [])
+
+-- `table --book FILE`
+abbrev pub table_app : App
+table_app = over_book (codes "table")
+
+-- `audit --book FILE`
+abbrev pub audit_app : App
+audit_app = over_book (codes "audit")
 
 -- the program's own command, which needs a subcommand
 abbrev pub bare_app : App
@@ -18,4 +61,4 @@ with_subcommands a (s ∷ rest) = with_subcommands (with_subcommand a s.top) res
 
 -- the command line of the program
 abbrev pub outagebook_app : App
-outagebook_app = with_subcommands bare_app (total_app ∷ [])
+outagebook_app = with_subcommands bare_app (total_app ∷ init_app ∷ table_app ∷ audit_app ∷ [])

@@ -1,19 +1,37 @@
 -- The job that a list of words names, and the reason where they name none.
 use Rattle.std.specs.Prelude.{◌≡◌, ◌≢◌, ℕ, List, [], ◌∷◌, Option, Some, None, codes, if◌then◌else◌, option_and_then}
 use Rattle.std.specs.Str.{bytes_eq}
-use Rattle.clap.specs.Words.{IsAmong, Kinds, Text, fault_of, subcommand_of}
+use Rattle.clap.specs.Words.{IsAmong, Kinds, Row, Text, fault_of, subcommand_of}
 use Rattle.clap.specs.declared.error.kind.ErrorKind.{ErrorKind}
 use Rattle.clap.specs.declared.error.kind.ErrorKind.TheVariants as kind
 use Rattle.ob_base.specs.declared.stop.Fault.TheVariants.{OutOfMemory}
 use Rattle.ob_words.specs.Commands.{outagebook_app}
+use Rattle.ob_words.specs.Values.{with_number, with_word}
 use Rattle.ob_words.specs.declared.job.Job.{Job}
-use Rattle.ob_words.specs.declared.job.Job.TheVariants.{Total}
+use Rattle.ob_words.specs.declared.job.Job.TheVariants.{Total, Init, Table, Audit}
 use Rattle.ob_words.specs.declared.read.WrongWords.{WrongWords}
 use Rattle.ob_words.specs.declared.read.WrongWords.TheVariants as wrong
 
--- the job of a subcommand's name
-abbrev pub job_named : Text → Option Job
-job_named name = if bytes_eq name (codes "total") then Some Total else None
+-- the job of each subcommand, of the values that its options were given
+abbrev pub init_job : List Row → Option Job
+init_job rows = with_word (codes "book") rows (λ book. with_word (codes "first") rows (λ first.
+    with_number (codes "days") rows (λ days. with_word (codes "zone") rows (λ zone.
+    Some (Init book first days zone)))))
+
+abbrev pub table_job : List Row → Option Job
+table_job rows = with_word (codes "book") rows (λ book. Some (Table book))
+
+abbrev pub audit_job : List Row → Option Job
+audit_job rows = with_word (codes "book") rows (λ book. Some (Audit book))
+
+-- the job of a subcommand's name and of the values that were found for it
+abbrev pub job_named : Text × List Row → Option Job
+job_named p =
+    if bytes_eq p.0 (codes "total") then Some Total
+    else if bytes_eq p.0 (codes "init") then init_job p.1
+    else if bytes_eq p.0 (codes "table") then table_job p.1
+    else if bytes_eq p.0 (codes "audit") then audit_job p.1
+    else None
 
 -- the errors that the words may give, as `clap` reads them: none where it matches them
 abbrev pub errors_of : List Text → Kinds
@@ -24,10 +42,10 @@ abbrev pub where_matched : Kinds → Option Job → Option Job
 where_matched [] job = job
 where_matched (k ∷ ks) job = None
 
--- the job that the words name: that of their subcommand, where `clap` matches the words
+-- the job that the words name: that of their subcommand and its options, where `clap` matches the words
 abbrev pub job_of : List Text → Option Job
-job_of words = where_matched (errors_of words)
-    (option_and_then (λ p. job_named p.0) (subcommand_of outagebook_app words))
+job_of words =
+    where_matched (errors_of words) (option_and_then job_named (subcommand_of outagebook_app words))
 
 -- why the words give no job: help comes only where it is asked for, a refusal only where the words
 -- name no job and do not merely ask for help, and a fault is that memory was refused

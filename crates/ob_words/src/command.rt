@@ -1,17 +1,90 @@
 //! The command that the words are matched with.
 ghost use Rattle.std.specs.Prelude.{◌≡◌, IfOk, false};
-ghost use Rattle.clap.specs.Words.{app_of};
+ghost use Rattle.clap.specs.Words.{app_of, rule_of};
 ghost use Rattle.clap.specs.declared.builder.command.Command.TheViews.{out-Command};
-ghost use Rattle.ob_words.specs.Commands.{bare_app, outagebook_app, total_app};
+ghost use Rattle.ob_words.specs.Commands.{audit_app, bare_app, book_rule, init_app, number_rule};
+ghost use Rattle.ob_words.specs.Commands.{outagebook_app, over_book, required_rule, table_app, total_app};
 
-use clap::Command;
+use clap::{Arg, Command, value_parser};
 use std::alloc::{AllocError, Global};
+
+fn book_option<'a>(alloc: Global) -> Arg<'a>
+    ensures rule { rule_of result ≡ book_rule }
+    ensures local { result.global ≡ false }
+{
+    Arg::new(alloc, "book")
+        .long("book")
+        .value_name("FILE")
+        .default_value("book.db")
+        .help("The file of the book")
+}
+
+fn required_option<'a>(alloc: Global, name: &'a str, value: &'a str, help: &'a str) -> Arg<'a>
+    ensures rule { rule_of result ≡ required_rule name.entry.now }
+    ensures local { result.global ≡ false }
+{
+    Arg::new(alloc, name)
+        .long(name)
+        .value_name(value)
+        .required(true)
+        .help(help)
+}
+
+fn number_option<'a>(alloc: Global, name: &'a str, help: &'a str) -> Arg<'a>
+    ensures rule { rule_of result ≡ number_rule name.entry.now }
+    ensures local { result.global ≡ false }
+{
+    required_option(alloc, name, "N", help).value_parser(value_parser!(u16))
+}
 
 fn total_command<'a>(alloc: Global) -> Command<'a>
     ensures app { app_of result ≡ total_app }
     ensures local { (out-Command result).has_globals ≡ false }
 {
     Command::new(alloc, "total").about("Counts the customer-seconds of a text on standard input")
+}
+
+/// A subcommand that works on a book.
+fn book_command<'a>(alloc: Global, name: &'a str, about: &'a str) -> Result<Command<'a>, AllocError>
+    ensures app { IfOk result (λ c. app_of c ≡ over_book name.entry.now) }
+    ensures local { IfOk result (λ c. (out-Command c).has_globals ≡ false) }
+{
+    Command::new(alloc, name)
+        .about(about)
+        .arg(book_option(alloc))
+}
+
+fn init_command<'a>(alloc: Global) -> Result<Command<'a>, AllocError>
+    ensures app { IfOk result (λ c. app_of c ≡ init_app) }
+    ensures local { IfOk result (λ c. (out-Command c).has_globals ≡ false) }
+{
+    book_command(alloc, "init", "Makes the book of a period")?
+        .arg(required_option(
+            alloc,
+            "first",
+            "DATE",
+            "The first day of the period, as 2026-01-01",
+        ))?
+        .arg(number_option(alloc, "days", "How many days the period has"))?
+        .arg(required_option(alloc, "zone", "TEXT", "The time zone, as a POSIX rule"))
+}
+
+fn table_command<'a>(alloc: Global) -> Result<Command<'a>, AllocError>
+    ensures app { IfOk result (λ c. app_of c ≡ table_app) }
+    ensures local { IfOk result (λ c. (out-Command c).has_globals ≡ false) }
+{
+    book_command(alloc, "table", "Prints the annual table of a book")
+}
+
+fn audit_command<'a>(alloc: Global) -> Result<Command<'a>, AllocError>
+    ensures app { IfOk result (λ c. app_of c ≡ audit_app) }
+    ensures local { IfOk result (λ c. (out-Command c).has_globals ≡ false) }
+{
+    book_command(
+        alloc,
+        "audit",
+        "Compares the tables of a book with its commands",
+    )
 }
 
 fn bare_command<'a>(alloc: Global) -> Command<'a>
@@ -26,5 +99,9 @@ fn bare_command<'a>(alloc: Global) -> Command<'a>
 pub(crate) fn outagebook_command<'a>(alloc: Global) -> Result<Command<'a>, AllocError>
     ensures { IfOk result (λ c. app_of c ≡ outagebook_app) }
 {
-    bare_command(alloc).subcommand(total_command(alloc))
+    bare_command(alloc)
+        .subcommand(total_command(alloc))?
+        .subcommand(init_command(alloc)?)?
+        .subcommand(table_command(alloc)?)?
+        .subcommand(audit_command(alloc)?)
 }

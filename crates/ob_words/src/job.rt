@@ -1,8 +1,61 @@
 //! What the program is to do.
+ghost use Rattle.std.specs.Prelude.{◌≡◌, List, ℕ, IfOk};
 
-/// What the program is to do: one variant for each subcommand.
-#[derive(Drop, PartialEq, Eq)]
+use std::alloc::{AllocError, Global};
+use std::marker::Model;
+
+/// A text among the words. Contracts see it as its bytes.
+#[derive(Drop)]
+pub struct Word {
+    text: String,
+}
+
+impl Model for Word {
+    ghost Value = { List ℕ };
+
+    ghost view = { λ w. w.text.bytes.items };
+}
+
+impl Word {
+    pub(crate) fn new(alloc: Global, text: &str) -> Result<Word, AllocError>
+        ensures { IfOk result (λ w. w ≡ text.now) }
+    {
+        let text = String::from_str(alloc, text)?;
+        Ok(Word { text })
+    }
+
+    /// Its text.
+    pub fn as_str(&self) -> &str
+        ensures { result.now ≡ self.now }
+    {
+        self.text.as_str()
+    }
+}
+
+/// What the program is to do: one variant for each subcommand, with the values of its options.
+#[derive(Drop)]
 pub enum Job {
     /// Count the customer-seconds of the text on standard input.
     Total,
+    /// Make a book in a new file.
+    Init {
+        /// The file.
+        book: Word,
+        /// The first day of the period.
+        first: Word,
+        /// How many days the period has.
+        days: u16,
+        /// The time zone.
+        zone: Word,
+    },
+    /// Print the annual table of a book.
+    Table {
+        /// The book's file.
+        book: Word,
+    },
+    /// Compare the tables of a book with its commands.
+    Audit {
+        /// The book's file.
+        book: Word,
+    },
 }

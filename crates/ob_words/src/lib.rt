@@ -9,10 +9,11 @@
 mod command;
 mod complaint;
 mod job;
+mod matched;
 mod read;
 mod status;
 
 pub use complaint::complaint_of;
-pub use job::Job;
+pub use job::{Job, Word};
 pub use read::{WrongWords, read_words};
 pub use status::{Unfinished, status_of_run};

@@ -1,12 +1,13 @@
 //! The job that a list of words names.
-ghost use Rattle.std.specs.Prelude.{◌≡◌, IfErr, IfOk, Some, map, option_and_then};
-ghost use Rattle.clap.specs.Words.{kind_of, subcommand_rows_of};
-ghost use Rattle.ob_words.specs.Jobs.{IsReason, IsReasonOf, job_named, job_of, status_of};
+ghost use Rattle.std.specs.Prelude.{◌≡◌, IfErr, IfOk, Some, map};
+ghost use Rattle.clap.specs.Words.{kind_of};
+ghost use Rattle.ob_words.specs.Jobs.{IsReason, IsReasonOf, job_of, status_of};
 
 use crate::command::outagebook_command;
 use crate::job::Job;
+use crate::matched::matched_job;
+use clap::Error;
 use clap::error::ErrorKind;
-use clap::{ArgMatches, Error};
 use ob_base::Fault;
 use std::alloc::{AllocError, Global};
 
@@ -44,24 +45,6 @@ impl From<AllocError> for WrongWords {
     }
 }
 
-fn job_from(name: &str) -> Option<Job>
-    ensures { result ≡ job_named name.now }
-{
-    match name {
-        "total" => Some(Job::Total),
-        _ => None,
-    }
-}
-
-fn matched_job(matches: &ArgMatches<'_>) -> Option<Job>
-    ensures { result ≡ option_and_then (λ p. job_named p.0) (subcommand_rows_of matches.now) }
-{
-    match matches.subcommand() {
-        Some((name, _)) => job_from(name),
-        None => None,
-    }
-}
-
 fn reason_of(alloc: Global, error: &Error) -> WrongWords
     ensures { IsReasonOf (kind_of error.now) result }
 {
@@ -91,7 +74,7 @@ pub fn read_words(alloc: Global, words: &[&str]) -> Result<Job, WrongWords>
         Ok(matches) => matches,
         Err(error) => return Err(reason_of(alloc, &error)),
     };
-    match matched_job(&matches) {
+    match matched_job(alloc, &matches)? {
         Some(job) => Ok(job),
         None => Err(WrongWords::Wrong(String::from_str(alloc, "no subcommand")?)),
     }

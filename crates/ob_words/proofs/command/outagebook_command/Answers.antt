@@ -6,8 +6,15 @@ use Rattle.ob_words.proofs.command.outagebook_command.Goals as goal
 abbrev top : App → Shape
 top a = a.top
 
+-- one line for each subcommand, and the last of them below
 pub returns : goal.returns
 returns c =
-    IfOk-weaker c.subcommand.result _ _
-    (λ r h. h.shape c.total_command.ensures.local
-    ∙ ap₂ with_subcommand c.bare_command.ensures.app (ap top c.total_command.ensures.app)) c.subcommand.ensures
+    let one = c.in_ok-subcommand.ensures.shape c.total_command.ensures.local
+    ∙ ap₂ with_subcommand c.bare_command.ensures.app (ap top c.total_command.ensures.app) in
+    let two = c.in_ok-subcommand-2.ensures.shape c.in_ok-init_command.ensures.local
+    ∙ ap₂ with_subcommand one (ap top c.in_ok-init_command.ensures.app) in
+    let three = c.in_ok-subcommand-3.ensures.shape c.in_ok-table_command.ensures.local
+    ∙ ap₂ with_subcommand two (ap top c.in_ok-table_command.ensures.app) in
+    IfOk-weaker c.subcommand-4.result _ _
+    (λ r h. h.shape c.in_ok-audit_command.ensures.local
+    ∙ ap₂ with_subcommand three (ap top c.in_ok-audit_command.ensures.app)) c.subcommand-4.ensures

@@ -14,11 +14,11 @@ returns-in-Err-clause-reason c =
 pub returns-in-Some-clause-job : goal.returns-in-Some-clause-job
 returns-in-Some-clause-job c =
     matched_is_job _ (texts c.args.words.now) _ _ _ c.in_ok-command.ensures
-    c.in-Ok.ensures.kinds c.in-Ok.ensures.matches c.matched_job.ensures ∙ c.in-Some.is
+    c.in-Ok.ensures.kinds c.in-Ok.ensures.matches c.in_ok-job.ensures ∙ c.in-Some.is
 
 pub returns-clause-reason : goal.returns-clause-reason
 returns-clause-reason c =
     no_job_reason (texts c.args.words.now)
     (no_errors _ (texts c.args.words.now) c.in_ok-command.ensures c.in-Ok.ensures.kinds)
     (matched_is_job _ (texts c.args.words.now) _ _ _ c.in_ok-command.ensures
-    c.in-Ok.ensures.kinds c.in-Ok.ensures.matches c.matched_job.ensures ∙ c.in-None.is)
+    c.in-Ok.ensures.kinds c.in-Ok.ensures.matches c.in_ok-job.ensures ∙ c.in-None.is)
