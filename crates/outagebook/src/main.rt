@@ -7,7 +7,7 @@
 
 use ob_net::{Fault, Stop, Watched};
 pub use ob_total::{TotalStop, run_total};
-pub use ob_words::{Job, Unfinished, WrongWords, complaint_of, read_words, status_of_run};
+pub use ob_words::{Job, Unfinished, Word, WrongWords, complaint_of, read_words, status_of_run};
 use std::alloc::{AllocError, Global};
 use std::env::{self, Env};
 use std::io;
@@ -29,6 +29,10 @@ fn run<R: Env + Input + Print + AllocGlobal>(rt: &R) -> Result<(), Unfinished> {
     };
     match read_words(rt.alloc(), &texts) {
         Ok(Job::Total) => total(rt),
+        // to be joined
+        Ok(Job::Init { .. }) => Err(faulty(Fault::Store)),
+        Ok(Job::Table { .. }) => Err(faulty(Fault::Store)),
+        Ok(Job::Audit { .. }) => Err(faulty(Fault::Store)),
         Err(wrong) => Err(Unfinished::Words(wrong)),
     }
 }
