@@ -1,3 +1,4 @@
 pub mod Tables
 pub mod Reached
 pub mod Leading
+pub mod Naming

@@ -1,5 +1,5 @@
 -- The states that a book of accepted commands can have.
-use Rattle.std.specs.Prelude.{◌≡◌, [], ◌∷◌, length, codes, true}
+use Rattle.std.specs.Prelude.{◌≡◌, ◌≤◌, [], ◌∷◌, length, codes, true}
 use Rattle.ob_time.specs.Calendar.{Calendar, day_count}
 use Rattle.ob_time.specs.Dates.{day_text}
 use Rattle.ob_time.specs.Period.{IsPeriodText}
@@ -33,6 +33,10 @@ ReachedIsOfCommands = (b : ActState) → IsReached b → b ≡ of_commands b.boo
 -- its book counts them
 abbrev pub ReachedCounts : Type 0
 ReachedCounts = (b : ActState) → IsReached b → b.book.accepted ≡ length b.accepted
+
+-- no more commands were accepted than a book takes
+abbrev pub ReachedAreFew : Type 0
+ReachedAreFew = (b : ActState) → IsReached b → length b.accepted ≤ 1_000_000
 
 -- the rows that a book of this period begins with: its period, cause 0, GRID, and an amount of 0 for each key
 abbrev pub first_rows : Calendar → Tables

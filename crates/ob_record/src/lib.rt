@@ -3,6 +3,8 @@
 
 mod act;
 mod change;
+mod naming;
 
 pub use act::{act_of, reached_law};
 pub use change::change_of;
+pub use naming::naming_law;
