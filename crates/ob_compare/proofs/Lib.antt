@@ -8,3 +8,4 @@ mod Rising
 mod Numbered
 mod Network
 mod Keyed
+pub mod Reaching

@@ -1,6 +1,7 @@
 //! The ten tables, read back row by row and compared with what a book of their commands has.
 #![tactic(auto)]
 
+mod distinct;
 mod ends;
 mod fields;
 mod filed;
@@ -10,6 +11,7 @@ mod part;
 mod parts;
 mod rows;
 
+pub use distinct::reaching_law;
 pub use ends::Ends;
 pub use filed::Filed;
 pub use moves::holds_moves;
