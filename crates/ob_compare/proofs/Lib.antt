@@ -12,3 +12,4 @@ mod Rising
 mod Numbered
 mod Network
 mod Keyed
+pub mod Reaching

@@ -21,7 +21,8 @@ use Rattle.ob_record.specs.Tables.{Shows, numbered, row_of_command}
 use Rattle.ob_compare.specs.declared.filed.Filed.{Filed}
 use Rattle.ob_compare.specs.Listing.{Lists, list_query, keyed, referenced, filed_of}
 use Rattle.ob_state.specs.declared.TheConstants.{MOST_COMMANDS}
-use Rattle.ob_compare.specs.Reading.{IsCommands, IsFiled, IsReferenced, row_of_filed, command_listing, command_rows}
+use Rattle.ob_compare.specs.Reading.{IsCommands, IsFiled, row_of_filed, command_listing, command_rows}
+use Rattle.ob_record.specs.Naming.{IsReferenced}
 use Rattle.ob_compare.proofs.Selects.{is_listing}
 use Rattle.ob_compare.proofs.Listing.{append_last, begun_list, lists_rows}
 

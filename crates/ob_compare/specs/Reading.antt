@@ -1,5 +1,5 @@
 -- What the tables of the heading and of the commands are read as.
-use Rattle.std.specs.Prelude.{◌≡◌, ◌≢◌, ◌⊎◌, ℕ, ◌<◌, ◌≤◌, ◌^◌, ⊤, true, List, [], ◌∷◌, ◌++◌, length, Option, Some, None, Result, Ok, Err, Vec}
+use Rattle.std.specs.Prelude.{◌≡◌, ◌≢◌, ◌⊎◌, ℕ, ◌<◌, ◌≤◌, ◌^◌, ⊤, List, [], ◌∷◌, ◌++◌, length, Option, Some, None, Result, Ok, Err, Vec}
 use Rattle.std.specs.declared.alloc.Global.{Global}
 use Rattle.std.specs.List.{AllByRecursion}
 use Rattle.std.specs.List.Sorted.{IsPermutation}
@@ -18,12 +18,11 @@ use Rattle.sqlite.specs.declared.error.Error.TheVariants.{SqlInputError}
 use Rattle.ob_base.specs.declared.stop.Stop.{Stop}
 use Rattle.ob_base.specs.declared.stop.Stop.TheVariants.{Refused}
 use Rattle.ob_base.specs.declared.stop.Refusal.TheVariants.{BadBook}
-use Rattle.ob_base.specs.Identifier.{is_identifier}
-use Rattle.ob_command.specs.Commands.{IsCommand}
 use Rattle.ob_book.specs.Acts.{Referenced}
 use Rattle.ob_tables.specs.Rows.{Columns, meta_row}
 use Rattle.ob_tables.specs.Steps.{IsStoreFault}
 use Rattle.ob_tables.specs.declared.table.Table.TheVariants.{Command}
+use Rattle.ob_record.specs.Naming.{IsReferenced}
 use Rattle.ob_record.specs.Tables.{numbered, row_of_command}
 use Rattle.ob_state.specs.declared.TheConstants.{MOST_COMMANDS}
 use Rattle.ob_compare.specs.declared.filed.Filed.{Filed}
@@ -32,10 +31,6 @@ use Rattle.ob_compare.specs.declared.commands.Next.{Next}
 use Rattle.ob_compare.specs.declared.commands.Next.TheVariants.{Due, Other, End}
 use Rattle.ob_compare.specs.Listing.{Listing, Lists, referenced, filed_of}
 use Rattle.ob_compare.specs.Parts.{listing_of}
-
--- the reference is one, and so is the command
-abbrev pub IsReferenced : Referenced → Type 0
-IsReferenced a = (is_identifier 40 a.reference ≡ true) × IsCommand a.command
 
 abbrev pub IsFiled : Filed → Type 0
 IsFiled f = IsReferenced (referenced f)

@@ -3,6 +3,7 @@
 
 mod columns;
 mod commands;
+mod distinct;
 mod ends;
 mod fields;
 mod filed;
@@ -14,9 +15,10 @@ mod parts;
 mod query;
 mod rows;
 
+pub use commands::read_commands;
+pub use distinct::reaching_law;
 pub use ends::Ends;
 pub use filed::Filed;
-pub use commands::read_commands;
 pub use heading::{Heading, read_heading};
 pub use moves::holds_moves;
 pub use part::holds_part;

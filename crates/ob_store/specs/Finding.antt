@@ -13,7 +13,8 @@ use Rattle.ob_tables.specs.declared.table.Table.{Table}
 use Rattle.ob_tables.specs.declared.table.Table.TheVariants.{Meta, Command}
 use Rattle.ob_record.specs.Reached.{IsReached}
 use Rattle.ob_record.specs.Tables.{Shows, tables_of}
-use Rattle.ob_compare.specs.Reading.{IsReadFault, IsReferenced, bad_book, command_rows}
+use Rattle.ob_compare.specs.Reading.{IsReadFault, bad_book, command_rows}
+use Rattle.ob_record.specs.Naming.{IsReferenced}
 use Rattle.ob_compare.specs.Listing.{filed_of}
 use Rattle.ob_tables.specs.Rows.{meta_row}
 use Rattle.ob_store.specs.declared.named.Named.{Named}

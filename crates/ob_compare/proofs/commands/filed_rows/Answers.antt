@@ -8,7 +8,8 @@ use Rattle.sqlite.proofs.Callers.{unchanged_then}
 use Rattle.ob_tables.specs.declared.table.Table.TheVariants.{Command}
 use Rattle.ob_compare.specs.Listing.{Lists, Ends, filed_of}
 use Rattle.ob_compare.specs.declared.filed.Filed.{Filed}
-use Rattle.ob_compare.specs.Reading.{IsDue, IsReferenced, Stands, command_listing, command_rows}
+use Rattle.ob_compare.specs.Reading.{IsDue, Stands, command_listing, command_rows}
+use Rattle.ob_record.specs.Naming.{IsReferenced}
 use Rattle.ob_compare.proofs.Listing.{still_then}
 use Rattle.ob_compare.proofs.Selects.{is_listing}
 use Rattle.ob_compare.proofs.Standing.{all_referenced, one_filed, all_filed, other_filed, too_many, pushed_length}

@@ -5,7 +5,8 @@ use Rattle.sqlite.specs.Held.{state}
 use Rattle.sqlite.specs.Given.{HasGiven}
 use Rattle.ob_tables.specs.Schema.{book_schema}
 use Rattle.ob_compare.specs.Listing.{filed_of}
-use Rattle.ob_compare.specs.Reading.{IsReferenced, command_listing, command_rows}
+use Rattle.ob_compare.specs.Reading.{command_listing, command_rows}
+use Rattle.ob_record.specs.Naming.{IsReferenced}
 use Rattle.ob_compare.proofs.commands.filed_rows.Given as goal
 
 -- the rows so far were those of the commands so far
