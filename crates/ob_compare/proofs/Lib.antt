@@ -9,3 +9,4 @@ mod Numbered
 mod Network
 mod Keyed
 pub mod Reaching
+mod Twins

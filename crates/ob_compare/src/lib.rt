@@ -11,7 +11,7 @@ mod part;
 mod parts;
 mod rows;
 
-pub use distinct::reaching_law;
+pub use distinct::{are_distinct, reaching_law};
 pub use ends::Ends;
 pub use filed::Filed;
 pub use moves::holds_moves;
