@@ -13,3 +13,4 @@ mod Numbered
 mod Network
 mod Keyed
 pub mod Reaching
+mod Twins

@@ -16,7 +16,7 @@ mod query;
 mod rows;
 
 pub use commands::read_commands;
-pub use distinct::reaching_law;
+pub use distinct::{are_distinct, reaching_law};
 pub use ends::Ends;
 pub use filed::Filed;
 pub use heading::{Heading, read_heading};
