@@ -4,15 +4,19 @@
 mod ends;
 mod fields;
 mod filed;
+mod leading;
 mod listed;
 mod moves;
+mod names;
 mod part;
 mod parts;
 mod rows;
 
 pub use ends::Ends;
 pub use filed::Filed;
+pub use leading::lead;
 pub use moves::holds_moves;
+pub use names::names_of;
 pub use part::holds_part;
 pub use parts::{
     holds_amounts, holds_causes, holds_customers, holds_devices, holds_entries, holds_heading,
