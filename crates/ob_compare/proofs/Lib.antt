@@ -8,3 +8,5 @@ mod Rising
 mod Numbered
 mod Network
 mod Keyed
+mod Naming
+mod Led
