@@ -14,3 +14,5 @@ mod Network
 mod Keyed
 pub mod Reaching
 mod Twins
+mod Naming
+mod Led
