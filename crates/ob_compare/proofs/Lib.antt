@@ -13,3 +13,6 @@ mod Numbered
 mod Network
 mod Keyed
 pub mod Reaching
+mod Twins
+mod Naming
+mod Led

@@ -1,7 +1,49 @@
 //! Commands under references that stand once, and the states that they lead to.
+ghost use Rattle.std.specs.Prelude.{◌≡◌, ◌≢◌, ◌↔◌, ℕ, List, map, length, AllPairs, IsSorted, IsTrue, IfOk, IfErr};
+ghost use Rattle.ob_base.specs.Stop.{out_of_memory};
+ghost use Rattle.ob_compare.specs.Listing.{filed_of};
+ghost use Rattle.ob_compare.specs.Distinct.{AreDistinct, texts_of, text_order, shown_texts};
 ghost use Rattle.ob_compare.specs.Distinct.{ReachedByCommands, ActsAreAccepted, MovedIsOf};
 
+use crate::filed::Filed;
+use ob_base::Stop;
 use ob_book::next_law;
+use std::alloc::Global;
+
+/// The bytes of the references.
+fn references_of(alloc: Global, commands: &[Filed]) -> Result<Vec<&[u8]>, Stop>
+    ensures references { IfOk result (λ list. shown_texts list.items ≡ texts_of commands.now) }
+    ensures faults { IfErr result (λ stop. stop ≡ out_of_memory) }
+{
+    let mut references = Vec::new(alloc);
+    'commands: for at in 0..commands.len() {
+        references.push(commands[at].reference.bytes())?;
+    }
+    Ok(references)
+}
+
+/// Whether no text of a list that is sorted stands twice: those that are the same are neighbours.
+fn have_no_twins(sorted: &[&[u8]]) -> bool
+    requires { IsSorted text_order sorted.now }
+    ensures { IsTrue result ↔ AllPairs (λ (a b : List ℕ). a ≢ b) (shown_texts sorted.now) }
+{
+    'places: for at in 1..sorted.len() {
+        if sorted[at - 1] == sorted[at] {
+            return false;
+        }
+    }
+    true
+}
+
+/// Whether no reference stands twice. A copy of the references is sorted, which takes time n log n and memory for them.
+pub fn are_distinct(alloc: Global, commands: &[Filed]) -> Result<bool, Stop>
+    ensures distinct { IfOk result (λ is. IsTrue is ↔ AreDistinct (filed_of commands.now)) }
+    ensures faults { IfErr result (λ stop. stop ≡ out_of_memory) }
+{
+    let mut references = references_of(alloc, commands)?;
+    references.sort_unstable();
+    Ok(have_no_twins(&references))
+}
 
 /// Commands under references that stand once, each accepted in its turn, lead to the state of acts; where acts accept a
 /// whole list, it is such a list, and what its commands moved are the rows of the tables of its state.

@@ -86,7 +86,7 @@ fn matches<S: Alter>(rows: &mut Rows<'_, S>, no: u32, moves: &[Moved]) -> Result
 }
 
 /// With the ends of a book's devices, those of the device that an accepted command adds.
-fn note_ends<T: Timeline>(
+pub(crate) fn note_ends<T: Timeline>(
     noted: &mut Vec<Ends>,
     book: &Book<T>,
     command: &Command,

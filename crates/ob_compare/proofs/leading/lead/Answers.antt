@@ -1,0 +1,41 @@
+use Rattle.std.proofs.Common.{◌≡◌, ◌<◌, ◌+◌, None, Ok, drop, get_or, length, sym, ap, ◌∙◌, arith, refl, true≢false}
+use Rattle.ob_state.specs.State.{BookState}
+use Rattle.ob_state.specs.Refusals.{refusal}
+use Rattle.ob_state.specs.Next.{next}
+use Rattle.ob_compare.specs.declared.filed.Filed.{Filed}
+use Rattle.ob_compare.proofs.Led.{next_accepted, some_led}
+use Rattle.ob_compare.proofs.Rowing.{leads, leads_on, leads_here}
+use Rattle.ob_compare.proofs.leading.lead.Goals as goal
+
+pub commands-preserved : goal.commands-preserved
+commands-preserved g c =
+    let b = c.commands.book.state in
+    let list = c.args.commands.now in
+    let f = get_or list c.commands.at c.index-commands-at.result in
+    let here : f ≡ get_or list c.commands.at f = ap (λ (d : Filed). get_or list c.commands.at d) c.index-commands-at.is in
+    let low : c.commands.at < length list = omega (arith, c.commands-test.true) in
+    let was = c.in-Ok-true.is ∙ ap Ok c.in-Ok-true.field-0-test in
+    let taken : refusal b f.command ≡ None = c.in-Ok-true.ensures.accepted.0 c.in-Ok-true.field-0-test in
+    let next_is : c.adopts.new.book.state ≡ next b f.command = c.adopts.ensures.book was in (
+      ap (λ (s : BookState). leads s (drop (c.commands.at + 1) list)) next_is ∙ leads_on b list c.commands.at f low here taken ∙ c.commands.invariant.0,
+      λ noted. c.adopts.ensures.noted was (c.commands.invariant.1 noted),
+    )
+
+pub returns-in-Ok-false-clause-accepted : goal.returns-in-Ok-false-clause-accepted
+returns-in-Ok-false-clause-accepted g c =
+    let list = c.args.commands.now in
+    let f = get_or list c.commands.at c.index-commands-at.result in
+    let here : f ≡ get_or list c.commands.at f = ap (λ (d : Filed). get_or list c.commands.at d) c.index-commands-at.is in
+    let low : c.commands.at < length list = omega (arith, c.commands-test.true) in (
+      λ e. absurd (true≢false (sym e)),
+      λ some. absurd (true≢false (sym (c.in-Ok-false.ensures.accepted.1 (next_accepted c.commands.book.state c.args.book.now.state list c.commands.at f low here c.commands.invariant.0 some)) ∙ c.in-Ok-false.field-0-test)),
+    )
+
+pub returns-clause-accepted : goal.returns-clause-accepted
+returns-clause-accepted g c =
+    let list = c.args.commands.now in
+    let led = sym c.commands.invariant.0 ∙ leads_here c.commands.book.state list c.commands.at (omega (arith, c.commands-test.false)) in
+    (λ _. some_led (leads c.args.book.now.state list) c.commands.book.state led, λ _. refl)
+
+pub returns-clause-book : goal.returns-clause-book
+returns-clause-book g c _ = sym c.commands.invariant.0 ∙ leads_here c.commands.book.state c.args.commands.now c.commands.at (omega (arith, c.commands-test.false))

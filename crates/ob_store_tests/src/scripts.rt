@@ -1,0 +1,108 @@
+//! Scripts of two feeders of one bus with a tie between them. A line is a reference, the body text of a command, ` => `, and
+//! what that is answered: its number and what it moves, or why it is refused.
+
+/// S1 and S2 behind the breaker B1, S3 behind B2, and a normally open tie T1 from S2 to S3; two customers on S1, three on S2,
+/// five on S3, from the first second of 2024 on.
+pub const TWO_FEEDERS: &'static str = "\
+N1 cause 3 STORM => 1
+N2 cause 4 PLANNED => 2
+N3 bus BUS-A => 3
+N4 section S1 1 => 4
+N5 section S2 1 => 5
+N6 section S3 2 => 6
+N7 device I1 GRID BUS-A closed => 7
+N8 device B1 BUS-A S1 closed => 8
+N9 device W1 S1 S2 closed => 9
+N10 device B2 BUS-A S3 closed => 10
+N11 device T1 S2 S3 open => 11
+N12 connect 1 S1 1704067200 - => 12
+N13 connect 2 S1 1704067200 - => 13
+N14 connect 3 S2 1704067200 - => 14
+N15 connect 4 S2 1704067200 - => 15
+N16 connect 5 S2 1704067200 - => 16
+N17 connect 6 S3 1704067200 - => 17
+N18 connect 7 S3 1704067200 - => 18
+N19 connect 8 S3 1704067200 - => 19
+N20 connect 9 S3 1704067200 - => 20
+N21 connect 10 S3 1704067200 - => 21
+";
+
+/// An hour after the start B1 opens; ten minutes later W1 opens and the tie takes S2 over; an hour after its opening B1 closes.
+pub const OUTAGE: &'static str = "\
+N22 switch B1 open 1704070800 3 K1 => 22: cause 3 414000, feeder 1 414000, day 0 414000
+N23 switch W1 open 1704071400 3 K1 => 23
+N24 switch T1 close 1704071400 3 K1 => 24: cause 3 -246600, feeder 1 -246600, day 0 -246600
+N25 switch B1 close 1704074400 3 K1 => 25: cause 3 -158400, feeder 1 -158400, day 0 -158400
+";
+
+/// After the outage: an opening ten minutes before the breaker's.
+pub const OPENED_BEFORE: &'static str = "\
+N26 switch W1 open 1704070200 4 K1 => 26: cause 3 -1800, cause 4 3600, feeder 1 1800, day 0 1800
+";
+
+/// After the outage: the breaker closed ten minutes earlier, told twice under one reference; the same under another reference comes
+/// too late, and the reference is no other command's.
+pub const CORRECTED: &'static str = "\
+FIX1 correct 4 1 close 1704073800 3 K1 => 26: cause 3 -1200, feeder 1 -1200, day 0 -1200
+FIX1 correct 4 1 close 1704073800 3 K1 => 26: cause 3 -1200, feeder 1 -1200, day 0 -1200
+FIX2 correct 4 1 close 1704073800 3 K1 => no: 7 Stale 2
+FIX1 correct 4 1 close 1704073801 3 K1 => no: 11 RefConflict 26
+FIX1 correct 4 1 close 1704073800 3 K1 => 26: cause 3 -1200, feeder 1 -1200, day 0 -1200
+";
+
+/// After the outage: without the tie's closing S2 waits for the switch W1, which stays open.
+pub const WITHDRAWN: &'static str = "\
+N26 withdraw 3 1 => 26: cause 3 246600, feeder 1 246600, day 0 246600
+N27 withdraw 3 2 => no: 8 Withdrawn
+N26 withdraw 3 1 => 26: cause 3 246600, feeder 1 246600, day 0 246600
+";
+
+/// The run of S2 takes over a late opening's cause, also after W1's next entry, up to its end.
+pub const RELABELLED: &'static str = "\
+N22 switch B1 open 1704070800 3 K1 => 22: cause 3 414000, feeder 1 414000, day 0 414000
+N23 switch W1 close 1704071200 3 K1 => 23
+N24 switch B1 close 1704074400 3 K1 => 24: cause 3 -396000, feeder 1 -396000, day 0 -396000
+N25 switch W1 open 1704070200 4 K1 => 25: cause 3 -10800, cause 4 12600, feeder 1 1800, day 0 1800
+";
+
+/// Closed and opened again in one second, by another cause: one run, of the first opening.
+pub const OPENED_AGAIN: &'static str = "\
+N22 switch B2 open 1704070800 3 K1 => 22: cause 3 414000, feeder 2 414000, day 0 414000
+N23 switch B2 close 1704071200 3 K1 => 23: cause 3 -412000, feeder 2 -412000, day 0 -412000
+N24 switch B2 open 1704071200 4 K1 => 24: cause 3 412000, feeder 2 412000, day 0 412000
+N25 switch B2 close 1704072200 4 K1 => 25: cause 3 -407000, feeder 2 -407000, day 0 -407000
+";
+
+/// A customer is connected in the midst of an outage; its service gets an end in the outage, and loses it again.
+pub const CONNECTED: &'static str = "\
+N22 switch B2 open 1704070800 4 K1 => 22: cause 4 414000, feeder 2 414000, day 0 414000
+N23 switch B2 close 1704074400 4 K1 => 23: cause 4 -396000, feeder 2 -396000, day 0 -396000
+N24 connect 11 S3 1704072600 - => 24: cause 4 1800, feeder 2 1800, day 0 1800
+N25 revise 11 1704072600 1704073200 => 25: cause 4 -1200, feeder 2 -1200, day 0 -1200
+N26 revise 11 1704072600 - => 26: cause 4 1200, feeder 2 1200, day 0 1200
+";
+
+/// A section to which no device leads.
+pub const APART: &'static str = "\
+N22 section S9 9 => 22
+N23 connect 11 S9 1704067200 - => 23: cause 0 86400, feeder 9 86400, day 0 86400
+";
+
+/// After the outage: commands that are refused. Their reference stays free, and the first that is accepted takes it.
+pub const REFUSED: &'static str = "\
+N26 bus BUS-B => no: 4 Sealed
+N26 switch X9 open 1704070800 3 K1 => no: 2 UnknownName
+N26 switch B1 open 1704070800 9 K1 => no: 15 UnknownCause
+N26 switch B1 open 1704153600 3 K1 => no: 5 OutOfPeriod
+N26 correct 9 1 open 1704070800 3 K1 => no: 6 UnknownEntry
+N26 connect 11 S1 1704067210 1704067210 => no: 10 BadService
+N26 connect 1 S1 1704067200 - => no: 3 NameTaken
+N26 revise 99 1704067200 - => no: 9 UnknownCustomer
+N26 unmark 2024-01-01 E1 => no: 14 NotMarked
+N25 mark 2024-01-01 E1 => no: 11 RefConflict 25
+N26 mark 2024-01-01 E1 => 26
+N27 mark 2024-01-01 E2 => no: 13 MarkedAlready
+N27 unmark 2024-01-01 E2 => 27
+N26 mark 2024-01-01 E1 => 26
+N22 switch B1 open 1704070800 3 K1 => 22: cause 3 414000, feeder 1 414000, day 0 414000
+";
