@@ -29,10 +29,10 @@ fn run<R: Env + Input + Print + AllocGlobal>(rt: &R) -> Result<(), Unfinished> {
     };
     match read_words(rt.alloc(), &texts) {
         Ok(Job::Total) => total(rt),
-        // to be joined
-        Ok(Job::Init { .. }) => Err(faulty(Fault::Store)),
-        Ok(Job::Table { .. }) => Err(faulty(Fault::Store)),
-        Ok(Job::Audit { .. }) => Err(faulty(Fault::Store)),
+        // Their jobs wait for a book that can be loaded again.
+        Ok(Job::Init { .. }) => Err(to_come(rt.alloc(), "init")),
+        Ok(Job::Table { .. }) => Err(to_come(rt.alloc(), "table")),
+        Ok(Job::Audit { .. }) => Err(to_come(rt.alloc(), "audit")),
         Err(wrong) => Err(Unfinished::Words(wrong)),
     }
 }
@@ -96,6 +96,14 @@ fn told<R: Print + Eprint + AllocGlobal>(
 fn tell_stop<R: Eprint + AllocGlobal>(rt: &R, stop: &Stop, row: Option<u32>) {
     if let Ok(line) = complaint_of(rt.alloc(), stop, row) {
         let _ = eprintln!(rt; "{line}");
+    }
+}
+
+/// A subcommand whose job isn't there yet, as words that name none.
+fn to_come(alloc: Global, name: &str) -> Unfinished {
+    match format!(in alloc; "error: `{name}` isn't there yet\n") {
+        Ok(text) => Unfinished::Words(WrongWords::Wrong(text)),
+        Err(_) => faulty(Fault::OutOfMemory),
     }
 }
 
