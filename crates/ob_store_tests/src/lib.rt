@@ -1,5 +1,5 @@
-//! Tests of the keeper over a store in memory: commands under references with what each is answered, and what then stands
-//! in the tables, in the book, and in a book that is loaded from the tables.
+//! Tests of the keeper over a store in memory: commands under references with what each is answered, new books, and
+//! what stands in the tables in the end.
 //!
 //! It holds tests alone. The amounts are worked out by hand from the definitions.
 #![tactic(auto)]

@@ -1,8 +1,8 @@
-//! Scripts of two feeders of one bus with a tie between them. A line is a reference, the body text of a command, ` => `, and
-//! what that is answered: its number and what it moves, or why it is refused.
+//! Scripts of two feeders of one bus with a tie between them. A line is a reference, the body text of a command,
+//! ` => `, and what that is answered: its number and what it moves, or why it is refused.
 
-/// S1 and S2 behind the breaker B1, S3 behind B2, and a normally open tie T1 from S2 to S3; two customers on S1, three on S2,
-/// five on S3, from the first second of 2024 on.
+/// S1 and S2 behind the breaker B1, S3 behind B2, and a normally open tie T1 from S2 to S3; two customers on S1, three
+/// on S2, five on S3, from the first second of 2024 on.
 pub const TWO_FEEDERS: &'static str = "\
 N1 cause 3 STORM => 1
 N2 cause 4 PLANNED => 2
@@ -27,7 +27,8 @@ N20 connect 9 S3 1704067200 - => 20
 N21 connect 10 S3 1704067200 - => 21
 ";
 
-/// An hour after the start B1 opens; ten minutes later W1 opens and the tie takes S2 over; an hour after its opening B1 closes.
+/// An hour after the start B1 opens; ten minutes later W1 opens and the tie takes S2 over; an hour after its opening B1
+/// closes.
 pub const OUTAGE: &'static str = "\
 N22 switch B1 open 1704070800 3 K1 => 22: cause 3 414000, feeder 1 414000, day 0 414000
 N23 switch W1 open 1704071400 3 K1 => 23
@@ -40,8 +41,8 @@ pub const OPENED_BEFORE: &'static str = "\
 N26 switch W1 open 1704070200 4 K1 => 26: cause 3 -1800, cause 4 3600, feeder 1 1800, day 0 1800
 ";
 
-/// After the outage: the breaker closed ten minutes earlier, told twice under one reference; the same under another reference comes
-/// too late, and the reference is no other command's.
+/// After the outage: the breaker closed ten minutes earlier, told twice under one reference; the same under another
+/// reference comes too late, and the reference is no other command's.
 pub const CORRECTED: &'static str = "\
 FIX1 correct 4 1 close 1704073800 3 K1 => 26: cause 3 -1200, feeder 1 -1200, day 0 -1200
 FIX1 correct 4 1 close 1704073800 3 K1 => 26: cause 3 -1200, feeder 1 -1200, day 0 -1200

@@ -9,7 +9,8 @@ const TABLES: &'static [&'static str] = &[
     "meta", "cause", "node", "device", "customer", "entry", "mark", "cmd", "moved", "posting",
 ];
 
-/// The tables have so many rows: the period, causes, nodes, devices, customers, entries, marked days, commands, moves, amounts.
+/// The tables have so many rows: the period, causes, nodes, devices, customers, entries, marked days, commands, moves,
+/// amounts.
 pub fn has_rows(
     rt: &impl Abort,
     alloc: Global,
@@ -38,6 +39,7 @@ pub fn has_amounts(
     Ok(())
 }
 
+/// How many amounts are not what the commands moved under their keys.
 const NOT_MOVED: &'static str =
     "SELECT count(*) FROM posting WHERE amount <> (SELECT coalesce(sum(delta), 0) FROM moved \
      WHERE moved.dim = posting.dim AND moved.k = posting.k)";

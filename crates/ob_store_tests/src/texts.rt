@@ -5,7 +5,8 @@ use ob_store::Reply;
 use std::alloc::Global;
 use std::test::Fail;
 
-/// The number of a command and what it moved, as `22: cause 3 600, feeder 1 600, day 0 600`; the number alone where nothing moved.
+/// The number of a command and what it moved, as `22: cause 3 600, feeder 1 600, day 0 600`; the number alone where
+/// nothing moved.
 pub fn reply_text(alloc: Global, reply: &Reply) -> Result<String, Fail> {
     let no = reply.no;
     let mut text = format!(in alloc; "{no}")?;
