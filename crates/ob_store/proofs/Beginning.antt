@@ -91,13 +91,17 @@ module _ (p : Calendar) (first text : List ℕ) (days : ℕ) (zone : List ℕ) (
     kept law keeps = record { kept = keeps_as (new_tables text days zone) (tables_of (start p)) (tables_are firsts) (state g new) keeps; reached = reached law }
 
     may_begin : StaysOrBegins (state g old) (state g new) (new_tables text days zone) → MayBegin g old new first days zone
-    may_begin it = (p, of_text, record {
-      shown = it.shown;
-      left = λ clean trees may. elim (it.left clean trees may) [
-        | inl before ↦ inl before
-        | inr begins ↦ inr (begins.0, leaves_as (new_tables text days zone) (tables_of (start p)) (tables_are firsts) trees begins.1)
-      ];
-    })
+    may_begin it = (
+      p,
+      of_text,
+      record {
+        shown = it.shown;
+        left = λ clean trees may. elim (it.left clean trees may) [
+          | inl before ↦ inl before
+          | inr begins ↦ inr (begins.0, leaves_as (new_tables text days zone) (tables_of (start p)) (tables_are firsts) trees begins.1)
+        ];
+      },
+    )
 
     -- the commit failed, or what goes before it
     pub failed : (stop : Stop) → (stop ≡ Refused BadBook) ⊎ IsStoreFault stop → (stop ≡ Refused BadBook → (state g old).now.schema ≢ no_schema) → (stop ≢ Fault Store → Stays (state g old) (state g new))

@@ -98,7 +98,6 @@ module _ {S : Type 0} (g : Ghosts S) where
       bad = λ clean. tt;
     }
 
-
 module _ {S : Type 0} (g : Ghosts S) {X : Type 0} (Good : Trees → X → Type 0) (Bad : Trees → Type 0) (old new : Held S) where
   -- a reading that answered
   pub read_ok : (x : X) → (old.in_transaction ≡ false → new.in_transaction ≡ false) → (old.schema ≡ book_schema → Survives (state g old) (state g new) (λ _. ⊥)) → (HasCleanDisk (state g new) → HasCleanDisk (state g old))

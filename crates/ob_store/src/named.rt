@@ -18,10 +18,7 @@ pub(crate) struct Named {
 }
 
 /// Reads the heading and the commands.
-pub(crate) fn read_named<S: Alter>(
-    alloc: Global,
-    conn: &mut Connection<S>,
-) -> Result<Named, Stop>
+pub(crate) fn read_named<S: Alter>(alloc: Global, conn: &mut Connection<S>) -> Result<Named, Stop>
     ensures { Finds S.Store IsNamed HasNoBook conn.old conn.new result }
 {
     let heading = match read_heading(alloc, conn) {

@@ -42,8 +42,7 @@ returns-in-Ok-commit_act-clause-acts g c clean b keeps same fresh =
     let new = c.commit_act.new.conn in
     let number : b.book.accepted + 1 ≡ c.act_of-act.result.«no» = ap (λ s. s.accepted + 1) (sym at) ∙ sym c.act_of-act.ensures.«no» in
     let moved : moves b.book (next b.book command) ≡ c.new-moved.result =
-    sym (ap₂ (λ s x. moves s (next s x)) at plan_is) ∙ sym c.in-Ok.ensures.plan.moved ∙ sym c.moves.ensures ∙ sym c.in-Ok-from_slice.ensures.items ∙ sym c.new-moved.ensures in
-    (
+    sym (ap₂ (λ s x. moves s (next s x)) at plan_is) ∙ sym c.in-Ok.ensures.plan.moved ∙ sym c.moves.ensures ∙ sym c.in-Ok-from_slice.ensures.items ∙ sym c.new-moved.ensures in (
       answered g.S.Store old new b a p c.act_of-act.result law keeps records fresh free counts ∙ ap₂ (λ n m. Ok (record { number = n; moved = m })) number moved,
       done g.S.Store old new b a p c.act_of-act.result law keeps records fresh free c.in-Ok-commit_act.ensures.done,
       c.adopt.ensures.state ∙ ap₂ next at plan_is ∙ book_is g.S.Store old new b a p c.act_of-act.result law keeps records fresh free,

@@ -24,8 +24,7 @@ returns-in-Ok-commit_new-clause-creates g c =
     let at : p.first_day +ℤ pos 0 ≡ p.first_day = omega (arith, ints) in
     let text_is : text ≡ day_text p.first_day = c.as_bytes.ensures.value ∙ c.in-Ok-date_text.ensures.value ∙ ap day_text at in
     let dated : IsTextOfDay c.args.first.now (p.first_day +ℤ pos 0) = (of_text.date, sym of_text.period.first ∙ sym at, of_text.date_is) in
-    let first_is : c.args.first.now ≡ text = c.in-Ok-date_text.ensures.only c.args.first.now dated ∙ sym c.as_bytes.ensures.value in
-    (
+    let first_is : c.args.first.now ≡ text = c.in-Ok-date_text.ensures.only c.args.first.now dated ∙ sym c.as_bytes.ensures.value in (
       p,
       of_text,
       kept p c.args.first.now text c.args.days c.args.zone.now of_text text_is first_is g.S.Store c.args.conn.now c.commit_new.new.conn c.reached_law.ensures.empty c.reached_law.ensures.starts c.in-Ok-commit_new.ensures.done,
