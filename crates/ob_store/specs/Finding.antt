@@ -17,6 +17,7 @@ use Rattle.ob_compare.specs.Reading.{IsReadFault, bad_book, command_rows}
 use Rattle.ob_record.specs.Naming.{IsReferenced}
 use Rattle.ob_compare.specs.Listing.{filed_of}
 use Rattle.ob_tables.specs.Rows.{meta_row}
+use Rattle.ob_store.specs.Keeping.{KeepsBook}
 use Rattle.ob_store.specs.declared.named.Named.{Named}
 
 -- the heading and the commands in these trees are those of the book, which its commands lead to
@@ -45,7 +46,20 @@ Differs trees b (Some table) =
     (¬ (Shows trees table (tables_of b table)))
     × ((other : Table) → before other < before table → Shows trees other (tables_of b other))
 
+-- the trees hold the ten tables of the book
+abbrev pub HasBook : Trees → ActState → Type 0
+HasBook trees b = IsBookOf trees b × Differs trees b None
+
 module _ {S : Type 0} (g : Ghosts S) where
+  -- nothing was written: a book that the store keeps it keeps on, and a crash leaves no more than before
+  pub record OnlyReads (old new : Held S) : Type 0 where
+    pub kept : (b : ActState) → KeepsBook (state g old) b → KeepsBook (state g new) b
+    pub left : (trees : Trees) → (state g new).may_leave trees → (state g old).may_leave trees
+
+  -- and what it shows is what it showed
+  abbrev pub ShowsTheSame : Held S → Held S → Type 0
+  ShowsTheSame old new = OnlyReads old new × ((state g new).now ≡ (state g old).now)
+
   -- the tables were read, and nothing was written: what was found is so of them, and where they are told to be no book's
   -- they aren't
   pub record Finds {X : Type 0} (Good : Trees → X → Type 0) (Bad : Trees → Type 0) (old new : Held S) (result : Result X Stop) : Type 0 where

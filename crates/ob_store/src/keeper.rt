@@ -6,6 +6,7 @@ use crate::stored::reply_at;
 use ob_base::{Fault, Ref, Stop};
 use ob_book::{Book, Command};
 use ob_sweep::Timeline;
+use ob_tables::Table;
 use sqlite::{Alter, Connection};
 use std::alloc::Global;
 use std::marker::Model;
@@ -43,6 +44,8 @@ impl<S: Alter, T: Timeline> Keeper<S, T> {
     ghost use Rattle.ob_store.specs.Acting.{Acted, under};
     ghost use Rattle.ob_store.specs.Replying.{Replied};
     ghost use Rattle.ob_store.specs.Creating.{Created};
+    ghost use Rattle.ob_store.specs.Loading.{Audited, Loaded};
+    ghost use Rattle.ob_tables.specs.Schema.{book_schema};
     ghost use Rattle.std.specs.Option.{option_map};
 
     /// A keeper over a connection with no open transaction; it has no book yet.
@@ -119,6 +122,28 @@ impl<S: Alter, T: Timeline> Keeper<S, T> {
             }
             Err(stop) => Err(stop),
         }
+    }
+
+    /// Reads the book that the tables hold. The tables are those of its accepted commands, all ten of them, or it is refused
+    /// as `BadBook`; a book that the keeper had goes then on as before. Nothing is written.
+    pub fn load(&mut self) -> Result<(), Stop>
+        ensures lost { result ≡ Err (Stop.Fault Fault.Store) → self.new.book ≡ None }
+        ensures loaded { HasCleanDisk (state S.Store self.new.conn) → self.old.conn.schema ≡ book_schema
+            → Loaded S.Store self.old self.new result }
+    {
+        self.book = None;
+        Err(Stop::Fault(Fault::Store))
+    }
+
+    /// The first of the ten tables, in the order of `Table`, that differs from what the heading and the commands give; None
+    /// where none does. `BadBook` where heading and commands are those of no book. It needs no book, and nothing is written.
+    pub fn audit(&mut self) -> Result<Option<Table>, Stop>
+        ensures lost { result ≡ Err (Stop.Fault Fault.Store) → self.new.book ≡ None }
+        ensures audited { HasCleanDisk (state S.Store self.new.conn) → self.old.conn.schema ≡ book_schema
+            → Audited S.Store self.old self.new result }
+    {
+        self.book = None;
+        Err(Stop::Fault(Fault::Store))
     }
 
     /// The book; None before `create` or `load` has succeeded, and after a fault of the store.

@@ -1,0 +1,47 @@
+-- What a keeper finds in the tables of its store: a whole book, or the first table that differs from one.
+use Rattle.std.specs.Prelude.{◌≡◌, ⊤, Option, Some, None, Result, Ok, Err}
+use Rattle.sqlite_trees.specs.declared.store.Store.{Ghosts}
+use Rattle.sqlite.specs.Tree.{Trees}
+use Rattle.sqlite.specs.Held.{Held, state}
+use Rattle.ob_base.specs.declared.stop.Stop.{Stop}
+use Rattle.ob_base.specs.declared.stop.Stop.TheVariants.{Refused, Fault}
+use Rattle.ob_base.specs.declared.stop.Refusal.TheVariants.{BadBook}
+use Rattle.ob_base.specs.declared.stop.Fault.TheVariants.{OutOfMemory, Store}
+use Rattle.ob_book.specs.Acts.{ActState}
+use Rattle.ob_tables.specs.declared.table.Table.{Table}
+use Rattle.ob_store.specs.Keeping.{KeeperValue, Ties}
+use Rattle.ob_store.specs.Finding.{Differs, HasBook, HasNoBook, IsBookOf, OnlyReads, ShowsTheSame}
+
+-- the tables are those of no book
+abbrev pub HoldsNoBook : Trees → Type 0
+HoldsNoBook trees = (b : ActState) → ¬ (HasBook trees b)
+
+module _ {S : Type 0} (g : Ghosts S) where
+  -- the tables that the store shows
+  abbrev pub trees_in : Held S → Trees
+  trees_in conn = (state g conn).now.trees
+
+  -- a keeper's book is that of its tables; or why there is none, and then it has the book that it had, or, after a fault of
+  -- the store, none
+  abbrev pub Loaded : KeeperValue S → KeeperValue S → Result ⊤ Stop → Type 0
+  Loaded old new (Ok done) =
+      (b : ActState) × HasBook (trees_in old.conn) b × ShowsTheSame g old.conn new.conn × Ties g new b × (new.book ≡ Some b.book)
+  Loaded old new (Err (Refused BadBook)) =
+      HoldsNoBook (trees_in old.conn) × ShowsTheSame g old.conn new.conn × (new.book ≡ old.book)
+  Loaded old new (Err (Refused refusal)) = ⊥
+  Loaded old new (Err (Fault OutOfMemory)) = OnlyReads g old.conn new.conn × (new.book ≡ old.book)
+  Loaded old new (Err (Fault Store)) = OnlyReads g old.conn new.conn × (new.book ≡ None)
+  Loaded old new (Err (Fault fault)) = ⊥
+
+  -- the first table that differs from those of the book whose heading and commands they hold, or None where they are that
+  -- book's; or they hold those of no book
+  abbrev pub Audited : KeeperValue S → KeeperValue S → Result (Option Table) Stop → Type 0
+  Audited old new (Ok found) =
+      (b : ActState) × IsBookOf (trees_in old.conn) b × Differs (trees_in old.conn) b found
+      × ShowsTheSame g old.conn new.conn × (new.book ≡ old.book)
+  Audited old new (Err (Refused BadBook)) =
+      HasNoBook (trees_in old.conn) × ShowsTheSame g old.conn new.conn × (new.book ≡ old.book)
+  Audited old new (Err (Refused refusal)) = ⊥
+  Audited old new (Err (Fault OutOfMemory)) = OnlyReads g old.conn new.conn × (new.book ≡ old.book)
+  Audited old new (Err (Fault Store)) = OnlyReads g old.conn new.conn × (new.book ≡ None)
+  Audited old new (Err (Fault fault)) = ⊥
