@@ -42,6 +42,7 @@ module _ {S : Type 0} (g : Ghosts S) where
         left = λ clean schema trees may. first.left (second.clean clean) schema trees (second.left clean (at clean schema).1 trees may);
         faults = second.faults;
         same = λ clean. on_ok r (second.same clean) (λ step schema. unchanged_then (state g old) (state g mid) (state g new) (at clean schema).0 (step (at clean schema).1));
+        same_bad = λ clean. if_err r (second.same_bad clean) (λ stop step is schema. unchanged_then (state g old) (state g mid) (state g new) (at clean schema).0 (step is (at clean schema).1));
         good = λ clean. if_ok r (second.good clean) (λ z found schema.
             (first.good (second.clean clean) schema, subst (λ (d : Database). More d.trees z) (seen clean schema) (found (at clean schema).1)));
         bad = λ clean. if_err r (second.bad clean) (λ stop none is schema.
@@ -57,6 +58,7 @@ module _ {S : Type 0} (g : Ghosts S) where
     left = it.left;
     faults = it.faults;
     same = it.same;
+    same_bad = it.same_bad;
     good = λ clean. tt;
     bad = λ clean is schema. worse (state g old).now.trees (it.bad clean is schema);
   }
@@ -70,6 +72,7 @@ module _ {S : Type 0} (g : Ghosts S) where
       left = first.left;
       faults = fault;
       same = λ clean. tt;
+      same_bad = λ clean is. absurd (other is);
       good = λ clean. tt;
       bad = λ clean is. absurd (other is);
     }
@@ -82,6 +85,7 @@ module _ {S : Type 0} (g : Ghosts S) where
       left = first.left;
       faults = inr refl;
       same = λ clean. tt;
+      same_bad = λ clean is schema. first.same clean schema;
       good = λ clean. tt;
       bad = λ clean is schema. none (state g old).now.trees (first.good clean schema);
     }
@@ -94,6 +98,7 @@ module _ {S : Type 0} (g : Ghosts S) where
       left = first.left;
       faults = tt;
       same = first.same;
+      same_bad = λ clean. tt;
       good = λ clean schema. found (state g old).now.trees (first.good clean schema);
       bad = λ clean. tt;
     }
@@ -109,6 +114,7 @@ module _ {S : Type 0} (g : Ghosts S) {X : Type 0} (Good : Trees → X → Type 0
     left = λ is schema. no_more (state g old) (state g new) (survives schema) is;
     faults = tt;
     same = same;
+    same_bad = λ is. tt;
     good = good;
     bad = λ is. tt;
   }
@@ -122,6 +128,7 @@ module _ {S : Type 0} (g : Ghosts S) {X : Type 0} (Good : Trees → X → Type 0
     left = λ is schema. no_more (state g old) (state g new) (survives schema) is;
     faults = fault;
     same = λ is. tt;
+    same_bad = λ is bad schema. absurd (foreign is bad schema);
     good = λ is. tt;
     bad = λ is bad schema. absurd (foreign is bad schema);
   }

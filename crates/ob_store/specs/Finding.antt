@@ -70,5 +70,6 @@ module _ {S : Type 0} (g : Ghosts S) where
         → (state g old).may_leave trees
     pub faults : IfErr result IsReadFault
     pub same : HasCleanDisk (state g new) → OnOk result (old.schema ≡ book_schema → IsUnchanged (state g old) (state g new))
+    pub same_bad : HasCleanDisk (state g new) → IfErr result (λ stop. stop ≡ bad_book → old.schema ≡ book_schema → IsUnchanged (state g old) (state g new))
     pub good : HasCleanDisk (state g new) → IfOk result (λ x. old.schema ≡ book_schema → Good (state g old).now.trees x)
     pub bad : HasCleanDisk (state g new) → IfErr result (λ stop. stop ≡ bad_book → old.schema ≡ book_schema → Bad (state g old).now.trees)

@@ -4,6 +4,7 @@
 mod acting;
 mod creating;
 mod keeper;
+mod led;
 mod named;
 mod reply;
 mod stored;
