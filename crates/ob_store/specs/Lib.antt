@@ -4,3 +4,4 @@ pub mod Replying
 pub mod Creating
 pub mod Finding
 pub mod Loading
+pub mod Differing

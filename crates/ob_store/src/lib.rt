@@ -4,7 +4,9 @@
 mod acting;
 mod creating;
 mod keeper;
+mod led;
 mod named;
+mod off;
 mod reply;
 mod stored;
 
