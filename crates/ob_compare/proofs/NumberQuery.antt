@@ -1,5 +1,5 @@
 -- What the query of the numbers of the rows of amounts answers.
-use Rattle.std.proofs.Common.{◌≡◌, ℕ, zero, suc, ◌+◌, ◌<◌, List, [], ◌∷◌, ◌++◌, map, filter, length, Option, Some, None, IsTrue, Bool, true, false, refl, sym, ap, subst, ◌∙◌, arith, ℤ, slice_index_or, true≢false}
+use Rattle.std.proofs.Common.{◌≡◌, ℕ, zero, suc, ◌+◌, ◌<◌, List, [], ◌∷◌, ◌++◌, map, filter, length, Option, IsTrue, true, false, refl, sym, ap, subst, ◌∙◌, ℤ, slice_index_or, true≢false}
 use Rattle.std.specs.Prelude.{◌↔◌}
 use Rattle.std.specs.List.{AllByRecursion}
 use Rattle.std.specs.List.Sorted.{IsPermutation, IsSorted}

@@ -1,7 +1,7 @@
 -- Rows whose numbers rise.
-use Rattle.std.proofs.Common.{◌≡◌, ℕ, zero, suc, ℤ, pos, negsuc, ◌+◌, ◌-◌, ◌^◌, ◌≤◌, ◌<◌, List, [], ◌∷◌, ◌++◌, Option, Some, None, IsTrue, length, filter, map, cond, true, false, Bool, refl, sym, ap, subst, ◌∙◌, arith, inl, inr, true≢false, w64, slice_index_or, Ordering, Less, Equal, Greater, All}
-use Rattle.std.specs.Prelude.{◌<ℤ◌, ◌↔◌, FitsSigned}
-use Rattle.std.specs.List.{AllByRecursion, sum_by}
+use Rattle.std.proofs.Common.{◌≡◌, ℕ, suc, ℤ, pos, negsuc, ◌+◌, ◌-◌, ◌^◌, ◌≤◌, ◌<◌, List, [], ◌∷◌, ◌++◌, Option, Some, None, IsTrue, length, filter, map, cond, true, false, Bool, refl, sym, ap, subst, ◌∙◌, arith, inl, inr, true≢false, slice_index_or, Ordering, Less, Equal, Greater}
+use Rattle.std.specs.Prelude.{◌<ℤ◌, ◌↔◌}
+use Rattle.std.specs.List.{AllByRecursion}
 use Rattle.std.specs.List.Sorted.{IsPermutation, IsSorted}
 use Rattle.std.specs.Ordering.{int_cmp, is_lt, is_eq, MatchOrdering}
 use Rattle.std.specs.Cmp.{int_ranked}
@@ -11,7 +11,7 @@ use Rattle.std.proofs.lemmas.List.Sums.{length-filter}
 use Rattle.std.proofs.lemmas.List.Elements.{recursion_from_All, All-from_recursion}
 use Rattle.std.proofs.lemmas.List.Sorted.{sum_by-IsPermutation, All-permutation, IsPermutation-sym}
 use Rattle.sqlite_value.proofs.OrderLemmas.{value_cmp-Int}
-use Rattle.sqlite.specs.Order.{Row, column, value_cmp}
+use Rattle.sqlite.specs.Order.{Row, value_cmp}
 use Rattle.sqlite.specs.Tree.{has_rowid, rowid}
 use Rattle.sqlite_trees.specs.View.{is_int}
 use Rattle.sqlite_value.specs.declared.value.Value.{Value}
@@ -128,7 +128,10 @@ pub rise_more : (last : Option ℤ) (rows : List Row) (row : Row) (n : ℤ) → 
 rise_more None rows row n empty is above = (
   subst AreApart (ap (λ l. l ++ row ∷ []) (sym empty)) (one_apart row n is),
   subst (AllByRecursion (UpTo n)) (ap (λ l. l ++ row ∷ []) (sym empty)) ((n, is, never_below n), tt),
-  rows, row, refl, is,
+  rows,
+  row,
+  refl,
+  is,
 )
 rise_more (Some last) rows row n up is above = (
   record {
@@ -144,7 +147,10 @@ rise_more (Some last) rows row n up is above = (
     ];
   },
   all_more (UpTo n) rows row (all_up last n rows above up.1) (n, is, never_below n),
-  rows, row, refl, is,
+  rows,
+  row,
+  refl,
+  is,
 )
 
 pub none_apart : AreApart []
@@ -246,11 +252,3 @@ abbrev pub room : Option ℤ → ℕ
 room None = 2 ^ 64
 room (Some (pos n)) = 2 ^ 63 - suc n
 room (Some (negsuc n)) = 2 ^ 63 + n
-
-pub room_falls : (last : Option ℤ) (n : ℤ) → FitsSigned w64 n → IsAbove last n → room (Some n) < room last
-room_falls None (pos n) fits above = omega (arith, ints, fits)
-room_falls None (negsuc n) fits above = omega (arith, ints, fits)
-room_falls (Some (pos m)) (pos n) fits above = omega (arith, ints, fits, above)
-room_falls (Some (pos m)) (negsuc n) fits above = absurd (omega (arith, ints, above))
-room_falls (Some (negsuc m)) (pos n) fits above = omega (arith, ints, fits, above)
-room_falls (Some (negsuc m)) (negsuc n) fits above = omega (arith, ints, fits, above)

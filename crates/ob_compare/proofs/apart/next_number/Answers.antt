@@ -1,6 +1,5 @@
-use Rattle.std.proofs.Common.{◌≡◌, List, [], None, Some, refl, sym, subst, rules, to_z-of_z, w64}
+use Rattle.std.proofs.Common.{◌≡◌, [], None, Some, refl, sym, subst, rules, to_z-of_z, w64}
 use Rattle.std.specs.Prelude.{FitsSigned}
-use Rattle.sqlite.specs.Effect.{Database}
 use Rattle.sqlite.specs.Given.{GivesOn, row_if}
 use Rattle.ob_compare.specs.Apart.{number_command, number_text}
 use Rattle.ob_compare.proofs.Filing.{none_some}
