@@ -17,3 +17,6 @@ pub mod Reaching
 mod Twins
 mod Naming
 mod Led
+mod Texts
+mod RowNumbers
+mod NumberQuery

@@ -1,5 +1,5 @@
 -- What a listing of a table answers.
-use Rattle.std.proofs.Common.{true≢false, ◌≡◌, ◌≢◌, ℕ, zero, suc, ◌+◌, ◌<◌, List, [], ◌∷◌, ◌++◌, map, filter, take, Bool, true, false, Some, None, IsTrue, refl, sym, ap, ap₂, subst, subst₂, ◌∙◌, arith, inl, inr, length, get_or, drop}
+use Rattle.std.proofs.Common.{true≢false, ◌≡◌, ◌≢◌, ℕ, zero, suc, ◌+◌, ◌<◌, List, [], ◌∷◌, ◌++◌, map, filter, take, Bool, true, false, Some, None, IsTrue, refl, sym, ap, ap₂, subst, subst₂, ◌∙◌, arith, inl, length, get_or, drop}
 use Rattle.std.specs.Prelude.{◌↔◌, Result, Ok, Err}
 use Rattle.std.specs.List.Sorted.{IsPermutation, IsStrictlySortedBy}
 use Rattle.std.proofs.lemmas.List.Sorted.{IsPermutation-map, IsPermutation-sym, IsPermutation-trans}
@@ -10,18 +10,17 @@ use Rattle.sqlite.specs.Term.{Term, col, eval_all}
 use Rattle.sqlite_sql.proofs.QueryLemmas.{output_cmp_total}
 use Rattle.sqlite.specs.Program.{given_at}
 use Rattle.sqlite.specs.Query.{Output, output, output_cmp}
-use Rattle.sqlite.specs.Listing.{understood, reads_listing, IsSourceOf}
+use Rattle.sqlite.specs.Listing.{understood}
 use Rattle.sqlite.specs.Effect.{Database}
 use Rattle.sqlite.specs.Command.{Command as SqlCommand}
-use Rattle.sqlite.specs.State.{State, HasCleanDisk, Shown, IsStatement, IsUnchanged, Survives, CommitsShowing}
-use Rattle.sqlite.specs.Clock.{timed}
+use Rattle.sqlite.specs.State.{State, HasCleanDisk, Shown, IsUnchanged, Survives, CommitsShowing}
 use Rattle.sqlite.specs.Held.{Held, state}
 use Rattle.sqlite.specs.Given.{HasGiven, HasBegun, GivesOn}
 use Rattle.sqlite_trees.specs.declared.store.Store.{Ghosts}
 use Rattle.sqlite_resolve.specs.declared.compiled.Compiled.{Compiled}
 use Rattle.sqlite_resolve.specs.declared.error.CompileError.{CompileError}
 use Rattle.sqlite.proofs.StateLemmas.{survives_then}
-use Rattle.sqlite.proofs.Callers.{IsPlain, EndsIn, command_of, reads_as, given_begin, begins_shown, begun_plain, never_commits, unchanged_then}
+use Rattle.sqlite.proofs.Callers.{command_of}
 use Rattle.ob_tables.specs.Schema.{book_schema}
 use Rattle.ob_tables.specs.Rows.{shown, places_of, tree_of}
 use Rattle.ob_tables.specs.declared.table.Table.{Table}
@@ -30,15 +29,20 @@ use Rattle.ob_tables.proofs.Answers.{answered_in_order}
 use Rattle.ob_record.specs.Tables.{Shows}
 use Rattle.ob_compare.specs.Listing.{Listing, IsListing, Means, list_query, list_command, keyed, upward, Lists, IsOff, Goes, Ends}
 use Rattle.ob_compare.proofs.Same.{same_when_sorted}
+use Rattle.ob_compare.proofs.Texts.{answers, begin_answer, begins_empty, commits_none}
 
 -- ---- what the text means
 means_command : (it : Result Compiled CompileError) (command : SqlCommand) → Means it command → command_of it ≡ command
 means_command (Ok c) command h = h
 means_command (Err e) command h = absurd h
 
--- the rows that are shown are an answer
-pub listed : (l : Listing) → IsListing l → (old new : State) (rows : List Row) → old.now.schema ≡ book_schema → Shown l.text [] old new rows → Lists l old.now rows
-listed l means old new rows has h = reads_as l.text [] old new book_schema has (list_command l) (means_command (understood book_schema l.text) (list_command l) means.means) means.plain means.unlisted rows h
+module _ (l : Listing) (means : IsListing l) where
+  command_is : command_of (understood book_schema l.text) ≡ list_command l
+  command_is = means_command (understood book_schema l.text) (list_command l) means.means
+
+  -- the rows that are shown are an answer
+  pub listed : (old new : State) (rows : List Row) → old.now.schema ≡ book_schema → Shown l.text [] old new rows → Lists l old.now rows
+  listed = answers l.text means.plain (list_command l) command_is means.unlisted
 
 pub still : (a : State) → Survives a a (λ _. ⊥)
 still a = record { clean = omega arith; shield = λ x. x; counts = omega arith; limit = refl; closes = λ clean live. inl live; crash = λ clean db may. inl may }
@@ -46,18 +50,10 @@ still a = record { clean = omega arith; shield = λ x. x; counts = omega arith; 
 pub still_then : (a b c : State) → Survives a b (λ _. ⊥) → Survives b c (λ _. ⊥) → Survives a c (λ _. ⊥)
 still_then a b c one two = survives_then a b c _ _ (λ _. ⊥) (λ _ db none. none) (λ _ db none. none) one two
 
-pub same_state : (s : State) → IsTrue s.is_open → IsUnchanged s s
-same_state s live = (record { was_open = live; is_open = live; now_is = refl; committed_is = refl; mode = refl }, record { changes = refl; last_rowid = refl }, refl)
-
 -- rows that were given begin an answer
 pub begun_list : {S : Type 0} (g : Ghosts S) (l : Listing) → IsListing l → (h : Held S) (given : List Row) → (state g h).now.schema ≡ book_schema → IsTrue (state g h).is_open → HasGiven g l.text [] h given
     → (tail : List Row) × Lists l (state g h).now (given ++ tail)
-begun_list g l means h given has live it =
-    let s = state g h in
-    let ends : (c : Compiled) (db : Database) (is : IsStatement s l.text [] c) → IsSourceOf (reads_listing s.now.schema l.text) s.now db → EndsIn c.command db (timed [] c.formats is.now) =
-    λ c db is source. subst (λ k. EndsIn k db (timed [] c.formats is.now)) (sym (means_command (understood book_schema l.text) (list_command l) means.means) ∙ ap (λ x. command_of (understood x l.text)) (sym has) ∙ ap command_of is.is) tt in
-    let all = begins_shown l.text [] s s given (given_begin g l.text [] h given it) (same_state s live) ends in
-    (all.0, listed l means s s (given ++ all.0) has all.1)
+begun_list g l means = begin_answer l.text means.plain (list_command l) (command_is l means) means.unlisted (λ db params. tt) g
 
 -- ---- an answer against rows that rise by their key
 terms_are : (params row : Row) (places : List ℕ) → eval_all (map (col 1) places) (params ∷ row ∷ []) ≡ map (column row) places
@@ -155,27 +151,11 @@ module _ {S : Type 0} (g : Ghosts S) (l : Listing) (means : IsListing l) (old ne
 -- ---- a listing begins
 -- and commits nothing
 pub quiet : (l : Listing) → IsListing l → (old mid new : State) (text : List ℕ) → (HasCleanDisk mid → (text ≡ l.text) × IsUnchanged old mid) → old.now.schema ≡ book_schema → Survives mid new (CommitsShowing text [] mid) → Survives mid new (λ _. ⊥)
-quiet l means old mid new text prepared has s = record {
-  clean = s.clean;
-  shield = s.shield;
-  counts = s.counts;
-  limit = s.limit;
-  closes = s.closes;
-  crash = λ clean db may.
-      let early : HasCleanDisk mid = omega (arith, s.clean, clean) in
-      let it = prepared early in
-      let there : mid.now.schema ≡ book_schema = ap (λ (d : Database). d.schema) it.1.0.now_is ∙ has in
-      let plain : IsPlain (understood mid.now.schema l.text) = subst (λ x. IsPlain (understood x l.text)) (sym there) means.plain in
-      elim (s.crash clean db may) [ inl before ↦ inl before | inr commits ↦ absurd (never_commits l.text [] mid db plain (subst (λ x. CommitsShowing x [] mid db) it.0 commits)) ];
-}
+quiet l means = commits_none l.text means.plain
 
 pub begins : {S : Type 0} (g : Ghosts S) (l : Listing) → IsListing l → (old mid new : Held S) (text : List ℕ) → (text ≡ l.text) × IsUnchanged (state g old) (state g mid) → (state g old).now.schema ≡ book_schema → HasBegun g text [] mid new
     → HasGiven g l.text [] new [] × IsUnchanged (state g old) (state g new)
-begins g l means old mid new text prepared has begun =
-    let there : (state g mid).now.schema ≡ book_schema = ap (λ (d : Database). d.schema) prepared.1.0.now_is ∙ has in
-    let plain : IsPlain (understood mid.schema l.text) = subst (λ x. IsPlain (understood x l.text)) (sym there) means.plain in
-    let it = begun_plain g l.text [] mid new plain (subst (λ x. HasBegun g x [] mid new) prepared.0 begun) in
-    (it.0, unchanged_then (state g old) (state g mid) (state g new) prepared.1 it.1)
+begins g l means = begins_empty l.text means.plain g
 
 -- ---- from row to row
 -- where a row is off, so are the rows of which it is one

@@ -1,6 +1,7 @@
 //! The ten tables, read back row by row and compared with what a book of their commands has.
 #![tactic(auto)]
 
+mod apart;
 mod columns;
 mod commands;
 mod distinct;
@@ -17,6 +18,7 @@ mod parts;
 mod query;
 mod rows;
 
+pub use apart::are_apart;
 pub use commands::read_commands;
 pub use distinct::{are_distinct, reaching_law};
 pub use ends::Ends;

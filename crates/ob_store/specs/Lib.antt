@@ -5,3 +5,4 @@ pub mod Creating
 pub mod Finding
 pub mod Loading
 pub mod Leading
+pub mod Differing

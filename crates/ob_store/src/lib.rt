@@ -6,6 +6,7 @@ mod creating;
 mod keeper;
 mod led;
 mod named;
+mod off;
 mod reply;
 mod stored;
 

@@ -1,0 +1,70 @@
+use Rattle.std.proofs.Common.{◌≡◌, sym, ap, subst, ◌∙◌, arith, rules}
+use Rattle.std.specs.Prelude.{◌↔◌, IsTrue}
+use Rattle.sqlite.specs.Effect.{Database}
+use Rattle.sqlite.specs.State.{HasCleanDisk, IsUnchanged, Survives}
+use Rattle.sqlite.specs.Held.{state}
+use Rattle.sqlite.proofs.Callers.{unchanged_then}
+use Rattle.ob_tables.specs.Rows.{AreApart}
+use Rattle.ob_commit.proofs.Steps.{on_ok}
+use Rattle.ob_compare.specs.Apart.{number_text}
+use Rattle.ob_compare.proofs.Listing.{still_then}
+use Rattle.ob_compare.proofs.NumberQuery.{numbers_plain}
+use Rattle.ob_compare.proofs.Rowing.{if_ok}
+use Rattle.ob_compare.proofs.Texts.{begins_empty, commits_none}
+use Rattle.ob_compare.proofs.apart.are_apart.Goals as goal
+
+pub returns-in-Ok-query_prepared-clause-survives : goal.returns-in-Ok-query_prepared-clause-survives
+returns-in-Ok-query_prepared-clause-survives g c has =
+    let old = state g.S.Store c.args.conn.now in
+    let mid = state g.S.Store c.prepare.new.self in
+    let start = state g.S.Store c.in-Ok-query_prepared.rows.conn.now in
+    let last = c.rise.new.rows.conn.now in
+    let same : last ≡ c.conn-1.given.0 = search rules in
+    subst (λ x. Survives old (state g.S.Store x) (λ _. ⊥)) same
+    (still_then old start (state g.S.Store last) (still_then old mid start c.prepare.ensures.survives (commits_none number_text numbers_plain old mid start c.in-Ok.statement.text c.in-Ok.ensures.ok has c.in-Ok-query_prepared.ensures.survives)) c.rise.ensures.survives)
+
+pub returns-in-Ok-query_prepared-clause-same : goal.returns-in-Ok-query_prepared-clause-same
+returns-in-Ok-query_prepared-clause-same g c clean =
+    let old = c.args.conn.now in
+    let mid = c.prepare.new.self in
+    let start = c.in-Ok-query_prepared.rows.conn.now in
+    let last = c.rise.new.rows.conn.now in
+    let same : last ≡ c.conn-1.given.0 = search rules in
+    let late : HasCleanDisk (state g.S.Store last) = subst (λ x. HasCleanDisk (state g.S.Store x)) (sym same) clean in
+    let begun : HasCleanDisk (state g.S.Store start) = omega (arith, c.rise.ensures.survives.clean, late) in
+    let early : HasCleanDisk (state g.S.Store mid) = omega (arith, c.in-Ok-query_prepared.ensures.survives.clean, begun) in
+    on_ok c.rise.result (c.rise.ensures.same late) (λ step has.
+    let b = begins_empty number_text numbers_plain g.S.Store old mid start c.in-Ok.statement.text (c.in-Ok.ensures.ok early) has (c.in-Ok-query_prepared.ensures.begun begun) in
+    subst (λ x. IsUnchanged (state g.S.Store old) (state g.S.Store x)) same (unchanged_then (state g.S.Store old) (state g.S.Store start) (state g.S.Store last) b.1 (step b.1.0.is_open)))
+
+pub returns-in-Ok-query_prepared-clause-apart : goal.returns-in-Ok-query_prepared-clause-apart
+returns-in-Ok-query_prepared-clause-apart g c clean =
+    let old = c.args.conn.now in
+    let mid = c.prepare.new.self in
+    let start = c.in-Ok-query_prepared.rows.conn.now in
+    let last = c.rise.new.rows.conn.now in
+    let same : last ≡ c.conn-1.given.0 = search rules in
+    let late : HasCleanDisk (state g.S.Store last) = subst (λ x. HasCleanDisk (state g.S.Store x)) (sym same) clean in
+    let begun : HasCleanDisk (state g.S.Store start) = omega (arith, c.rise.ensures.survives.clean, late) in
+    let early : HasCleanDisk (state g.S.Store mid) = omega (arith, c.in-Ok-query_prepared.ensures.survives.clean, begun) in
+    if_ok c.rise.result (c.rise.ensures.apart late) (λ is tells has.
+    let b = begins_empty number_text numbers_plain g.S.Store old mid start c.in-Ok.statement.text (c.in-Ok.ensures.ok early) has (c.in-Ok-query_prepared.ensures.begun begun) in
+    subst (λ (d : Database). IsTrue is ↔ AreApart (d.trees 14)) b.1.0.now_is (tells b.1.0.is_open (ap (λ (d : Database). d.schema) b.1.0.now_is ∙ has) b.0))
+
+pub returns-clause-survives : goal.returns-clause-survives
+returns-clause-survives g c has =
+    let old = state g.S.Store c.args.conn.now in
+    let mid = state g.S.Store c.prepare.new.self in
+    let end = state g.S.Store c.query_prepared.follows.lender-at-none in
+    still_then old mid end c.prepare.ensures.survives
+    (commits_none number_text numbers_plain old mid end c.in-Ok.statement.text c.in-Ok.ensures.ok has (rw c.in-Err-query_prepared.is at c.query_prepared.follows.holds-at-none).survives)
+
+pub returns-in-Ok-query_prepared-clause-clean : goal.returns-in-Ok-query_prepared-clause-clean
+returns-in-Ok-query_prepared-clause-clean g c clean =
+    let last = c.rise.new.rows.conn.now in
+    let same : last ≡ c.conn-1.given.0 = search rules in
+    let late : HasCleanDisk (state g.S.Store last) = subst (λ x. HasCleanDisk (state g.S.Store x)) (sym same) clean in
+    omega (arith, c.prepare.ensures.survives.clean, c.in-Ok-query_prepared.ensures.survives.clean, c.rise.ensures.survives.clean, late)
+
+pub returns-clause-clean : goal.returns-clause-clean
+returns-clause-clean g c clean = omega (arith, c.prepare.ensures.survives.clean, (rw c.in-Err-query_prepared.is at c.query_prepared.follows.holds-at-none).survives.clean, clean)

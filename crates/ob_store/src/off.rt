@@ -1,0 +1,84 @@
+//! The first table that differs from what a led book has.
+ghost use Rattle.std.specs.Prelude.{◌≡◌, map};
+ghost use Rattle.ob_book.specs.Acts.{ActState};
+ghost use Rattle.ob_compare.specs.Moves.{ends_of};
+ghost use Rattle.ob_compare.specs.Parts.{IsPart};
+ghost use Rattle.ob_store.specs.Finding.{Finds};
+ghost use Rattle.ob_store.specs.Differing.{IsFirstOff, IsFirstOffOf, IsOff, NoneSo};
+
+use crate::led::Led;
+use ob_base::Stop;
+use ob_compare::holds_part;
+use ob_sweep::Timeline;
+use ob_tables::Table;
+use sqlite::{Alter, Connection};
+
+/// The tables before that of commands, in their order.
+const FIRST_PARTS: [Table; 7] = [
+    Table::Meta,
+    Table::Cause,
+    Table::Node,
+    Table::Device,
+    Table::Customer,
+    Table::Entry,
+    Table::Mark,
+];
+
+/// The table, where it hasn't the rows of the book. It isn't that of commands nor that of what they moved.
+fn part_off<S: Alter, T: Timeline>(
+    conn: &mut Connection<S>,
+    led: &Led<T>,
+    table: Table,
+) -> Result<Option<Table>, Stop>
+    requires part { IsPart table }
+    requires named { led.now.names.items ≡ map (λ n. n.name) led.now.book.state.network.nodes }
+    requires joined { led.now.ends.items ≡ ends_of led.now.book.state.network }
+    ensures { (b : ActState) → b.book ≡ led.now.book.state
+        → Finds S.Store (IsOff b table) NoneSo conn.old conn.new result }
+{
+    match holds_part(conn, &led.book, &led.names, &led.ends, table) {
+        Ok(true) => Ok(None),
+        Ok(false) => Ok(Some(table)),
+        Err(stop) => Err(stop),
+    }
+}
+
+/// The first of the tables before that of commands that hasn't the rows of the book.
+fn first_part_off<S: Alter, T: Timeline>(
+    conn: &mut Connection<S>,
+    led: &Led<T>,
+) -> Result<Option<Table>, Stop>
+    requires named { led.now.names.items ≡ map (λ n. n.name) led.now.book.state.network.nodes }
+    requires joined { led.now.ends.items ≡ ends_of led.now.book.state.network }
+    ensures { (b : ActState) → b.book ≡ led.now.book.state
+        → Finds S.Store (IsFirstOffOf 7 b) NoneSo conn.old conn.new result }
+{
+    'parts: for at in 0..FIRST_PARTS.len() {
+        match part_off(conn, led, FIRST_PARTS[at]) {
+            Ok(None) => {}
+            found => return found,
+        }
+    }
+    Ok(None)
+}
+
+/// The first of the ten tables, in their order, that hasn't the rows of a led book, whose commands are those of the table
+/// of commands. Nothing is written.
+pub(crate) fn first_off<S: Alter, T: Timeline>(
+    conn: &mut Connection<S>,
+    led: &Led<T>,
+) -> Result<Option<Table>, Stop>
+    requires named { led.now.names.items ≡ map (λ n. n.name) led.now.book.state.network.nodes }
+    requires joined { led.now.ends.items ≡ ends_of led.now.book.state.network }
+    ensures { (b : ActState) → b.book ≡ led.now.book.state
+        → Finds S.Store (IsFirstOff b led.now.moved) NoneSo conn.old conn.new result }
+{
+    match first_part_off(conn, led) {
+        Ok(None) => {}
+        found => return found,
+    }
+    if !led.moved {
+        return Ok(Some(Table::Moved));
+    }
+    part_off(conn, led, Table::Posting)
+}
