@@ -9,6 +9,7 @@ use Rattle.sqlite.specs.State.{State, HasCleanDisk, IsUnchanged, IsRolledBack, I
 use Rattle.sqlite_schema.specs.declared.command.Returning.{Returning}
 use Rattle.sqlite_resolve.specs.declared.compiled.Compiled.{Compiled}
 use Rattle.sqlite.proofs.Callers.{IsPlain, never_commits}
+use Rattle.ob_tables.specs.Schema.{book_schema}
 use Rattle.ob_tables.specs.Rows.{Tables}
 use Rattle.ob_tables.proofs.Silence.{silent_same}
 use Rattle.ob_commit.specs.Keeps.{Keeps}
@@ -51,14 +52,14 @@ kept_still old new t still survives keeps = record {
       elim (survives.crash clean trees may) [ inl before ↦ keeps.left first trees before | inr none ↦ absurd none ];
 }
 
--- a listing that was prepared is asked
-module _ (l : Listing) (means : IsListing l) (old mid new : State) (text : List ℕ) (prepared : HasCleanDisk mid → (text ≡ l.text) × IsUnchanged old mid) (t : Tables) (keeps : Keeps old t)
+-- a text that was prepared is asked
+module _ (known : List ℕ) (is_plain : IsPlain (understood book_schema known)) (old mid new : State) (text : List ℕ) (prepared : HasCleanDisk mid → (text ≡ known) × IsUnchanged old mid) (t : Tables) (keeps : Keeps old t)
     (first : Survives old mid (λ _. ⊥)) (s : Survives mid new (CommitsShowing text [] mid)) where
   plain : HasCleanDisk mid → IsPlain (understood mid.now.schema text)
   plain clean =
       let it = prepared clean in
       let was = keeps.settled (omega (arith, first.clean, clean)) it.1.0.was_open in
-      subst₂ (λ x k. IsPlain (understood x k)) (sym (ap (λ (d : Database). d.schema) it.1.0.now_is ∙ was.schema)) (sym it.0) means.plain
+      subst₂ (λ x k. IsPlain (understood x k)) (sym (ap (λ (d : Database). d.schema) it.1.0.now_is ∙ was.schema)) (sym it.0) is_plain
 
   silent : Survives mid new (λ _. ⊥)
   silent = record {
@@ -73,6 +74,11 @@ module _ (l : Listing) (means : IsListing l) (old mid new : State) (text : List 
   }
 
   -- it needs no schema, since a store that keeps tables has that of a book while it is open
-  pub kept_asked : (HasCleanDisk new → IsPlain (understood mid.now.schema text) → IsStill mid new) → Keeps new t
-  kept_asked still =
+  pub kept_text : (HasCleanDisk new → IsPlain (understood mid.now.schema text) → IsStill mid new) → Keeps new t
+  kept_text still =
       kept_still mid new t (λ clean. let early : HasCleanDisk mid = omega (arith, s.clean, clean) in still clean (plain early)) silent (unchanged old mid t (λ clean. (prepared clean).1) first keeps)
+
+-- the same of a listing
+pub kept_asked : (l : Listing) → IsListing l → (old mid new : State) (text : List ℕ) (prepared : HasCleanDisk mid → (text ≡ l.text) × IsUnchanged old mid) (t : Tables) → Keeps old t → Survives old mid (λ _. ⊥)
+    → Survives mid new (CommitsShowing text [] mid) → (HasCleanDisk new → IsPlain (understood mid.now.schema text) → IsStill mid new) → Keeps new t
+kept_asked l means old mid new text prepared t keeps first s still = kept_text l.text means.plain old mid new text prepared t keeps first s still

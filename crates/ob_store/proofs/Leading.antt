@@ -28,13 +28,16 @@ use Rattle.ob_record.specs.Tables.{Shows, moved_rows, tables_of}
 use Rattle.ob_record.specs.Naming.{RowsNameCommands}
 use Rattle.ob_record.specs.Reached.{IsReached, ReachedAreFew}
 use Rattle.ob_compare.specs.Listing.{filed_of}
-use Rattle.ob_compare.specs.Moves.{HasMoved, commands_of}
+use Rattle.ob_compare.specs.Moves.{HasMoved, commands_of, ends_of}
+use Rattle.ob_compare.specs.declared.ends.Ends.{Ends}
+use Rattle.ob_compare.specs.declared.filed.Filed.{Filed}
+use Rattle.ob_net.specs.declared.net.Node.{Node}
 use Rattle.ob_compare.specs.Distinct.{ActsAreAccepted, AreDistinct, MovedIsOf, ReachedByCommands}
 use Rattle.ob_compare.specs.declared.heading.Heading.{Heading}
 use Rattle.ob_store.specs.declared.named.Named.{Named}
 use Rattle.ob_store.specs.Creating.{HasNoPeriodText}
 use Rattle.ob_store.specs.Finding.{HasNoBook, IsBookOf, IsNamed}
-use Rattle.ob_store.specs.Leading.{HasNoPeriodOf, IsLed, IsLedBy, IsNewBook, LeadsNowhere, MovesAre}
+use Rattle.ob_store.specs.Leading.{HasNoPeriodOf, HasParts, IsLed, IsLedBy, IsNewBook, LeadsNowhere, MovesAre}
 
 -- the period stays from state to state
 led_from : (b : BookState) (c : ACommand) (more : List ACommand) (s : BookState) → next_all b (c ∷ more) ≡ Some s → next_all (next b c) more ≡ Some s
@@ -211,3 +214,21 @@ module _ (h : Heading) (f z : List ℕ) (f_is : f ≡ h.first_day.items) (z_is :
 pub bad_period : (stop : Stop) (r : Refusal) → stop ≡ Refused r → IsRefusedOrNoMemory BadPeriod stop → stop ≡ Refused BadPeriod
 bad_period (Refused r) x at is = ap Refused is
 bad_period (Fault f) x at is = absurd cc
+
+-- a book that was led along commands which were read from a list of these
+module _ (it : Named) (first : BookState) (new : IsNewBook it.heading first) (list : List Filed) (list_is : list ≡ it.commands.items) where
+  pub led_by : (s : BookState) → next_all first (commands_of (filed_of list)) ≡ Some s → IsLedBy it s
+  led_by s led = record { first = first; new = new; led = ap (λ l. next_all first (commands_of (filed_of l))) (sym list_is) ∙ led }
+
+  pub has_parts : (s : BookState) → next_all first (commands_of (filed_of list)) ≡ Some s → (names : List (List ℕ)) (same : List Filed) → same ≡ it.commands.items
+      → ((p : Calendar) (b : BookState) → next_all (empty_book p) (commands_of (filed_of same)) ≡ Some b → names ≡ map (λ (n : Node). n.name) b.network.nodes)
+      → (none ends : List Ends) → none ≡ [] → (none ≡ ends_of first.network → ends ≡ ends_of s.network) → HasParts s names ends
+  has_parts s led names same same_is named none ends none_is joined =
+      let from : next_all (empty_book first.period) (commands_of (filed_of same)) ≡ Some s = ap₂ (λ x l. next_all x (commands_of (filed_of l))) (sym new.new) (same_is ∙ sym list_is) ∙ led in
+      let no_ends : ends_of first.network ≡ [] = ap (λ (x : BookState). ends_of x.network) new.new in
+      (named first.period s from, joined (none_is ∙ sym no_ends))
+
+  -- what its moves were found to be
+  pub moves_found : (trees : Trees) (found moved : Bool) → found ≡ moved → ((rows : List Columns) → Shows trees Moved rows → IsTrue found ↔ HasMoved rows first (filed_of list)) → MovesAre it trees moved
+  moves_found trees found moved is so =
+      (first, new, λ rows shows. subst (λ l. IsTrue moved ↔ HasMoved rows first (filed_of l)) list_is (subst (λ m. IsTrue m ↔ HasMoved rows first (filed_of list)) is (so rows shows)))

@@ -7,3 +7,5 @@ pub mod Beginning
 pub mod Reading
 pub mod Naming
 pub mod Leading
+pub mod Holding
+pub mod Leads

@@ -119,7 +119,10 @@ pub(crate) fn read_led<S: Alter, T: Timeline>(
     }
     match follow(alloc, conn, &named) {
         Ok(Some(led)) => Ok(led),
-        Ok(None) => again(alloc, &named),
+        Ok(None) => match again(alloc, &named) {
+            Ok(led) => Ok(led),
+            Err(stop) => Err(stop),
+        },
         Err(stop) => Err(stop),
     }
 }
