@@ -1,6 +1,7 @@
 -- The book that the commands in the tables lead to.
 use Rattle.std.proofs.Common.{◌≡◌, ◌≢◌, ◌⊎◌, inl, inr, ℕ, ◌<◌, ◌≤◌, ◌^◌, Bool, true, false, List, [], ◌∷◌, length, map, Option, Some, None, is_none, if◌then◌else◌, refl, sym, ap, ap₂, subst, ◌∙◌, arith, IsTrue}
-use Rattle.std.specs.Prelude.{◌↔◌}
+use Rattle.std.specs.Prelude.{◌↔◌, IsSome}
+use Rattle.std.proofs.Common.{true≢false}
 use Rattle.std.proofs.Common.{ℤ, pos, ◌+ℤ◌}
 use Rattle.std.proofs.lemmas.Int.{ints}
 use Rattle.ob_time.specs.Moment.{IsTextOfDay}
@@ -232,3 +233,13 @@ module _ (it : Named) (first : BookState) (new : IsNewBook it.heading first) (li
   pub moves_found : (trees : Trees) (found moved : Bool) → found ≡ moved → ((rows : List Columns) → Shows trees Moved rows → IsTrue found ↔ HasMoved rows first (filed_of list)) → MovesAre it trees moved
   moves_found trees found moved is so =
       (first, new, λ rows shows. subst (λ l. IsTrue moved ↔ HasMoved rows first (filed_of l)) list_is (subst (λ m. IsTrue m ↔ HasMoved rows first (filed_of list)) is (so rows shows)))
+
+-- commands that aren't accepted in their turn lead nowhere
+none_led : (o : Option BookState) → ¬ (IsSome o) → o ≡ None
+none_led None not_so = refl
+none_led (Some s) not_so = absurd (not_so refl)
+
+pub stuck : (it : Named) (first : BookState) → IsNewBook it.heading first → (list : List Filed) → list ≡ it.commands.items → (is : Bool) → is ≡ false → IsTrue is ↔ IsSome (next_all first (commands_of (filed_of list))) → LeadsNowhere it
+stuck it first new list list_is is off accepted =
+    let so : ¬ (IsSome (next_all first (commands_of (filed_of list)))) = λ some. true≢false (sym (accepted.1 some) ∙ off) in
+    inr (first, new, ap (λ l. next_all first (commands_of (filed_of l))) (sym list_is) ∙ none_led (next_all first (commands_of (filed_of list))) so)

@@ -28,10 +28,10 @@ returns-in-Err-are_distinct-clause-finds g c =
 pub returns-in-Ok-Some-clause-finds : goal.returns-in-Ok-Some-clause-finds
 returns-in-Ok-Some-clause-finds g c =
     let it = c.in-Ok.named in
-    let led = c.in-Ok-Some.ensures.led in
+    let led = rw c.in-Ok-Some.field-0-is at c.in-Ok-Some.ensures.led in
     let distinct : AreDistinct (filed_of it.commands.items) = subst (λ (l : List Filed). AreDistinct (filed_of l)) c.deref.ensures.value (c.in-Ok-true.ensures.distinct.0 c.in-Ok-true.field-0-test) in
     led_at g.S.Store (λ (l : Led g.row.T.Denot). l.book.state) (λ (l : Led g.row.T.Denot). l.moved) it c.args.conn.now c.read_named.new.conn c.in-Ok.ensures c.naming_law.ensures.named c.reaching_law.ensures.accepted
-    c.follow.new.conn (Some c.in-Ok-Some.led) c.in-Ok-Some.ensures.finds c.naming_law.ensures.few c.reaching_law.ensures.reached c.reaching_law.ensures.moved c.next_law.ensures.period distinct c.in-Ok-Some.led led.0 (sym led.2)
+    c.follow.new.conn c.in-Ok-Some.field-0 c.in-Ok-Some.ensures.finds c.naming_law.ensures.few c.reaching_law.ensures.reached c.reaching_law.ensures.moved c.next_law.ensures.period distinct c.in-Ok-Some.led led.0 (ap is_some c.in-Ok-Some.field-0-is ∙ sym led.2)
 
 pub returns-in-Ok-again-clause-finds : goal.returns-in-Ok-again-clause-finds
 returns-in-Ok-again-clause-finds g c =
@@ -39,14 +39,14 @@ returns-in-Ok-again-clause-finds g c =
     let led = c.in-Ok-again.ensures.led in
     let distinct : AreDistinct (filed_of it.commands.items) = subst (λ (l : List Filed). AreDistinct (filed_of l)) c.deref.ensures.value (c.in-Ok-true.ensures.distinct.0 c.in-Ok-true.field-0-test) in
     led_at g.S.Store (λ (l : Led g.row.T.Denot). l.book.state) (λ (l : Led g.row.T.Denot). l.moved) it c.args.conn.now c.read_named.new.conn c.in-Ok.ensures c.naming_law.ensures.named c.reaching_law.ensures.accepted
-    c.follow.new.conn None c.in-Ok-None.ensures.finds c.naming_law.ensures.few c.reaching_law.ensures.reached c.reaching_law.ensures.moved c.next_law.ensures.period distinct c.in-Ok-again.led led.0 (sym led.2)
+    c.follow.new.conn c.in-Ok-None.field-0 c.in-Ok-None.ensures.finds c.naming_law.ensures.few c.reaching_law.ensures.reached c.reaching_law.ensures.moved c.next_law.ensures.period distinct c.in-Ok-again.led led.0 (ap is_some c.in-Ok-None.field-0-is ∙ sym led.2)
 
-pub returns-in-Err-again-clause-finds : goal.returns-in-Err-again-clause-finds
-returns-in-Err-again-clause-finds g c =
+pub returns-in-Ok-None-clause-finds : goal.returns-in-Ok-None-clause-finds
+returns-in-Ok-None-clause-finds g c =
     led_nowhere g.S.Store (λ (l : Led g.row.T.Denot). l.book.state) (λ (l : Led g.row.T.Denot). l.moved) c.in-Ok.named c.args.conn.now c.read_named.new.conn c.in-Ok.ensures c.naming_law.ensures.named c.reaching_law.ensures.accepted
-    c.follow.new.conn None c.in-Ok-None.ensures.finds c.in-Err-again.stop c.in-Err-again.ensures.faults c.in-Err-again.ensures.nowhere
+    c.follow.new.conn c.in-Ok-None.field-0 c.in-Ok-None.ensures.finds c.in-Err-again.stop c.in-Err-again.ensures.faults c.in-Err-again.ensures.nowhere
 
-pub returns-in-Err-follow-clause-finds : goal.returns-in-Err-follow-clause-finds
-returns-in-Err-follow-clause-finds g c =
+pub returns-clause-finds : goal.returns-clause-finds
+returns-clause-finds g c =
     led_fails g.S.Store (λ (l : Led g.row.T.Denot). l.book.state) (λ (l : Led g.row.T.Denot). l.moved) c.in-Ok.named c.args.conn.now c.read_named.new.conn c.in-Ok.ensures c.naming_law.ensures.named c.reaching_law.ensures.accepted
     c.follow.new.conn c.in-Err-follow.stop c.in-Err-follow.ensures.finds

@@ -1,0 +1,22 @@
+use Rattle.std.proofs.Common.{Ok, inl, refl, ap, ◌∙◌}
+use Rattle.ob_store.proofs.Leading.{has_parts, led_by, stuck}
+use Rattle.ob_store.proofs.led.again.Goals as goal
+
+pub returns-in-Err-clause-nowhere : goal.returns-in-Err-clause-nowhere
+returns-in-Err-clause-nowhere g c is = inl (c.in-Err.ensures.none is)
+
+pub returns-in-Ok-true-clause-led : goal.returns-in-Ok-true-clause-led
+returns-in-Ok-true-clause-led g c =
+    let it = c.args.named.now in
+    let first = c.in-Ok.book.state in
+    let s = c.lead.new.book.state in
+    let led = c.lead.ensures.book (c.in-Ok-true.is ∙ ap Ok c.in-Ok-true.field-0-test) in (
+      led_by it first c.in-Ok.ensures.new c.deref-2.result.now c.deref-2.ensures.value s led,
+      has_parts it first c.in-Ok.ensures.new c.deref-2.result.now c.deref-2.ensures.value s led c.in-Ok-names_of.names.items c.deref.result.now c.deref.ensures.value c.in-Ok-names_of.ensures.names
+      c.new-ends.result.items c.lead.new.noted.items c.new-ends.ensures.items (c.lead.ensures.noted (c.in-Ok-true.is ∙ ap Ok c.in-Ok-true.field-0-test)),
+      refl,
+    )
+
+pub returns-in-Ok-false-clause-nowhere : goal.returns-in-Ok-false-clause-nowhere
+returns-in-Ok-false-clause-nowhere g c is =
+    stuck c.args.named.now c.in-Ok.book.state c.in-Ok.ensures.new c.deref-2.result.now c.deref-2.ensures.value c.in-Ok-false.field-0 c.in-Ok-false.field-0-test c.in-Ok-false.ensures.accepted
