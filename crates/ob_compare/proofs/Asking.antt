@@ -1,6 +1,6 @@
 -- A query of the rows of a table, prepared and answered as a whole.
 use Rattle.std.proofs.Common.{◌≡◌, ◌≢◌, ℕ, List, [], inl, inr, refl, sym, ap, subst, ◌∙◌}
-use Rattle.std.specs.Prelude.{◌⊎◌, Result, Ok, Err}
+use Rattle.std.specs.Prelude.{◌⊎◌, Result, Ok, Err, IfErr}
 use Rattle.sqlite.specs.Order.{Row}
 use Rattle.sqlite.specs.Effect.{Database}
 use Rattle.sqlite.specs.Listing.{understood}
@@ -20,8 +20,10 @@ use Rattle.sqlite_trees.specs.declared.error.StoreError.TheVariants.{OutOfMemory
 use Rattle.sqlite_resolve.specs.declared.compiled.Compiled.{Compiled}
 use Rattle.sqlite.proofs.Callers.{IsPlain, unchanged_then}
 use Rattle.ob_tables.specs.Schema.{book_schema}
+use Rattle.ob_tables.specs.Steps.{IsStoreFault}
 use Rattle.ob_compare.specs.Listing.{Listing, IsListing, Lists}
-use Rattle.ob_compare.specs.Reading.{HasNoMeaning, HasTrouble, IsInputError, bad_book}
+use Rattle.ob_compare.specs.Faults.{IsReadFault, bad_book}
+use Rattle.ob_compare.specs.Reading.{HasNoMeaning, HasTrouble, IsInputError}
 use Rattle.ob_compare.proofs.Listing.{listed, quiet, still_then}
 
 -- no failure of a store is one of the text
@@ -104,3 +106,14 @@ foreign_tables l means old sql text none has = go (understood book_schema l.text
     go : (it : _) → understood book_schema l.text ≡ it → IsPlain it → ⊥
     go (Ok c) known plain = none c (ap (λ s. understood s sql) has ∙ ap (understood book_schema) (sym text) ∙ known)
     go (Err e) known plain = plain
+
+-- a failure of the store doesn't say that the tables are those of no book
+pub faults_alone : {X : Type 0} (r : Result X Stop) (P : Type 0) → IfErr r IsStoreFault → IfErr r (λ stop. stop ≡ bad_book → P)
+faults_alone (Ok x) P h = tt
+faults_alone (Err stop) P (inl memory) = λ bad. absurd (let e = sym memory ∙ bad in cc)
+faults_alone (Err stop) P (inr fault) = λ bad. absurd (let e = sym fault ∙ bad in cc)
+
+-- and it is why a reading stops
+pub faults_read : {X : Type 0} (r : Result X Stop) → IfErr r IsStoreFault → IfErr r IsReadFault
+faults_read (Ok x) h = h
+faults_read (Err stop) h = inl h

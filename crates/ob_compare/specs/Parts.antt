@@ -1,5 +1,5 @@
 -- The rows of each table by rising key, and what stands at the places of a part of a book.
-use Rattle.std.specs.Prelude.{◌≡◌, ⊤, ℕ, ◌+◌, Bool, false, List, [], ◌∷◌, codes, Option, Some, None, Result, IsTrue, IfOk, IfErr, OnOk, ◌↔◌}
+use Rattle.std.specs.Prelude.{◌≡◌, ◌≢◌, ⊤, ℕ, ◌+◌, Bool, false, List, [], ◌∷◌, codes, Option, Some, None, Result, IsTrue, IfOk, IfErr, OnOk, ◌↔◌}
 use Rattle.std.specs.List.Sorted.{IsPermutation}
 use Rattle.std.specs.declared.cmp.Ordering.{Ordering}
 use Rattle.sqlite.specs.Query.{output_cmp}
@@ -9,11 +9,11 @@ use Rattle.sqlite.specs.Held.{Held, state}
 use Rattle.ob_base.specs.declared.stop.Stop.{Stop}
 use Rattle.ob_tables.specs.Schema.{book_schema}
 use Rattle.ob_tables.specs.Rows.{Columns, Tables}
-use Rattle.ob_tables.specs.Steps.{IsStoreFault}
 use Rattle.ob_tables.specs.declared.table.Table.{Table}
 use Rattle.ob_tables.specs.declared.table.Table.TheVariants.{Meta, Cause, Node, Device, Customer, Entry, Mark, Command, Moved, Posting}
 use Rattle.ob_commit.specs.Keeps.{Keeps}
 use Rattle.ob_record.specs.Tables.{Shows}
+use Rattle.ob_compare.specs.Faults.{IsReadFault, bad_book}
 use Rattle.ob_compare.specs.Listing.{Listing, list_query, keyed}
 
 -- the query of all rows of a table, by key
@@ -79,7 +79,9 @@ module _ {S : Type 0} (g : Ghosts S) where
     -- whatever it answers, a store that keeps tables keeps them
     pub kept : (t : Tables) → Keeps (state g old) t → Keeps (state g new) t
     pub clean : HasCleanDisk (state g new) → HasCleanDisk (state g old)
-    pub faults : IfErr result IsStoreFault
+    pub faults : IfErr result IsReadFault
+    -- it is refused only where the tables aren't those of a book
+    pub foreign : HasCleanDisk (state g new) → IfErr result (λ stop. stop ≡ bad_book → old.schema ≢ book_schema)
     pub same : HasCleanDisk (state g new) → OnOk result (old.schema ≡ book_schema → IsUnchanged (state g old) (state g new))
     -- the table has just these rows, in some order
     pub holds : HasCleanDisk (state g new) → IfOk result (λ is. old.schema ≡ book_schema → (rows : List Columns)

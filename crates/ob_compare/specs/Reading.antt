@@ -16,11 +16,8 @@ use Rattle.sqlite_trees.specs.declared.store.Store.{Ghosts}
 use Rattle.sqlite.specs.declared.error.Error.{Error}
 use Rattle.sqlite.specs.declared.error.Error.TheVariants.{SqlInputError}
 use Rattle.ob_base.specs.declared.stop.Stop.{Stop}
-use Rattle.ob_base.specs.declared.stop.Stop.TheVariants.{Refused}
-use Rattle.ob_base.specs.declared.stop.Refusal.TheVariants.{BadBook}
 use Rattle.ob_book.specs.Acts.{Referenced}
 use Rattle.ob_tables.specs.Rows.{Columns, meta_row}
-use Rattle.ob_tables.specs.Steps.{IsStoreFault}
 use Rattle.ob_tables.specs.declared.table.Table.TheVariants.{Command}
 use Rattle.ob_record.specs.Naming.{IsReferenced}
 use Rattle.ob_record.specs.Tables.{numbered, row_of_command}
@@ -29,6 +26,7 @@ use Rattle.ob_compare.specs.declared.filed.Filed.{Filed}
 use Rattle.ob_compare.specs.declared.heading.Heading.{Heading}
 use Rattle.ob_compare.specs.declared.commands.Next.{Next}
 use Rattle.ob_compare.specs.declared.commands.Next.TheVariants.{Due, Other, End}
+pub use Rattle.ob_compare.specs.Faults.{IsReadFault, bad_book}
 use Rattle.ob_compare.specs.Listing.{Listing, Lists, referenced, filed_of}
 use Rattle.ob_compare.specs.Parts.{listing_of}
 
@@ -37,13 +35,6 @@ IsFiled f = IsReferenced (referenced f)
 
 abbrev pub row_of_filed : ℕ → Filed → Columns
 row_of_filed id f = row_of_command id (referenced f)
-
-abbrev pub bad_book : Stop
-bad_book = Refused BadBook
-
--- memory was refused, the store failed, or the tables aren't those of a book
-abbrev pub IsReadFault : Stop → Type 0
-IsReadFault stop = IsStoreFault stop ⊎ (stop ≡ bad_book)
 
 -- memory was refused, the disk failed, or the store was shut before
 abbrev pub HasTrouble : State → State → Stop → Type 0

@@ -15,6 +15,7 @@ ghost use Rattle.ob_record.specs.Tables.{Shows};
 ghost use Rattle.ob_compare.specs.Listing.{Goes};
 ghost use Rattle.ob_compare.specs.Parts.{Compares, listing_of, row_cmp, select_of, standing};
 
+use crate::query::prepare;
 use crate::rows::{advance, is_over, stop_of};
 use ob_base::Stop;
 use ob_tables::Table;
@@ -139,14 +140,15 @@ fn matches<S: Alter, L: Listed>(rows: &mut Rows<'_, S>, listed: &L) -> Result<bo
     is_over(rows)
 }
 
-/// Whether a table holds just the rows of a part of a book, which rise by key. Nothing is written.
+/// Whether a table holds just the rows of a part of a book, which rise by key. Nothing is written. A database without
+/// the table is refused as no book's.
 pub(crate) fn holds<S: Alter, L: Listed>(conn: &mut Connection<S>, listed: &L) -> Result<bool, Stop>
     requires rises { IsStrictlySortedBy (row_cmp L.table) (standing (L.places listed.now)) }
     ensures { Compares S.Store L.table (standing (L.places listed.now)) conn.old conn.new result }
 {
-    let statement = match conn.prepare(select_of(listed.table())) {
+    let statement = match prepare(conn, select_of(listed.table())) {
         Ok(statement) => statement,
-        Err(error) => return Err(stop_of(error)),
+        Err(stop) => return Err(stop),
     };
     match conn.query_prepared(&statement, &[]) {
         Ok(mut rows) => matches(&mut rows, listed),

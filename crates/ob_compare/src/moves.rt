@@ -1,5 +1,5 @@
 //! What the table of moved amounts holds, against what commands move: row by row, in one query.
-ghost use Rattle.std.specs.Prelude.{◌∷◌, ◌≡◌, ◌↔◌, false, true, List, [], IsTrue, IfOk, IfErr, OnOk, Ok, Some, None};
+ghost use Rattle.std.specs.Prelude.{◌∷◌, ◌≡◌, ◌≢◌, ◌↔◌, false, true, List, [], IsTrue, IfOk, IfErr, OnOk, Ok, Some, None};
 ghost use Rattle.sqlite.specs.Order.{Row as ARow};
 ghost use Rattle.sqlite.specs.Held.{state};
 ghost use Rattle.sqlite.specs.Given.{HasGiven};
@@ -15,17 +15,21 @@ ghost use Rattle.ob_tables.specs.Steps.{IsStoreFault};
 ghost use Rattle.ob_tables.specs.declared.table.Table.{Table as ATable};
 ghost use Rattle.ob_commit.specs.Keeps.{Keeps};
 ghost use Rattle.ob_record.specs.Tables.{Shows, rows_of_moves};
+ghost use Rattle.ob_compare.specs.Faults.{IsReadFault, bad_book};
 ghost use Rattle.ob_compare.specs.Listing.{Goes, filed_of};
 ghost use Rattle.ob_compare.specs.Moves.{HasMoved, commands_of, ends_of, moved_listing};
 
 use crate::ends::Ends;
 use crate::filed::Filed;
+use crate::listed::select_of;
+use crate::query::prepare;
 use crate::rows::{advance, int, is_over, is_row, signed, stop_of};
 use ob_base::Stop;
 use ob_book::Book;
 use ob_command::Command;
 use ob_post::Moved;
 use ob_sweep::Timeline;
+use ob_tables::Table;
 use sqlite::{Alter, Connection, Row, Rows};
 
 /// Whether the row is that of an amount that a command moved.
@@ -193,7 +197,8 @@ fn follows<S: Alter, T: Timeline>(
 }
 
 /// Whether the table of moved amounts holds what the commands move, each accepted in its turn, and no other row. The
-/// book is led along, and the ends of its devices are noted. Nothing is written.
+/// book is led along, and the ends of its devices are noted. Nothing is written. A database without the table is refused
+/// as no book's.
 pub fn holds_moves<S: Alter, T: Timeline>(
     conn: &mut Connection<S>,
     book: &mut Book<T>,
@@ -205,7 +210,9 @@ pub fn holds_moves<S: Alter, T: Timeline>(
         → Survives (state S.Store conn.old) (state S.Store conn.new) (λ _. ⊥) }
     ensures kept { (t : Tables) → Keeps (state S.Store conn.old) t → Keeps (state S.Store conn.new) t }
     ensures clean { HasCleanDisk (state S.Store conn.new) → HasCleanDisk (state S.Store conn.old) }
-    ensures faults { IfErr result IsStoreFault }
+    ensures faults { IfErr result IsReadFault }
+    ensures foreign { HasCleanDisk (state S.Store conn.new)
+        → IfErr result (λ stop. stop ≡ bad_book → conn.old.schema ≢ book_schema) }
     ensures same { HasCleanDisk (state S.Store conn.new) → OnOk result (conn.old.schema ≡ book_schema
         → IsUnchanged (state S.Store conn.old) (state S.Store conn.new)) }
     ensures moved { HasCleanDisk (state S.Store conn.new) → IfOk result (λ is. conn.old.schema ≡ book_schema
@@ -216,11 +223,9 @@ pub fn holds_moves<S: Alter, T: Timeline>(
     ensures noted { result ≡ Ok true → noted.old.items ≡ ends_of book.old.state.network
         → noted.new.items ≡ ends_of book.new.state.network }
 {
-    let statement = match conn.prepare(
-        "SELECT cmd, dim, k, delta FROM moved ORDER BY cmd, dim, k",
-    ) {
+    let statement = match prepare(conn, select_of(Table::Moved)) {
         Ok(statement) => statement,
-        Err(error) => return Err(stop_of(error)),
+        Err(stop) => return Err(stop),
     };
     match conn.query_prepared(&statement, &[]) {
         Ok(mut rows) => follows(&mut rows, book, commands, noted),

@@ -1,10 +1,11 @@
-use Rattle.std.proofs.Common.{◌≡◌, [], inl, ap, subst, ◌∙◌, arith, rules}
+use Rattle.std.proofs.Common.{◌≡◌, [], Bool, Err, inl, sym, ap, subst, ◌∙◌, arith, rules}
 use Rattle.sqlite.specs.Effect.{Database}
 use Rattle.sqlite.specs.State.{HasCleanDisk, IsUnchanged}
 use Rattle.sqlite.specs.Held.{state}
 use Rattle.sqlite.proofs.Callers.{begun_plain, unchanged_then}
 use Rattle.ob_compare.specs.Parts.{Compares, listing_of, standing, select_of}
-use Rattle.ob_compare.proofs.Kept.{kept_asked, kept_still, not_run, unread}
+use Rattle.ob_compare.proofs.Asking.{faults_alone, faults_read, foreign_tables}
+use Rattle.ob_compare.proofs.Kept.{kept_asked, unread}
 use Rattle.ob_compare.proofs.Listing.{still_then, quiet, begins}
 use Rattle.ob_compare.proofs.Places.{rows_alike, if_ok, on_ok}
 use Rattle.ob_compare.proofs.Selects.{is_listing}
@@ -15,7 +16,7 @@ returns-in-Ok-query_prepared g c =
     let t = g.L.Listed.table in
     let expected = standing (g.L.Listed.places c.args.listed.now) in
     let at_old = c.args.conn.now in
-    let at_mid = c.prepare.new.self in
+    let at_mid = c.prepare.new.conn in
     let at_start = c.in-Ok-query_prepared.rows.conn.now in
     let at_last = c.matches.new.rows.conn.now in
     let old = state g.S.Store at_old in
@@ -24,7 +25,7 @@ returns-in-Ok-query_prepared g c =
     let last = state g.S.Store at_last in
     let text = c.in-Ok.statement.text in
     let text_is : c.select_of.result.now ≡ select_of t = c.select_of.ensures ∙ ap select_of c.table.ensures in
-    let ready : HasCleanDisk mid → (text ≡ select_of t) × IsUnchanged old mid = λ clean. let it = c.in-Ok.ensures.ok clean in (it.0 ∙ text_is, it.1) in
+    let ready : HasCleanDisk mid → (text ≡ select_of t) × IsUnchanged old mid = λ clean. let it = c.in-Ok.ensures.prepared clean in (it.0 ∙ text_is, it.1) in
     let begun : HasCleanDisk last → HasCleanDisk start = λ clean. omega (arith, c.matches.ensures.survives.clean, clean) in
     let early : HasCleanDisk last → HasCleanDisk mid = λ clean. omega (arith, c.in-Ok-query_prepared.ensures.survives.clean, c.matches.ensures.survives.clean, clean) in
     let same : at_last ≡ c.conn-1.given.0 = search rules in
@@ -37,7 +38,8 @@ returns-in-Ok-query_prepared g c =
           (kept_asked (listing_of t) (is_listing t) old mid start text ready x keeps c.prepare.ensures.survives c.in-Ok-query_prepared.ensures.survives
           (λ late plain. inl (begun_plain g.S.Store text [] at_mid at_start plain (c.in-Ok-query_prepared.ensures.begun late)).1));
       clean = λ clean. omega (arith, c.prepare.ensures.survives.clean, c.in-Ok-query_prepared.ensures.survives.clean, c.matches.ensures.survives.clean, clean);
-      faults = c.matches.ensures.faults;
+      faults = faults_read c.matches.result c.matches.ensures.faults;
+      foreign = λ clean. faults_alone c.matches.result _ c.matches.ensures.faults;
       same = λ clean.
           on_ok c.matches.result (c.matches.ensures.same clean) (λ step has.
           let b = begins g.S.Store (listing_of t) (is_listing t) at_old at_mid at_start text (ready (early clean)) has (c.in-Ok-query_prepared.ensures.begun (begun clean)) in
@@ -52,32 +54,34 @@ pub returns : goal.returns
 returns g c =
     let t = g.L.Listed.table in
     let old = state g.S.Store c.args.conn.now in
-    let mid = state g.S.Store c.prepare.new.self in
+    let mid = state g.S.Store c.prepare.new.conn in
     let end = state g.S.Store c.query_prepared.follows.lender-at-none in
     let text = c.in-Ok.statement.text in
     let text_is : c.select_of.result.now ≡ select_of t = c.select_of.ensures ∙ ap select_of c.table.ensures in
-    let ready : HasCleanDisk mid → (text ≡ select_of t) × IsUnchanged old mid = λ clean. let it = c.in-Ok.ensures.ok clean in (it.0 ∙ text_is, it.1) in
+    let ready : HasCleanDisk mid → (text ≡ select_of t) × IsUnchanged old mid = λ clean. let it = c.in-Ok.ensures.prepared clean in (it.0 ∙ text_is, it.1) in
     let refused = rw c.in-Err-query_prepared.is at c.query_prepared.follows.holds-at-none in
     record {
       mode = λ idle. refused.mode (c.prepare.ensures.mode idle);
       survives = λ has. still_then old mid end c.prepare.ensures.survives (quiet (listing_of t) (is_listing t) old mid end text ready has refused.survives);
       kept = λ x keeps. kept_asked (listing_of t) (is_listing t) old mid end text ready x keeps c.prepare.ensures.survives refused.survives (λ late plain. unread mid end text [] c.in-Err-query_prepared.error (refused.err late));
       clean = λ clean. omega (arith, c.prepare.ensures.survives.clean, refused.survives.clean, clean);
-      faults = c.stop_of-in-Err-query_prepared.ensures;
+      faults = inl c.stop_of.ensures;
+      foreign = λ clean. faults_alone {X = Bool} (Err c.stop_of.result) _ c.stop_of.ensures;
       same = λ clean. tt;
       holds = λ clean. tt;
     }
 
 pub returns-in-Err : goal.returns-in-Err
 returns-in-Err g c =
-    let old = state g.S.Store c.args.conn.now in
-    let mid = state g.S.Store c.prepare.new.self in
+    let t = g.L.Listed.table in
+    let text_is : c.select_of.result.now ≡ select_of t = c.select_of.ensures ∙ ap select_of c.table.ensures in
     record {
       mode = c.prepare.ensures.mode;
       survives = λ has. c.prepare.ensures.survives;
-      kept = λ t keeps. kept_still old mid t (λ clean. not_run old mid _ [] c.in-Err.error (c.in-Err.ensures.err clean [])) c.prepare.ensures.survives keeps;
+      kept = c.prepare.ensures.kept;
       clean = λ clean. omega (arith, c.prepare.ensures.survives.clean, clean);
-      faults = c.stop_of.ensures;
+      faults = c.in-Err.ensures.faults;
+      foreign = λ clean bad. foreign_tables (listing_of t) (is_listing t) (state g.S.Store c.args.conn.now) _ (sym text_is) (c.in-Err.ensures.foreign clean bad).0;
       same = λ clean. tt;
       holds = λ clean. tt;
     }

@@ -9,24 +9,25 @@ use Rattle.ob_compare.specs.Moves.{moved_listing}
 use Rattle.ob_compare.proofs.Listing.{still_then, quiet, begins}
 use Rattle.ob_commit.specs.Keeps.{Keeps}
 use Rattle.ob_commit.proofs.Steps.{on_ok}
-use Rattle.ob_compare.proofs.Kept.{kept_asked, kept_still, not_run, unread}
+use Rattle.ob_compare.proofs.Asking.{foreign_tables}
+use Rattle.ob_compare.proofs.Kept.{kept_asked, unread}
 use Rattle.ob_compare.proofs.Rowing.{if_ok, moved_is}
 use Rattle.ob_compare.proofs.moves.holds_moves.Goals as goal
 
 pub returns-in-Ok-query_prepared-clause-survives : goal.returns-in-Ok-query_prepared-clause-survives
 returns-in-Ok-query_prepared-clause-survives g c has =
     let old = state g.S.Store c.args.conn.now in
-    let mid = state g.S.Store c.prepare.new.self in
+    let mid = state g.S.Store c.prepare.new.conn in
     let start = state g.S.Store c.in-Ok-query_prepared.rows.conn.now in
     let last = c.follows.new.rows.conn.now in
     let same : last ≡ c.conn-1.given.0 = search rules in
     subst (λ x. Survives old (state g.S.Store x) (λ _. ⊥)) same
-    (still_then old start (state g.S.Store last) (still_then old mid start c.prepare.ensures.survives (quiet moved_listing moved_is old mid start c.in-Ok.statement.text c.in-Ok.ensures.ok has c.in-Ok-query_prepared.ensures.survives)) c.follows.ensures.survives)
+    (still_then old start (state g.S.Store last) (still_then old mid start c.prepare.ensures.survives (quiet moved_listing moved_is old mid start c.in-Ok.statement.text (λ ready. let it = c.in-Ok.ensures.prepared ready in (it.0 ∙ c.select_of.ensures, it.1)) has c.in-Ok-query_prepared.ensures.survives)) c.follows.ensures.survives)
 
 pub returns-in-Ok-query_prepared-clause-same : goal.returns-in-Ok-query_prepared-clause-same
 returns-in-Ok-query_prepared-clause-same g c clean =
     let old = c.args.conn.now in
-    let mid = c.prepare.new.self in
+    let mid = c.prepare.new.conn in
     let start = c.in-Ok-query_prepared.rows.conn.now in
     let last = c.follows.new.rows.conn.now in
     let same : last ≡ c.conn-1.given.0 = search rules in
@@ -34,13 +35,13 @@ returns-in-Ok-query_prepared-clause-same g c clean =
     let begun : HasCleanDisk (state g.S.Store start) = omega (arith, c.follows.ensures.survives.clean, late) in
     let early : HasCleanDisk (state g.S.Store mid) = omega (arith, c.in-Ok-query_prepared.ensures.survives.clean, begun) in
     on_ok c.follows.result (c.follows.ensures.same late) (λ step has.
-    let b = begins g.S.Store moved_listing moved_is old mid start c.in-Ok.statement.text (c.in-Ok.ensures.ok early) has (c.in-Ok-query_prepared.ensures.begun begun) in
+    let b = begins g.S.Store moved_listing moved_is old mid start c.in-Ok.statement.text (let it = c.in-Ok.ensures.prepared early in (it.0 ∙ c.select_of.ensures, it.1)) has (c.in-Ok-query_prepared.ensures.begun begun) in
     subst (λ x. IsUnchanged (state g.S.Store old) (state g.S.Store x)) same (unchanged_then (state g.S.Store old) (state g.S.Store start) (state g.S.Store last) b.1 (step b.1.0.is_open)))
 
 pub returns-in-Ok-query_prepared-clause-moved : goal.returns-in-Ok-query_prepared-clause-moved
 returns-in-Ok-query_prepared-clause-moved g c clean =
     let old = c.args.conn.now in
-    let mid = c.prepare.new.self in
+    let mid = c.prepare.new.conn in
     let start = c.in-Ok-query_prepared.rows.conn.now in
     let last = c.follows.new.rows.conn.now in
     let same : last ≡ c.conn-1.given.0 = search rules in
@@ -48,15 +49,15 @@ returns-in-Ok-query_prepared-clause-moved g c clean =
     let begun : HasCleanDisk (state g.S.Store start) = omega (arith, c.follows.ensures.survives.clean, late) in
     let early : HasCleanDisk (state g.S.Store mid) = omega (arith, c.in-Ok-query_prepared.ensures.survives.clean, begun) in
     if_ok c.follows.result (c.follows.ensures.moved late) (λ is tells has table shows.
-    let b = begins g.S.Store moved_listing moved_is old mid start c.in-Ok.statement.text (c.in-Ok.ensures.ok early) has (c.in-Ok-query_prepared.ensures.begun begun) in
+    let b = begins g.S.Store moved_listing moved_is old mid start c.in-Ok.statement.text (let it = c.in-Ok.ensures.prepared early in (it.0 ∙ c.select_of.ensures, it.1)) has (c.in-Ok-query_prepared.ensures.begun begun) in
     tells b.1.0.is_open (ap (λ (d : Database). d.schema) b.1.0.now_is ∙ has) b.0 table (subst (λ (d : Database). Shows d.trees MovedTable table) (sym b.1.0.now_is) shows))
 
 pub returns-clause-survives : goal.returns-clause-survives
 returns-clause-survives g c has =
     let old = state g.S.Store c.args.conn.now in
-    let mid = state g.S.Store c.prepare.new.self in
+    let mid = state g.S.Store c.prepare.new.conn in
     let end = state g.S.Store c.query_prepared.follows.lender-at-none in
-    still_then old mid end c.prepare.ensures.survives (quiet moved_listing moved_is old mid end c.in-Ok.statement.text c.in-Ok.ensures.ok has (rw c.in-Err-query_prepared.is at c.query_prepared.follows.holds-at-none).survives)
+    still_then old mid end c.prepare.ensures.survives (quiet moved_listing moved_is old mid end c.in-Ok.statement.text (λ ready. let it = c.in-Ok.ensures.prepared ready in (it.0 ∙ c.select_of.ensures, it.1)) has (rw c.in-Err-query_prepared.is at c.query_prepared.follows.holds-at-none).survives)
 
 pub returns-in-Ok-query_prepared-clause-clean : goal.returns-in-Ok-query_prepared-clause-clean
 returns-in-Ok-query_prepared-clause-clean g c clean =
@@ -68,30 +69,27 @@ returns-in-Ok-query_prepared-clause-clean g c clean =
 pub returns-clause-clean : goal.returns-clause-clean
 returns-clause-clean g c clean = omega (arith, c.prepare.ensures.survives.clean, (rw c.in-Err-query_prepared.is at c.query_prepared.follows.holds-at-none).survives.clean, clean)
 
-pub returns-in-Err-clause-kept : goal.returns-in-Err-clause-kept
-returns-in-Err-clause-kept g c t keeps =
-    let old = state g.S.Store c.args.conn.now in
-    let mid = state g.S.Store c.prepare.new.self in
-    kept_still old mid t (λ clean. not_run old mid _ [] c.in-Err.error (c.in-Err.ensures.err clean [])) c.prepare.ensures.survives keeps
+pub returns-in-Err-clause-foreign : goal.returns-in-Err-clause-foreign
+returns-in-Err-clause-foreign g c clean bad = foreign_tables moved_listing moved_is (state g.S.Store c.args.conn.now) _ (sym c.select_of.ensures) (c.in-Err.ensures.foreign clean bad).0
 
 pub returns-in-Ok-query_prepared-clause-kept : goal.returns-in-Ok-query_prepared-clause-kept
 returns-in-Ok-query_prepared-clause-kept g c t keeps =
     let old = c.args.conn.now in
-    let mid = c.prepare.new.self in
+    let mid = c.prepare.new.conn in
     let start = c.in-Ok-query_prepared.rows.conn.now in
     let last = c.follows.new.rows.conn.now in
     let text = c.in-Ok.statement.text in
     let same : last ≡ c.conn-1.given.0 = search rules in
-    let begun = kept_asked moved_listing moved_is (state g.S.Store old) (state g.S.Store mid) (state g.S.Store start) text c.in-Ok.ensures.ok t keeps c.prepare.ensures.survives c.in-Ok-query_prepared.ensures.survives
+    let begun = kept_asked moved_listing moved_is (state g.S.Store old) (state g.S.Store mid) (state g.S.Store start) text (λ ready. let it = c.in-Ok.ensures.prepared ready in (it.0 ∙ c.select_of.ensures, it.1)) t keeps c.prepare.ensures.survives c.in-Ok-query_prepared.ensures.survives
     (λ late plain. inl (begun_plain g.S.Store text [] mid start plain (c.in-Ok-query_prepared.ensures.begun late)).1) in
     subst (λ x. Keeps (state g.S.Store x) t) same (c.follows.ensures.kept t begun)
 
 pub returns-clause-kept : goal.returns-clause-kept
 returns-clause-kept g c t keeps =
     let old = state g.S.Store c.args.conn.now in
-    let mid = state g.S.Store c.prepare.new.self in
+    let mid = state g.S.Store c.prepare.new.conn in
     let end = state g.S.Store c.query_prepared.follows.lender-at-none in
     let text = c.in-Ok.statement.text in
     let refused = rw c.in-Err-query_prepared.is at c.query_prepared.follows.holds-at-none in
-    kept_asked moved_listing moved_is old mid end text c.in-Ok.ensures.ok t keeps c.prepare.ensures.survives refused.survives
+    kept_asked moved_listing moved_is old mid end text (λ ready. let it = c.in-Ok.ensures.prepared ready in (it.0 ∙ c.select_of.ensures, it.1)) t keeps c.prepare.ensures.survives refused.survives
     (λ late plain. unread mid end text [] c.in-Err-query_prepared.error (refused.err late))
