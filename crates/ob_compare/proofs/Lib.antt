@@ -1,6 +1,7 @@
 pub mod Asking
 pub mod Filing
 pub mod Headings
+mod Kept
 pub mod Listing
 pub mod Order
 pub mod Rowing

@@ -8,10 +8,11 @@ use Rattle.sqlite_trees.specs.declared.store.Store.{Ghosts}
 use Rattle.sqlite.specs.Held.{Held, state}
 use Rattle.ob_base.specs.declared.stop.Stop.{Stop}
 use Rattle.ob_tables.specs.Schema.{book_schema}
-use Rattle.ob_tables.specs.Rows.{Columns}
+use Rattle.ob_tables.specs.Rows.{Columns, Tables}
 use Rattle.ob_tables.specs.Steps.{IsStoreFault}
 use Rattle.ob_tables.specs.declared.table.Table.{Table}
 use Rattle.ob_tables.specs.declared.table.Table.TheVariants.{Meta, Cause, Node, Device, Customer, Entry, Mark, Command, Moved, Posting}
+use Rattle.ob_commit.specs.Keeps.{Keeps}
 use Rattle.ob_record.specs.Tables.{Shows}
 use Rattle.ob_compare.specs.Listing.{Listing, list_query, keyed}
 
@@ -75,6 +76,8 @@ module _ {S : Type 0} (g : Ghosts S) where
   pub record Compares (table : Table) (expected : List Columns) (old new : Held S) (result : Result Bool Stop) : Type 0 where
     pub mode : old.in_transaction ≡ false → new.in_transaction ≡ false
     pub survives : old.schema ≡ book_schema → Survives (state g old) (state g new) (λ _. ⊥)
+    -- whatever it answers, a store that keeps tables keeps them
+    pub kept : (t : Tables) → Keeps (state g old) t → Keeps (state g new) t
     pub clean : HasCleanDisk (state g new) → HasCleanDisk (state g old)
     pub faults : IfErr result IsStoreFault
     pub same : HasCleanDisk (state g new) → OnOk result (old.schema ≡ book_schema → IsUnchanged (state g old) (state g new))

@@ -10,9 +10,10 @@ ghost use Rattle.ob_state.specs.Amounts.{moves as moves_of};
 ghost use Rattle.ob_state.specs.Next.{next, next_all};
 ghost use Rattle.ob_state.specs.Refusals.{refusal as refusal_to};
 ghost use Rattle.ob_tables.specs.Schema.{book_schema};
-ghost use Rattle.ob_tables.specs.Rows.{Columns, moved_row};
+ghost use Rattle.ob_tables.specs.Rows.{Columns, Tables, moved_row};
 ghost use Rattle.ob_tables.specs.Steps.{IsStoreFault};
 ghost use Rattle.ob_tables.specs.declared.table.Table.{Table as ATable};
+ghost use Rattle.ob_commit.specs.Keeps.{Keeps};
 ghost use Rattle.ob_record.specs.Tables.{Shows, rows_of_moves};
 ghost use Rattle.ob_compare.specs.Listing.{Goes, filed_of};
 ghost use Rattle.ob_compare.specs.Moves.{HasMoved, commands_of, ends_of, moved_listing};
@@ -47,6 +48,7 @@ fn is_moved(row: &Row, no: u32, it: &Moved) -> bool
 fn next_is<S: Alter>(rows: &mut Rows<'_, S>, no: u32, it: &Moved) -> Result<bool, Stop>
     ensures same_reference { rows.new.conn.ghost_name ≡ rows.old.conn.ghost_name }
     ensures survives { Survives (state S.Store rows.old.conn.now) (state S.Store rows.new.conn.now) (λ _. ⊥) }
+    ensures kept { (t : Tables) → Keeps (state S.Store rows.old.conn.now) t → Keeps (state S.Store rows.new.conn.now) t }
     ensures mode { rows.old.conn.now.in_transaction ≡ false → rows.new.conn.now.in_transaction ≡ false }
     ensures faults { IfErr result IsStoreFault }
     ensures same { HasCleanDisk (state S.Store rows.new.conn.now)
@@ -67,6 +69,7 @@ fn next_is<S: Alter>(rows: &mut Rows<'_, S>, no: u32, it: &Moved) -> Result<bool
 fn matches<S: Alter>(rows: &mut Rows<'_, S>, no: u32, moves: &[Moved]) -> Result<bool, Stop>
     ensures same_reference { rows.new.conn.ghost_name ≡ rows.old.conn.ghost_name }
     ensures survives { Survives (state S.Store rows.old.conn.now) (state S.Store rows.new.conn.now) (λ _. ⊥) }
+    ensures kept { (t : Tables) → Keeps (state S.Store rows.old.conn.now) t → Keeps (state S.Store rows.new.conn.now) t }
     ensures mode { rows.old.conn.now.in_transaction ≡ false → rows.new.conn.now.in_transaction ≡ false }
     ensures faults { IfErr result IsStoreFault }
     ensures same { HasCleanDisk (state S.Store rows.new.conn.now)
@@ -116,6 +119,7 @@ fn takes_on<S: Alter, T: Timeline>(
 ) -> Result<bool, Stop>
     ensures same_reference { rows.new.conn.ghost_name ≡ rows.old.conn.ghost_name }
     ensures survives { Survives (state S.Store rows.old.conn.now) (state S.Store rows.new.conn.now) (λ _. ⊥) }
+    ensures kept { (t : Tables) → Keeps (state S.Store rows.old.conn.now) t → Keeps (state S.Store rows.new.conn.now) t }
     ensures mode { rows.old.conn.now.in_transaction ≡ false → rows.new.conn.now.in_transaction ≡ false }
     ensures faults { IfErr result IsStoreFault }
     ensures same { HasCleanDisk (state S.Store rows.new.conn.now)
@@ -160,6 +164,7 @@ fn follows<S: Alter, T: Timeline>(
 ) -> Result<bool, Stop>
     ensures same_reference { rows.new.conn.ghost_name ≡ rows.old.conn.ghost_name }
     ensures survives { Survives (state S.Store rows.old.conn.now) (state S.Store rows.new.conn.now) (λ _. ⊥) }
+    ensures kept { (t : Tables) → Keeps (state S.Store rows.old.conn.now) t → Keeps (state S.Store rows.new.conn.now) t }
     ensures mode { rows.old.conn.now.in_transaction ≡ false → rows.new.conn.now.in_transaction ≡ false }
     ensures faults { IfErr result IsStoreFault }
     ensures same { HasCleanDisk (state S.Store rows.new.conn.now)
@@ -198,6 +203,7 @@ pub fn holds_moves<S: Alter, T: Timeline>(
     ensures mode { conn.old.in_transaction ≡ false → conn.new.in_transaction ≡ false }
     ensures survives { conn.old.schema ≡ book_schema
         → Survives (state S.Store conn.old) (state S.Store conn.new) (λ _. ⊥) }
+    ensures kept { (t : Tables) → Keeps (state S.Store conn.old) t → Keeps (state S.Store conn.new) t }
     ensures clean { HasCleanDisk (state S.Store conn.new) → HasCleanDisk (state S.Store conn.old) }
     ensures faults { IfErr result IsStoreFault }
     ensures same { HasCleanDisk (state S.Store conn.new) → OnOk result (conn.old.schema ≡ book_schema

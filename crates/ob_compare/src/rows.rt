@@ -7,8 +7,9 @@ ghost use Rattle.sqlite.specs.State.{HasCleanDisk, IsUnchanged, Survives};
 ghost use Rattle.sqlite_value.specs.Value.{owned};
 ghost use Rattle.sqlite.specs.declared.types.Value.TheVariants.{Int};
 ghost use Rattle.ob_tables.specs.Schema.{book_schema};
-ghost use Rattle.ob_tables.specs.Rows.{number};
+ghost use Rattle.ob_tables.specs.Rows.{Tables, number};
 ghost use Rattle.ob_tables.specs.Steps.{IsStoreFault};
+ghost use Rattle.ob_commit.specs.Keeps.{Keeps};
 ghost use Rattle.ob_compare.specs.Listing.{Listing, IsListing, Ends};
 
 use ob_base::{Fault, Stop};
@@ -62,6 +63,7 @@ pub(crate) fn is_row(row: &Row, values: &[ValueRef<'_>]) -> bool
 pub(crate) fn advance<S: Alter>(rows: &mut Rows<'_, S>) -> Result<(), Stop>
     ensures same_reference { rows.new.conn.ghost_name ≡ rows.old.conn.ghost_name }
     ensures survives { Survives (state S.Store rows.old.conn.now) (state S.Store rows.new.conn.now) (λ _. ⊥) }
+    ensures kept { (t : Tables) → Keeps (state S.Store rows.old.conn.now) t → Keeps (state S.Store rows.new.conn.now) t }
     ensures mode { rows.old.conn.now.in_transaction ≡ false → rows.new.conn.now.in_transaction ≡ false }
     ensures faults { IfErr result IsStoreFault }
     ensures same { HasCleanDisk (state S.Store rows.new.conn.now)
@@ -79,6 +81,7 @@ pub(crate) fn advance<S: Alter>(rows: &mut Rows<'_, S>) -> Result<(), Stop>
 pub(crate) fn is_over<S: Alter>(rows: &mut Rows<'_, S>) -> Result<bool, Stop>
     ensures same_reference { rows.new.conn.ghost_name ≡ rows.old.conn.ghost_name }
     ensures survives { Survives (state S.Store rows.old.conn.now) (state S.Store rows.new.conn.now) (λ _. ⊥) }
+    ensures kept { (t : Tables) → Keeps (state S.Store rows.old.conn.now) t → Keeps (state S.Store rows.new.conn.now) t }
     ensures mode { rows.old.conn.now.in_transaction ≡ false → rows.new.conn.now.in_transaction ≡ false }
     ensures faults { IfErr result IsStoreFault }
     ensures same { HasCleanDisk (state S.Store rows.new.conn.now)

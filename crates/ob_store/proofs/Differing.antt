@@ -92,8 +92,10 @@ module _ {S : Type 0} (g : Ghosts S) where
     mode = it.mode;
     clean = it.clean;
     left = it.left;
+    kept = it.kept;
     faults = it.faults;
     same = it.same;
+    same_bad = λ clean. tt;
     good = λ clean has. better (state g old).now.trees x (it.good clean has);
     bad = λ clean. tt;
   }
@@ -110,9 +112,9 @@ module _ {S : Type 0} (g : Ghosts S) where
     compared : (t : Table) (old new : Held S) (r : Result Bool Stop) → Compares g t (tables_of b t) old new r → Finds g (Decides t) NoneSo old new r
     compared t old new (Ok is) it =
         let rows = map (shown t) ((state g old).now.trees (tree_of t)) in
-        read_ok g (Decides t) NoneSo old new is it.mode it.survives it.clean it.same (λ clean has. it.holds clean has rows (IsPermutation-refl rows))
+        read_ok g (Decides t) NoneSo old new is it.mode it.survives it.clean it.kept it.same (λ clean has. it.holds clean has rows (IsPermutation-refl rows))
     compared t old new (Err stop) it =
-        read_err g (Decides t) NoneSo old new stop it.mode it.survives it.clean (inl it.faults) (λ clean bad. absurd (no_bad_book stop it.faults bad))
+        read_err g (Decides t) NoneSo old new stop it.mode it.survives it.clean it.kept (inl it.faults) (λ clean bad. absurd (no_bad_book stop it.faults bad))
 
     pub part_right : (t : Table) (old new : Held S) (is : Bool) → is ≡ true → Compares g t (tables_of b t) old new (Ok is) → Finds g (IsOff b t) NoneSo old new (Ok None)
     part_right t old new is right it = then_good g (Decides t) NoneSo (IsOff b t) NoneSo old new is (compared t old new (Ok is) it) None (λ trees both. both.0 right)

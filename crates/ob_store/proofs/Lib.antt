@@ -6,4 +6,7 @@ pub mod Answered
 pub mod Beginning
 pub mod Reading
 pub mod Naming
+pub mod Leading
+pub mod Holding
+pub mod Leads
 pub mod Differing

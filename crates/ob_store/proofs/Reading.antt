@@ -8,7 +8,10 @@ use Rattle.sqlite.specs.Held.{Held, state}
 use Rattle.sqlite.specs.State.{State, HasCleanDisk, IsUnchanged, Survives}
 use Rattle.sqlite.proofs.Callers.{unchanged_then}
 use Rattle.ob_base.specs.declared.stop.Stop.{Stop}
+use Rattle.ob_base.specs.Stop.{out_of_memory}
 use Rattle.ob_tables.specs.Schema.{book_schema}
+use Rattle.ob_tables.specs.Rows.{Tables}
+use Rattle.ob_commit.specs.Keeps.{Keeps}
 use Rattle.ob_compare.specs.Reading.{IsReadFault, bad_book}
 use Rattle.ob_store.specs.Finding.{Finds}
 
@@ -16,7 +19,7 @@ on_ok : {X E : Type 0} {P Q : Type 0} (r : Result X E) → OnOk r P → (P → Q
 on_ok (Ok x) p f = f p
 on_ok (Err e) p f = p
 
-if_ok : {X E : Type 0} {P Q : X → Type 0} (r : Result X E) → IfOk r P → ((x : X) → P x → Q x) → IfOk r Q
+pub if_ok : {X E : Type 0} {P Q : X → Type 0} (r : Result X E) → IfOk r P → ((x : X) → P x → Q x) → IfOk r Q
 if_ok (Ok x) p f = f x p
 if_ok (Err e) p f = p
 
@@ -40,8 +43,10 @@ module _ {S : Type 0} (g : Ghosts S) where
         mode = λ idle. second.mode (first.mode idle);
         clean = λ clean. first.clean (second.clean clean);
         left = λ clean schema trees may. first.left (second.clean clean) schema trees (second.left clean (at clean schema).1 trees may);
+        kept = λ t keeps. second.kept t (first.kept t keeps);
         faults = second.faults;
         same = λ clean. on_ok r (second.same clean) (λ step schema. unchanged_then (state g old) (state g mid) (state g new) (at clean schema).0 (step (at clean schema).1));
+        same_bad = λ clean. if_err r (second.same_bad clean) (λ stop step is schema. step is (at clean schema).1 ∙ (at clean schema).0.0.now_is);
         good = λ clean. if_ok r (second.good clean) (λ z found schema.
             (first.good (second.clean clean) schema, subst (λ (d : Database). More d.trees z) (seen clean schema) (found (at clean schema).1)));
         bad = λ clean. if_err r (second.bad clean) (λ stop none is schema.
@@ -55,8 +60,10 @@ module _ {S : Type 0} (g : Ghosts S) where
     mode = it.mode;
     clean = it.clean;
     left = it.left;
+    kept = it.kept;
     faults = it.faults;
     same = it.same;
+    same_bad = it.same_bad;
     good = λ clean. tt;
     bad = λ clean is schema. worse (state g old).now.trees (it.bad clean is schema);
   }
@@ -68,8 +75,10 @@ module _ {S : Type 0} (g : Ghosts S) where
       mode = first.mode;
       clean = first.clean;
       left = first.left;
+      kept = first.kept;
       faults = fault;
       same = λ clean. tt;
+      same_bad = λ clean is. absurd (other is);
       good = λ clean. tt;
       bad = λ clean is. absurd (other is);
     }
@@ -80,8 +89,10 @@ module _ {S : Type 0} (g : Ghosts S) where
       mode = first.mode;
       clean = first.clean;
       left = first.left;
+      kept = first.kept;
       faults = inr refl;
       same = λ clean. tt;
+      same_bad = λ clean is schema. (first.same clean schema).0.now_is;
       good = λ clean. tt;
       bad = λ clean is schema. none (state g old).now.trees (first.good clean schema);
     }
@@ -92,36 +103,64 @@ module _ {S : Type 0} (g : Ghosts S) where
       mode = first.mode;
       clean = first.clean;
       left = first.left;
+      kept = first.kept;
       faults = tt;
       same = first.same;
+      same_bad = λ clean. tt;
       good = λ clean schema. found (state g old).now.trees (first.good clean schema);
       bad = λ clean. tt;
     }
 
+-- what may stop a reading
+pub read_fault : (stop : Stop) → (stop ≡ bad_book) ⊎ (stop ≡ out_of_memory) → IsReadFault stop
+read_fault stop (inl bad) = inr bad
+read_fault stop (inr memory) = inl (inl memory)
+
+-- nothing was read
+pub none_read : {S : Type 0} (g : Ghosts S) {X : Type 0} (Good : Trees → X → Type 0) (Bad : Trees → Type 0) (conn : Held S) (stop : Stop) → (stop ≡ bad_book) ⊎ (stop ≡ out_of_memory)
+    → (stop ≡ bad_book → (trees : Trees) → Bad trees) → Finds g Good Bad conn conn (Err stop)
+none_read g Good Bad conn stop fault none = record {
+  mode = λ idle. idle;
+  clean = λ clean. clean;
+  left = λ clean schema trees may. may;
+  kept = λ t keeps. keeps;
+  faults = read_fault stop fault;
+  same = λ clean. tt;
+  same_bad = λ clean is schema. refl;
+  good = λ clean. tt;
+  bad = λ clean is schema. none is (state g conn).now.trees;
+}
+
 module _ {S : Type 0} (g : Ghosts S) {X : Type 0} (Good : Trees → X → Type 0) (Bad : Trees → Type 0) (old new : Held S) where
   -- a reading that answered
   pub read_ok : (x : X) → (old.in_transaction ≡ false → new.in_transaction ≡ false) → (old.schema ≡ book_schema → Survives (state g old) (state g new) (λ _. ⊥)) → (HasCleanDisk (state g new) → HasCleanDisk (state g old))
+      → ((t : Tables) → Keeps (state g old) t → Keeps (state g new) t)
       → (HasCleanDisk (state g new) → old.schema ≡ book_schema → IsUnchanged (state g old) (state g new)) → (HasCleanDisk (state g new) → old.schema ≡ book_schema → Good (state g old).now.trees x)
       → Finds g Good Bad old new (Ok x)
-  read_ok x mode survives clean same good = record {
+  read_ok x mode survives clean kept same good = record {
     mode = mode;
     clean = clean;
     left = λ is schema. no_more (state g old) (state g new) (survives schema) is;
+    kept = kept;
     faults = tt;
     same = same;
+    same_bad = λ is. tt;
     good = good;
     bad = λ is. tt;
   }
 
   -- a reading that failed, or found the tables of no book
   pub read_err : (stop : Stop) → (old.in_transaction ≡ false → new.in_transaction ≡ false) → (old.schema ≡ book_schema → Survives (state g old) (state g new) (λ _. ⊥)) → (HasCleanDisk (state g new) → HasCleanDisk (state g old))
+      → ((t : Tables) → Keeps (state g old) t → Keeps (state g new) t)
       → IsReadFault stop → (HasCleanDisk (state g new) → stop ≡ bad_book → old.schema ≢ book_schema) → Finds g Good Bad old new (Err stop)
-  read_err stop mode survives clean fault foreign = record {
+  read_err stop mode survives clean kept fault foreign = record {
     mode = mode;
     clean = clean;
     left = λ is schema. no_more (state g old) (state g new) (survives schema) is;
+    kept = kept;
     faults = fault;
     same = λ is. tt;
+    same_bad = λ is bad schema. absurd (foreign is bad schema);
     good = λ is. tt;
     bad = λ is bad schema. absurd (foreign is bad schema);
   }

@@ -16,7 +16,8 @@ use Rattle.ob_record.specs.Tables.{Shows, tables_of}
 use Rattle.ob_compare.specs.Reading.{IsReadFault, bad_book, command_rows}
 use Rattle.ob_record.specs.Naming.{IsReferenced}
 use Rattle.ob_compare.specs.Listing.{filed_of}
-use Rattle.ob_tables.specs.Rows.{meta_row}
+use Rattle.ob_tables.specs.Rows.{Tables, meta_row}
+use Rattle.ob_commit.specs.Keeps.{Keeps}
 use Rattle.ob_store.specs.Keeping.{KeepsBook}
 use Rattle.ob_store.specs.declared.named.Named.{Named}
 
@@ -68,7 +69,10 @@ module _ {S : Type 0} (g : Ghosts S) where
     -- a crash leaves no more than before
     pub left : HasCleanDisk (state g new) → old.schema ≡ book_schema → (trees : Trees) → (state g new).may_leave trees
         → (state g old).may_leave trees
+    -- and what the store keeps it keeps on
+    pub kept : (t : Tables) → Keeps (state g old) t → Keeps (state g new) t
     pub faults : IfErr result IsReadFault
     pub same : HasCleanDisk (state g new) → OnOk result (old.schema ≡ book_schema → IsUnchanged (state g old) (state g new))
+    pub same_bad : HasCleanDisk (state g new) → IfErr result (λ stop. stop ≡ bad_book → old.schema ≡ book_schema → (state g new).now ≡ (state g old).now)
     pub good : HasCleanDisk (state g new) → IfOk result (λ x. old.schema ≡ book_schema → Good (state g old).now.trees x)
     pub bad : HasCleanDisk (state g new) → IfErr result (λ stop. stop ≡ bad_book → old.schema ≡ book_schema → Bad (state g old).now.trees)

@@ -4,4 +4,5 @@ pub mod Replying
 pub mod Creating
 pub mod Finding
 pub mod Loading
+pub mod Leading
 pub mod Differing

@@ -7,14 +7,24 @@ use Rattle.ob_base.specs.declared.stop.Stop.{Stop}
 use Rattle.ob_base.specs.declared.stop.Stop.TheVariants.{Refused, Fault}
 use Rattle.ob_base.specs.declared.stop.Refusal.TheVariants.{BadBook}
 use Rattle.ob_base.specs.declared.stop.Fault.TheVariants.{OutOfMemory, Store}
+use Rattle.ob_state.specs.State.{BookState}
 use Rattle.ob_book.specs.Acts.{ActState}
 use Rattle.ob_tables.specs.declared.table.Table.{Table}
+use Rattle.ob_tables.specs.Rows.{AreApart}
 use Rattle.ob_store.specs.Keeping.{KeeperValue, Ties}
 use Rattle.ob_store.specs.Finding.{Differs, HasBook, HasNoBook, IsBookOf, OnlyReads, ShowsTheSame}
 
 -- the tables are those of no book
 abbrev pub HoldsNoBook : Trees → Type 0
 HoldsNoBook trees = (b : ActState) → ¬ (HasBook trees b)
+
+-- the first of the tables that differs from those of the book whose heading and commands they hold
+abbrev pub Finding : Trees → Option Table → Type 0
+Finding trees found = (b : ActState) × IsBookOf trees b × Differs trees b found
+
+-- the tables are those of a book with this state, and no two amounts stand under one hidden row number
+abbrev pub Holding : Trees → BookState → Type 0
+Holding trees s = (b : ActState) × HasBook trees b × AreApart (trees 14) × (s ≡ b.book)
 
 module _ {S : Type 0} (g : Ghosts S) where
   -- the tables that the store shows
@@ -37,8 +47,7 @@ module _ {S : Type 0} (g : Ghosts S) where
   -- book's; or they hold those of no book
   abbrev pub Audited : KeeperValue S → KeeperValue S → Result (Option Table) Stop → Type 0
   Audited old new (Ok found) =
-      (b : ActState) × IsBookOf (trees_in old.conn) b × Differs (trees_in old.conn) b found
-      × ShowsTheSame g old.conn new.conn × (new.book ≡ old.book)
+      Finding (trees_in old.conn) found × ShowsTheSame g old.conn new.conn × (new.book ≡ old.book)
   Audited old new (Err (Refused BadBook)) =
       HasNoBook (trees_in old.conn) × ShowsTheSame g old.conn new.conn × (new.book ≡ old.book)
   Audited old new (Err (Refused refusal)) = ⊥

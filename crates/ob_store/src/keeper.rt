@@ -1,6 +1,7 @@
 //! The keeper: a book, and the connection to the store that keeps its tables.
 use crate::acting::act_on;
 use crate::creating::create_on;
+use crate::loading::{audit_on, load_on};
 use crate::reply::Reply;
 use crate::stored::reply_at;
 use ob_base::{Fault, Ref, Stop};
@@ -65,6 +66,7 @@ impl<S: Alter, T: Timeline> Keeper<S, T> {
     /// `YYYY-MM-DD` on, in the zone of a POSIX rule. `BadPeriod` where there is no such period, `BadBook` where the database
     /// holds a table.
     pub fn create(&mut self, first: &[u8], days: u16, zone: &[u8]) -> Result<(), Stop>
+        ensures lost { result ≡ Err (Stop.Fault Fault.Store) → self.new.book ≡ None }
         ensures created { Created S.Store self.old self.new first.now days zone.now result }
     {
         match create_on(self.alloc, &mut self.conn, first, days, zone) {
@@ -86,6 +88,7 @@ impl<S: Alter, T: Timeline> Keeper<S, T> {
     pub fn act(&mut self, reference: Ref, command: Command) -> Result<Reply, Stop>
         ensures reopen { (self.old.book ≡ None) ↔ (result ≡ Err (Stop.Fault Fault.Reopen)) }
         ensures unopened { self.old.book ≡ None → self.new ≡ self.old }
+        ensures lost { result ≡ Err (Stop.Fault Fault.Store) → self.new.book ≡ None }
         ensures acted { HasCleanDisk (state S.Store self.new.conn) → (b : ActState) → Ties S.Store self.old b
             → IsSome self.old.book → Acted S.Store self.old self.new b (under reference command) result }
     {
@@ -108,6 +111,7 @@ impl<S: Alter, T: Timeline> Keeper<S, T> {
         ensures reopen { (self.old.book ≡ None) ↔ (result ≡ Err (Stop.Fault Fault.Reopen)) }
         ensures unopened { self.old.book ≡ None → self.new ≡ self.old }
         ensures survives { Survives (state S.Store self.old.conn) (state S.Store self.new.conn) (λ _. ⊥) }
+        ensures lost { result ≡ Err (Stop.Fault Fault.Store) → self.new.book ≡ None }
         ensures replied { HasCleanDisk (state S.Store self.new.conn) → (b : ActState) → Ties S.Store self.old b
             → IsSome self.old.book → Replied S.Store self.old self.new b no result }
     {
@@ -131,8 +135,18 @@ impl<S: Alter, T: Timeline> Keeper<S, T> {
         ensures loaded { HasCleanDisk (state S.Store self.new.conn) → self.old.conn.schema ≡ book_schema
             → Loaded S.Store self.old self.new result }
     {
-        self.book = None;
-        Err(Stop::Fault(Fault::Store))
+        prove!(self.conn.is_autocommit());
+        match load_on(self.alloc, &mut self.conn) {
+            Ok(book) => {
+                self.book = Some(book);
+                Ok(())
+            }
+            Err(Stop::Fault(Fault::Store)) => {
+                self.book = None;
+                Err(Stop::Fault(Fault::Store))
+            }
+            Err(stop) => Err(stop),
+        }
     }
 
     /// The first of the ten tables, in the order of `Table`, that differs from what the heading and the commands give; None
@@ -142,8 +156,14 @@ impl<S: Alter, T: Timeline> Keeper<S, T> {
         ensures audited { HasCleanDisk (state S.Store self.new.conn) → self.old.conn.schema ≡ book_schema
             → Audited S.Store self.old self.new result }
     {
-        self.book = None;
-        Err(Stop::Fault(Fault::Store))
+        match audit_on::<S, T>(self.alloc, &mut self.conn) {
+            Ok(found) => Ok(found),
+            Err(Stop::Fault(Fault::Store)) => {
+                self.book = None;
+                Err(Stop::Fault(Fault::Store))
+            }
+            Err(stop) => Err(stop),
+        }
     }
 
     /// The book; None before `create` or `load` has succeeded, and after a fault of the store.

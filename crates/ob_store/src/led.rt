@@ -1,8 +1,19 @@
 //! The book that the commands in the tables lead to.
-use ob_base::Name;
-use ob_book::Book;
-use ob_compare::Ends;
+ghost use Rattle.std.specs.Prelude.{◌≡◌, ◌⊎◌, false, true, is_some, IfOk, IfErr, IfSome};
+ghost use Rattle.ob_base.specs.Stop.{out_of_memory};
+ghost use Rattle.ob_compare.specs.Reading.{bad_book};
+ghost use Rattle.ob_store.specs.Finding.{Finds, HasNoBook};
+ghost use Rattle.ob_store.specs.Leading.{HasNoPeriodOf, HasParts, IsLed, IsLedBy, IsNewBook, LeadsNowhere, MovesAre};
+
+use crate::named::{BAD_BOOK, Named, read_named};
+use ob_base::{Name, Stop};
+use ob_book::{Book, next_law};
+use ob_compare::{Ends, Heading, are_distinct, holds_moves, lead, names_of, reaching_law};
+use ob_record::naming_law;
 use ob_sweep::Timeline;
+use ob_time::Period;
+use sqlite::{Alter, Connection};
+use std::alloc::Global;
 
 /// A book, led along the commands that the tables hold, and what its network doesn't show: the names of its nodes and the
 /// ends of its devices.
@@ -13,4 +24,105 @@ pub(crate) struct Led<T: Timeline> {
     pub(crate) ends: Vec<Ends>,
     /// Whether the table of moved amounts holds what the commands move.
     pub(crate) moved: bool,
+}
+
+/// A new book of the period that the heading names.
+fn new_book<T: Timeline>(alloc: Global, heading: &Heading) -> Result<Book<T>, Stop>
+    ensures new { IfOk result (λ book. IsNewBook heading.now book.state) }
+    ensures none { IfErr result (λ stop. stop ≡ bad_book → HasNoPeriodOf heading.now) }
+    ensures faults { IfErr result (λ stop. (stop ≡ bad_book) ⊎ (stop ≡ out_of_memory)) }
+{
+    let period = match Period::from_text(alloc, &heading.first_day, heading.days, &heading.zone) {
+        Ok(period) => period,
+        Err(Stop::Refused(_)) => return Err(BAD_BOOK),
+        Err(stop) => return Err(stop),
+    };
+    // the heading's date has no other spelling than this one
+    match period.date_text(0) {
+        Ok(_) => Book::new(alloc, period),
+        Err(stop) => Err(stop),
+    }
+}
+
+/// A new book, led along the commands while what they move is compared with its table; None where that has other rows, or
+/// a command isn't accepted.
+fn follow<S: Alter, T: Timeline>(
+    alloc: Global,
+    conn: &mut Connection<S>,
+    named: &Named,
+) -> Result<Option<Led<T>>, Stop>
+    ensures led { IfOk result (λ found. IfSome found (λ led. IsLedBy named.now led.book.state
+        × HasParts led.book.state led.names.items led.ends.items × (led.moved ≡ true))) }
+    ensures finds { Finds S.Store (λ trees found. MovesAre named.now trees (is_some found))
+        (λ _. HasNoPeriodOf named.now.heading) conn.old conn.new result }
+{
+    let mut book = match new_book(alloc, &named.heading) {
+        Ok(book) => book,
+        Err(stop) => return Err(stop),
+    };
+    let names = match names_of(alloc, &named.commands) {
+        Ok(names) => names,
+        Err(stop) => return Err(stop),
+    };
+    let mut ends = Vec::new(alloc);
+    match holds_moves(conn, &mut book, &named.commands, &mut ends) {
+        Ok(true) => Ok(Some(Led { book, names, ends, moved: true })),
+        Ok(false) => Ok(None),
+        Err(stop) => Err(stop),
+    }
+}
+
+/// A new book, led along the commands alone.
+fn again<T: Timeline>(alloc: Global, named: &Named) -> Result<Led<T>, Stop>
+    ensures led { IfOk result (λ led. IsLedBy named.now led.book.state
+        × HasParts led.book.state led.names.items led.ends.items × (led.moved ≡ false)) }
+    ensures nowhere { IfErr result (λ stop. stop ≡ bad_book → LeadsNowhere named.now) }
+    ensures faults { IfErr result (λ stop. (stop ≡ bad_book) ⊎ (stop ≡ out_of_memory)) }
+{
+    let mut book = match new_book(alloc, &named.heading) {
+        Ok(book) => book,
+        Err(stop) => return Err(stop),
+    };
+    let names = match names_of(alloc, &named.commands) {
+        Ok(names) => names,
+        Err(stop) => return Err(stop),
+    };
+    let mut ends = Vec::new(alloc);
+    match lead(&mut book, &named.commands, &mut ends) {
+        Ok(true) => Ok(Led { book, names, ends, moved: false }),
+        Ok(false) => Err(BAD_BOOK),
+        Err(stop) => Err(stop),
+    }
+}
+
+/// Reads the heading and the commands, and leads a book along them. They are those of no book where the heading names no
+/// period, a reference stands twice, or a command isn't accepted in its turn.
+pub(crate) fn read_led<S: Alter, T: Timeline>(
+    alloc: Global,
+    conn: &mut Connection<S>,
+) -> Result<Led<T>, Stop>
+    ensures parts { IfOk result (λ led. HasParts led.book.state led.names.items led.ends.items) }
+    ensures finds { Finds S.Store (λ trees led. IsLed trees led.book.state led.moved) HasNoBook
+        conn.old conn.new result }
+{
+    next_law();
+    naming_law();
+    reaching_law();
+    let named = match read_named(alloc, conn) {
+        Ok(named) => named,
+        Err(stop) => return Err(stop),
+    };
+    match are_distinct(alloc, &named.commands) {
+        Ok(true) => {}
+        Ok(false) => return Err(BAD_BOOK),
+        Err(stop) => return Err(stop),
+    }
+    match follow(alloc, conn, &named) {
+        Ok(Some(led)) => Ok(led),
+        Ok(None) => match again(alloc, &named) {
+            Ok(led) => Ok(led),
+            Err(stop) => Err(stop),
+        },
+        Err(stop) => Err(stop),
+    }
 }

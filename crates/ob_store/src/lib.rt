@@ -5,6 +5,7 @@ mod acting;
 mod creating;
 mod keeper;
 mod led;
+mod loading;
 mod named;
 mod off;
 mod reply;

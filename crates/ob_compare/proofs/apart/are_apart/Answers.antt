@@ -1,12 +1,14 @@
-use Rattle.std.proofs.Common.{◌≡◌, sym, ap, subst, ◌∙◌, arith, rules}
+use Rattle.std.proofs.Common.{◌≡◌, [], inl, sym, ap, subst, ◌∙◌, arith, rules}
 use Rattle.std.specs.Prelude.{◌↔◌, IsTrue}
 use Rattle.sqlite.specs.Effect.{Database}
 use Rattle.sqlite.specs.State.{HasCleanDisk, IsUnchanged, Survives}
 use Rattle.sqlite.specs.Held.{state}
-use Rattle.sqlite.proofs.Callers.{unchanged_then}
+use Rattle.sqlite.proofs.Callers.{begun_plain, unchanged_then}
 use Rattle.ob_tables.specs.Rows.{AreApart}
 use Rattle.ob_commit.proofs.Steps.{on_ok}
+use Rattle.ob_commit.specs.Keeps.{Keeps}
 use Rattle.ob_compare.specs.Apart.{number_text}
+use Rattle.ob_compare.proofs.Kept.{kept_still, kept_text, not_run, unread}
 use Rattle.ob_compare.proofs.Listing.{still_then}
 use Rattle.ob_compare.proofs.NumberQuery.{numbers_plain}
 use Rattle.ob_compare.proofs.Rowing.{if_ok}
@@ -68,3 +70,31 @@ returns-in-Ok-query_prepared-clause-clean g c clean =
 
 pub returns-clause-clean : goal.returns-clause-clean
 returns-clause-clean g c clean = omega (arith, c.prepare.ensures.survives.clean, (rw c.in-Err-query_prepared.is at c.query_prepared.follows.holds-at-none).survives.clean, clean)
+
+pub returns-in-Err-clause-kept : goal.returns-in-Err-clause-kept
+returns-in-Err-clause-kept g c t keeps =
+    let old = state g.S.Store c.args.conn.now in
+    let mid = state g.S.Store c.prepare.new.self in
+    kept_still old mid t (λ clean. not_run old mid _ [] c.in-Err.error (c.in-Err.ensures.err clean [])) c.prepare.ensures.survives keeps
+
+pub returns-in-Ok-query_prepared-clause-kept : goal.returns-in-Ok-query_prepared-clause-kept
+returns-in-Ok-query_prepared-clause-kept g c t keeps =
+    let old = c.args.conn.now in
+    let mid = c.prepare.new.self in
+    let start = c.in-Ok-query_prepared.rows.conn.now in
+    let last = c.rise.new.rows.conn.now in
+    let text = c.in-Ok.statement.text in
+    let same : last ≡ c.conn-1.given.0 = search rules in
+    let begun = kept_text number_text numbers_plain (state g.S.Store old) (state g.S.Store mid) (state g.S.Store start) text c.in-Ok.ensures.ok t keeps c.prepare.ensures.survives c.in-Ok-query_prepared.ensures.survives
+    (λ late plain. inl (begun_plain g.S.Store text [] mid start plain (c.in-Ok-query_prepared.ensures.begun late)).1) in
+    subst (λ x. Keeps (state g.S.Store x) t) same (c.rise.ensures.kept t begun)
+
+pub returns-clause-kept : goal.returns-clause-kept
+returns-clause-kept g c t keeps =
+    let old = state g.S.Store c.args.conn.now in
+    let mid = state g.S.Store c.prepare.new.self in
+    let end = state g.S.Store c.query_prepared.follows.lender-at-none in
+    let text = c.in-Ok.statement.text in
+    let refused = rw c.in-Err-query_prepared.is at c.query_prepared.follows.holds-at-none in
+    kept_text number_text numbers_plain old mid end text c.in-Ok.ensures.ok t keeps c.prepare.ensures.survives refused.survives
+    (λ late plain. unread mid end text [] c.in-Err-query_prepared.error (refused.err late))

@@ -57,4 +57,5 @@ rows-preserved g c =
                 let next = subst (λ n. NumberStands g.S.Store c.rows.last n new so.0) c.in-Higher.is (c.in_ok-number.ensures.stands late schema so.0 so.1) in
                 (so.0 ++ next.0 ∷ [], next.1, subst (λ n. RiseTo (Some n) (so.0 ++ next.0 ∷ [])) (sym (to_z-of_z fits)) (rise_more c.rows.last so.0 next.0 c.in-Higher.number so.2 next.2 above)),
           ),
+      λ t keeps. step.kept t (c.rows.invariant.4 t keeps),
     )

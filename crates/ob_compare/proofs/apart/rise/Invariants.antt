@@ -4,6 +4,8 @@ use Rattle.sqlite.specs.State.{HasCleanDisk, IsUnchanged, Survives}
 use Rattle.sqlite.specs.Held.{state}
 use Rattle.sqlite.specs.Given.{HasGiven}
 use Rattle.ob_tables.specs.Schema.{book_schema}
+use Rattle.ob_tables.specs.Rows.{Tables}
+use Rattle.ob_commit.specs.Keeps.{Keeps}
 use Rattle.ob_compare.specs.Apart.{number_text}
 use Rattle.ob_compare.proofs.RowNumbers.{RiseTo, room}
 use Rattle.ob_compare.proofs.apart.rise.Given as goal
@@ -17,6 +19,7 @@ invariant-rows g l =
     × (HasCleanDisk now → (IsTrue old.is_open → IsUnchanged old now)
     × (IsTrue old.is_open → old.now.schema ≡ book_schema → HasGiven g.S.Store number_text [] l.fn.rows.conn.now []
     → (given : List Row) × HasGiven g.S.Store number_text [] l.rows.conn.now given × RiseTo l.last given))
+    × ((t : Tables) → Keeps old t → Keeps now t)
 
 abbrev pub decreases-rows : goal.decreases-rows
 decreases-rows g l = room l.last

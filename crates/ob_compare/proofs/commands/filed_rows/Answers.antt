@@ -63,6 +63,7 @@ commands-preserved g c =
                 subst (HasGiven g.S.Store command_listing.text [] new) (one_filed c.commands.list.items c.commands.at c.in-Due.filed c.commands.invariant.3 ∙ ap (λ items. command_rows (filed_of items)) (sym pushed)) next,
           ),
       subst (λ (items : List Filed). AllByRecursion IsReferenced (filed_of items)) (sym pushed) (all_referenced c.commands.list.items c.in-Due.filed c.commands.invariant.5 (subst IsDue c.in-Due.is c.in_ok-filed.ensures.valid)),
+      λ t keeps. step.kept t (c.commands.invariant.6 t keeps),
     )
 
 pub returns-then-branch-clause-read : goal.returns-then-branch-clause-read

@@ -4,6 +4,8 @@ use Rattle.sqlite.specs.State.{HasCleanDisk, IsUnchanged, Survives}
 use Rattle.sqlite.specs.Held.{state}
 use Rattle.sqlite.specs.Given.{HasGiven}
 use Rattle.ob_tables.specs.Schema.{book_schema}
+use Rattle.ob_tables.specs.Rows.{Tables}
+use Rattle.ob_commit.specs.Keeps.{Keeps}
 use Rattle.ob_compare.specs.Listing.{filed_of}
 use Rattle.ob_compare.specs.Reading.{command_listing, command_rows}
 use Rattle.ob_record.specs.Naming.{IsReferenced}
@@ -20,3 +22,4 @@ invariant-commands g l =
     × (IsTrue old.is_open → old.now.schema ≡ book_schema → HasGiven g.S.Store command_listing.text [] l.fn.rows.conn.now []
     → HasGiven g.S.Store command_listing.text [] l.rows.conn.now (command_rows (filed_of l.list.items))))
     × AllByRecursion IsReferenced (filed_of l.list.items)
+    × ((t : Tables) → Keeps old t → Keeps now t)

@@ -1,13 +1,15 @@
-use Rattle.std.proofs.Common.{◌≡◌, sym, ap, subst, ◌∙◌, arith, rules}
+use Rattle.std.proofs.Common.{◌≡◌, [], inl, sym, ap, subst, ◌∙◌, arith, rules}
 use Rattle.sqlite.specs.Effect.{Database}
 use Rattle.sqlite.specs.State.{HasCleanDisk, IsUnchanged, Survives}
 use Rattle.sqlite.specs.Held.{state}
-use Rattle.sqlite.proofs.Callers.{unchanged_then}
+use Rattle.sqlite.proofs.Callers.{begun_plain, unchanged_then}
 use Rattle.ob_tables.specs.declared.table.Table.TheVariants.{Command}
 use Rattle.ob_record.specs.Tables.{Shows}
+use Rattle.ob_commit.specs.Keeps.{Keeps}
 use Rattle.ob_commit.proofs.Steps.{on_ok}
 use Rattle.ob_compare.specs.Reading.{command_listing}
 use Rattle.ob_compare.proofs.Asking.{foreign_tables, listing_quiet}
+use Rattle.ob_compare.proofs.Kept.{kept_asked, unread}
 use Rattle.ob_compare.proofs.Listing.{begins, still_then}
 use Rattle.ob_compare.proofs.Rowing.{if_ok}
 use Rattle.ob_compare.proofs.Selects.{is_listing}
@@ -70,3 +72,25 @@ returns-in-Ok-query_prepared-clause-clean g c clean =
 
 pub returns-clause-clean : goal.returns-clause-clean
 returns-clause-clean g c clean = omega (arith, c.prepare.ensures.survives.clean, (rw c.in-Err-query_prepared.is at c.query_prepared.follows.holds-at-none).survives.clean, clean)
+
+pub returns-in-Ok-query_prepared-clause-kept : goal.returns-in-Ok-query_prepared-clause-kept
+returns-in-Ok-query_prepared-clause-kept g c t keeps =
+    let old = c.args.conn.now in
+    let mid = c.prepare.new.conn in
+    let start = c.in-Ok-query_prepared.rows.conn.now in
+    let last = c.filed_rows.new.rows.conn.now in
+    let text = c.in-Ok.statement.text in
+    let same : last ≡ c.conn-1.given.0 = search rules in
+    let begun = kept_asked command_listing (is_listing Command) (state g.S.Store old) (state g.S.Store mid) (state g.S.Store start) text (λ clean. let it = c.in-Ok.ensures.prepared clean in (it.0 ∙ c.select_of.ensures, it.1)) t keeps c.prepare.ensures.survives c.in-Ok-query_prepared.ensures.survives
+    (λ late plain. inl (begun_plain g.S.Store text [] mid start plain (c.in-Ok-query_prepared.ensures.begun late)).1) in
+    subst (λ x. Keeps (state g.S.Store x) t) same (c.filed_rows.ensures.kept t begun)
+
+pub returns-clause-kept : goal.returns-clause-kept
+returns-clause-kept g c t keeps =
+    let old = state g.S.Store c.args.conn.now in
+    let mid = state g.S.Store c.prepare.new.conn in
+    let end = state g.S.Store c.query_prepared.follows.lender-at-none in
+    let text = c.in-Ok.statement.text in
+    let refused = rw c.in-Err-query_prepared.is at c.query_prepared.follows.holds-at-none in
+    kept_asked command_listing (is_listing Command) old mid end text (λ clean. let it = c.in-Ok.ensures.prepared clean in (it.0 ∙ c.select_of.ensures, it.1)) t keeps c.prepare.ensures.survives refused.survives
+    (λ late plain. unread mid end text [] c.in-Err-query_prepared.error (refused.err late))

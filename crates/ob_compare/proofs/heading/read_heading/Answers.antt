@@ -32,3 +32,9 @@ returns-in-Ok-clause-empty g c none = let it = c.in-Ok.ensures.missed (no_meanin
 
 pub returns-in-Err-clause-empty : goal.returns-in-Err-clause-empty
 returns-in-Err-clause-empty g c none = c.in-Err.ensures.missed (no_meaning c.args.conn.now.schema c.select_of.result.now none c.select_of.ensures)
+
+pub returns-in-Ok-clause-kept : goal.returns-in-Ok-clause-kept
+returns-in-Ok-clause-kept g c = c.list_all.ensures.kept meta_listing (is_listing Meta) (sym c.select_of.ensures)
+
+pub returns-in-Err-clause-kept : goal.returns-in-Err-clause-kept
+returns-in-Err-clause-kept g c = c.list_all.ensures.kept meta_listing (is_listing Meta) (sym c.select_of.ensures)

@@ -41,4 +41,5 @@ places-preserved g c =
                 place_on g.S.Store (listing_of g.L.Listed.table) new ps c.places.at _ given c.in_ok-goes_on.field-0 low
                 (c.in_ok-goes_on.ensures.goes late there (given ++ standing (take c.places.at ps)) (was.1 live has given it)) c.if-not-branch.false,
           ),
+      λ t keeps. step.kept t (c.places.invariant.4 t keeps),
     )

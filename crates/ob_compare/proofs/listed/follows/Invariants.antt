@@ -4,6 +4,8 @@ use Rattle.sqlite.specs.State.{HasCleanDisk, IsUnchanged, Survives}
 use Rattle.sqlite.specs.Held.{state}
 use Rattle.sqlite.specs.Given.{HasGiven}
 use Rattle.ob_tables.specs.Schema.{book_schema}
+use Rattle.ob_tables.specs.Rows.{Tables}
+use Rattle.ob_commit.specs.Keeps.{Keeps}
 use Rattle.ob_compare.specs.Parts.{select_of, standing}
 use Rattle.ob_compare.proofs.listed.follows.Given as goal
 
@@ -17,3 +19,4 @@ invariant-places g l =
     × (HasCleanDisk now → (IsTrue old.is_open → IsUnchanged old now)
     × (IsTrue old.is_open → old.now.schema ≡ book_schema → (given : List Row) → HasGiven g.S.Store (select_of t) [] l.fn.rows.conn.now given
     → HasGiven g.S.Store (select_of t) [] l.rows.conn.now (given ++ standing (take l.at (g.L.Listed.places l.listed)))))
+    × ((t : Tables) → Keeps old t → Keeps now t)

@@ -1,9 +1,10 @@
-use Rattle.std.proofs.Common.{◌≡◌, ap, subst, ◌∙◌, arith, rules}
+use Rattle.std.proofs.Common.{◌≡◌, [], inl, ap, subst, ◌∙◌, arith, rules}
 use Rattle.sqlite.specs.Effect.{Database}
 use Rattle.sqlite.specs.State.{HasCleanDisk, IsUnchanged}
 use Rattle.sqlite.specs.Held.{state}
-use Rattle.sqlite.proofs.Callers.{unchanged_then}
+use Rattle.sqlite.proofs.Callers.{begun_plain, unchanged_then}
 use Rattle.ob_compare.specs.Parts.{Compares, listing_of, standing, select_of}
+use Rattle.ob_compare.proofs.Kept.{kept_asked, kept_still, not_run, unread}
 use Rattle.ob_compare.proofs.Listing.{still_then, quiet, begins}
 use Rattle.ob_compare.proofs.Places.{rows_alike, if_ok, on_ok}
 use Rattle.ob_compare.proofs.Selects.{is_listing}
@@ -32,6 +33,9 @@ returns-in-Ok-query_prepared g c =
       survives = λ has.
           still_then old start last
           (still_then old mid start c.prepare.ensures.survives (quiet (listing_of t) (is_listing t) old mid start text ready has c.in-Ok-query_prepared.ensures.survives)) c.matches.ensures.survives;
+      kept = λ x keeps. c.matches.ensures.kept x
+          (kept_asked (listing_of t) (is_listing t) old mid start text ready x keeps c.prepare.ensures.survives c.in-Ok-query_prepared.ensures.survives
+          (λ late plain. inl (begun_plain g.S.Store text [] at_mid at_start plain (c.in-Ok-query_prepared.ensures.begun late)).1));
       clean = λ clean. omega (arith, c.prepare.ensures.survives.clean, c.in-Ok-query_prepared.ensures.survives.clean, c.matches.ensures.survives.clean, clean);
       faults = c.matches.ensures.faults;
       same = λ clean.
@@ -57,8 +61,23 @@ returns g c =
     record {
       mode = λ idle. refused.mode (c.prepare.ensures.mode idle);
       survives = λ has. still_then old mid end c.prepare.ensures.survives (quiet (listing_of t) (is_listing t) old mid end text ready has refused.survives);
+      kept = λ x keeps. kept_asked (listing_of t) (is_listing t) old mid end text ready x keeps c.prepare.ensures.survives refused.survives (λ late plain. unread mid end text [] c.in-Err-query_prepared.error (refused.err late));
       clean = λ clean. omega (arith, c.prepare.ensures.survives.clean, refused.survives.clean, clean);
       faults = c.stop_of-in-Err-query_prepared.ensures;
+      same = λ clean. tt;
+      holds = λ clean. tt;
+    }
+
+pub returns-in-Err : goal.returns-in-Err
+returns-in-Err g c =
+    let old = state g.S.Store c.args.conn.now in
+    let mid = state g.S.Store c.prepare.new.self in
+    record {
+      mode = c.prepare.ensures.mode;
+      survives = λ has. c.prepare.ensures.survives;
+      kept = λ t keeps. kept_still old mid t (λ clean. not_run old mid _ [] c.in-Err.error (c.in-Err.ensures.err clean [])) c.prepare.ensures.survives keeps;
+      clean = λ clean. omega (arith, c.prepare.ensures.survives.clean, clean);
+      faults = c.stop_of.ensures;
       same = λ clean. tt;
       holds = λ clean. tt;
     }

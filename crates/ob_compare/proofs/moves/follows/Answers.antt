@@ -53,6 +53,7 @@ commands-preserved g c =
                       ∙ front_more b first (c.commands.at + 1) c.commands.at list f at.0 low here at.2,
                 ),
           ),
+      λ t keeps. step.kept t (c.commands.invariant.7 t keeps),
     )
 
 pub returns-in-Ok-false-clause-moved : goal.returns-in-Ok-false-clause-moved

@@ -4,6 +4,8 @@ use Rattle.sqlite.specs.State.{HasCleanDisk, IsUnchanged, Survives}
 use Rattle.sqlite.specs.Held.{state}
 use Rattle.sqlite.specs.Given.{HasGiven}
 use Rattle.ob_tables.specs.Schema.{book_schema}
+use Rattle.ob_tables.specs.Rows.{Tables}
+use Rattle.ob_commit.specs.Keeps.{Keeps}
 use Rattle.ob_compare.specs.Moves.{moved_listing, ends_of}
 use Rattle.ob_compare.proofs.Rowing.{leads, expected}
 use Rattle.ob_compare.proofs.moves.follows.Given as goal
@@ -20,3 +22,4 @@ invariant-commands g l =
     × (HasCleanDisk now → (IsTrue old.is_open → IsUnchanged old now)
     × (IsTrue old.is_open → old.now.schema ≡ book_schema → HasGiven g.S.Store moved_listing.text [] l.fn.rows.conn.now []
     → (front : List Row) × HasGiven g.S.Store moved_listing.text [] l.rows.conn.now front × (front ++ expected l.book.state (l.at + 1) (drop l.at l.commands) ≡ expected l.fn.book.state 1 l.commands)))
+    × ((t : Tables) → Keeps old t → Keeps now t)

@@ -39,4 +39,5 @@ moves-preserved g c =
                 move_on g.S.Store new c.args.no c.args.moves.now c.moves.at _ given c.in_ok-next_is.field-0 low
                 (c.in_ok-next_is.ensures.goes late there (given ++ take c.moves.at (rows_of_moves c.args.no c.args.moves.now)) (was.1 live has given it)) c.if-not-branch.false,
           ),
+      λ t keeps. step.kept t (c.moves.invariant.4 t keeps),
     )

@@ -4,6 +4,8 @@ use Rattle.sqlite.specs.State.{HasCleanDisk, IsUnchanged, Survives}
 use Rattle.sqlite.specs.Held.{state}
 use Rattle.sqlite.specs.Given.{HasGiven}
 use Rattle.ob_tables.specs.Schema.{book_schema}
+use Rattle.ob_tables.specs.Rows.{Tables}
+use Rattle.ob_commit.specs.Keeps.{Keeps}
 use Rattle.ob_record.specs.Tables.{rows_of_moves}
 use Rattle.ob_compare.specs.Moves.{moved_listing}
 use Rattle.ob_compare.proofs.moves.matches.Given as goal
@@ -16,3 +18,4 @@ invariant-moves g l =
     (l.rows.conn.ghost_name ≡ l.fn.rows.conn.ghost_name) × Survives old now (λ _. ⊥) × (l.fn.rows.conn.now.in_transaction ≡ false → l.rows.conn.now.in_transaction ≡ false)
     × (HasCleanDisk now → (IsTrue old.is_open → IsUnchanged old now)
     × (IsTrue old.is_open → old.now.schema ≡ book_schema → (given : List Row) → HasGiven g.S.Store moved_listing.text [] l.fn.rows.conn.now given → HasGiven g.S.Store moved_listing.text [] l.rows.conn.now (given ++ take l.at (rows_of_moves l.no l.moves))))
+    × ((t : Tables) → Keeps old t → Keeps now t)

@@ -1,7 +1,8 @@
-use Rattle.std.proofs.Common.{sym, ◌∙◌, arith}
+use Rattle.std.proofs.Common.{[], inl, sym, ◌∙◌, arith}
 use Rattle.sqlite.specs.Held.{state}
 use Rattle.sqlite.specs.State.{HasCleanDisk}
-use Rattle.ob_compare.proofs.Asking.{listing_quiet, listing_whole, never_clean}
+use Rattle.ob_compare.proofs.Asking.{listing_quiet, listing_whole, never_clean, shown_unchanged}
+use Rattle.ob_compare.proofs.Kept.{kept_asked, unread}
 use Rattle.ob_compare.proofs.query.list_all.Goals as goal
 
 pub returns-in-Ok-query_all-clause-survives : goal.returns-in-Ok-query_all-clause-survives
@@ -41,3 +42,21 @@ returns-clause-missed g c none =
     let new = state g.S.Store c.query_all.new.conn in
     let never : HasCleanDisk new → ⊥ = λ late. let early : HasCleanDisk mid = omega (arith, c.query_all.ensures.survives.clean, late) in c.in-Ok.ensures.missed early none in
     (never_clean old mid new _ c.prepare.ensures.survives c.query_all.ensures.survives never, λ late. absurd (never late))
+
+pub returns-in-Ok-query_all-clause-kept : goal.returns-in-Ok-query_all-clause-kept
+returns-in-Ok-query_all-clause-kept g c l means text t keeps =
+    let old = state g.S.Store c.args.conn.now in
+    let mid = state g.S.Store c.prepare.new.conn in
+    let new = state g.S.Store c.query_all.new.conn in
+    let sql = c.in-Ok.statement.text in
+    kept_asked l means old mid new sql (λ clean. let it = c.in-Ok.ensures.prepared clean in (it.0 ∙ sym text, it.1)) t keeps c.prepare.ensures.survives c.query_all.ensures.survives
+    (λ late plain. inl (shown_unchanged sql [] mid new c.in-Ok-query_all.rows.items plain (c.in-Ok-query_all.ensures.ok late)))
+
+pub returns-clause-kept : goal.returns-clause-kept
+returns-clause-kept g c l means text t keeps =
+    let old = state g.S.Store c.args.conn.now in
+    let mid = state g.S.Store c.prepare.new.conn in
+    let new = state g.S.Store c.query_all.new.conn in
+    let sql = c.in-Ok.statement.text in
+    kept_asked l means old mid new sql (λ clean. let it = c.in-Ok.ensures.prepared clean in (it.0 ∙ sym text, it.1)) t keeps c.prepare.ensures.survives c.query_all.ensures.survives
+    (λ late plain. unread mid new sql [] c.in-Err-query_all.error (c.in-Err-query_all.ensures.err late))

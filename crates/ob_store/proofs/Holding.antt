@@ -1,0 +1,109 @@
+-- What a keeper that read its tables has then.
+use Rattle.std.proofs.Common.{◌≡◌, ◌≢◌, ◌⊎◌, inl, inr, ℕ, List, Option, Some, None, Result, Ok, Err, false, refl, sym, ap, subst, ◌∙◌, arith, IsTrue}
+use Rattle.std.specs.Prelude.{⊤}
+use Rattle.sqlite_trees.specs.declared.store.Store.{Ghosts}
+use Rattle.sqlite.specs.Tree.{Trees}
+use Rattle.sqlite.specs.Effect.{Database}
+use Rattle.sqlite.specs.Held.{Held, state}
+use Rattle.sqlite.specs.State.{State, HasCleanDisk, IsUnchanged}
+use Rattle.ob_base.specs.declared.stop.Stop.{Stop}
+use Rattle.ob_base.specs.declared.stop.Stop.TheVariants.{Refused, Fault}
+use Rattle.ob_base.specs.declared.stop.Refusal.TheVariants.{BadBook}
+use Rattle.ob_base.specs.declared.stop.Fault.TheVariants.{OutOfMemory, Store}
+use Rattle.ob_state.specs.State.{BookState}
+use Rattle.ob_book.specs.Acts.{ActState}
+use Rattle.ob_tables.specs.Schema.{book_schema}
+use Rattle.ob_tables.specs.Rows.{AreApart, Holds}
+use Rattle.ob_tables.specs.declared.table.Table.{Table}
+use Rattle.ob_commit.specs.Keeps.{Keeps, Leaves}
+use Rattle.ob_record.specs.Tables.{tables_of}
+use Rattle.ob_compare.specs.Reading.{IsReadFault, bad_book}
+use Rattle.ob_store.specs.Keeping.{KeeperValue, KeepsBook, Ties}
+use Rattle.ob_store.specs.Finding.{Finds, Differs, HasBook, HasNoBook, IsBookOf, OnlyReads, ShowsTheSame}
+use Rattle.ob_store.specs.Loading.{Audited, Finding, Holding, HoldsNoBook, Loaded, trees_in}
+
+module _ {S : Type 0} (g : Ghosts S) {X : Type 0} (Good : Trees → X → Type 0) (Bad : Trees → Type 0) (old new : Held S) (schema : old.schema ≡ book_schema) (clean : HasCleanDisk (state g new)) where
+  only_reads : (r : Result X Stop) → Finds g Good Bad old new r → OnlyReads g old new
+  only_reads r it = record {
+    kept = λ b k. record { kept = it.kept (tables_of b) k.kept; reached = k.reached };
+    left = λ trees may. it.left clean schema trees may;
+  }
+
+  shows_the_same : (x : X) → Finds g Good Bad old new (Ok x) → ShowsTheSame g old new
+  shows_the_same x it = (only_reads (Ok x) it, (it.same clean schema).0.now_is)
+
+  shows_the_bad : Finds g Good Bad old new (Err bad_book) → ShowsTheSame g old new
+  shows_the_bad it = (only_reads (Err bad_book) it, (it.same_bad clean refl schema).0.now_is)
+
+module _ {S : Type 0} (g : Ghosts S) (old new : KeeperValue S) (schema : old.conn.schema ≡ book_schema) (clean : HasCleanDisk (state g new.conn)) where
+  -- the first table that differs was found, or none
+  pub audited_ok : (found : Option Table) → Finds g Finding HasNoBook old.conn new.conn (Ok found) → new.book ≡ old.book → Audited g old new (Ok found)
+  audited_ok found it book = (it.good clean schema, shows_the_same g Finding HasNoBook old.conn new.conn schema clean found it, book)
+
+  audited_fault : (stop : Stop) → IsReadFault stop → stop ≢ Fault Store → Finds g Finding HasNoBook old.conn new.conn (Err stop) → new.book ≡ old.book → Audited g old new (Err stop)
+  audited_fault stop (inl (inl memory)) other it book =
+      subst (λ s. Audited g old new (Err s)) (sym memory) (only_reads g Finding HasNoBook old.conn new.conn schema clean (Err stop) it, book)
+  audited_fault stop (inl (inr store)) other it book = absurd (other store)
+  audited_fault stop (inr bad) other it book =
+      let at : Finds g Finding HasNoBook old.conn new.conn (Err bad_book) = subst (λ s. Finds g Finding HasNoBook old.conn new.conn (Err s)) bad it in
+      subst (λ s. Audited g old new (Err s)) (sym bad) (at.bad clean refl schema, shows_the_bad g Finding HasNoBook old.conn new.conn schema clean at, book)
+
+  -- memory was refused, or the tables are those of no book
+  pub audited_err : (stop : Stop) → stop ≢ Fault Store → Finds g Finding HasNoBook old.conn new.conn (Err stop) → new.book ≡ old.book → Audited g old new (Err stop)
+  audited_err stop other it book = audited_fault stop it.faults other it book
+
+  -- the store failed
+  pub audited_store : Finds g Finding HasNoBook old.conn new.conn (Err (Fault Store)) → new.book ≡ None → Audited g old new (Err (Fault Store))
+  audited_store it book = (only_reads g Finding HasNoBook old.conn new.conn schema clean (Err (Fault Store)) it, book)
+
+-- the same of a book that was loaded
+module _ {S : Type 0} (g : Ghosts S) {B : Type 0} (state_of : B → BookState) (old new : KeeperValue S) (schema : old.conn.schema ≡ book_schema) (clean : HasCleanDisk (state g new.conn)) where
+  abbrev Good : Trees → B → Type 0
+  Good trees book = Holding trees (state_of book)
+
+  keeps_so : (book : B) (it : Finds g Good HoldsNoBook old.conn new.conn (Ok book)) → (IsTrue (state g old.conn).is_open → (state g old.conn).now ≡ (state g old.conn).committed)
+      → (IsTrue (state g new.conn).is_open → (trees : Trees) → (state g new.conn).may_leave trees → trees ≡ (state g new.conn).committed.trees)
+      → (b : ActState) → HasBook (trees_in g old.conn) b → AreApart (trees_in g old.conn 14) → Keeps (state g new.conn) (tables_of b)
+  keeps_so book it settled leaves b has apart =
+      let same = it.same clean schema in
+      let now = same.0.now_is in
+      let committed : (state g new.conn).committed ≡ (state g new.conn).now = same.0.committed_is ∙ sym (settled same.0.was_open) ∙ sym now in
+      let schema_is : (state g new.conn).now.schema ≡ book_schema = ap (λ (d : Database). d.schema) now ∙ schema in
+      let holds : Holds (state g new.conn).now.trees (tables_of b) = subst (λ (d : Database). Holds d.trees (tables_of b)) (sym now) (record { rows = has.1; apart = apart }) in
+      record {
+        settled = λ tidy live. record { schema = schema_is; committed = committed; holds = holds };
+        left = λ tidy trees may. ((state g new.conn).now, schema_is, leaves same.0.is_open trees may ∙ ap (λ (d : Database). d.trees) committed, subst (λ t. Holds t (tables_of b)) (sym (leaves same.0.is_open trees may ∙ ap (λ (d : Database). d.trees) committed)) holds);
+      }
+
+  -- the book of the tables was found
+  pub loaded_ok : (book : B) → Finds g Good HoldsNoBook old.conn new.conn (Ok book) → (IsTrue (state g old.conn).is_open → (state g old.conn).now ≡ (state g old.conn).committed)
+      → (IsTrue (state g new.conn).is_open → (trees : Trees) → (state g new.conn).may_leave trees → trees ≡ (state g new.conn).committed.trees)
+      → new.book ≡ Some (state_of book) → Loaded g old new (Ok tt)
+  loaded_ok book it settled leaves is =
+      let found = it.good clean schema in
+      let b = found.0 in
+      let keeps = keeps_so book it settled leaves b found.1 found.2 in
+      let book_is : new.book ≡ Some b.book = is ∙ ap Some found.3 in
+      let ties : Ties g new b = record { kept = record { kept = keeps; reached = found.1.0.reached }; book = subst (λ (o : Option BookState). Rattle.std.specs.Prelude.IfSome o (λ s. s ≡ b.book)) (sym book_is) refl } in (
+        b,
+        found.1,
+        shows_the_same g Good HoldsNoBook old.conn new.conn schema clean book it,
+        ties,
+        book_is,
+      )
+
+  loaded_fault : (stop : Stop) → IsReadFault stop → stop ≢ Fault Store → Finds g Good HoldsNoBook old.conn new.conn (Err stop) → new.book ≡ old.book → Loaded g old new (Err stop)
+  loaded_fault stop (inl (inl memory)) other it book =
+      subst (λ s. Loaded g old new (Err s)) (sym memory) (only_reads g Good HoldsNoBook old.conn new.conn schema clean (Err stop) it, book)
+  loaded_fault stop (inl (inr store)) other it book = absurd (other store)
+  loaded_fault stop (inr bad) other it book =
+      let at : Finds g Good HoldsNoBook old.conn new.conn (Err bad_book) = subst (λ s. Finds g Good HoldsNoBook old.conn new.conn (Err s)) bad it in
+      subst (λ s. Loaded g old new (Err s)) (sym bad) (at.bad clean refl schema, shows_the_bad g Good HoldsNoBook old.conn new.conn schema clean at, book)
+
+  -- memory was refused, or the tables are those of no book
+  pub loaded_err : (stop : Stop) → stop ≢ Fault Store → Finds g Good HoldsNoBook old.conn new.conn (Err stop) → new.book ≡ old.book → Loaded g old new (Err stop)
+  loaded_err stop other it book = loaded_fault stop it.faults other it book
+
+  -- the store failed
+  pub loaded_store : Finds g Good HoldsNoBook old.conn new.conn (Err (Fault Store)) → new.book ≡ None → Loaded g old new (Err (Fault Store))
+  loaded_store it book = (only_reads g Good HoldsNoBook old.conn new.conn schema clean (Err (Fault Store)) it, book)

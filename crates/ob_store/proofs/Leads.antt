@@ -1,0 +1,67 @@
+-- A book that was led along the commands, or none, once these were read.
+use Rattle.std.proofs.Common.{◌≡◌, ◌≢◌, ◌⊎◌, inl, inr, Bool, false, true, Option, Some, None, Result, Ok, Err, is_some, refl, sym, ap, subst, ◌∙◌, IsTrue}
+use Rattle.sqlite_trees.specs.declared.store.Store.{Ghosts}
+use Rattle.sqlite.specs.Tree.{Trees}
+use Rattle.sqlite.specs.Held.{Held, state}
+use Rattle.ob_base.specs.Stop.{out_of_memory}
+use Rattle.ob_base.specs.declared.stop.Stop.{Stop}
+use Rattle.ob_state.specs.State.{BookState}
+use Rattle.ob_book.specs.Acts.{PeriodStays}
+use Rattle.ob_record.specs.Naming.{RowsNameCommands}
+use Rattle.ob_record.specs.Reached.{ReachedAreFew}
+use Rattle.ob_compare.specs.Listing.{filed_of}
+use Rattle.ob_compare.specs.Distinct.{ActsAreAccepted, AreDistinct, MovedIsOf, ReachedByCommands}
+use Rattle.ob_compare.specs.Reading.{IsReadFault, bad_book}
+use Rattle.ob_store.specs.declared.named.Named.{Named}
+use Rattle.ob_store.specs.Finding.{Finds, HasNoBook, IsNamed}
+use Rattle.ob_store.specs.Leading.{HasNoPeriodOf, IsLed, IsLedBy, LeadsNowhere, MovesAre}
+use Rattle.ob_store.proofs.Reading.{fails, read_fault, then_bad, then_fault, then_good, then_more}
+use Rattle.ob_store.proofs.Leading.{is_led, no_period, nowhere, twice}
+
+memory_alone : (stop : Stop) → stop ≡ out_of_memory → stop ≢ bad_book
+memory_alone stop memory bad = absurd (let e : out_of_memory ≡ bad_book = sym memory ∙ bad in cc)
+
+module _ {S : Type 0} (g : Ghosts S) {L : Type 0} (state_of : L → BookState) (moved_of : L → Bool) (it : Named) (old mid : Held S) (first : Finds g IsNamed HasNoBook old mid (Ok it)) (naming : RowsNameCommands) (accepted : ActsAreAccepted) where
+  abbrev Good : Trees → L → Type 0
+  Good trees l = IsLed trees (state_of l) (moved_of l)
+
+  abbrev Follows : Trees → Option L → Type 0
+  Follows trees found = MovesAre it trees (is_some found)
+
+  abbrev Lost : Trees → Type 0
+  Lost trees = HasNoPeriodOf it.heading
+
+  abbrev Both : Trees → Option L → Type 0
+  Both trees found = IsNamed trees it × Follows trees found
+
+  abbrev Neither : Trees → Type 0
+  Neither trees = IsNamed trees it × Lost trees
+
+  -- a reference stands twice
+  pub led_twice : ¬ (AreDistinct (filed_of it.commands.items)) → Finds g Good HasNoBook old mid (Err bad_book)
+  led_twice same = then_bad g IsNamed HasNoBook Good HasNoBook old mid it first (λ trees named. twice trees it named naming accepted same)
+
+  -- memory was refused
+  pub led_no_memory : (stop : Stop) → stop ≡ out_of_memory → Finds g Good HasNoBook old mid (Err stop)
+  led_no_memory stop memory = then_fault g IsNamed HasNoBook Good HasNoBook old mid it first stop (read_fault stop (inr memory)) (memory_alone stop memory)
+
+  module _ (new : Held S) where
+    both : (r : Result (Option L) Stop) → Finds g Follows Lost mid new r → Finds g Both Neither old new r
+    both r second = then_more g IsNamed HasNoBook Follows Lost old mid new it r first second
+
+    -- the reading failed, or the heading names no period
+    pub led_fails : (stop : Stop) → Finds g Follows Lost mid new (Err stop) → Finds g Good HasNoBook old new (Err stop)
+    led_fails stop second = fails g Both Neither Good HasNoBook old new stop (λ trees none. no_period trees it none.0 naming accepted none.1) (both (Err stop) second)
+
+    -- the commands lead to no book
+    pub led_nowhere : (found : Option L) → Finds g Follows Lost mid new (Ok found) → (stop : Stop) → (stop ≡ bad_book) ⊎ (stop ≡ out_of_memory) → (stop ≡ bad_book → LeadsNowhere it) → Finds g Good HasNoBook old new (Err stop)
+    led_nowhere found second stop (inl bad) none =
+        subst (λ s. Finds g Good HasNoBook old new (Err s)) (sym bad) (then_bad g Both Neither Good HasNoBook old new found (both (Ok found) second) (λ trees named. nowhere trees it named.0 naming accepted (none bad)))
+    led_nowhere found second stop (inr memory) none = then_fault g Both Neither Good HasNoBook old new found (both (Ok found) second) stop (read_fault stop (inr memory)) (memory_alone stop memory)
+
+    -- they lead to this one
+    pub led_at : (found : Option L) → Finds g Follows Lost mid new (Ok found) → ReachedAreFew → ReachedByCommands → MovedIsOf → PeriodStays → AreDistinct (filed_of it.commands.items)
+        → (l : L) → IsLedBy it (state_of l) → is_some found ≡ moved_of l → Finds g Good HasNoBook old new (Ok l)
+    led_at found second few reaching rows_of stays distinct l by moved =
+        then_good g Both Neither Good HasNoBook old new found (both (Ok found) second) l
+        (λ trees named. is_led trees it named.0 naming few accepted reaching rows_of stays distinct (state_of l) by (moved_of l) (subst (MovesAre it trees) moved named.1))

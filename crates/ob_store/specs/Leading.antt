@@ -1,0 +1,63 @@
+-- A book that is led along the commands which the tables name.
+use Rattle.std.specs.Prelude.{◌≡◌, ◌↔◌, ◌⊎◌, ℕ, Bool, List, Some, None, IsTrue, map}
+use Rattle.sqlite.specs.Tree.{Trees}
+use Rattle.ob_net.specs.declared.net.Node.{Node}
+use Rattle.ob_time.specs.Calendar.{Calendar, day_count}
+use Rattle.ob_time.specs.Dates.{day_text}
+use Rattle.ob_time.specs.Period.{IsPeriodText}
+use Rattle.ob_state.specs.State.{BookState, empty_book}
+use Rattle.ob_state.specs.Next.{next_all}
+use Rattle.ob_book.specs.Acts.{ActState}
+use Rattle.ob_tables.specs.Rows.{Columns, meta_row}
+use Rattle.ob_tables.specs.declared.table.Table.TheVariants.{Moved}
+use Rattle.ob_record.specs.Tables.{Shows, tables_of}
+use Rattle.ob_compare.specs.declared.ends.Ends.{Ends}
+use Rattle.ob_compare.specs.declared.heading.Heading.{Heading}
+use Rattle.ob_compare.specs.Listing.{filed_of}
+use Rattle.ob_compare.specs.Moves.{HasMoved, commands_of, ends_of}
+use Rattle.ob_store.specs.declared.named.Named.{Named}
+use Rattle.ob_store.specs.Creating.{HasNoPeriodText}
+use Rattle.ob_store.specs.Finding.{IsBookOf}
+
+-- the heading names no period
+abbrev pub HasNoPeriodOf : Heading → Type 0
+HasNoPeriodOf h = HasNoPeriodText h.first_day.items h.days h.zone.items
+
+-- a new book of the period that the heading names
+pub record IsNewBook (h : Heading) (b : BookState) : Type 0 where
+  pub new : b ≡ empty_book b.period
+  pub period : IsPeriodText (day_text b.period.first_day) (day_count b.period) b.period.zone b.period
+  pub row : meta_row 1 h.first_day.items h.days h.zone.items ≡ meta_row 1 (day_text b.period.first_day) (day_count b.period) b.period.zone
+  -- it names no other
+  pub only : (p : Calendar) → IsPeriodText h.first_day.items h.days h.zone.items p → p ≡ b.period
+
+-- the commands lead a new book of the heading's period to this one
+pub record IsLedBy (it : Named) (b : BookState) : Type 0 where
+  pub first : BookState
+  pub new : IsNewBook it.heading first
+  pub led : next_all first (commands_of (filed_of it.commands.items)) ≡ Some b
+
+-- the heading names no period, or a command isn't accepted in its turn
+abbrev pub LeadsNowhere : Named → Type 0
+LeadsNowhere it =
+    HasNoPeriodOf it.heading
+    ⊎ ((first : BookState) × IsNewBook it.heading first × (next_all first (commands_of (filed_of it.commands.items)) ≡ None))
+
+-- whether the table of moved amounts has the rows of what the commands move, each accepted in its turn
+abbrev pub MovesAre : Named → Trees → Bool → Type 0
+MovesAre it trees moved =
+    (first : BookState) × IsNewBook it.heading first
+    × ((rows : List Columns) → Shows trees Moved rows → IsTrue moved ↔ HasMoved rows first (filed_of it.commands.items))
+
+-- the names of a book's nodes, and the ends of its devices
+abbrev pub HasParts : BookState → List (List ℕ) → List Ends → Type 0
+HasParts b names ends = (names ≡ map (λ (n : Node). n.name) b.network.nodes) × (ends ≡ ends_of b.network)
+
+-- the state is that of the book, and of no other, whose heading and commands are in the trees
+pub record IsLed (trees : Trees) (s : BookState) (moved : Bool) : Type 0 where
+  pub book : ActState
+  pub is_book : IsBookOf trees book
+  pub only : (other : ActState) → IsBookOf trees other → other ≡ book
+  pub state : s ≡ book.book
+  -- whether the table of moved amounts is the book's
+  pub moves : IsTrue moved ↔ Shows trees Moved (tables_of book Moved)
