@@ -9,3 +9,4 @@ pub mod Naming
 pub mod Leading
 pub mod Holding
 pub mod Leads
+pub mod Differing

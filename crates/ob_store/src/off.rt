@@ -56,7 +56,8 @@ fn first_part_off<S: Alter, T: Timeline>(
     'parts: for at in 0..FIRST_PARTS.len() {
         match part_off(conn, led, FIRST_PARTS[at]) {
             Ok(None) => {}
-            found => return found,
+            Ok(Some(table)) => return Ok(Some(table)),
+            Err(stop) => return Err(stop),
         }
     }
     Ok(None)
@@ -75,7 +76,8 @@ pub(crate) fn first_off<S: Alter, T: Timeline>(
 {
     match first_part_off(conn, led) {
         Ok(None) => {}
-        found => return found,
+        Ok(Some(table)) => return Ok(Some(table)),
+        Err(stop) => return Err(stop),
     }
     if !led.moved {
         return Ok(Some(Table::Moved));

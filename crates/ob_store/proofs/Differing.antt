@@ -1,0 +1,194 @@
+-- Tables that were found, one after another, to be those of a book or not.
+use Rattle.std.proofs.Common.{◌≡◌, ◌≢◌, ◌⊎◌, inl, inr, ℕ, zero, suc, ◌+◌, ◌<◌, List, [], ◌∷◌, map, get_or, Bool, true, false, true≢false, Option, Some, None, Result, Ok, Err, IsTrue, refl, sym, ap, subst, ◌∙◌, arith}
+use Rattle.std.specs.Prelude.{◌↔◌}
+use Rattle.std.proofs.lemmas.List.Sorted.{IsPermutation-refl}
+use Rattle.sqlite_trees.specs.declared.store.Store.{Ghosts}
+use Rattle.sqlite.specs.Tree.{Trees}
+use Rattle.sqlite.specs.Held.{Held, state}
+use Rattle.ob_base.specs.declared.stop.Stop.{Stop}
+use Rattle.ob_book.specs.Acts.{ActState}
+use Rattle.ob_tables.specs.Creation.{before}
+use Rattle.ob_tables.specs.Rows.{shown, tree_of}
+use Rattle.ob_tables.specs.Steps.{IsStoreFault}
+use Rattle.ob_tables.specs.declared.table.Table.{Table}
+use Rattle.ob_tables.specs.declared.table.Table.TheVariants.{Meta, Cause, Node, Device, Customer, Entry, Mark, Command, Moved, Posting}
+use Rattle.ob_record.specs.Tables.{Shows, tables_of}
+use Rattle.ob_compare.specs.Parts.{Compares}
+use Rattle.ob_compare.specs.Reading.{bad_book}
+use Rattle.ob_store.specs.Differing.{IsFirstOff, IsFirstOffOf, IsOff, NoneSo}
+use Rattle.ob_store.specs.Finding.{Finds}
+use Rattle.ob_store.proofs.Reading.{fails, read_err, read_ok, then_good, then_more}
+
+-- ---- the tables in their order
+abbrev in_order : List Table
+in_order = Meta ∷ Cause ∷ Node ∷ Device ∷ Customer ∷ Entry ∷ Mark ∷ Command ∷ Moved ∷ Posting ∷ []
+
+placed : (t : Table) → get_or in_order (before t) Meta ≡ t
+placed Meta = refl
+placed Cause = refl
+placed Node = refl
+placed Device = refl
+placed Customer = refl
+placed Entry = refl
+placed Mark = refl
+placed Command = refl
+placed Moved = refl
+placed Posting = refl
+
+same_place : (t u : Table) → before t ≡ before u → t ≡ u
+same_place t u e = sym (placed t) ∙ ap (λ n. get_or in_order n Meta) e ∙ placed u
+
+one_of_ten : (t : Table) → before t < 10
+one_of_ten Meta = omega arith
+one_of_ten Cause = omega arith
+one_of_ten Node = omega arith
+one_of_ten Device = omega arith
+one_of_ten Customer = omega arith
+one_of_ten Entry = omega arith
+one_of_ten Mark = omega arith
+one_of_ten Command = omega arith
+one_of_ten Moved = omega arith
+one_of_ten Posting = omega arith
+
+below_or_at : (i n : ℕ) → i < n + 1 → (i < n) ⊎ (i ≡ n)
+below_or_at zero zero low = inr refl
+below_or_at zero (suc n) low = inl (omega arith)
+below_or_at (suc i) zero low = absurd (omega (arith, low))
+below_or_at (suc i) (suc n) low = elim (below_or_at i n (omega (arith, low))) [
+  | inl less ↦ inl (omega (arith, less))
+  | inr same ↦ inr (ap suc same)
+]
+
+-- what is so of the tables before one, and of that one, is so of those up to it
+up_to : (P : Table → Type 0) (t : Table) → ((u : Table) → before u < before t → P u) → P t → (u : Table) → before u < before t + 1 → P u
+up_to P t all here u low = elim (below_or_at (before u) (before t) low) [
+  | inl less ↦ all u less
+  | inr same ↦ subst P (same_place t u (sym same)) here
+]
+
+-- the tables before that of commands
+abbrev pub first_parts : List Table
+first_parts = Meta ∷ Cause ∷ Node ∷ Device ∷ Customer ∷ Entry ∷ Mark ∷ []
+
+pub part_at : (at : ℕ) → at < 7 → before (get_or first_parts at Meta) ≡ at
+part_at zero low = refl
+part_at (suc zero) low = refl
+part_at (suc (suc zero)) low = refl
+part_at (suc (suc (suc zero))) low = refl
+part_at (suc (suc (suc (suc zero)))) low = refl
+part_at (suc (suc (suc (suc (suc zero))))) low = refl
+part_at (suc (suc (suc (suc (suc (suc zero)))))) low = refl
+part_at (suc (suc (suc (suc (suc (suc (suc at))))))) low = absurd (omega (arith, low))
+
+no_bad_book : (stop : Stop) → IsStoreFault stop → stop ≢ bad_book
+no_bad_book stop (inl memory) bad = let e = sym memory ∙ bad in cc
+no_bad_book stop (inr store) bad = let e = sym store ∙ bad in cc
+
+module _ {S : Type 0} (g : Ghosts S) where
+  -- what was found is so of the trees, or tells more of them
+  find_as : {X : Type 0} (Good Good' : Trees → X → Type 0) (Bad Bad' : Trees → Type 0) (old new : Held S) (r : Result X Stop) → ((trees : Trees) (x : X) → Good trees x → Good' trees x) → ((trees : Trees) → Bad trees → Bad' trees)
+      → Finds g Good Bad old new r → Finds g Good' Bad' old new r
+  find_as Good Good' Bad Bad' old new (Ok x) better worse it = record {
+    mode = it.mode;
+    clean = it.clean;
+    left = it.left;
+    kept = it.kept;
+    faults = it.faults;
+    same = it.same;
+    same_bad = λ clean. tt;
+    good = λ clean has. better (state g old).now.trees x (it.good clean has);
+    bad = λ clean. tt;
+  }
+  find_as Good Good' Bad Bad' old new (Err stop) better worse it = fails g Good Bad Good' Bad' old new stop worse it
+
+  module _ (b : ActState) where
+    abbrev IsSo : Table → Trees → Type 0
+    IsSo t trees = Shows trees t (tables_of b t)
+
+    abbrev Decides : Table → Trees → Bool → Type 0
+    Decides t trees is = IsTrue is ↔ IsSo t trees
+
+    -- ---- one table
+    compared : (t : Table) (old new : Held S) (r : Result Bool Stop) → Compares g t (tables_of b t) old new r → Finds g (Decides t) NoneSo old new r
+    compared t old new (Ok is) it =
+        let rows = map (shown t) ((state g old).now.trees (tree_of t)) in
+        read_ok g (Decides t) NoneSo old new is it.mode it.survives it.clean it.kept it.same (λ clean has. it.holds clean has rows (IsPermutation-refl rows))
+    compared t old new (Err stop) it =
+        read_err g (Decides t) NoneSo old new stop it.mode it.survives it.clean it.kept (inl it.faults) (λ clean bad. absurd (no_bad_book stop it.faults bad))
+
+    pub part_right : (t : Table) (old new : Held S) (is : Bool) → is ≡ true → Compares g t (tables_of b t) old new (Ok is) → Finds g (IsOff b t) NoneSo old new (Ok None)
+    part_right t old new is right it = then_good g (Decides t) NoneSo (IsOff b t) NoneSo old new is (compared t old new (Ok is) it) None (λ trees both. both.0 right)
+
+    pub part_wrong : (t : Table) (old new : Held S) (is : Bool) → is ≡ false → Compares g t (tables_of b t) old new (Ok is) → Finds g (IsOff b t) NoneSo old new (Ok (Some t))
+    part_wrong t old new is wrong it =
+        then_good g (Decides t) NoneSo (IsOff b t) NoneSo old new is (compared t old new (Ok is) it) (Some t) (λ trees both. (refl, λ shows. absurd (true≢false (sym (both.1 shows) ∙ wrong))))
+
+    pub part_failed : (t : Table) (old new : Held S) (stop : Stop) → Compares g t (tables_of b t) old new (Err stop) → Finds g (IsOff b t) NoneSo old new (Err stop)
+    part_failed t old new stop it = fails g (Decides t) NoneSo (IsOff b t) NoneSo old new stop (λ trees none. none) (compared t old new (Err stop) it)
+
+    -- ---- the first tables
+    abbrev pub UpTo : ℕ → Trees → Type 0
+    UpTo n trees = IsFirstOffOf n b trees None
+
+    -- so many were found to be the book's; where none was looked at, nothing was done
+    abbrev pub Begun : ℕ → Held S → Held S → Type 0
+    Begun n old now = ((n ≡ 0) × (now ≡ old)) ⊎ Finds g (λ trees (m : ℕ). UpTo m trees) NoneSo old now (Ok n)
+
+    abbrev Next : ℕ → Table → Trees → Option Table → Type 0
+    Next n t trees found = UpTo n trees × IsOff b t trees found
+
+    goes_on : (n : ℕ) (t : Table) (old mid new : Held S) (r : Result (Option Table) Stop) → Begun n old mid → Finds g (IsOff b t) NoneSo mid new r → Finds g (Next n t) NoneSo old new r
+    goes_on n t old mid new r (inl first) it =
+        find_as (IsOff b t) (Next n t) NoneSo NoneSo old new r (λ trees found off. (λ u low. absurd (omega (arith, low, first.0)), off)) (λ trees none. none)
+        (subst (λ (m : Held S). Finds g (IsOff b t) NoneSo m new r) first.1 it)
+    goes_on n t old mid new r (inr so) it =
+        find_as (Next n t) (Next n t) (λ trees. UpTo n trees × NoneSo trees) NoneSo old new r (λ trees found both. both) (λ trees none. none.1)
+        (then_more g (λ trees (m : ℕ). UpTo m trees) NoneSo (IsOff b t) NoneSo old mid new n r so it)
+
+    module _ (n : ℕ) (t : Table) (place : before t ≡ n) (old mid new : Held S) (begun : Begun n old mid) where
+      pub one_right : Finds g (IsOff b t) NoneSo mid new (Ok None) → Begun (n + 1) old new
+      one_right it = inr (then_good g (Next n t) NoneSo (λ trees (m : ℕ). UpTo m trees) NoneSo old new None (goes_on n t old mid new (Ok None) begun it) (n + 1) (λ trees both.
+          subst (λ (m : ℕ). (u : Table) → before u < m + 1 → IsSo u trees) place (up_to (λ u. IsSo u trees) t (subst (λ (m : ℕ). UpTo m trees) (sym place) both.0) both.1)))
+
+      pub one_wrong : (k : ℕ) (u : Table) → Finds g (IsOff b t) NoneSo mid new (Ok (Some u)) → Finds g (IsFirstOffOf k b) NoneSo old new (Ok (Some u))
+      one_wrong k u it = then_good g (Next n t) NoneSo (IsFirstOffOf k b) NoneSo old new (Some u) (goes_on n t old mid new (Ok (Some u)) begun it) (Some u) (λ trees both. (
+        λ shows. both.1.1 (subst (λ v. IsSo v trees) both.1.0 shows),
+        λ o low. both.0 o (subst (λ m. before o < m) (ap before both.1.0 ∙ place) low),
+      ))
+
+      pub one_failed : (k : ℕ) (stop : Stop) → Finds g (IsOff b t) NoneSo mid new (Err stop) → Finds g (IsFirstOffOf k b) NoneSo old new (Err stop)
+      one_failed k stop it = fails g (Next n t) NoneSo (IsFirstOffOf k b) NoneSo old new stop (λ trees none. none) (goes_on n t old mid new (Err stop) begun it)
+
+    pub all_right : (n : ℕ) (old new : Held S) → n ≢ 0 → Begun n old new → Finds g (IsFirstOffOf n b) NoneSo old new (Ok None)
+    all_right n old new some (inl first) = absurd (some first.0)
+    all_right n old new some (inr so) = then_good g (λ trees (m : ℕ). UpTo m trees) NoneSo (IsFirstOffOf n b) NoneSo old new n so None (λ trees all. all)
+
+    -- ---- all of them
+    module _ (moved : Bool) (old mid : Held S) where
+      pub before_commands : (u : Table) → Finds g (IsFirstOffOf 7 b) NoneSo old mid (Ok (Some u)) → Finds g (IsFirstOff b moved) NoneSo old mid (Ok (Some u))
+      before_commands u it = then_good g (IsFirstOffOf 7 b) NoneSo (IsFirstOff b moved) NoneSo old mid (Some u) it (Some u) (λ trees differs commands amounts. differs)
+
+      pub before_failed : (stop : Stop) → Finds g (IsFirstOffOf 7 b) NoneSo old mid (Err stop) → Finds g (IsFirstOff b moved) NoneSo old mid (Err stop)
+      before_failed stop it = fails g (IsFirstOffOf 7 b) NoneSo (IsFirstOff b moved) NoneSo old mid stop (λ trees none. none) it
+
+      module _ (first : Finds g (IsFirstOffOf 7 b) NoneSo old mid (Ok None)) where
+        pub moved_off : moved ≡ false → Finds g (IsFirstOff b moved) NoneSo old mid (Ok (Some Moved))
+        moved_off is = then_good g (IsFirstOffOf 7 b) NoneSo (IsFirstOff b moved) NoneSo old mid None first (Some Moved) (λ trees all commands amounts. (
+          λ shows. absurd (true≢false (sym (amounts.1 shows) ∙ is)),
+          up_to (λ u. IsSo u trees) Command all commands,
+        ))
+
+        pub posted : moved ≡ true → (new : Held S) (r : Result (Option Table) Stop) → Finds g (IsOff b Posting) NoneSo mid new r → Finds g (IsFirstOff b moved) NoneSo old new r
+        posted is new r it =
+            find_as (Next 7 Posting) (IsFirstOff b moved) (λ trees. UpTo 7 trees × NoneSo trees) NoneSo old new r last (λ trees none. none.1)
+            (then_more g (IsFirstOffOf 7 b) NoneSo (IsOff b Posting) NoneSo old mid new None r first it)
+          where
+            nine : (trees : Trees) → UpTo 7 trees → IsSo Command trees → IsSo Moved trees → (u : Table) → before u < 9 → IsSo u trees
+            nine trees all commands amounts = up_to (λ u. IsSo u trees) Moved (up_to (λ u. IsSo u trees) Command all commands) amounts
+
+            last : (trees : Trees) (found : Option Table) → Next 7 Posting trees found → IsFirstOff b moved trees found
+            last trees None both commands amounts = λ u. up_to (λ v. IsSo v trees) Posting (nine trees both.0 commands (amounts.0 is)) both.1 u (one_of_ten u)
+            last trees (Some u) both commands amounts = (
+              λ shows. both.1.1 (subst (λ v. IsSo v trees) both.1.0 shows),
+              λ o low. nine trees both.0 commands (amounts.0 is) o (subst (λ v. before o < before v) both.1.0 low),
+            )
