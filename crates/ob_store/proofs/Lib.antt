@@ -10,3 +10,4 @@ pub mod Leading
 pub mod Holding
 pub mod Leads
 pub mod Differing
+pub mod Found
