@@ -11,9 +11,9 @@ ghost use Rattle.ob_tables.specs.declared.table.Table.{Table as ATable};
 ghost use Rattle.ob_commit.specs.Keeps.{Keeps};
 ghost use Rattle.ob_record.specs.Tables.{Shows};
 ghost use Rattle.ob_compare.specs.declared.filed.Filed.{Filed as AFiled};
-ghost use Rattle.ob_compare.specs.Faults.{HasNoMeaning, IsMissed};
-ghost use Rattle.ob_compare.specs.Reading.{AreFiled, IsCommands, IsDue, IsFiled, IsReadFault, Stands};
-ghost use Rattle.ob_compare.specs.Reading.{bad_book, command_listing, row_of_filed};
+ghost use Rattle.ob_compare.specs.Faults.{HasNoMeaning, IsMissed, IsReadFault, bad_book};
+ghost use Rattle.ob_compare.specs.Reading.{AreFiled, IsCommands, IsDue, IsFiled, Stands};
+ghost use Rattle.ob_compare.specs.Reading.{command_listing, row_of_filed};
 
 use crate::columns::{has_number, text_at};
 use crate::filed::Filed;
