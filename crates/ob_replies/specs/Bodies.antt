@@ -1,5 +1,5 @@
 -- The JSON bodies of replies, RFC 8259: members in the order of their names, and no space.
-use Rattle.std.specs.Prelude.{ℕ, Bool, List, Option, Some, None, map, codes}
+use Rattle.std.specs.Prelude.{ℕ, List, Option, Some, None, map, codes}
 use Rattle.serde_json.specs.Data.{Data, null, boolean, number, unsigned, string, array, object, no_items, item, Members, no_members, member}
 use Rattle.serde_json.specs.Find.{of_integer}
 use Rattle.serde_json.specs.View.{items_of}

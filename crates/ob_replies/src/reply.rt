@@ -9,7 +9,7 @@ use ob_base::Stop;
 use std::alloc::{AllocError, Global};
 
 /// The type of a body, RFC 9110, section 8.3.1.
-#[derive(Clone, Copy, Debug, PartialEq, Eq)]
+#[derive(Clone, Copy, PartialEq, Eq)]
 pub enum MediaType {
     /// `application/json`.
     Json,

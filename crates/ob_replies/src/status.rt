@@ -6,14 +6,14 @@ use http::StatusCode;
 use ob_base::Refusal;
 
 /// The method that a route takes, the value of the field Allow, RFC 9110, section 10.2.1.
-#[derive(Clone, Copy, Debug, PartialEq, Eq)]
+#[derive(Clone, Copy, PartialEq, Eq)]
 pub enum Allow {
     Get,
     Post,
 }
 
 /// The status of a reply.
-#[derive(Clone, Copy, Debug, PartialEq, Eq)]
+#[derive(Clone, Copy, PartialEq, Eq)]
 pub enum Status {
     /// 200: done.
     Ok,
@@ -44,7 +44,7 @@ impl Status {
     ghost use Rattle.ob_replies.specs.Status.{status_code};
 
     /// Its code.
-    pub fn code(&self) -> StatusCode
+    pub(crate) fn code(&self) -> StatusCode
         ensures { result ≡ status_code self.now }
     {
         match self {
