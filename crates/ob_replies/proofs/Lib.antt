@@ -1,0 +1,7 @@
+pub mod Eight
+pub mod Examples
+pub mod Floats
+pub mod Identifiers
+pub mod OnLiterals
+pub mod Sayings
+pub mod Values

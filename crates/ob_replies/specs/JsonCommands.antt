@@ -1,0 +1,82 @@
+-- Commands as JSON, RFC 8259: an object whose members are texts under the names of a row's columns.
+use Rattle.std.specs.Prelude.{◌≡◌, ℕ, ◌+◌, ◌&&◌, Bool, true, List, [], ◌∷◌, map, min, Option, Some, None, Result, Ok, Err, unwrap_or, codes, if◌then◌else◌, MatchBool}
+use Rattle.std.specs.List.{list_any}
+use Rattle.std.specs.Str.{bytes_eq, is_utf8}
+use Rattle.serde_json.specs.Data.{Data, Members, no_members, member}
+use Rattle.serde_json.specs.Find.{as_object, as_str, get}
+use Rattle.serde_json.specs.Read.{read}
+use Rattle.ob_base.specs.declared.stop.Fault.TheVariants.{OutOfMemory}
+use Rattle.ob_base.specs.declared.stop.Refusal.{Refusal}
+use Rattle.ob_base.specs.declared.stop.Refusal.TheVariants.{BadField}
+use Rattle.ob_base.specs.declared.stop.Stop.{Stop}
+use Rattle.ob_base.specs.declared.stop.Stop.TheVariants as stops
+use Rattle.ob_command.specs.Fields.{IsRow}
+use Rattle.ob_command.specs.declared.command.Command.{Command}
+
+-- the value that a body is, where it is UTF-8 and JSON
+abbrev pub json_in : List ℕ → Option Data
+json_in body = if is_utf8 body then read body else None
+
+-- the columns of a row, from 1
+abbrev pub column_names : List (List ℕ)
+column_names =
+    codes "kind" ∷ codes "ref" ∷ codes "f1" ∷ codes "f2" ∷ codes "f3" ∷ codes "f4" ∷ codes "f5" ∷ codes "f6" ∷ []
+
+-- the name is a column's
+abbrev pub is_column_name : List ℕ → Bool
+is_column_name name = list_any (bytes_eq name) column_names
+
+-- each member is a column
+abbrev pub are_columns : Members → Bool
+are_columns no_members = true
+are_columns (member name d members) = is_column_name name && are_columns members
+
+-- the text of a column: empty where it is absent, and none where its member is no text
+abbrev pub text_of : Option Data → Option (List ℕ)
+text_of None = Some []
+text_of (Some d) = as_str d
+
+-- the texts of the columns of a value
+abbrev pub texts_of : Data → List (Option (List ℕ))
+texts_of d = map (λ name. text_of (get name d)) column_names
+
+-- the first column, counted from this one, that holds no text
+abbrev pub first_textless : ℕ → List (Option (List ℕ)) → Option ℕ
+first_textless column [] = None
+first_textless column (None ∷ texts) = Some column
+first_textless column (Some text ∷ texts) = first_textless (column + 1) texts
+
+-- what a row says where one of its columns holds no text: the leftmost bad column counts
+abbrev pub leftmost : {A : Type 0} → Option ℕ → Result A Refusal → Result A Refusal
+leftmost None row = row
+leftmost (Some column) (Err (BadField other)) = Err (BadField (min column other))
+leftmost (Some column) row = Err (BadField column)
+
+-- this is what eight columns say: what their row does, where a column without a text is empty in it and bad
+abbrev pub AreTextsOf : List (Option (List ℕ)) → Result (List ℕ × Command) Refusal → Type 0
+AreTextsOf texts r =
+    (row : Result (List ℕ × Command) Refusal) × IsRow (map (λ text. unwrap_or text []) texts) row × (r ≡ leftmost (first_textless 1 texts) row)
+
+-- this is what a value says whose members are these: no object, or another member than a column, is a bad body
+abbrev pub IsObjectOf : Option Members → Data → Result (List ℕ × Command) Refusal → Type 0
+IsObjectOf None d r = r ≡ Err (BadField 0)
+IsObjectOf (Some members) d r = MatchBool (are_columns members) (AreTextsOf (texts_of d) r) (r ≡ Err (BadField 0))
+
+-- this is what a value says, where there is one
+abbrev pub IsValueOf : Option Data → Result (List ℕ × Command) Refusal → Type 0
+IsValueOf None r = r ≡ Err (BadField 0)
+IsValueOf (Some d) r = IsObjectOf (as_object d) d r
+
+-- this is what a body says: a reference and a command, or the leftmost bad column, which is 0 for the body as a whole
+abbrev pub IsJsonCommand : List ℕ → Result (List ℕ × Command) Refusal → Type 0
+IsJsonCommand body r = IsValueOf (json_in body) r
+
+-- what a body says, or that memory was refused
+abbrev pub ReadsJsonCommand : List ℕ → Result (List ℕ × Command) Stop → Type 0
+ReadsJsonCommand body (Ok command) = IsJsonCommand body (Ok command)
+ReadsJsonCommand body (Err (stops.Refused refusal)) = IsJsonCommand body (Err refusal)
+ReadsJsonCommand body (Err (stops.Fault fault)) = fault ≡ OutOfMemory
+
+-- a body says one thing
+abbrev pub JsonCommandsSayOneThing : Type 0
+JsonCommandsSayOneThing = (body : List ℕ) (a b : Result (List ℕ × Command) Refusal) → IsJsonCommand body a → IsJsonCommand body b → a ≡ b

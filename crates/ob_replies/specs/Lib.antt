@@ -1,0 +1,4 @@
+pub mod Bodies
+pub mod JsonCommands
+pub mod Reply
+pub mod Status

@@ -1,0 +1,164 @@
+//! Commands as JSON, RFC 8259.
+ghost use Rattle.std.specs.Prelude.{◌≡◌, ◌<◌, [], IfErr, IfOk, length, map, option_copied, option_map, unwrap_or};
+ghost use Rattle.serde_json.specs.Find.{as_object, get};
+ghost use Rattle.serde_json.specs.View.{members_view, view};
+ghost use Rattle.ob_base.specs.Stop.{out_of_memory};
+ghost use Rattle.ob_replies.specs.JsonCommands.{are_columns, first_textless, is_column_name, json_in, leftmost as the_leftmost, text_of, texts_of, AreTextsOf, IsObjectOf, JsonCommandsSayOneThing, ReadsJsonCommand};
+
+use ob_base::{Fault, Ref, Refusal, Stop};
+use ob_command::{Command, read_row, rows_law};
+use serde_json::{Map, Value};
+use std::alloc::Global;
+
+/// Reads a reference and a command from an object with the text members `kind`, `ref` and `f1` to `f6`, where absent
+/// ones are empty, as `read_row` does. The refusal is `BadField` of the leftmost bad column, also where its member is
+/// no text, and of 0 where the body is no JSON, no object, or has another member. The fault is that memory was
+/// refused.
+pub fn read_command(alloc: Global, body: &[u8]) -> Result<(Ref, Command), Stop>
+    ensures { ReadsJsonCommand body.now result }
+{
+    match json(alloc, body)? {
+        Some(value) => Ok(command_of(&value)?),
+        None => Err(Stop::Refused(Refusal::BadField(0))),
+    }
+}
+
+/// What a body says is one thing: a reference and a command, or the refusal of one column.
+pub fn json_commands_law()
+    ensures { JsonCommandsSayOneThing }
+{
+    // A row says one thing.
+    rows_law();
+}
+
+// The value that a body is, where it is UTF-8 and JSON; the error is that memory was refused.
+#[tactic(auto, using(crate::proofs::Values::json_is, crate::proofs::Values::json_is_none))]
+fn json(alloc: Global, body: &[u8]) -> Result<Option<Value>, Stop>
+    ensures value { IfOk result (λ v. option_map view v ≡ json_in body.now) }
+    ensures err { IfErr result (λ stop. stop ≡ out_of_memory) }
+{
+    match Value::from_slice(alloc, body) {
+        Ok(value) => Ok(Some(value)),
+        Err(error) => {
+            if error.is_memory() {
+                Err(Stop::Fault(Fault::OutOfMemory))
+            } else {
+                Ok(None)
+            }
+        }
+    }
+}
+
+fn command_of(value: &Value) -> Result<(Ref, Command), Refusal>
+    ensures { IsObjectOf (as_object (view value.now)) (view value.now) result }
+{
+    let Some(members) = value.as_object() else {
+        return Err(Refusal::BadField(0));
+    };
+    if !has_columns_alone(members) {
+        return Err(Refusal::BadField(0));
+    }
+    command_of_texts(value)
+}
+
+fn has_columns_alone(members: &Map<String, Value>) -> bool
+    ensures { result ≡ are_columns (members_view members.now.entries) }
+{
+    for (name, _) in members.iter() {
+        if !is_column(name.as_str()) {
+            return false;
+        }
+    }
+    true
+}
+
+fn is_column(name: &str) -> bool
+    ensures { result ≡ is_column_name name.now }
+{
+    name == "kind"
+        || name == "ref"
+        || name == "f1"
+        || name == "f2"
+        || name == "f3"
+        || name == "f4"
+        || name == "f5"
+        || name == "f6"
+}
+
+fn command_of_texts(value: &Value) -> Result<(Ref, Command), Refusal>
+    ensures { AreTextsOf (texts_of (view value.now)) result }
+{
+    let kind = text(value, "kind");
+    let reference = text(value, "ref");
+    let f1 = text(value, "f1");
+    let f2 = text(value, "f2");
+    let f3 = text(value, "f3");
+    let f4 = text(value, "f4");
+    let f5 = text(value, "f5");
+    let f6 = text(value, "f6");
+    let column = textless(&[kind, reference, f1, f2, f3, f4, f5, f6]);
+    let row = read_row(&[
+        or_empty(kind),
+        or_empty(reference),
+        or_empty(f1),
+        or_empty(f2),
+        or_empty(f3),
+        or_empty(f4),
+        or_empty(f5),
+        or_empty(f6),
+    ]);
+    leftmost(column, row)
+}
+
+// The text of a member, empty where it is absent; None where it is no text.
+fn text<'v>(value: &'v Value, name: &str) -> Option<&'v [u8]>
+    ensures { option_map (λ t. t.now) result ≡ text_of (get name.now (view value.now)) }
+{
+    match value.get(name) {
+        None => Some(b""),
+        Some(member) => match member.as_str() {
+            None => None,
+            Some(text) => Some(text.as_bytes()),
+        },
+    }
+}
+
+fn or_empty(text: Option<&[u8]>) -> &[u8]
+    ensures { result.now ≡ unwrap_or (option_copied text.entry) [] }
+{
+    match text {
+        Some(text) => text,
+        None => b"",
+    }
+}
+
+// The first column, from 1, that holds no text.
+fn textless(texts: &[Option<&[u8]>]) -> Option<u8>
+    requires { length texts.now < 255 }
+    ensures { result ≡ first_textless 1 (map (λ t. option_map (λ s. s.now) t) texts.now) }
+{
+    let mut column = 1;
+    for text in texts {
+        if text.is_none() {
+            return Some(column);
+        }
+        column += 1;
+    }
+    None
+}
+
+// What a row says, where a column that holds no text is bad too.
+fn leftmost(
+    textless: Option<u8>,
+    row: Result<(Ref, Command), Refusal>,
+) -> Result<(Ref, Command), Refusal>
+    ensures { result ≡ the_leftmost textless row }
+{
+    let Some(column) = textless else {
+        return row;
+    };
+    match row {
+        Err(Refusal::BadField(other)) => Err(Refusal::BadField(column.min(other))),
+        _ => Err(Refusal::BadField(column)),
+    }
+}

@@ -1,0 +1,118 @@
+//! The bytes of replies.
+use ob_base::Refusal;
+use ob_replies::{
+    Allow, MediaType, Status, continue_reply, empty_reply, refusal_status, reply_text,
+    report_status,
+};
+use std::alloc::Global;
+use std::process::Abort;
+use std::test::Fail;
+
+fn is_text(
+    rt: &impl Abort,
+    alloc: Global,
+    media_type: MediaType,
+    body: &[u8],
+    closes: bool,
+    text: &[u8],
+) -> Result<(), Fail> {
+    let reply = reply_text(alloc, Status::Ok, media_type, body, closes)?;
+    assert!(rt; reply.as_slice() == text);
+    Ok(())
+}
+
+#[test]
+fn replies_with_a_body(rt: HostRuntime) -> Result<(), Fail> {
+    is_text(
+        &rt,
+        rt.alloc(),
+        MediaType::Json,
+        b"{\"moved\":[],\"no\":1}",
+        false,
+        b"HTTP/1.1 200 OK\r\nContent-Type: application/json\r\nContent-Length: 19\r\n\r\n{\"moved\":[],\"no\":1}",
+    )?;
+    is_text(
+        &rt,
+        rt.alloc(),
+        MediaType::PlainText,
+        b"P 86400 S 864000 W 9000\n",
+        true,
+        b"HTTP/1.1 200 OK\r\nContent-Type: text/plain\r\nContent-Length: 24\r\nConnection: close\r\n\r\nP 86400 S 864000 W 9000\n",
+    )
+}
+
+fn are_empty(rt: &impl Abort, replies: &[(Status, bool, &[u8])]) {
+    for (status, closes, text) in replies {
+        assert!(rt; empty_reply(*status, *closes) == *text);
+    }
+}
+
+#[test]
+fn replies_without_a_body(rt: HostRuntime) {
+    assert!(rt; continue_reply() == b"HTTP/1.1 100 Continue\r\n\r\n".as_slice());
+    are_empty(
+        &rt,
+        &[
+            (
+                Status::NotFound,
+                false,
+                b"HTTP/1.1 404 Not Found\r\nContent-Length: 0\r\n\r\n",
+            ),
+            (
+                Status::MethodNotAllowed(Allow::Get),
+                false,
+                b"HTTP/1.1 405 Method Not Allowed\r\nContent-Length: 0\r\nAllow: GET\r\n\r\n",
+            ),
+            (
+                Status::MethodNotAllowed(Allow::Post),
+                true,
+                b"HTTP/1.1 405 Method Not Allowed\r\nContent-Length: 0\r\nAllow: POST\r\nConnection: close\r\n\r\n",
+            ),
+            (
+                Status::RequestHeaderFieldsTooLarge,
+                true,
+                b"HTTP/1.1 431 Request Header Fields Too Large\r\nContent-Length: 0\r\nConnection: close\r\n\r\n",
+            ),
+            (
+                Status::ServiceUnavailable,
+                true,
+                b"HTTP/1.1 503 Service Unavailable\r\nContent-Length: 0\r\nConnection: close\r\n\r\n",
+            ),
+        ],
+    );
+}
+
+fn have_status(rt: &impl Abort, status: Status, refusals: &[Refusal]) {
+    for refusal in refusals {
+        assert!(rt; refusal_status(refusal) == status);
+    }
+}
+
+#[test]
+fn refusals_and_imports(rt: HostRuntime) {
+    have_status(
+        &rt,
+        Status::Conflict,
+        &[
+            Refusal::NameTaken,
+            Refusal::Sealed,
+            Refusal::Stale(2),
+            Refusal::Withdrawn,
+            Refusal::RefConflict(1),
+            Refusal::MarkedAlready,
+            Refusal::NotMarked,
+        ],
+    );
+    have_status(
+        &rt,
+        Status::UnprocessableEntity,
+        &[
+            Refusal::BadField(0),
+            Refusal::UnknownEntry,
+            Refusal::Full(50_000),
+            Refusal::UnknownCause,
+        ],
+    );
+    assert!(rt; report_status(None) == Status::Ok);
+    assert!(rt; report_status(Some((4, Refusal::NameTaken))) == Status::UnprocessableEntity);
+}
