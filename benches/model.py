@@ -13,89 +13,14 @@ the C library.
 
 import argparse
 import json
-import os
 import sqlite3
 import sys
-import time
-from bisect import bisect_right
-from datetime import date, timedelta
 from fractions import Fraction
 
-from commands import Refusal, RowRefusal, body_text, read_row, rows_of
+from state import Period, State
 
-DAY = 86_400
-MOST_NODES = 1_024
-MOST_DEVICES = 2_048
-MOST_CUSTOMERS = 100_000
-MOST_ENTRIES = 50_000
-MOST_COMMANDS = 1_000_000
 LONGEST_MOMENTARY = 300
 DIMENSIONS = ["cause", "feeder", "day"]
-
-
-def offset_of(second):
-    """How far the clock of the zone is ahead of UTC."""
-    return time.localtime(second).tm_gmtoff
-
-
-def midnight_of(day):
-    """The second of a date's midnight: the earlier one of a fold; in a gap that of the offset before it."""
-    civil = (day - date(1970, 1, 1)).days * DAY
-    before, after = offset_of(civil - 2 * DAY), offset_of(civil + 2 * DAY)
-    seconds = [civil - offset for offset in {before, after} if offset_of(civil - offset) == offset]
-    return min(seconds, default=civil - before)
-
-
-class Period:
-    """Whole civil days of a zone, by the seconds at which they begin; the last bound is the end."""
-
-    def __init__(self, first, days, zone):
-        self.zone = zone
-        self.days = [date.fromisoformat(first) + timedelta(days=number) for number in range(days + 1)]
-        os.environ["TZ"] = zone
-        time.tzset()
-        self.bounds = [midnight_of(day) for day in self.days]
-        self.first, self.end = self.bounds[0], self.bounds[-1]
-        self.length = self.end - self.first
-
-    def holds(self, second):
-        return self.first <= second < self.end
-
-    def day_of(self, second):
-        return bisect_right(self.bounds, second) - 1
-
-    def index_of(self, text):
-        """The number of a date's day, None where it lies outside."""
-        texts = [day.isoformat() for day in self.days[:-1]]
-        return texts.index(text) if text in texts else None
-
-    def parts(self, since, until):
-        """The days that an interval touches, each with its number of seconds."""
-        while since < until:
-            day = self.day_of(since)
-            end = min(until, self.bounds[day + 1])
-            yield day, end - since
-            since = end
-
-
-class Device:
-    def __init__(self, name, ends, normal):
-        self.name = name
-        self.ends = ends
-        self.normal = normal
-
-
-class Entry:
-    """A line of the switching sheet. Its position is `open` or `closed`."""
-
-    def __init__(self, device):
-        self.device = device
-        self.revision = 1
-        self.is_kept = True
-
-    def say(self, act, second, cause, crew):
-        self.position = "closed" if act == "close" else "open"
-        self.second, self.cause, self.crew = second, cause, crew
 
 
 class Run:
@@ -108,135 +33,35 @@ class Run:
         self.cutter = cutter
 
 
-class Book:
-    """What was said in accepted commands. Nodes are names; a node's feeder is None where it is no section."""
+class Book(State):
+    """A book of commands: what was said, and what each command moved where this is kept too."""
 
-    def __init__(self, period):
-        self.period = period
-        self.causes = {0: "UNASSIGNED"}
-        self.feeders = {"GRID": None}
-        self.devices = {}
-        self.customers = {}  # number: [section, since, until or "-"]
-        self.entries = []
-        self.marks = {}  # day: engineer
+    def __init__(self, period, keeps_moves=True):
+        super().__init__(period)
         self.commands = []  # (reference, body)
         self.number_of = {}  # reference: number of the command
+        self.keeps_moves = keeps_moves
         self.moves = []  # (command, dimension, key, delta)
 
-    def act(self, row, keeps_moves=True):
-        """Takes the command of a row: its number, or None where it was accepted before. A refusal changes nothing."""
-        ref, kind, values = read_row(row)
-        body = body_text(kind, values)
-        if ref in self.number_of:
-            number = self.number_of[ref]
-            if self.commands[number - 1] == (ref, body):
-                return None
-            raise Refusal(11, number)
-        getattr(self, f"check_{kind}")(*values)
-        if len(self.commands) == MOST_COMMANDS:
-            raise Refusal(12, MOST_COMMANDS)
-        before = self.amounts() if keeps_moves else {}
-        getattr(self, f"do_{kind}")(*values)
+    def known(self, ref):
+        """The number and the body of a reference's command, None where there is none."""
+        number = self.number_of.get(ref)
+        return number and (number, self.commands[number - 1][1])
+
+    def accepted(self):
+        return len(self.commands)
+
+    def accept(self, ref, kind, values, body):
+        before = self.amounts() if self.keeps_moves else {}
+        self.say(kind, values)
         self.commands.append((ref, body))
         number = self.number_of[ref] = len(self.commands)
-        after = self.amounts() if keeps_moves else {}
+        after = self.amounts() if self.keeps_moves else {}
         for dimension, key in sorted(before.keys() | after.keys()):
             delta = after.get((dimension, key), 0) - before.get((dimension, key), 0)
             if delta:
                 self.moves.append((number, dimension, key, delta))
         return number
-
-    # What each kind is refused for, in the order in which it is looked for.
-
-    def check_cause(self, code, name):
-        refuse_if(code in self.causes or name in self.causes.values(), 3)
-
-    def check_bus(self, name, _feeder=None):
-        refuse_if(self.entries, 4)
-        refuse_if(name in self.feeders, 3)
-        refuse_if(len(self.feeders) == MOST_NODES, 12, MOST_NODES)
-
-    check_section = check_bus
-
-    def check_device(self, name, a, b, _normal):
-        refuse_if(self.entries, 4)
-        refuse_if(a not in self.feeders or b not in self.feeders, 2)
-        refuse_if(name in self.devices, 3)
-        refuse_if(len(self.devices) == MOST_DEVICES, 12, MOST_DEVICES)
-
-    def check_connect(self, number, section, since, until):
-        refuse_if(self.feeders.get(section) is None, 2)
-        refuse_if(number in self.customers, 3)
-        refuse_if(until != "-" and until <= since, 10)
-        refuse_if(len(self.customers) == MOST_CUSTOMERS, 12, MOST_CUSTOMERS)
-
-    def check_revise(self, number, since, until):
-        refuse_if(number not in self.customers, 9)
-        refuse_if(until != "-" and until <= since, 10)
-
-    def check_switch(self, device, _act, second, cause, _crew):
-        refuse_if(device not in self.devices, 2)
-        refuse_if(not self.period.holds(second), 5)
-        refuse_if(cause not in self.causes, 15)
-        refuse_if(len(self.entries) == MOST_ENTRIES, 12, MOST_ENTRIES)
-
-    def check_withdraw(self, number, revision):
-        refuse_if(number > len(self.entries), 6)
-        entry = self.entries[number - 1]
-        refuse_if(not entry.is_kept, 8)
-        refuse_if(revision != entry.revision, 7, entry.revision)
-
-    def check_correct(self, number, revision, _act, second, cause, _crew):
-        self.check_withdraw(number, revision)
-        refuse_if(not self.period.holds(second), 5)
-        refuse_if(cause not in self.causes, 15)
-
-    def check_mark(self, day, _engineer):
-        refuse_if(self.period.index_of(day) is None, 5)
-        refuse_if(self.period.index_of(day) in self.marks, 13)
-
-    def check_unmark(self, day, _engineer):
-        refuse_if(self.period.index_of(day) is None, 5)
-        refuse_if(self.period.index_of(day) not in self.marks, 14)
-
-    # What each kind does.
-
-    def do_cause(self, code, name):
-        self.causes[code] = name
-
-    def do_bus(self, name, feeder=None):
-        self.feeders[name] = feeder
-
-    do_section = do_bus
-
-    def do_device(self, name, a, b, normal):
-        self.devices[name] = Device(name, (a, b), normal)
-
-    def do_connect(self, number, section, since, until):
-        self.customers[number] = [section, since, until]
-
-    def do_revise(self, number, since, until):
-        self.customers[number][1:] = since, until
-
-    def do_switch(self, device, *said):
-        self.entries.append(Entry(device))
-        self.entries[-1].say(*said)
-
-    def do_correct(self, number, _revision, *said):
-        self.entries[number - 1].say(*said)
-        self.entries[number - 1].revision += 1
-
-    def do_withdraw(self, number, _revision):
-        self.entries[number - 1].is_kept = False
-        self.entries[number - 1].revision += 1
-
-    def do_mark(self, day, engineer):
-        self.marks[self.period.index_of(day)] = engineer
-
-    def do_unmark(self, day, _engineer):
-        del self.marks[self.period.index_of(day)]
-
-    # What follows from it.
 
     def supplied(self, positions):
         """The nodes to which a walk of closed devices leads from GRID."""
@@ -358,8 +183,6 @@ class Book:
             indices[f"CEMI-{n}"] = quotient(customers * p, s)
         return indices, {"SUSTAINED": ci, "MOMENTARY": momentary}
 
-    # Texts.
-
     def table_lines(self):
         """The lines of the annual table."""
         period, amounts = self.period, self.amounts()
@@ -399,40 +222,34 @@ class Book:
     def tables(self):
         """The rows of the ten tables of the database of the book, each list sorted by its key."""
         period, amounts = self.period, self.amounts()
-        nodes = list(self.feeders)
-        devices = list(self.devices)
+        nodes = {name: number for number, name in enumerate(self.feeders)}
+        devices = {name: number for number, name in enumerate(self.devices)}
         keys = [(1, code) for code in range(64)] + [(2, feeder) for feeder in range(1, 256)]
         keys += [(3, day) for day in range(len(period.bounds) - 1)]
         return {
             "meta": [(1, 1, period.days[0].isoformat(), len(period.bounds) - 1, period.zone)],
             "cause": sorted(self.causes.items()),
             "node": [
-                (nodes.index(name), name, kind_of(name, feeder), feeder or 0)
-                for name, feeder in self.feeders.items()
+                (nodes[name], name, kind_of(name, feeder), feeder or 0) for name, feeder in self.feeders.items()
             ],
             "device": [
-                (devices.index(name), name, *map(nodes.index, device.ends), int(device.normal == "closed"))
+                (devices[name], name, nodes[device.ends[0]], nodes[device.ends[1]], int(device.normal == "closed"))
                 for name, device in self.devices.items()
             ],
             "customer": [
-                (number, nodes.index(section), since, None if until == "-" else until)
+                (number, nodes[section], since, None if until == "-" else until)
                 for number, (section, since, until) in sorted(self.customers.items())
             ],
             "entry": [
-                (number, e.revision, devices.index(e.device), int(e.position == "closed"))
-                + (e.second, e.cause, e.crew, int(e.is_kept))
-                for number, e in enumerate(self.entries, 1)
+                (number, entry.revision, devices[entry.device], int(entry.position == "closed"))
+                + (entry.second, entry.cause, entry.crew, int(entry.is_kept))
+                for number, entry in enumerate(self.entries, 1)
             ],
             "mark": sorted(self.marks.items()),
             "cmd": [(number, ref, body) for number, (ref, body) in enumerate(self.commands, 1)],
             "moved": self.moves,
             "posting": [(dimension, key, amounts.get((dimension, key), 0)) for dimension, key in keys],
         }
-
-
-def refuse_if(condition, number, detail=None):
-    if condition:
-        raise Refusal(number, detail)
 
 
 def add(amounts, key, amount):
@@ -462,27 +279,12 @@ def kind_of(name, feeder):
     return 1 if feeder is None else 2
 
 
-def import_text(book, data, keeps_moves=True):
-    """Acts the rows of a text up to the first refusal: how many were added, how many again, and the refusal or None."""
-    added, again = 0, 0
-    try:
-        for number, row in rows_of(data):
-            try:
-                if book.act(row, keeps_moves) is None:
-                    again += 1
-                else:
-                    added += 1
-            except Refusal as refusal:
-                return added, again, RowRefusal(number, refusal)
-    except RowRefusal as refusal:
-        return added, again, refusal
-    return added, again, None
-
-
 def first_difference(book, path):
-    """The first table of a database that differs from the book's rows, None where all are equal."""
+    """The first table of a database that differs from the book's rows, None where all that are kept are equal."""
     with sqlite3.connect(f"file:{path}?mode=ro", uri=True) as database:
         for table, rows in book.tables().items():
+            if table == "moved" and not book.keeps_moves:
+                continue
             found = database.execute(f"SELECT * FROM {table}").fetchall()
             if sorted(found, key=repr) != sorted(map(tuple, rows), key=repr):
                 return table
@@ -511,13 +313,14 @@ def main():
     shown.add_argument("--totals", action="store_true", help="print the totals as JSON")
     shown.add_argument("--imports", action="store_true", help="print what each import says")
     shown.add_argument("--compare", metavar="FILE", help="compare the tables of a book's database")
+    words.add_argument("--no-moves", action="store_true", help="compare without the moves, which take long in a year")
     words = words.parse_args()
-    book = Book(Period(words.first, words.days, words.zone))
-    keeps_moves = words.moves or words.compare is not None
+    keeps_moves = words.moves or (words.compare is not None and not words.no_moves)
+    book = Book(Period(words.first, words.days, words.zone), keeps_moves)
     status = 0
     for path in words.texts:
         with open(path, "rb") as text:
-            added, again, refusal = import_text(book, text.read(), keeps_moves)
+            added, again, refusal = book.import_text(text.read())
         if words.imports:
             print(f"added {added} again {again}")
         if refusal:

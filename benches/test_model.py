@@ -10,7 +10,8 @@ are on S1, three on S2, five on S3.
 import unittest
 
 from commands import KINDS, Refusal, RowRefusal, read_date, read_row, read_second
-from model import Book, Period, import_text, midnight_of
+from model import Book
+from state import Period, midnight_of
 
 T = 1_704_067_200  # 2024-01-01T00:00:00Z
 NETWORK = """\
@@ -249,7 +250,7 @@ class Outages(unittest.TestCase):
 class Imports(unittest.TestCase):
     def check(self, text, added, again, refusal, book=None):
         book = book or Book(Period("2024-01-01", 1, "UTC0"))
-        answer = import_text(book, text.encode())
+        answer = book.import_text(text.encode())
         self.assertEqual(answer[:2], (added, again))
         self.assertEqual(str(answer[2]), str(refusal))
         return book
