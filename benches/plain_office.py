@@ -1,4 +1,4 @@
-"""A plain office in Python and SQLite, to compare `outagebook import` with: the ten tables of docs/BOOK.md, kept in step.
+"""A plain office in Python and SQLite, to compare `outagebook import` with: it keeps the ten tables of docs/BOOK.md.
 
     python3 benches/make_year.py 10000 1 --csv > bench-data/year.csv
     python3 benches/plain_office.py bench-data/year.csv --book bench-data/plain.db
@@ -182,6 +182,7 @@ def main():
         if refusal:
             print(refusal, file=sys.stderr)
             status = 2
+    office.database.close()
     print(f"W {sum(office.amounts[0].values())} moved {office.moved}")
     return status
 
