@@ -8,9 +8,10 @@ are on S1, three on S2, five on S3.
 """
 
 import unittest
+from pathlib import Path
 
 from commands import KINDS, Refusal, RowRefusal, read_date, read_row, read_second
-from model import Book
+from model import Book, quotient, quotient_text
 from state import Period, midnight_of
 
 T = 1_704_067_200  # 2024-01-01T00:00:00Z
@@ -204,6 +205,14 @@ class Outages(unittest.TestCase):
         self.check(book, 864_000, "1/1", "1440/1", "1440/1", "1/1", "0/1", "1/1")
         self.assertEqual((book.amounts()[2, 1], book.amounts()[2, 2]), (432_000, 432_000))
 
+    def test_greatest_figures(self):
+        """The fractions of the greatest counts, seconds and period that a book may have."""
+        most, period = 2**42 - 1, 2**25 - 1
+        self.assertEqual(quotient_text(quotient(most * period, most)), "33554431/1 33554431.000")
+        self.assertEqual(quotient_text(quotient(most * period, 60 * most)), "33554431/60 559240.517")
+        self.assertEqual(quotient_text(quotient(most, 60 * most)), "1/60 0.017")
+        self.assertEqual(quotient_text(quotient(most, 0)), "undefined")
+
     def test_run_gets_another_cutter_past_the_window(self):
         book = base()
         act(book, "switch B1 open +3600 3 K1\nswitch W1 close +4000 3 K1\nswitch B1 close +7200 3 K1")
@@ -271,6 +280,20 @@ class Imports(unittest.TestCase):
         self.check(HEADER + "bus,A1,A\n", 0, 0, RowRefusal(1, Refusal(1, 0)))
         self.check(HEADER + '""\n', 0, 0, RowRefusal(1, Refusal(1, 0)))
         self.check(HEADER + " \n", 0, 0, RowRefusal(1, Refusal(1, 0)))
+
+
+class Examples(unittest.TestCase):
+    def test_files_of_the_fortnight(self):
+        """The table and the moves that stand beside the sample fortnight, and its amounts by hand."""
+        examples = Path(__file__).resolve().parent.parent / "examples"
+        book = Book(Period("2025-03-24", 14, "CET-1CEST,M3.5.0,M10.5.0/3"))
+        for name, added in [("fortnight", 97), ("corrections", 3)]:
+            self.assertEqual(book.import_text((examples / f"{name}.csv").read_bytes()), (added, 0, None))
+            for lines, file in [(book.table_lines(), "table.txt"), (book.moves_lines(), "moves.csv")]:
+                self.assertEqual("".join(f"{line}\n" for line in lines), (examples / f"{name}.{file}").read_text())
+            if name == "fortnight":
+                self.assertEqual({key: amount for key, amount in book.amounts().items() if key[0] == 1}, BY_HAND)
+                self.assertEqual([counts["MOMENTARY"] for _, counts in map(book.indices, [False, True])], [16, 16])
 
 
 class Fields(unittest.TestCase):
@@ -343,6 +366,17 @@ class Clocks(unittest.TestCase):
         self.assertEqual(midnight_of(period.days[1]), period.bounds[1])
 
 
+# Customers times seconds: 1 STORM, 2 TREE, 3 ANIMAL, 4 DIGGING, 5 EQUIPMENT, 6 PLANNED, 7 SUPPLIER, 8 UNKNOWN.
+BY_HAND = {
+    (1, 1): 2 * 31_500 + 14 * 6_300,
+    (1, 2): 13 * 1_880 + 5 * 11_390,
+    (1, 3): 13 * 40,
+    (1, 4): 2 * 8_070,
+    (1, 5): 3 * 4_500 + 3 * 2_400,
+    (1, 6): 8 * 9_000 + 3 * 240,
+    (1, 7): 13 * 680,
+    (1, 8): 8 * 3_120,
+}
 HEADER = "kind,ref,f1,f2,f3,f4,f5,f6\n"
 TABLE = """\
 OUTAGE BOOK 2024-01-01 days 1 zone UTC0
