@@ -1,6 +1,7 @@
 """A made year as body texts of commands, one a line, the same on every machine: it comes from a seed.
 
     python3 benches/make_year.py 10000 1 > bench-data/year.txt
+    python3 benches/make_year.py 10000 1 --csv > bench-data/year.csv        # as `outagebook import` reads it
     python3 benches/make_year.py 0 1 --order falling        # network and customers alone
 
 The book that it is for has the 366 days from 2024-01-01, zone UTC0. Each command is accepted in its turn.
@@ -10,7 +11,7 @@ import argparse
 import heapq
 import random
 import sys
-from datetime import date, timedelta
+from datetime import date, datetime, timedelta, timezone
 
 FIRST = 1_704_067_200
 DAYS = 366
@@ -245,6 +246,28 @@ def year_lines(entries, seed, customers, order, late):
     yield from late_lines(random.Random(f"late {seed}"), network, late)
 
 
+REFS = {"connect": "CUS", "switch": "SW", "correct": "COR", "withdraw": "WD", "mark": "MARK"}
+MOMENTS = {"connect": [2, 3], "switch": [2], "correct": [3]}
+
+
+def csv_lines(lines):
+    """The same commands as rows, each under a reference of its own, with civil moments in UTC."""
+    yield "kind,ref,f1,f2,f3,f4,f5,f6"
+    counts = {}
+    for line in lines:
+        kind, *fields = line.split(" ")
+        for place in MOMENTS.get(kind, ()):
+            fields[place] = "" if fields[place] == "-" else civil(int(fields[place]))
+        word = REFS.get(kind, "NET")
+        counts[word] = counts.get(word, 0) + 1
+        fields += [""] * (6 - len(fields))
+        yield ",".join([kind, f"{word}-{counts[word]}", *fields])
+
+
+def civil(second):
+    return datetime.fromtimestamp(second, timezone.utc).strftime("%Y-%m-%dT%H:%M:%SZ")
+
+
 def main():
     words = argparse.ArgumentParser(description="Writes a made year to standard output.")
     words.add_argument("entries", type=int, help="the number of entries of the sheet, even")
@@ -252,10 +275,12 @@ def main():
     words.add_argument("--customers", type=int, default=100_000)
     words.add_argument("--order", choices=["rising", "falling", "random"], default="rising", help="of their numbers")
     words.add_argument("--late", type=int, default=0, help="short outages that are entered after all others")
+    words.add_argument("--csv", action="store_true", help="rows of CSV in place of body texts")
     words = words.parse_args()
     if words.entries % 2 or words.entries + 2 * words.late > MOST_ENTRIES:
         sys.exit("the entries are even, and with the late ones 50,000 at most")
-    for line in year_lines(words.entries, words.seed, words.customers, words.order, words.late):
+    lines = year_lines(words.entries, words.seed, words.customers, words.order, words.late)
+    for line in csv_lines(lines) if words.csv else lines:
         print(line)
 
 

@@ -16,8 +16,7 @@ from math import inf
 FIRST = 1_704_067_200
 DAYS = 366
 DAY = 86_400
-END = FIRST + DAYS * DAY
-EPOCH_DAY = FIRST // DAY
+YEAR = [FIRST + DAY * number for number in range(DAYS + 1)]
 
 
 class Services:
@@ -68,13 +67,15 @@ class OneService:
 
 
 class Book:
-    """The book of the 366 days from 2024-01-01 in UTC.
+    """The book of some days, by their bounds: those of the 366 days from 2024-01-01 in UTC where none are given.
 
     Nodes are numbers, GRID is 0. An entry is a list of device, position, second, cause and revision. A run is a triple
     of its first second, the second after it and its cutter's number, None where it has no cutter.
     """
 
-    def __init__(self):
+    def __init__(self, bounds=YEAR):
+        self.bounds = bounds
+        self.whole = bounds[0], bounds[-1], None
         self.node_of = {"GRID": 0}
         self.feeder_of = [None]
         self.joined = [[]]
@@ -102,7 +103,7 @@ class Book:
         self.feeder_of.append(feeder and int(feeder))
         self.joined.append([])
         self.services.append(Services())
-        self.runs.append([(FIRST, END, None)])
+        self.runs.append([self.whole])
 
     act_section = act_bus
 
@@ -114,9 +115,12 @@ class Book:
         self.normal.append(normal == "closed")
         self.order_of.append([])
         if normal == "closed":
-            # No customer is connected and nothing is entered yet in a made year.
-            reached = self.supplied(self.normal)
-            self.runs = [[] if is_reached else [(FIRST, END, None)] for is_reached in reached]
+            # Nothing is entered yet: a node that is now reached was without supply all the time.
+            for node, is_reached in enumerate(self.supplied(self.normal)):
+                if is_reached and self.runs[node]:
+                    if self.services[node].begins:
+                        self.post(node, self.services[node], self.runs[node], -1)
+                    self.runs[node] = []
 
     def act_connect(self, number, section, since, until):
         section, since, until = self.node_of[section], int(since), end_of(until)
@@ -201,7 +205,7 @@ class Book:
         """Finds the runs anew from a first second on, up to the device's first entry after the last one."""
         order = self.order_of[device]
         place = bisect_right(order, (last, number))
-        end = self.entries[order[place][1]][2] + 1 if place < len(order) else END
+        end = self.entries[order[place][1]][2] + 1 if place < len(order) else self.bounds[-1]
         closed = self.positions_before(first)
         was = self.supplied(closed)
         since = [None if is_reached else (first, None) for is_reached in was]
@@ -270,12 +274,15 @@ class Book:
                     amount = services.before(until) - services.before(since)
                     move(self.by_cause, self.entries[number][3], sign * amount)
 
+    def day_of(self, second):
+        return bisect_right(self.bounds, second) - 1
+
     def post(self, node, services, runs, sign):
         """Posts the customer-seconds of some runs of a node."""
         for since, until, cutter in runs:
             before = start = services.before(since)
-            for day in range((since - FIRST) // DAY, (until - 1 - FIRST) // DAY + 1):
-                after = services.before(min(until, FIRST + (day + 1) * DAY))
+            for day in range(self.day_of(since), self.day_of(until - 1) + 1):
+                after = services.before(min(until, self.bounds[day + 1]))
                 move(self.by_day, day, sign * (after - before))
                 before = after
             move(self.by_feeder, self.feeder_of[node], sign * (before - start))
@@ -317,7 +324,7 @@ def counts(book, unmarked):
     with_some = [0] * 10
     marked_days = {day_of_date(date) for date in book.marked} if unmarked else set()
     for found in interruptions(book):
-        lengths = [end - begin for begin, end in found if (begin - FIRST) // DAY not in marked_days]
+        lengths = [end - begin for begin, end in found if book.day_of(begin) not in marked_days]
         sustained = [length for length in lengths if length > 300]
         ci += len(sustained)
         csi += sum(sustained)
@@ -336,8 +343,9 @@ def day_of_date(text):
 
 def index_lines(book):
     """S, and counts and indices over all interruptions and over the unmarked ones."""
-    p = END - FIRST
-    s = sum(max(0, min(until, END) - max(since, FIRST)) for _, since, until in book.customers.values())
+    first, end, _ = book.whole
+    p = end - first
+    s = sum(max(0, min(until, end) - max(since, first)) for _, since, until in book.customers.values())
     yield f"S {s}"
     for word in ["all", "unmarked"]:
         ci, csi, with_some, momentary = counts(book, word == "unmarked")

@@ -1,0 +1,118 @@
+"""Compares the program with the plain model, over small random books (make_commands.py) and the sample fortnight.
+
+    python3 benches/compare.py [--seeds N] [--program FILE]
+    python3 benches/compare.py --plain                      # the plain office in place of the program
+
+For each text: `init`, `import`, and the same import again; `table`, `export`, `audit`; and every row of the ten tables.
+All that is printed, the messages and the statuses have to be the model's. It ends with status 1 at the first
+difference; the text is then bench-data/difference.csv.
+"""
+
+import argparse
+import subprocess
+import sys
+import tempfile
+from pathlib import Path
+
+from make_commands import period_of, text_of
+from model import Book, first_difference
+from plain_office import Office
+from state import Period
+
+ROOT = Path(__file__).resolve().parent.parent
+PROGRAM = ROOT / "crates/outagebook/out/outagebook"
+DATA = ROOT / "bench-data"
+EXAMPLES = ROOT / "examples"
+FORTNIGHT = ("2025-03-24", 14, "CET-1CEST,M3.5.0,M10.5.0/3")
+
+
+def said_of(added, again, refusal):
+    """What an import prints, tells and ends with."""
+    return f"added {added} again {again}\n", f"{refusal}\n" if refusal else "", 2 if refusal else 0
+
+
+def wanted_of(book, data):
+    """What the program should answer, job by job."""
+    imports = [said_of(*book.import_text(data)) for _ in range(2)]
+    lines = ["".join(f"{line}\n" for line in lines) for lines in [book.table_lines(), book.moves_lines()]]
+    return {
+        "import": imports[0],
+        "second import": imports[1],
+        "table": (lines[0], "", 0),
+        "export": (f"rows {len(book.moves)}\n", "", 0),
+        "moves": lines[1],
+        "audit": ("audit ok\n", "", 0),
+    }
+
+
+def found_of(program, folder, period, data):
+    """What the program answers, job by job."""
+    first, days, zone = period
+    book, text, moves = (str(Path(folder) / name) for name in ["book.db", "text.csv", "moves.csv"])
+    Path(text).write_bytes(data)
+
+    def run(word, *rest):
+        done = subprocess.run([program, word, "--book", book, *rest], capture_output=True, text=True)
+        return done.stdout, done.stderr, done.returncode
+
+    created = run("init", "--first", first, "--days", str(days), "--zone", zone)
+    if created != ("created\n", "", 0):
+        return {"import": created}
+    found = {"import": run("import", text), "second import": run("import", text), "table": run("table")}
+    found["export"] = run("export", moves)
+    found["moves"] = Path(moves).read_text() if Path(moves).exists() else None
+    found["audit"] = run("audit")
+    return found
+
+
+def difference(program, period, data):
+    """The first job, or table of the database, in which the program and the model differ, with what each has."""
+    book = Book(Period(*period))
+    wanted = wanted_of(book, data)
+    with tempfile.TemporaryDirectory() as folder:
+        if program:
+            found = found_of(program, folder, period, data)
+            for job, answer in wanted.items():
+                if found.get(job) != answer:
+                    return job, answer, found.get(job)
+        else:
+            office = Office(f"{folder}/book.db", Period(*period), "wal", "off")
+            found = [said_of(*office.import_text(data)) for _ in range(2)]
+            office.database.close()
+            if found != [wanted["import"], wanted["second import"]]:
+                return "import", wanted["import"], found
+        table = first_difference(book, f"{folder}/book.db")
+    return table and (f"table {table}", None, None)
+
+
+def texts(seeds):
+    """The name, the period and the bytes of each text."""
+    fortnight = (EXAMPLES / "fortnight.csv").read_bytes()
+    corrections = (EXAMPLES / "corrections.csv").read_bytes()
+    yield "the fortnight", FORTNIGHT, fortnight
+    yield "the fortnight, corrected", FORTNIGHT, fortnight + corrections.partition(b"\n")[2]
+    for seed in range(1, seeds + 1):
+        yield f"seed {seed}", period_of(seed), text_of(seed)
+
+
+def main():
+    words = argparse.ArgumentParser(description="Compares the program with the plain model.")
+    words.add_argument("--seeds", type=int, default=200, help="how many random books (200)")
+    words.add_argument("--program", default=PROGRAM, help="the program (that of crates/outagebook)")
+    words.add_argument("--plain", action="store_true", help="compare the plain office in its place")
+    words = words.parse_args()
+    count = 0
+    for name, period, data in texts(words.seeds):
+        found = difference(None if words.plain else words.program, period, data)
+        if found:
+            DATA.mkdir(exist_ok=True)
+            (DATA / "difference.csv").write_bytes(data)
+            print(f"{name} {period}: {found[0]}\nwanted {found[1]}\nfound {found[2]}")
+            return 1
+        count += 1
+    print(f"{count} books are those of the model")
+    return 0
+
+
+if __name__ == "__main__":
+    sys.exit(main())

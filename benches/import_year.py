@@ -1,0 +1,97 @@
+"""A made year through the program's jobs, beside the plain office in Python and SQLite: seconds, memory, every row.
+
+    python3 benches/import_year.py [--entries N] [--customers N] [--seed N] [--program FILE] [--folder FOLDER]
+
+It makes the year as CSV, then a book: `init`, `import`, the same import again, `table`, `export`, `audit`. Then the
+plain office (benches/plain_office.py) imports the same text, and all rows of both books' ten tables are compared. Both
+books lie in the folder, bench-data/ where none is named: a commit takes what its disk takes.
+"""
+
+import argparse
+import os
+import sqlite3
+import subprocess
+import sys
+import time
+from pathlib import Path
+
+from compare import PROGRAM
+from make_year import DAYS, FIRST_DATE, csv_lines, year_lines
+
+BENCHES = Path(__file__).resolve().parent
+TABLES = ["meta", "cause", "node", "device", "customer", "entry", "mark", "cmd", "moved", "posting"]
+
+
+def measure(words):
+    """The seconds by the clock and of the processor, the peak in MB and the output of a process."""
+    begin = time.perf_counter()
+    child = subprocess.Popen(words, stdout=subprocess.PIPE, text=True)
+    output = child.stdout.read()
+    _, status, usage = os.wait4(child.pid, 0)
+    child.returncode = os.waitstatus_to_exitcode(status)
+    if child.returncode:
+        sys.exit(f"{' '.join(map(str, words))}: status {child.returncode}\n{output}")
+    return time.perf_counter() - begin, usage.ru_utime + usage.ru_stime, usage.ru_maxrss / 1024, output
+
+
+def show(name, words):
+    clock, processor, peak, output = measure(words)
+    said = output.splitlines()[0]
+    print(f"| {name} | {clock:.2f} | {processor:.2f} | {peak:.1f} | {said} |", flush=True)
+
+
+def make_text(path, words):
+    lines = year_lines(words.entries, words.seed, words.customers, "rising", 0)
+    path.write_text("".join(f"{line}\n" for line in csv_lines(lines)), encoding="ascii")
+
+
+def clear(*paths):
+    """Takes away books of earlier runs, with the files beside them."""
+    for path in paths:
+        for beside in path.parent.glob(f"{path.name}*"):
+            beside.unlink()
+
+
+def first_difference(one, other):
+    """The first table in which two books differ, None where there is none."""
+    with sqlite3.connect(one) as database:
+        database.execute("ATTACH ? AS other", (str(other),))
+        for table in TABLES:
+            for a, b in [("main", "other"), ("other", "main")]:
+                query = f"SELECT * FROM {a}.{table} EXCEPT SELECT * FROM {b}.{table} LIMIT 1"
+                if database.execute(query).fetchone():
+                    return table
+    return None
+
+
+def main():
+    words = argparse.ArgumentParser(description="Times the jobs of the program over a made year.")
+    words.add_argument("--entries", type=int, default=10_000, help="even")
+    words.add_argument("--customers", type=int, default=100_000)
+    words.add_argument("--seed", type=int, default=1)
+    words.add_argument("--program", default=PROGRAM, help="the program (that of crates/outagebook)")
+    words.add_argument("--folder", type=Path, default=BENCHES.parent / "bench-data", help="where books are made")
+    words = words.parse_args()
+    words.folder.mkdir(exist_ok=True)
+    text, book, plain = (words.folder / name for name in ["import.csv", "import.db", "import-plain.db"])
+    moves = words.folder / "import-moves.csv"
+    make_text(text, words)
+    clear(book, plain)
+    print("| Job | clock, s | processor, s | peak, MB | says |")
+    print("|---|---|---|---|---|")
+    first, days = FIRST_DATE.isoformat(), str(DAYS)
+    job = [words.program]
+    show("init", [*job, "init", "--book", book, "--first", first, "--days", days, "--zone", "UTC0"])
+    show("import", [*job, "import", "--book", book, text])
+    show("the same import again", [*job, "import", "--book", book, text])
+    show("table", [*job, "table", "--book", book])
+    show("export", [*job, "export", "--book", book, moves])
+    show("audit", [*job, "audit", "--book", book])
+    show("plain office, import", [sys.executable, BENCHES / "plain_office.py", text, "--book", plain])
+    table = first_difference(book, plain)
+    print(f"the books differ in table {table}" if table else "all rows of both books are equal")
+    return 1 if table else 0
+
+
+if __name__ == "__main__":
+    sys.exit(main())

@@ -1,0 +1,191 @@
+"""A plain office in Python and SQLite, to compare `outagebook import` with: it keeps the ten tables of docs/BOOK.md.
+
+    python3 benches/make_year.py 10000 1 --csv > bench-data/year.csv
+    python3 benches/plain_office.py bench-data/year.csv --book bench-data/plain.db
+
+It makes a new book and acts each row of a CSV of commands in one transaction, as a Python programmer would write it:
+what was said in dictionaries (state.py), the runs kept in step by windows (year.py), and of each command its row, what
+it changed, what it moved and the new amounts. Standard library alone. It prints what was imported and the seconds.
+"""
+
+import argparse
+import os
+import sqlite3
+import sys
+import time
+
+from make_year import DAYS, FIRST_DATE
+from model import kind_of
+from state import Period, State
+from year import Book
+
+TABLES = """
+CREATE TABLE meta (id INTEGER PRIMARY KEY CHECK (id = 1), version INTEGER NOT NULL, day0 TEXT NOT NULL,
+    days INTEGER NOT NULL, zone TEXT NOT NULL) STRICT;
+CREATE TABLE cause (code INTEGER PRIMARY KEY, name TEXT NOT NULL UNIQUE) STRICT;
+CREATE TABLE node (id INTEGER PRIMARY KEY, name TEXT NOT NULL UNIQUE, kind INTEGER NOT NULL,
+    feeder INTEGER NOT NULL) STRICT;
+CREATE TABLE device (id INTEGER PRIMARY KEY, name TEXT NOT NULL UNIQUE, a INTEGER NOT NULL REFERENCES node (id),
+    b INTEGER NOT NULL REFERENCES node (id), normal INTEGER NOT NULL CHECK (normal >= 0 AND normal <= 1)) STRICT;
+CREATE TABLE customer (id INTEGER PRIMARY KEY, section INTEGER NOT NULL REFERENCES node (id),
+    since INTEGER NOT NULL, until INTEGER) STRICT;
+CREATE TABLE entry (id INTEGER PRIMARY KEY, rev INTEGER NOT NULL, device INTEGER NOT NULL REFERENCES device (id),
+    pos INTEGER NOT NULL CHECK (pos >= 0 AND pos <= 1), second INTEGER NOT NULL,
+    cause INTEGER NOT NULL REFERENCES cause (code), crew TEXT NOT NULL,
+    kept INTEGER NOT NULL CHECK (kept >= 0 AND kept <= 1)) STRICT;
+CREATE TABLE mark (day INTEGER PRIMARY KEY, engineer TEXT NOT NULL) STRICT;
+CREATE TABLE cmd (id INTEGER PRIMARY KEY, ref TEXT NOT NULL UNIQUE, body TEXT NOT NULL) STRICT;
+CREATE TABLE moved (cmd INTEGER NOT NULL REFERENCES cmd (id), dim INTEGER NOT NULL, k INTEGER NOT NULL,
+    delta INTEGER NOT NULL CHECK (delta <> 0), PRIMARY KEY (cmd, dim, k)) STRICT;
+CREATE TABLE posting (dim INTEGER NOT NULL, k INTEGER NOT NULL, amount INTEGER NOT NULL CHECK (amount >= 0),
+    PRIMARY KEY (dim, k)) STRICT;
+"""
+
+
+class Amounts(dict):
+    """Amounts by key, with what those had that were set since somebody asked."""
+
+    def __init__(self):
+        super().__init__()
+        self.before = {}
+
+    def __setitem__(self, key, amount):
+        self.before.setdefault(key, self.get(key, 0))
+        super().__setitem__(key, amount)
+
+    def taken(self):
+        """The keys whose amounts differ from what they had, rising, with the difference and the amount."""
+        before, self.before = self.before, {}
+        return [(key, self[key] - before[key], self[key]) for key in sorted(before) if self[key] != before[key]]
+
+
+class Office(State):
+    """What was said, the runs and amounts that follow, and the tables."""
+
+    def __init__(self, path, period, journal, synchronous):
+        super().__init__(period)
+        self.count = 0
+        self.moved = 0
+        self.book = Book(period.bounds)
+        self.amounts = [Amounts(), Amounts(), Amounts()]
+        self.book.by_cause, self.book.by_feeder, self.book.by_day = self.amounts
+        self.database = sqlite3.connect(path, isolation_level=None)
+        self.run = self.database.execute
+        self.run(f"PRAGMA journal_mode = {journal}")
+        self.run(f"PRAGMA synchronous = {synchronous}")
+        self.run("PRAGMA foreign_keys = ON")
+        self.create()
+
+    def create(self):
+        period = self.period
+        days = len(period.bounds) - 1
+        self.run("BEGIN")
+        for statement in TABLES.split(";")[:-1]:
+            self.run(statement)
+        self.run("INSERT INTO meta VALUES (1, 1, ?, ?, ?)", (period.days[0].isoformat(), days, period.zone))
+        self.run("INSERT INTO cause VALUES (0, 'UNASSIGNED')")
+        self.run("INSERT INTO node VALUES (0, 'GRID', 0, 0)")
+        for dimension, keys in [(1, range(64)), (2, range(1, 256)), (3, range(days))]:
+            rows = ((dimension, key) for key in keys)
+            self.database.executemany("INSERT INTO posting VALUES (?, ?, 0)", rows)
+        self.run("COMMIT")
+
+    def known(self, ref):
+        """The number and the body of a reference's command, None where there is none."""
+        return self.run("SELECT id, body FROM cmd WHERE ref = ?", (ref,)).fetchone()
+
+    def accepted(self):
+        return self.count
+
+    def accept(self, ref, kind, values, body):
+        """The transaction of a command."""
+        self.say(kind, values)
+        self.book.act(kind, *body.split()[1:])
+        self.count += 1
+        self.run("BEGIN IMMEDIATE")
+        self.run("INSERT INTO cmd VALUES (?, ?, ?)", (self.count, ref, body))
+        getattr(self, f"write_{kind}")(*values)
+        for dimension, amounts in enumerate(self.amounts, 1):
+            taken = amounts.taken()
+            self.moved += len(taken)
+            moved = ((self.count, dimension, key, delta) for key, delta, _ in taken)
+            self.database.executemany("INSERT INTO moved VALUES (?, ?, ?, ?)", moved)
+            posted = ((amount, dimension, key) for key, _, amount in taken)
+            self.database.executemany("UPDATE posting SET amount = ? WHERE dim = ? AND k = ?", posted)
+        self.run("COMMIT")
+        return self.count
+
+    def write_cause(self, code, name):
+        self.run("INSERT INTO cause VALUES (?, ?)", (code, name))
+
+    def write_bus(self, name, feeder=None):
+        row = self.book.node_of[name], name, kind_of(name, feeder), feeder or 0
+        self.run("INSERT INTO node VALUES (?, ?, ?, ?)", row)
+
+    write_section = write_bus
+
+    def write_device(self, name, a, b, normal):
+        nodes = self.book.node_of
+        row = self.book.device_of[name], name, nodes[a], nodes[b], normal == "closed"
+        self.run("INSERT INTO device VALUES (?, ?, ?, ?, ?)", row)
+
+    def write_connect(self, number, section, since, until):
+        row = number, self.book.node_of[section], since, end_of(until)
+        self.run("INSERT INTO customer VALUES (?, ?, ?, ?)", row)
+
+    def write_revise(self, number, since, until):
+        self.run("UPDATE customer SET since = ?, until = ? WHERE id = ?", (since, end_of(until), number))
+
+    def write_switch(self, device, act, second, cause, crew):
+        row = len(self.entries), 1, self.book.device_of[device], act == "close", second, cause, crew, 1
+        self.run("INSERT INTO entry VALUES (?, ?, ?, ?, ?, ?, ?, ?)", row)
+
+    def write_correct(self, number, revision, act, second, cause, crew):
+        row = revision + 1, act == "close", second, cause, crew, number
+        self.run("UPDATE entry SET rev = ?, pos = ?, second = ?, cause = ?, crew = ? WHERE id = ?", row)
+
+    def write_withdraw(self, number, revision):
+        self.run("UPDATE entry SET rev = ?, kept = 0 WHERE id = ?", (revision + 1, number))
+
+    def write_mark(self, day, engineer):
+        self.run("INSERT INTO mark VALUES (?, ?)", (self.period.index_of(day), engineer))
+
+    def write_unmark(self, day, _engineer):
+        self.run("DELETE FROM mark WHERE day = ?", (self.period.index_of(day),))
+
+
+def end_of(until):
+    return None if until == "-" else until
+
+
+def main():
+    words = argparse.ArgumentParser(description="Imports CSV texts into a new book of SQLite and prints the seconds.")
+    words.add_argument("texts", nargs="+", help="the texts")
+    words.add_argument("--book", default=":memory:", help="the file of the new book (in memory)")
+    words.add_argument("--first", default=FIRST_DATE.isoformat(), help="the first day of the period")
+    words.add_argument("--days", type=int, default=DAYS, help="how many days it has")
+    words.add_argument("--zone", default="UTC0", help="the POSIX rule of the zone")
+    words.add_argument("--journal", choices=["wal", "delete"], default="wal")
+    words.add_argument("--synchronous", choices=["full", "normal", "off"], default="full")
+    words = words.parse_args()
+    if os.path.exists(words.book):
+        sys.exit(f"{words.book}: there is a book already")
+    office = Office(words.book, Period(words.first, words.days, words.zone), words.journal, words.synchronous)
+    status = 0
+    for path in words.texts:
+        with open(path, "rb") as text:
+            data = text.read()
+        clock, processor = time.perf_counter(), time.process_time()
+        added, again, refusal = office.import_text(data)
+        clock, processor = time.perf_counter() - clock, time.process_time() - processor
+        print(f"added {added} again {again} seconds {clock:.2f} processor {processor:.2f}")
+        if refusal:
+            print(refusal, file=sys.stderr)
+            status = 2
+    office.database.close()
+    print(f"W {sum(office.amounts[0].values())} moved {office.moved}")
+    return status
+
+
+if __name__ == "__main__":
+    sys.exit(main())

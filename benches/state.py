@@ -1,0 +1,224 @@
+"""What was said in accepted commands, and what a command is refused for: for the plain programs beside this one."""
+
+import os
+import time
+from bisect import bisect_right
+from datetime import date, timedelta
+
+from commands import Refusal, RowRefusal, body_text, read_row, rows_of
+
+DAY = 86_400
+MOST_NODES = 1_024
+MOST_DEVICES = 2_048
+MOST_CUSTOMERS = 100_000
+MOST_ENTRIES = 50_000
+MOST_COMMANDS = 1_000_000
+
+
+def offset_of(second):
+    """How far the clock of the zone is ahead of UTC."""
+    return time.localtime(second).tm_gmtoff
+
+
+def midnight_of(day):
+    """The second of a date's midnight: the earlier one of a fold; in a gap that of the offset before it."""
+    civil = (day - date(1970, 1, 1)).days * DAY
+    before, after = offset_of(civil - 2 * DAY), offset_of(civil + 2 * DAY)
+    seconds = [civil - offset for offset in {before, after} if offset_of(civil - offset) == offset]
+    return min(seconds, default=civil - before)
+
+
+class Period:
+    """Whole civil days of a zone, by the seconds at which they begin; the last bound is the end."""
+
+    def __init__(self, first, days, zone):
+        self.zone = zone
+        self.days = [date.fromisoformat(first) + timedelta(days=number) for number in range(days + 1)]
+        os.environ["TZ"] = zone
+        time.tzset()
+        self.bounds = [midnight_of(day) for day in self.days]
+        self.first, self.end = self.bounds[0], self.bounds[-1]
+        self.length = self.end - self.first
+
+    def holds(self, second):
+        return self.first <= second < self.end
+
+    def day_of(self, second):
+        return bisect_right(self.bounds, second) - 1
+
+    def index_of(self, text):
+        """The number of a date's day, None where it lies outside."""
+        texts = [day.isoformat() for day in self.days[:-1]]
+        return texts.index(text) if text in texts else None
+
+    def parts(self, since, until):
+        """The days that an interval touches, each with its number of seconds."""
+        while since < until:
+            day = self.day_of(since)
+            end = min(until, self.bounds[day + 1])
+            yield day, end - since
+            since = end
+
+
+class Device:
+    def __init__(self, name, ends, normal):
+        self.name = name
+        self.ends = ends
+        self.normal = normal
+
+
+class Entry:
+    """A line of the switching sheet. Its position is `open` or `closed`."""
+
+    def __init__(self, device):
+        self.device = device
+        self.revision = 1
+        self.is_kept = True
+
+    def say(self, act, second, cause, crew):
+        self.position = "closed" if act == "close" else "open"
+        self.second, self.cause, self.crew = second, cause, crew
+
+
+class State:
+    """What was said. Nodes are names; a node's feeder is None where it is no section.
+
+    Commands and their references are kept by those who derive from it.
+    """
+
+    def __init__(self, period):
+        self.period = period
+        self.causes = {0: "UNASSIGNED"}
+        self.feeders = {"GRID": None}
+        self.devices = {}
+        self.customers = {}  # number: [section, since, until or "-"]
+        self.entries = []
+        self.marks = {}  # day: engineer
+
+    def act(self, row):
+        """Takes the command of a row: its number, or None where it was accepted before. A refusal changes nothing."""
+        ref, kind, values = read_row(row)
+        body = body_text(kind, values)
+        known = self.known(ref)
+        if known:
+            number, known_body = known
+            refuse_if(body != known_body, 11, number)
+            return None
+        getattr(self, f"check_{kind}")(*values)
+        refuse_if(self.accepted() == MOST_COMMANDS, 12, MOST_COMMANDS)
+        return self.accept(ref, kind, values, body)
+
+    def say(self, kind, values):
+        """What an accepted command changes."""
+        getattr(self, f"say_{kind}")(*values)
+
+    def import_text(self, data):
+        """Acts the rows of a text up to the first refusal: how many were added, how many again, the refusal or None."""
+        added, again = 0, 0
+        try:
+            for number, row in rows_of(data):
+                try:
+                    if self.act(row) is None:
+                        again += 1
+                    else:
+                        added += 1
+                except Refusal as refusal:
+                    return added, again, RowRefusal(number, refusal)
+        except RowRefusal as refusal:
+            return added, again, refusal
+        return added, again, None
+
+    # What each kind is refused for, in the order in which it is looked for.
+
+    def check_cause(self, code, name):
+        refuse_if(code in self.causes or name in self.causes.values(), 3)
+
+    def check_bus(self, name, _feeder=None):
+        refuse_if(self.entries, 4)
+        refuse_if(name in self.feeders, 3)
+        refuse_if(len(self.feeders) == MOST_NODES, 12, MOST_NODES)
+
+    check_section = check_bus
+
+    def check_device(self, name, a, b, _normal):
+        refuse_if(self.entries, 4)
+        refuse_if(a not in self.feeders or b not in self.feeders, 2)
+        refuse_if(name in self.devices, 3)
+        refuse_if(len(self.devices) == MOST_DEVICES, 12, MOST_DEVICES)
+
+    def check_connect(self, number, section, since, until):
+        refuse_if(self.feeders.get(section) is None, 2)
+        refuse_if(number in self.customers, 3)
+        refuse_if(until != "-" and until <= since, 10)
+        refuse_if(len(self.customers) == MOST_CUSTOMERS, 12, MOST_CUSTOMERS)
+
+    def check_revise(self, number, since, until):
+        refuse_if(number not in self.customers, 9)
+        refuse_if(until != "-" and until <= since, 10)
+
+    def check_switch(self, device, _act, second, cause, _crew):
+        refuse_if(device not in self.devices, 2)
+        refuse_if(not self.period.holds(second), 5)
+        refuse_if(cause not in self.causes, 15)
+        refuse_if(len(self.entries) == MOST_ENTRIES, 12, MOST_ENTRIES)
+
+    def check_withdraw(self, number, revision):
+        refuse_if(number > len(self.entries), 6)
+        entry = self.entries[number - 1]
+        refuse_if(not entry.is_kept, 8)
+        refuse_if(revision != entry.revision, 7, entry.revision)
+
+    def check_correct(self, number, revision, _act, second, cause, _crew):
+        self.check_withdraw(number, revision)
+        refuse_if(not self.period.holds(second), 5)
+        refuse_if(cause not in self.causes, 15)
+
+    def check_mark(self, day, _engineer):
+        refuse_if(self.period.index_of(day) is None, 5)
+        refuse_if(self.period.index_of(day) in self.marks, 13)
+
+    def check_unmark(self, day, _engineer):
+        refuse_if(self.period.index_of(day) is None, 5)
+        refuse_if(self.period.index_of(day) not in self.marks, 14)
+
+    # What each kind does.
+
+    def say_cause(self, code, name):
+        self.causes[code] = name
+
+    def say_bus(self, name, feeder=None):
+        self.feeders[name] = feeder
+
+    say_section = say_bus
+
+    def say_device(self, name, a, b, normal):
+        self.devices[name] = Device(name, (a, b), normal)
+
+    def say_connect(self, number, section, since, until):
+        self.customers[number] = [section, since, until]
+
+    def say_revise(self, number, since, until):
+        self.customers[number][1:] = since, until
+
+    def say_switch(self, device, *said):
+        self.entries.append(Entry(device))
+        self.entries[-1].say(*said)
+
+    def say_correct(self, number, _revision, *said):
+        self.entries[number - 1].say(*said)
+        self.entries[number - 1].revision += 1
+
+    def say_withdraw(self, number, _revision):
+        self.entries[number - 1].is_kept = False
+        self.entries[number - 1].revision += 1
+
+    def say_mark(self, day, engineer):
+        self.marks[self.period.index_of(day)] = engineer
+
+    def say_unmark(self, day, _engineer):
+        del self.marks[self.period.index_of(day)]
+
+
+def refuse_if(condition, number, detail=None):
+    if condition:
+        raise Refusal(number, detail)
