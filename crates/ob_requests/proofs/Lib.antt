@@ -1,0 +1,3 @@
+pub mod HeadLemmas
+pub mod ListLemmas
+pub mod UnreadLemmas

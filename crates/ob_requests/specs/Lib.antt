@@ -1,0 +1,7 @@
+pub mod Continue
+pub mod Fields
+pub mod Framing
+pub mod Head
+pub mod Message
+pub mod Stream
+pub mod Unread
