@@ -9,7 +9,7 @@ use Rattle.httparse.specs.Spans.{RequestExceeds, IsRequestWithin, IsRequestOf}
 use Rattle.httparse.specs.declared.spans.HeaderSpan.{HeaderSpan}
 use Rattle.httparse.specs.declared.spans.RequestSpans.{RequestSpans}
 use Rattle.httparse.proofs.GrammarLemmas.{ReadsRequest-append}
-use Rattle.ob_requests.specs.Head.{IsUnfinished}
+use Rattle.ob_requests.specs.Head.{IsUnfinished, BeginsWithHead}
 
 print_end-length : (e : LineEnd) → 1 ≤ length (print_end e)
 print_end-length crlf = omega arith
@@ -65,12 +65,11 @@ too-long ahead rest long h =
 
 -- a whole head was read ahead
 pub whole-head : (ahead rest : List ℕ) (headers : List HeaderSpan) (spans : RequestSpans) → length ahead ≤ 16384 → IsRequestWithin ahead headers spans → IsRequestOf ahead headers spans
-    → (head : RequestHead) × (length (print_request head) ≤ 16384) × ReadsRequest (ahead ++ rest) head (drop spans.len (ahead ++ rest))
+    → (head : RequestHead) × BeginsWithHead (ahead ++ rest) head (drop spans.len (ahead ++ rest))
 whole-head ahead rest headers spans short within (head, found) =
     let fits = within.section.len_fits in
     let joined = ReadsRequest-append ahead head (drop spans.len ahead) rest found.reads in
     (
       head,
-      omega (arith, found.len),
-      subst (ReadsRequest (ahead ++ rest) head) (sym (drop-append-le spans.len ahead rest fits)) joined,
+      record { short = omega (arith, found.len); reads = subst (ReadsRequest (ahead ++ rest) head) (sym (drop-append-le spans.len ahead rest fits)) joined },
     )

@@ -1,3 +1,4 @@
 pub mod HeadLemmas
 pub mod ListLemmas
+pub mod StartLemmas
 pub mod UnreadLemmas

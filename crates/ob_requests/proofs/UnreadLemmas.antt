@@ -11,49 +11,12 @@ through-ahead before ahead None left P same h = tt
 through-ahead before ahead (Some xs) None P same h = absurd same
 through-ahead before ahead (Some xs) (Some ys) P same h = subst P same (h ys)
 
--- the bytes read ahead are all, where the reader is at its end
-pub through-end : (before ahead : List ℕ) (had left : Option (List ℕ)) (P : List ℕ → Type 0)
-    → Keeps (unread before had) (unread ahead left) → IsAtEnd left → P ahead → IfSome (unread before had) P
-through-end before ahead None left P same end h = tt
-through-end before ahead (Some xs) None P same end h = absurd same
-through-end before ahead (Some xs) (Some ys) P same end h = subst P (sym (ap (λ l. ahead ++ l) end ∙ append-nil ahead) ∙ same) h
-
-pub Consumes-then : (u v w : Option (List ℕ)) (a b : List ℕ) → Consumes u v a → Consumes v w b → Consumes u w (a ++ b)
-Consumes-then None v w a b x y = tt
-Consumes-then (Some xs) None w a b x y = absurd x
-Consumes-then (Some xs) (Some ys) None a b x y = absurd y
-Consumes-then (Some xs) (Some ys) (Some zs) a b x y = x ∙ ap (λ (t : List ℕ). a ++ t) y ∙ sym (append_assoc a b zs)
-
-pub Consumes-nothing : (u : Option (List ℕ)) → Consumes u u []
-Consumes-nothing None = tt
-Consumes-nothing (Some xs) = refl
-
--- two reads, one after the other
-pub ReadsMore-then : (u v w : Option (List ℕ)) (old mid new : List ℕ) → ReadsMore u v old mid → (b : List ℕ) → new ≡ mid ++ b → Consumes v w b → ReadsMore u w old new
-ReadsMore-then u v w old mid new (a, grown, first) b more second =
-    (a ++ b, more ∙ ap (λ t. t ++ b) grown ∙ append_assoc old a b, Consumes-then u v w a b first second)
-
 -- the first bytes of what was read ahead
 pub Consumes-front : (ahead rest : List ℕ) (left : Option (List ℕ)) (n : ℕ) → rest ≡ drop n ahead → Consumes (unread ahead left) (unread rest left) (take n ahead)
 Consumes-front ahead rest None n e = tt
 Consumes-front ahead rest (Some xs) n e =
     ap (λ t. t ++ xs) (sym (take-append-drop n ahead)) ∙ append_assoc (take n ahead) (drop n ahead) xs
     ∙ ap (λ t. take n ahead ++ (t ++ xs)) (sym e)
-
--- all that was read ahead, and then what a read gave
-pub Consumes-all : (ahead more : List ℕ) (had left : Option (List ℕ)) → Consumes had left more → Consumes (unread ahead had) (unread [] left) (ahead ++ more)
-Consumes-all ahead more None left h = tt
-Consumes-all ahead more (Some xs) None h = absurd h
-Consumes-all ahead more (Some xs) (Some ys) h = ap (λ t. ahead ++ t) h ∙ sym (append_assoc ahead more ys)
-
--- all that was read ahead and then what the reads gave, to the end
-pub short-at-end : (ahead more : List ℕ) (had left : Option (List ℕ)) (size : ℕ) → Consumes had left more → IsAtEnd left → length (ahead ++ more) < size
-    → IfSome (unread ahead had) (λ bytes. length bytes < size)
-short-at-end ahead more None left size h end short = tt
-short-at-end ahead more (Some xs) None size h end short = absurd h
-short-at-end ahead more (Some xs) (Some ys) size h end short =
-    let all : ahead ++ xs ≡ ahead ++ more = ap (λ t. ahead ++ t) (h ∙ ap (λ t. more ++ t) end ∙ append-nil more) in
-    subst (λ t. length t < size) (sym all) short
 
 -- a body: what was read ahead of it, up to its size, and then what reads gave
 pub whole-body : (ahead rest body more : List ℕ) (had left : Option (List ℕ)) (front size : ℕ) → front ≡ min (length ahead) size → rest ≡ drop front ahead

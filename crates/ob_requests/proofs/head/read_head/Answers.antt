@@ -2,7 +2,7 @@ use Rattle.std.proofs.Common.{arith, ◌≡◌, ℕ, ◌≤◌, length, vec_len,
 use Rattle.httparse.specs.Grammar.{NeverHasRequest}
 use Rattle.ob_requests.specs.Head.{IsUnfinished}
 use Rattle.ob_requests.proofs.HeadLemmas.{refused-front, too-long, whole-head}
-use Rattle.ob_requests.proofs.UnreadLemmas.{through-ahead, through-end}
+use Rattle.ob_requests.proofs.UnreadLemmas.{through-ahead}
 use Rattle.ob_requests.proofs.head.read_head.Goals as goal
 
 pub returns-in-Refused-clause-next : goal.returns-in-Refused-clause-next
