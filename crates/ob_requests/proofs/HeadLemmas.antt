@@ -29,7 +29,7 @@ fields-length (f ∷ fs) h =
     let joined = length-append (print_field f) (flat_map print_field fs) in
     omega arith
 
-print_request-length : (h : RequestHead) → All IsField h.fields → 3 * length h.fields + 1 ≤ length (print_request h)
+pub print_request-length : (h : RequestHead) → All IsField h.fields → 3 * length h.fields + 1 ≤ length (print_request h)
 unfolding print_request
 print_request-length h each =
     let lines = fields-length h.fields each in
