@@ -1,12 +1,10 @@
 -- Heads and what they ask, computed.
-use Rattle.std.proofs.Common.{◌≡◌, ℕ, true, false, List, [], ◌∷◌, ◌++◌, refl}
-use Rattle.std.specs.Prelude.{Result, Ok, Err, codes}
+use Rattle.std.proofs.Common.{◌≡◌, ℕ, true, false, List, [], ◌∷◌, refl}
+use Rattle.std.specs.Prelude.{Ok, Err, codes}
 use Rattle.httparse.specs.Grammar.{RequestHead, Field, crlf, trim_ows}
 use Rattle.ob_requests.specs.Fields.{elements}
 use Rattle.ob_requests.specs.Framing.{framing_of}
-use Rattle.ob_requests.specs.declared.framing.Framing.{Framing}
-use Rattle.ob_requests.specs.declared.framing.HeadRefusal.{HeadRefusal}
-use Rattle.ob_requests.specs.declared.framing.HeadRefusal.TheVariants.{BadRequest, NotImplemented, LengthRequired, PayloadTooLarge, FieldsTooLarge}
+use Rattle.ob_requests.specs.declared.framing.HeadRefusal.TheVariants.{BadRequest, NotImplemented, LengthRequired, PayloadTooLarge}
 use Rattle.ob_requests.specs.declared.framing.Method.TheVariants.{Get, Post}
 
 abbrev line : List ℕ → List ℕ → Field

@@ -1,10 +1,10 @@
 -- How long a head is at least.
-use Rattle.std.proofs.Common.{◌≡◌, ℕ, ◌+◌, ◌*◌, ◌<◌, ◌≤◌, List, [], ◌∷◌, ◌++◌, length, ◌-◌, take, drop, arith, ap, sym, ◌∙◌, length-append, append_assoc, subst}
+use Rattle.std.proofs.Common.{◌≡◌, ℕ, ◌+◌, ◌*◌, ◌≤◌, List, [], ◌∷◌, ◌++◌, length, ◌-◌, take, drop, arith, ap, sym, ◌∙◌, length-append, append_assoc, subst}
 use Rattle.std.proofs.Math.Seq.{take-append-add, take-append_seam, drop-append-le}
 use Rattle.std.specs.Prelude.{All}
 use Rattle.std.specs.List.{flat_map}
 use Rattle.std.proofs.lemmas.List.Elements.{All-head, All-tail}
-use Rattle.httparse.specs.Grammar.{LineEnd, crlf, lf, print_end, Field, IsField, print_field, print_section, print_blank, print_version, RequestHead, print_request, ReadsRequest, HasNoRequest, NeverHasRequest}
+use Rattle.httparse.specs.Grammar.{LineEnd, crlf, lf, print_end, Field, IsField, print_field, RequestHead, print_request, ReadsRequest, HasNoRequest, NeverHasRequest}
 use Rattle.httparse.specs.Spans.{RequestExceeds, IsRequestWithin, IsRequestOf}
 use Rattle.httparse.specs.declared.spans.HeaderSpan.{HeaderSpan}
 use Rattle.httparse.specs.declared.spans.RequestSpans.{RequestSpans}
@@ -68,8 +68,7 @@ pub whole-head : (ahead rest : List ℕ) (headers : List HeaderSpan) (spans : Re
     → (head : RequestHead) × BeginsWithHead (ahead ++ rest) head (drop spans.len (ahead ++ rest))
 whole-head ahead rest headers spans short within (head, found) =
     let fits = within.section.len_fits in
-    let joined = ReadsRequest-append ahead head (drop spans.len ahead) rest found.reads in
-    (
+    let joined = ReadsRequest-append ahead head (drop spans.len ahead) rest found.reads in (
       head,
       record { short = omega (arith, found.len); reads = subst (ReadsRequest (ahead ++ rest) head) (sym (drop-append-le spans.len ahead rest fits)) joined },
     )

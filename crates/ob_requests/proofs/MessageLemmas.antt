@@ -1,20 +1,20 @@
 -- Bytes begin with one head at most, and with one request.
-use Rattle.std.proofs.Common.{◌≡◌, ℕ, rules, ◌<◌, ◌≤◌, ◌+◌, ◌-◌, zero, suc, List, [], ◌∷◌, ◌++◌, length, take, drop, refl, sym, ap, ◌∙◌, subst, take_at, drop_at, append-nil, arith, length-append, inl, inr}
+use Rattle.std.proofs.Common.{◌≡◌, ℕ, ◌<◌, ◌+◌, ◌-◌, zero, suc, List, [], ◌∷◌, ◌++◌, length, take, drop, refl, sym, ap, ◌∙◌, subst, take_at, drop_at, append-nil, arith, length-append, inl, inr}
 use Rattle.std.proofs.Math.Seq.{take-append-add}
 use Rattle.std.proofs.lemmas.List.{take_all}
 use Rattle.std.proofs.lemmas.Str.{IsUtf8-from_ascii}
 use Rattle.std.specs.Prelude.{Result, Ok, Err, Option, None, Some, ◌⊎◌, All, IsTrue}
 use Rattle.std.specs.Str.{IsAscii}
-use Rattle.httparse.specs.Grammar.{LineEnd, lf, RequestHead, IsRequestHead, ReadsRequest, print_request, is_token_byte, is_uri_byte, HasNoRequest, NeverHasRequest, MayBecomeRequest, EndsInTarget}
+use Rattle.httparse.specs.Grammar.{lf, RequestHead, IsRequestHead, ReadsRequest, print_request, is_token_byte, is_uri_byte, HasNoRequest, NeverHasRequest, MayBecomeRequest, EndsInTarget}
 use Rattle.httparse.proofs.GrammarLemmas.{request_unique}
 use Rattle.ob_requests.specs.Framing.{framing_of}
 use Rattle.ob_requests.specs.Head.{BeginsWithHead, IsNoHead, IsLongHead, IsCutHead}
-use Rattle.ob_requests.specs.Message.{Message, ReadsMessage, StartsMessage, StartsRefused, IsRefused, IsCut, IsCutBody, asked}
+use Rattle.ob_requests.specs.Message.{Message, ReadsMessage, StartsMessage, IsRefused, IsCut, asked}
 use Rattle.ob_requests.specs.Stream.{EndsWith}
-use Rattle.ob_requests.specs.Laws.{IsEither, IsOfLines}
+use Rattle.ob_requests.specs.Laws.{IsEither}
 use Rattle.ob_requests.specs.declared.framing.Framing.{Framing}
 use Rattle.ob_requests.specs.declared.framing.HeadRefusal.{HeadRefusal}
-use Rattle.ob_requests.specs.declared.framing.HeadRefusal.TheVariants.{BadRequest, FieldsTooLarge}
+use Rattle.ob_requests.specs.declared.framing.HeadRefusal.TheVariants.{BadRequest}
 use Rattle.ob_requests.proofs.HeadLemmas.{print_request-length}
 
 same-ok : (f g : Framing) → (let r : Result Framing HeadRefusal = Ok f in r) ≡ Ok g → f ≡ g
@@ -111,8 +111,8 @@ start-or-refused bytes f t a s x refused = elim refused [
   | inl none ↦ head-or-none bytes x.head a x.begins none.1
   | inr (inl long) ↦ head-or-long bytes x.head a x.begins long.1
   | inr (inr y) ↦
-    let same = one-head bytes x.head y.head a y.after x.begins y.begins in
-    not-both f s (sym x.asks ∙ ap framing_of same.0 ∙ y.asks)
+      let same = one-head bytes x.head y.head a y.after x.begins y.begins in
+      not-both f s (sym x.asks ∙ ap framing_of same.0 ∙ y.asks)
 ]
 
 pub start-or-ending : (bytes : List ℕ) (f : Framing) (t a : List ℕ) → StartsMessage bytes f t a → (ending : Option HeadRefusal) → EndsWith bytes ending → ⊥
@@ -126,11 +126,11 @@ pub message-or-cut : (bytes : List ℕ) (m : Message) (rest : List ℕ) → Read
 message-or-cut bytes m rest x cut = elim cut [
   | inl head ↦ head-or-cut bytes x.starts.head x.after x.starts.begins head
   | inr (f, body) ↦
-    let (asks, target, same) = one-start bytes (asked m) f m.target body.target x.after body.after x.starts body.starts in
-    let size : length m.body ≡ f.length = ap (λ g. g.length) asks in
-    let long = ap length (sym same ∙ x.body) in
-    let short = body.short in
-    omega (arith, length-append m.body rest)
+      let (asks, target, same) = one-start bytes (asked m) f m.target body.target x.after body.after x.starts body.starts in
+      let size : length m.body ≡ f.length = ap (λ g. g.length) asks in
+      let long = ap length (sym same ∙ x.body) in
+      let short = body.short in
+      omega (arith, length-append m.body rest)
 ]
 
 -- ---- endings
@@ -158,8 +158,8 @@ one-refusal bytes s t x y = elim x [
     | inl none' ↦ absurd (head-or-none bytes head.head head.after head.begins none'.1)
     | inr (inl long') ↦ absurd (head-or-long bytes head.head head.after head.begins long'.1)
     | inr (inr head') ↦
-      let same = one-head bytes head.head head'.head head.after head'.after head.begins head'.begins in
-      inl (ap Some (same-err s t (sym head.asks ∙ ap framing_of same.0 ∙ head'.asks)))
+        let same = one-head bytes head.head head'.head head.after head'.after head.begins head'.begins in
+        inl (ap Some (same-err s t (sym head.asks ∙ ap framing_of same.0 ∙ head'.asks)))
   ]
 ]
 
@@ -172,8 +172,8 @@ one-ending bytes (Some s) (Some t) x y = one-refusal bytes s t x y
 refused-or-cut : (bytes : List ℕ) (s : HeadRefusal) → IsRefused bytes s → IsCutHead bytes → ((let r : Option HeadRefusal = Some s in r) ≡ Some BadRequest) × EndsInTarget bytes
 refused-or-cut bytes s x cut = elim x [
   | inl none ↦
-    let whole : take 16384 bytes ≡ bytes = take_all 16384 bytes (omega (arith, cut.1)) in
-    (ap Some none.0, unfinished-or-never bytes cut.2.1 (subst NeverHasRequest whole none.1))
+      let whole : take 16384 bytes ≡ bytes = take_all 16384 bytes (omega (arith, cut.1)) in
+      (ap Some none.0, unfinished-or-never bytes cut.2.1 (subst NeverHasRequest whole none.1))
   | inr (inl long) ↦ absurd (omega (arith, long.1.0, cut.1))
   | inr (inr head) ↦ absurd (head-or-cut bytes head.head head.after head.begins cut)
 ]

@@ -1,9 +1,8 @@
 -- From the bytes read ahead to the stream's.
-use Rattle.std.proofs.Common.{◌≡◌, ℕ, ◌≤◌, List, ◌++◌, length, drop, Option, None, Some, IfSome, sym, subst, ap, ◌∙◌, arith, inl, inr}
-use Rattle.std.proofs.Math.Seq.{drop-append-le}
-use Rattle.std.specs.Prelude.{Result, Ok, Err, IsUtf8}
+use Rattle.std.proofs.Common.{◌≡◌, ℕ, ◌≤◌, List, ◌++◌, length, drop, Option, None, Some, IfSome, sym, subst, ◌∙◌, arith, inr}
+use Rattle.std.specs.Prelude.{Ok, Err, IsUtf8}
 use Rattle.std.specs.Io.KnownBytes.{Keeps}
-use Rattle.httparse.specs.Grammar.{RequestHead, ReadsRequest, print_request}
+use Rattle.httparse.specs.Grammar.{RequestHead, ReadsRequest}
 use Rattle.httparse.specs.Spans.{IsRequestAt, IsRequestOf, IsRequestWithin, span_bytes}
 use Rattle.httparse.specs.declared.spans.HeaderSpan.{HeaderSpan}
 use Rattle.httparse.specs.declared.spans.RequestSpans.{RequestSpans}
@@ -12,7 +11,7 @@ use Rattle.ob_requests.specs.Unread.{unread}
 use Rattle.ob_requests.specs.Framing.{framing_of}
 use Rattle.ob_requests.specs.declared.framing.Framing.{Framing}
 use Rattle.ob_requests.specs.declared.framing.HeadRefusal.{HeadRefusal}
-use Rattle.ob_requests.specs.Message.{StartsKnown, StartsMessage, IsRefused}
+use Rattle.ob_requests.specs.Message.{StartsKnown, IsRefused}
 use Rattle.ob_requests.proofs.UnreadLemmas.{through-ahead}
 
 pub IfSome-map : (o : Option (List ℕ)) (P Q : List ℕ → Type 0) → ((bytes : List ℕ) → P bytes → Q bytes) → IfSome o P → IfSome o Q

@@ -1,5 +1,5 @@
 -- A stream has one list of requests.
-use Rattle.std.proofs.Common.{◌≡◌, ℕ, ◌-◌, Bool, true, false, List, [], ◌∷◌, Option, None, Some, MatchBool, refl, sym, ap, ◌∙◌, subst, inl, inr}
+use Rattle.std.proofs.Common.{◌≡◌, ℕ, ◌-◌, Bool, true, false, List, [], ◌∷◌, Option, None, MatchBool, refl, sym, ◌∙◌, subst, inl, inr}
 use Rattle.std.specs.Prelude.{◌⊎◌}
 use Rattle.ob_requests.specs.Message.{Message, ReadsMessage, asked}
 use Rattle.ob_requests.specs.Stream.{EndsWith, Requests, ends}
@@ -31,7 +31,7 @@ one-stream allowed bytes (m ∷ ms) [] one other (rest, reads, more) y = absurd 
 one-stream allowed bytes (m ∷ ms) (n ∷ ns) one other (rest, reads, more) (tail, reads', more') =
     let same = one-message bytes m n rest tail reads reads' in
     let second : MatchBool (ends allowed m) ((ns ≡ []) × (other ≡ None)) (Requests (allowed - 1) rest ns other) =
-        subst (λ k. MatchBool (ends allowed k) ((ns ≡ []) × (other ≡ None)) (Requests (allowed - 1) rest ns other)) (sym same.0)
-            (subst (λ t. MatchBool (ends allowed n) ((ns ≡ []) × (other ≡ None)) (Requests (allowed - 1) t ns other)) (sym same.1) more') in
+    subst (λ k. MatchBool (ends allowed k) ((ns ≡ []) × (other ≡ None)) (Requests (allowed - 1) rest ns other)) (sym same.0)
+    (subst (λ t. MatchBool (ends allowed n) ((ns ≡ []) × (other ≡ None)) (Requests (allowed - 1) t ns other)) (sym same.1) more') in
     with-front m n ms ns one other same.0
-        (same-rest (ends allowed m) _ _ ms ns one other more second (one-stream (allowed - 1) rest ms ns one other))
+    (same-rest (ends allowed m) _ _ ms ns one other more second (one-stream (allowed - 1) rest ms ns one other))

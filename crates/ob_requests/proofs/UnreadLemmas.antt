@@ -1,8 +1,8 @@
 -- What is known of a stream's bytes, from those read ahead.
-use Rattle.std.proofs.Common.{◌≡◌, ℕ, List, [], ◌++◌, Option, None, Some, IfSome, sym, subst, append-nil, ◌∙◌, ap, refl, append_assoc, take, drop, take-append-drop, length, ◌<◌, ◌≤◌, ◌+◌, ◌∷◌, min, arith, length-append, length-take-le}
+use Rattle.std.proofs.Common.{◌≡◌, ℕ, List, [], ◌++◌, Option, None, Some, IfSome, sym, subst, append-nil, ◌∙◌, ap, append_assoc, take, drop, take-append-drop, length, ◌≤◌, ◌+◌, ◌∷◌, min, arith, length-append, length-take-le}
 use Rattle.std.proofs.lemmas.List.{take_all, drop_all}
-use Rattle.std.specs.Io.KnownBytes.{Keeps, Consumes, IsAtEnd}
-use Rattle.ob_requests.specs.Unread.{unread, ReadsMore}
+use Rattle.std.specs.Io.KnownBytes.{Keeps, Consumes}
+use Rattle.ob_requests.specs.Unread.{unread}
 
 -- what holds of the bytes read ahead, whatever follows, holds of the stream's bytes
 pub through-ahead : (before ahead : List ℕ) (had left : Option (List ℕ)) (P : List ℕ → Type 0)

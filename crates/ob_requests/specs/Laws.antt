@@ -38,4 +38,3 @@ OneStream =
     (allowed : ℕ) (bytes : List ℕ) (ms ns : List Message) (one other : Option HeadRefusal)
     → Requests allowed bytes ms one → Requests allowed bytes ns other
     → (ms ≡ ns) × ((one ≡ other) ⊎ ((rest : List ℕ) × EndsWith rest one × EndsWith rest other × IsEither rest one other))
-

@@ -1,5 +1,5 @@
 -- A request: its head, as RFC 9112 writes it, and its body of known length.
-use Rattle.std.specs.Prelude.{◌≡◌, ℕ, ◌<◌, ◌⊎◌, Bool, List, ◌++◌, length, Option, None, Some, Result, Ok, Err}
+use Rattle.std.specs.Prelude.{◌≡◌, ℕ, ◌<◌, ◌⊎◌, Bool, List, ◌++◌, length, Option, None, Some, Ok, Err}
 use Rattle.httparse.specs.Grammar.{RequestHead}
 use Rattle.ob_requests.specs.Framing.{framing_of}
 use Rattle.ob_requests.specs.Head.{BeginsWithHead, IsCutHead, IsLongHead, IsNoHead}

@@ -1,5 +1,5 @@
 -- What a call read of a stream, by cases on its answer, from the bytes unread before it and after it.
-use Rattle.std.specs.Prelude.{◌≡◌, ◌<◌, ◌⊎◌, ℕ, List, [], length, Option, None, Some, Result, Ok, Err, IfSome, string_bytes, Vec}
+use Rattle.std.specs.Prelude.{◌≡◌, ◌<◌, ◌⊎◌, ℕ, List, [], length, Option, None, Some, IfSome, string_bytes, Vec}
 use Rattle.std.specs.declared.alloc.Global.{Global}
 use Rattle.std.specs.Io.KnownBytes.{Appends, Consumes, Keeps}
 use Rattle.ob_base.specs.declared.stop.Fault.{Fault}

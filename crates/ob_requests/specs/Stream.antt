@@ -1,5 +1,5 @@
 -- The requests of a whole stream.
-use Rattle.std.specs.Prelude.{◌≡◌, ℕ, ◌-◌, ◌==◌, ◌||◌, ◌⊎◌, Bool, false, MatchBool, List, [], ◌∷◌, take, Option, None, Some}
+use Rattle.std.specs.Prelude.{◌≡◌, ℕ, ◌-◌, ◌==◌, ◌||◌, Bool, false, MatchBool, List, [], ◌∷◌, take, Option, None, Some}
 use Rattle.httparse.specs.Grammar.{EndsInTarget}
 use Rattle.ob_requests.specs.Head.{head_bound}
 use Rattle.ob_requests.specs.Message.{Message, ReadsMessage, IsRefused}

@@ -92,10 +92,7 @@ fn find_length(bytes: &[u8], fields: &[HeaderSpan]) -> Result<Option<u64>, HeadR
     }
 }
 
-fn find_body(
-    method: Option<Method>,
-    length: Option<u64>,
-) -> Result<(Method, u64), HeadRefusal>
+fn find_body(method: Option<Method>, length: Option<u64>) -> Result<(Method, u64), HeadRefusal>
     ensures { result ≡ body_length method length }
 {
     let Some(method) = method else {

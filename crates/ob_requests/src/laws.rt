@@ -5,18 +5,15 @@ ghost use Rattle.ob_requests.specs.Laws.{OneRequest, RequestIsNoEnding, OneEndin
 pub fn one_request()
     ensures request { OneRequest }
     ensures no_ending { RequestIsNoEnding }
-{
-}
+{}
 
 /// Bytes have one ending at most, and are then not cut. 400 and 431 may both answer bytes that end inside a target.
 pub fn one_ending()
     ensures ending { OneEnding }
     ensures no_cut { EndingIsNoCut }
-{
-}
+{}
 
 /// A stream has one list of requests, and then one ending.
 pub fn one_stream()
     ensures { OneStream }
-{
-}
+{}

@@ -1,7 +1,7 @@
-use Rattle.std.proofs.Common.{arith, ◌≡◌, ℕ, ◌≤◌, length, vec_len, refl, subst}
+use Rattle.std.proofs.Common.{arith, ◌≡◌, ◌≤◌, length, refl, subst}
 use Rattle.httparse.specs.Grammar.{NeverHasRequest}
 use Rattle.ob_requests.specs.Head.{IsUnfinished}
-use Rattle.ob_requests.proofs.HeadLemmas.{refused-front, too-long, whole-head}
+use Rattle.ob_requests.proofs.HeadLemmas.{refused-front, too-long}
 use Rattle.ob_requests.proofs.UnreadLemmas.{through-ahead}
 use Rattle.ob_requests.proofs.head.read_head.Goals as goal
 

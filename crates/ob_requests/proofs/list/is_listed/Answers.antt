@@ -1,4 +1,4 @@
-use Rattle.std.proofs.Common.{◌≡◌, ◌≢◌, ℕ, ◌+◌, ◌-◌, ◌<◌, suc, length, get_or, take, drop, rules, arith, sym, ◌∙◌, add-one}
+use Rattle.std.proofs.Common.{rules, sym, ◌∙◌, add-one}
 use Rattle.std.proofs.lemmas.List.{take_rest}
 use Rattle.ob_requests.proofs.ListLemmas.{says_first, says_later, says_last}
 use Rattle.ob_requests.proofs.list.is_listed.Goals as goal
