@@ -15,14 +15,14 @@ OneRequest = (bytes : List ℕ) (m n : Message) (rest tail : List ℕ) → Reads
 abbrev pub RequestIsNoEnding : Type 0
 RequestIsNoEnding = (bytes : List ℕ) (m : Message) (rest : List ℕ) → ReadsMessage bytes m rest → ((ending : Option HeadRefusal) → ¬ (EndsWith bytes ending)) × ¬ (IsCut bytes)
 
--- 400 or 431
-abbrev pub IsOfLines : Option HeadRefusal → Type 0
-IsOfLines ending = (ending ≡ Some BadRequest) ⊎ (ending ≡ Some FieldsTooLarge)
+-- it is answered by 400 or by 431
+abbrev pub IsBadOrTooLarge : Option HeadRefusal → Type 0
+IsBadOrTooLarge ending = (ending ≡ Some BadRequest) ⊎ (ending ≡ Some FieldsTooLarge)
 
 -- Bytes that end inside a target, at the bound of a head, may be answered by either: the grammar says that they are
 -- unfinished, also where no text can complete the target.
 abbrev pub IsEither : List ℕ → Option HeadRefusal → Option HeadRefusal → Type 0
-IsEither bytes one other = EndsInTarget (take head_bound bytes) × IsOfLines one × IsOfLines other
+IsEither bytes one other = EndsInTarget (take head_bound bytes) × IsBadOrTooLarge one × IsBadOrTooLarge other
 
 -- bytes have one ending
 abbrev pub OneEnding : Type 0

@@ -1,7 +1,5 @@
 -- The requests of a whole stream.
-use Rattle.std.specs.Prelude.{◌≡◌, ℕ, ◌-◌, ◌==◌, ◌||◌, Bool, false, MatchBool, List, [], ◌∷◌, take, Option, None, Some}
-use Rattle.httparse.specs.Grammar.{EndsInTarget}
-use Rattle.ob_requests.specs.Head.{head_bound}
+use Rattle.std.specs.Prelude.{◌≡◌, ℕ, ◌-◌, ◌==◌, ◌||◌, Bool, false, MatchBool, List, [], ◌∷◌, Option, None, Some}
 use Rattle.ob_requests.specs.Message.{Message, ReadsMessage, IsRefused}
 use Rattle.ob_requests.specs.declared.framing.HeadRefusal.{HeadRefusal}
 
@@ -33,7 +31,3 @@ abbrev pub AfterKnown : ℕ → Option (List ℕ) → List Message → Option (L
 AfterKnown allowed None ms rest = Unit {0}
 AfterKnown allowed (Some bytes) ms None = ⊥
 AfterKnown allowed (Some bytes) ms (Some rest) = After allowed bytes ms rest
-
--- the first bytes end inside a request's target, where the grammar leaves open whether they are refused or unfinished
-abbrev pub EndsInTargetAtBound : List ℕ → Type 0
-EndsInTargetAtBound bytes = EndsInTarget (take head_bound bytes)

@@ -20,7 +20,8 @@ fn fill_body<R: Read>(
 ) -> Result<bool, Fault>
     requires { vec_len body.old ≤ size }
     ensures whole { result ≡ Ok true → vec_len body.new ≡ size }
-    ensures more { OnOk result (ReadsMore (watched_bytes R.remaining reader.old) (watched_bytes R.remaining reader.new) body.old.items body.new.items) }
+    ensures more { OnOk result (ReadsMore (watched_bytes R.remaining reader.old) (watched_bytes R.remaining reader.new)
+        body.old.items body.new.items) }
     ensures cut { result ≡ Ok false → (vec_len body.new < size) × IsAtEnd (watched_bytes R.remaining reader.new) }
     ensures fault { IfErr result (IsReadFault reader.new) }
 {

@@ -3,7 +3,7 @@ ghost use Rattle.std.specs.Prelude.{◌≡◌, OnOk, IfOk, IfErr};
 ghost use Rattle.std.specs.Io.KnownBytes.{Appends};
 ghost use Rattle.ob_stream.specs.Streams.{AppendsFront};
 ghost use Rattle.ob_stream.specs.Watching.{HasJustFailed, watched_bytes};
-ghost use Rattle.ob_requests.specs.Continue.{continue_text, interim_text};
+ghost use Rattle.ob_requests.specs.Continue.{interim_text};
 ghost use Rattle.ob_requests.specs.Unread.{unread};
 ghost use Rattle.ob_requests.specs.Reading.{Reads, Stops};
 
@@ -48,8 +48,10 @@ fn write_interim<W: Write>(
     retries: &mut Retries,
     waits: bool,
 ) -> Result<(), Fault>
-    ensures whole { OnOk result (Appends (watched_bytes W.contents writer.old) (watched_bytes W.contents writer.new) (interim_text waits)) }
-    ensures front { IfErr result (λ _. AppendsFront (watched_bytes W.contents writer.old) (watched_bytes W.contents writer.new) (interim_text waits)) }
+    ensures whole { OnOk result (Appends (watched_bytes W.contents writer.old) (watched_bytes W.contents writer.new)
+        (interim_text waits)) }
+    ensures front { IfErr result (λ _. AppendsFront (watched_bytes W.contents writer.old)
+        (watched_bytes W.contents writer.new) (interim_text waits)) }
     ensures fault { IfErr result (λ f. (f ≡ Fault.Output) × HasJustFailed writer.new) }
 {
     if waits {

@@ -1,9 +1,5 @@
 //! The head of a request, with what it asks.
-ghost use Rattle.std.specs.Prelude.{◌≡◌, ◌≤◌, [], length, drop, take, OnOk, IfOk, IfErr, IfSome, vec_len, string_bytes};
-ghost use Rattle.std.specs.Prelude.{IsUtf8};
-ghost use Rattle.std.specs.Io.KnownBytes.{Keeps};
-ghost use Rattle.httparse.specs.Grammar.{RequestHead};
-ghost use Rattle.httparse.specs.Spans.{IsRequestWithin, IsRequestOf, IsRequestAt};
+ghost use Rattle.std.specs.Prelude.{◌≡◌, ◌≤◌, length, IfOk, IfErr, IsUtf8, vec_len, string_bytes};
 ghost use Rattle.ob_stream.specs.Watching.{watched_bytes};
 ghost use Rattle.ob_requests.specs.Unread.{unread, IsReadFault};
 ghost use Rattle.ob_requests.specs.Reading.{Starts};
