@@ -1,5 +1,6 @@
 -- A request: its head, as RFC 9112 writes it, and its body of known length.
-use Rattle.std.specs.Prelude.{◌≡◌, ℕ, ◌<◌, ◌⊎◌, Bool, List, ◌++◌, length, Option, None, Some, Ok, Err}
+use Rattle.std.specs.Prelude.{◌≡◌, ℕ, ◌<◌, ◌==◌, ◌⊎◌, Bool, List, ◌++◌, length, Option, None, Some, Ok, Err}
+use Rattle.std.specs.List.{before_first}
 use Rattle.httparse.specs.Grammar.{RequestHead}
 use Rattle.ob_requests.specs.Framing.{framing_of}
 use Rattle.ob_requests.specs.Head.{BeginsWithHead, IsCutHead, IsLongHead, IsNoHead}
@@ -35,6 +36,10 @@ pub record Message : Type 0 where
   pub body : List ℕ
   pub waits : Bool
   pub closes : Bool
+
+-- the path of a target: what stands before its query (RFC 3986, section 3.4)
+abbrev pub path_of : List ℕ → List ℕ
+path_of target = before_first (λ b. b == 63) target
 
 -- what the head of the request asks
 abbrev pub asked : Message → Framing

@@ -1,5 +1,5 @@
 //! Whole requests.
-ghost use Rattle.std.specs.Prelude.{◌≡◌, OnOk, IfOk, IfErr};
+ghost use Rattle.std.specs.Prelude.{◌≡◌, OnOk, IfOk, IfErr, string_bytes};
 ghost use Rattle.std.specs.Io.KnownBytes.{Appends};
 ghost use Rattle.ob_stream.specs.Streams.{AppendsFront};
 ghost use Rattle.ob_stream.specs.Watching.{HasJustFailed, watched_bytes};
@@ -27,6 +27,20 @@ pub struct Request {
     pub waits: bool,
     /// The connection ends after the reply.
     pub closes: bool,
+}
+
+impl Request {
+    ghost use Rattle.ob_requests.specs.Message.{path_of};
+
+    /// The target up to its query (RFC 3986, section 3.4), as it stands: nothing is decoded.
+    pub fn path(&self) -> &str
+        ensures { result.now ≡ path_of (string_bytes self.now.target) }
+    {
+        match self.target.split_once('?') {
+            Some((path, _)) => path,
+            None => &self.target,
+        }
+    }
 }
 
 /// How a stream goes on.
