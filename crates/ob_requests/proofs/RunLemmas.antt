@@ -72,3 +72,8 @@ ends-test most ms m answered few long =
   where
     last : (most n : ℕ) → n < most → (most - n == 1) ≡ (n + 1 == most)
     last most n few = grind (arith, nat_tests)
+
+-- where the connection goes on, one request more is allowed
+pub goes-on : (most answered : ℕ) (closes : Bool) → answered < most → (closes || (answered + 1 == most)) ≡ false → answered + 1 < most
+goes-on most answered true few e = cc
+goes-on most answered false few e = grind (arith, nat_tests)
