@@ -1,0 +1,8 @@
+pub mod Examples
+pub mod HeadLemmas
+pub mod ListLemmas
+pub mod MessageLemmas
+pub mod RunLemmas
+pub mod StartLemmas
+pub mod StreamLemmas
+pub mod UnreadLemmas

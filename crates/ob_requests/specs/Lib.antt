@@ -1,0 +1,9 @@
+pub mod Continue
+pub mod Fields
+pub mod Framing
+pub mod Head
+pub mod Laws
+pub mod Message
+pub mod Reading
+pub mod Stream
+pub mod Unread

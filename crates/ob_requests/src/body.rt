@@ -1,0 +1,77 @@
+//! Reading a body whose length is known.
+ghost use Rattle.std.specs.Prelude.{◌≡◌, ◌<◌, ◌≤◌, length, true, false, Ok, OnOk, IfOk, IfErr, vec_len};
+ghost use Rattle.std.specs.Io.KnownBytes.{IsAtEnd};
+ghost use Rattle.ob_stream.specs.Watching.{watched_bytes};
+ghost use Rattle.ob_requests.specs.Unread.{unread, ReadsMore, IsReadFault};
+ghost use Rattle.ob_requests.specs.Reading.{TakesBody};
+
+use crate::ahead::{Ahead, PIECE, take_front};
+use ob_base::Fault;
+use ob_stream::{Retries, Watched, read_some};
+use std::alloc::Global;
+use std::io::Read;
+
+/// Reads on until the body has its length. False says that the stream ended before.
+fn fill_body<R: Read>(
+    reader: &mut Watched<R>,
+    retries: &mut Retries,
+    body: &mut Vec<u8>,
+    size: usize,
+) -> Result<bool, Fault>
+    requires { vec_len body.old ≤ size }
+    ensures whole { result ≡ Ok true → vec_len body.new ≡ size }
+    ensures more { OnOk result (ReadsMore (watched_bytes R.remaining reader.old) (watched_bytes R.remaining reader.new)
+        body.old.items body.new.items) }
+    ensures cut { result ≡ Ok false → (vec_len body.new < size) × IsAtEnd (watched_bytes R.remaining reader.new) }
+    ensures fault { IfErr result (IsReadFault reader.new) }
+{
+    let mut piece = [0u8; PIECE];
+    'pieces: while body.len() < size {
+        let room = (size - body.len()).min(PIECE);
+        let count = read_some(reader, retries, &mut piece[..room])?;
+        if count == 0 {
+            return Ok(false);
+        }
+        if body.extend_from_slice(&piece[..count]).is_err() {
+            return Err(Fault::OutOfMemory);
+        }
+    }
+    Ok(true)
+}
+
+/// Reads a body after what was read ahead.
+fn body_over<R: Read>(
+    alloc: Global,
+    reader: &mut Watched<R>,
+    retries: &mut Retries,
+    ahead: &mut Vec<u8>,
+    size: usize,
+) -> Result<Option<Vec<u8>>, Fault>
+    ensures body { IfOk result (TakesBody (unread ahead.old.items (watched_bytes R.remaining reader.old))
+        (unread ahead.new.items (watched_bytes R.remaining reader.new)) size) }
+    ensures bound { vec_len ahead.new ≤ vec_len ahead.old }
+    ensures fault { IfErr result (IsReadFault reader.new) }
+{
+    let front = ahead.len().min(size);
+    let mut body = take_front(alloc, ahead, front)?;
+    if fill_body(reader, retries, &mut body, size)? {
+        Ok(Some(body))
+    } else {
+        Ok(None)
+    }
+}
+
+/// Reads a body of `size` bytes and no byte past it (RFC 9112, section 6.3). `None` says that the stream has fewer.
+pub fn read_body<R: Read>(
+    alloc: Global,
+    reader: &mut Watched<R>,
+    retries: &mut Retries,
+    ahead: &mut Ahead,
+    size: usize,
+) -> Result<Option<Vec<u8>>, Fault>
+    ensures body { IfOk result (TakesBody (unread ahead.old (watched_bytes R.remaining reader.old))
+        (unread ahead.new (watched_bytes R.remaining reader.new)) size) }
+    ensures fault { IfErr result (IsReadFault reader.new) }
+{
+    body_over(alloc, reader, retries, &mut ahead.bytes, size)
+}

@@ -1,0 +1,88 @@
+//! The head of a request, with what it asks.
+ghost use Rattle.std.specs.Prelude.{◌≡◌, ◌≤◌, length, IfOk, IfErr, IsUtf8, vec_len, string_bytes};
+ghost use Rattle.ob_stream.specs.Watching.{watched_bytes};
+ghost use Rattle.ob_requests.specs.Unread.{unread, IsReadFault};
+ghost use Rattle.ob_requests.specs.Reading.{Starts};
+
+use crate::ahead::{Ahead, FIELD_ROOM, HEAD_BOUND, drop_front};
+use crate::framing::{Framing, HeadRefusal, find_framing};
+use crate::head::{NextHead, read_head};
+use httparse::spans::HeaderSpan;
+use ob_base::Fault;
+use ob_stream::{Retries, Watched};
+use std::alloc::Global;
+use std::io::Read;
+
+/// How a stream goes on, up to a head.
+#[derive(Debug, Drop)]
+pub enum Start {
+    /// A head: what it asks, and its target.
+    Head(Framing, String),
+    /// Bytes that a status answers, after which nothing more is read.
+    Refused(HeadRefusal),
+    /// No byte more.
+    End,
+    /// The stream ends inside a head.
+    Cut,
+}
+
+/// The text of bytes that are one.
+fn text_of(alloc: Global, bytes: &[u8]) -> Result<String, Fault>
+    requires { IsUtf8 bytes.now }
+    ensures text { IfOk result (λ text. string_bytes text ≡ bytes.now) }
+    ensures fault { IfErr result (λ f. f ≡ Fault.OutOfMemory) }
+{
+    let Ok(text) = std::str::from_utf8(bytes) else {
+        unreachable!()
+    };
+    match String::from_str(alloc, text) {
+        Ok(text) => Ok(text),
+        Err(_) => Err(Fault::OutOfMemory),
+    }
+}
+
+/// Reads the next head, over room for its fields.
+fn start_over<R: Read>(
+    alloc: Global,
+    reader: &mut Watched<R>,
+    retries: &mut Retries,
+    ahead: &mut Vec<u8>,
+    fields: &mut [HeaderSpan],
+) -> Result<Start, Fault>
+    requires bound { vec_len ahead.old ≤ HEAD_BOUND }
+    requires room { FIELD_ROOM ≤ length fields.old }
+    ensures bound { vec_len ahead.new ≤ HEAD_BOUND }
+    ensures start { IfOk result (Starts (unread ahead.old.items (watched_bytes R.remaining reader.old))
+        (unread ahead.new.items (watched_bytes R.remaining reader.new))) }
+    ensures fault { IfErr result (IsReadFault reader.new) }
+{
+    let spans = match read_head(reader, retries, ahead, fields)? {
+        NextHead::Head(spans) => spans,
+        NextHead::End => return Ok(Start::End),
+        NextHead::Cut => return Ok(Start::Cut),
+        NextHead::NoHead => return Ok(Start::Refused(HeadRefusal::BadRequest)),
+        NextHead::TooLong => return Ok(Start::Refused(HeadRefusal::FieldsTooLarge)),
+    };
+    let framing = match find_framing(ahead, &spans, fields) {
+        Ok(framing) => framing,
+        Err(status) => return Ok(Start::Refused(status)),
+    };
+    let target = text_of(alloc, spans.path.of(ahead))?;
+    drop_front(ahead, spans.len);
+    Ok(Start::Head(framing, target))
+}
+
+/// Reads the next head of a stream, and checks it in the order of RFC 9112: its lines, its target, Host, the framing
+/// of its body, its method. What is refused ends the stream.
+pub fn read_start<R: Read>(
+    alloc: Global,
+    reader: &mut Watched<R>,
+    retries: &mut Retries,
+    ahead: &mut Ahead,
+) -> Result<Start, Fault>
+    ensures start { IfOk result (Starts (unread ahead.old (watched_bytes R.remaining reader.old))
+        (unread ahead.new (watched_bytes R.remaining reader.new))) }
+    ensures fault { IfErr result (IsReadFault reader.new) }
+{
+    start_over(alloc, reader, retries, &mut ahead.bytes, &mut ahead.fields)
+}
