@@ -1,0 +1,4 @@
+//! An import of commands from CSV rows.
+#![tactic(auto)]
+
+mod gather;
