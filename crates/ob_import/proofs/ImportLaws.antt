@@ -204,7 +204,7 @@ kept_on b c a h = elim (place_in b.accepted a.reference) as (λ o. place_in b.ac
   | Some k ↦ λ e.
       let was : is_repeat b (k + 1) a.command ≡ true = sym (ap (λ o. option_map_or (λ n. is_repeat b n a.command) o false) (number_is b a.reference ∙ ap (option_map (λ place. place + 1)) e)) ∙ h in
       let number : number_of (take_on b c) a.reference ≡ Some (k + 1) = number_is (take_on b c) a.reference
-          ∙ ap (option_map (λ place. place + 1)) (from_append (λ (x : Referenced). bytes_eq x.reference a.reference) b.accepted (c ∷ []) 0 k e) in
+      ∙ ap (option_map (λ place. place + 1)) (from_append (λ (x : Referenced). bytes_eq x.reference a.reference) b.accepted (c ∷ []) 0 k e) in
       rw number (elim (slice_get b.accepted (k + 1 - 1)) as (λ o. slice_get b.accepted (k + 1 - 1) ≡ o → option_map_or (λ (x : Referenced). is_same x.command a.command) o false ≡ true → is_repeat (take_on b c) (k + 1) a.command ≡ true) [
         | None ↦ λ f g. absurd (true≢false (sym g))
         | Some x ↦ λ f g. rw (get_append b.accepted (c ∷ []) (k + 1 - 1) x f) g
@@ -222,17 +222,17 @@ acts_keep b (c ∷ list) a h = acts_keep (act b c) list a (act_keeps b c a h)
 answered_kept : (b : ActState) (a : Referenced) → is_ok (answer b a) ≡ true → (is_kept (act b a) a ≡ true) × ((is_accepted b a || is_known b a) ≡ true)
 answered_kept b a ok = elim (number_of b a.reference) as (λ o. number_of b a.reference ≡ o → is_ok (answer_under b a o) ≡ true
     → (is_kept (act b a) a ≡ true) × ((is_accepted b a || is_known b a) ≡ true)) [
-  | None ↦ λ e. elim (refusal b.book a.command) as (λ r. refusal b.book a.command ≡ r → is_ok (answer_new b a.command r) ≡ true → (is_kept (act b a) a ≡ true) × ((is_accepted b a || is_known b a) ≡ true)) [
-    | None ↦ λ f _. let yes_new : is_accepted b a ≡ true = rw (e, f) refl in
-        (rw yes_new (new_kept b a e), rw yes_new refl)
-    | Some r ↦ λ f h. absurd (true≢false (sym h))
-  ] refl
-  | Some n ↦ λ e. elim (is_repeat b n a.command) as (λ t. is_repeat b n a.command ≡ t → is_ok (if t then Ok (reply_of b n) else Err (RefConflict n)) ≡ true → (is_kept (act b a) a ≡ true) × ((is_accepted b a || is_known b a) ≡ true)) [
-    | true ↦ λ f _. let old : is_accepted b a ≡ false = rw e refl in
-        (rw old (rw (e, f) refl), rw (old, e) refl)
-    | false ↦ λ f h. absurd (true≢false (sym h))
-  ] refl
-] refl ok
+      | None ↦ λ e. elim (refusal b.book a.command) as (λ r. refusal b.book a.command ≡ r → is_ok (answer_new b a.command r) ≡ true → (is_kept (act b a) a ≡ true) × ((is_accepted b a || is_known b a) ≡ true)) [
+        | None ↦ λ f _. let yes_new : is_accepted b a ≡ true = rw (e, f) refl in
+            (rw yes_new (new_kept b a e), rw yes_new refl)
+        | Some r ↦ λ f h. absurd (true≢false (sym h))
+      ] refl
+      | Some n ↦ λ e. elim (is_repeat b n a.command) as (λ t. is_repeat b n a.command ≡ t → is_ok (if t then Ok (reply_of b n) else Err (RefConflict n)) ≡ true → (is_kept (act b a) a ≡ true) × ((is_accepted b a || is_known b a) ≡ true)) [
+        | true ↦ λ f _. let old : is_accepted b a ≡ false = rw e refl in
+            (rw old (rw (e, f) refl), rw (old, e) refl)
+        | false ↦ λ f h. absurd (true≢false (sym h))
+      ] refl
+    ] refl ok
 
 -- a kept command is answered again, and changes nothing
 kept_answered : (b : ActState) (a : Referenced) → is_kept b a ≡ true → (is_ok (answer b a) ≡ true) × (act b a ≡ b)

@@ -18,9 +18,11 @@ use Rattle.ob_rows.specs.Header.{is_header}
 use Rattle.std.specs.Io.KnownBytes.{Consumes, prepend_known}
 use Rattle.ob_rows.specs.Rows.{Fields, TakesRow, rows_of}
 use Rattle.ob_command.specs.Fields.{IsRow}
-use Rattle.ob_book.specs.Acts.{ActState, Referenced, act, acts, answer, is_accepted, take_on}
+use Rattle.ob_book.specs.Acts.{ActState, Referenced, Reply, act, acts, answer, is_accepted, take_on}
 use Rattle.ob_store.specs.Keeping.{KeeperValue, KeepsEitherBook, Ties}
-use Rattle.ob_store.specs.Acting.{IsActStop}
+use Rattle.ob_store.specs.Acting.{Acted, IsActStop}
+use Rattle.ob_state.specs.State.{BookState}
+use Rattle.ob_record.specs.Reached.{ReachedCounts}
 use Rattle.ob_import.specs.Acting.{Adds, AddsRow, Holds}
 use Rattle.ob_import.specs.Imports.{AreAnswered, Begins, EndsAt, Import, ImportsRows, IsRefused, Say, Says, Stops, Taken, after_header, headless}
 use Rattle.ob_import.specs.Gathering.{IsWithin, is_over}
@@ -183,9 +185,13 @@ module _ {S : Type 0} (g : Ghosts S) where
             begun = λ cl b ties.
                 let was = it.begun (clean cl) b ties in
                 let few : added + again < 1_000_000 = omega (arith, it.next, within) in
-                let one = taken_row new was.0 row is_new (acted cl was.0 was.4.0) in
-                (act was.0 one.0, was.1 ++ row ∷ [], split_more known left after was.1 row was.2 takes,
-                taken_more b was.0 was.1 added again added2 again2 row one.0 was.3 one.1 one.2 few (more ∙ ap (λ t. added + cond t 1 0) one.3) both, one.4);
+                let one = taken_row new was.0 row is_new (acted cl was.0 was.4.0) in (
+                  act was.0 one.0,
+                  was.1 ++ row ∷ [],
+                  split_more known left after was.1 row was.2 takes,
+                  taken_more b was.0 was.1 added again added2 again2 row one.0 was.3 one.1 one.2 few (more ∙ ap (λ t. added + cond t 1 0) one.3) both,
+                  one.4,
+                );
           }
 
       -- the row stops the import
@@ -193,12 +199,19 @@ module _ {S : Type 0} (g : Ghosts S) where
           → rep.added ≡ added → rep.again ≡ again → rep.stopped ≡ Some (number, refusal) → LeavesOf g (λ rows. Some rows) new b known (Ok rep)
       stops_left b c done refusal rep split taken why holds is_added is_again is_stopped =
           let later : List Fields = row ∷ unwrap_or after [] in
-          let at : rep.added + rep.again + 1 ≡ number = omega (arith, it.next, is_added, is_again) in
-          (done ++ later, are_rows known left done later split (left_row left after row takes),
-          (c,
-          (later, (done, refl, subst (λ n. Taken b c done n rep.again) (sym is_added) (subst (λ n. Taken b c done added n) (sym is_again) taken)),
-          subst (λ n. EndsAt c n later rep.stopped) (sym at) (refusal, is_stopped, why)),
-          holds))
+          let at : rep.added + rep.again + 1 ≡ number = omega (arith, it.next, is_added, is_again) in (
+            done ++ later,
+            are_rows known left done later split (left_row left after row takes),
+            (
+              c,
+              (
+                later,
+                (done, refl, subst (λ n. Taken b c done n rep.again) (sym is_added) (subst (λ n. Taken b c done added n) (sym is_again) taken)),
+                subst (λ n. EndsAt c n later rep.stopped) (sym at) (refusal, is_stopped, why),
+              ),
+              holds,
+            ),
+          )
 
       pub runs_refused : (refusal : Refusal) (whole : Bool) (rep : ImportReport) → (new.book ≡ None) ↔ (◌≡◌ {A = Result Bool Stop} (Err (stops.Refused refusal)) (Err (stops.Fault faults.Store)))
           → (HasCleanDisk (state g new.conn) → (b : ActState) → Ties g now b → AddsRow g new b row (Err (stops.Refused refusal)))
@@ -254,11 +267,15 @@ module _ {S : Type 0} (g : Ghosts S) where
       cause = tt;
       ended = λ none. is_whole;
       left = λ cl b ties.
-          let was = it.begun cl b ties in
-          (was.1 ++ [], are_rows known left was.1 [] was.2 (left_none left after row takes),
-          (was.0,
-          ([], (was.1, refl, subst (λ n. Taken b was.0 was.1 n rep.again) (sym is_added) (subst (λ n. Taken b was.0 was.1 added n) (sym is_again) was.3)), is_stopped),
-          was.4));
+          let was = it.begun cl b ties in (
+            was.1 ++ [],
+            are_rows known left was.1 [] was.2 (left_none left after row takes),
+            (
+              was.0,
+              ([], (was.1, refl, subst (λ n. Taken b was.0 was.1 n rep.again) (sym is_added) (subst (λ n. Taken b was.0 was.1 added n) (sym is_again) was.3)), is_stopped),
+              was.4,
+            ),
+          );
     }
 
     -- there is a row too many
@@ -273,12 +290,19 @@ module _ {S : Type 0} (g : Ghosts S) where
           let was = it.begun cl b ties in
           let later : List Fields = row ∷ unwrap_or after [] in
           let at : rep.added + rep.again + 1 ≡ 1_000_001 = omega (arith, it.next, is_added, is_again, last) in
-          let past : nat_lt 1_000_000 1_000_001 ≡ true = refl in
-          (was.1 ++ later, are_rows known left was.1 later was.2 (left_row left after row takes),
-          (was.0,
-          (later, (was.1, refl, subst (λ n. Taken b was.0 was.1 n rep.again) (sym is_added) (subst (λ n. Taken b was.0 was.1 added n) (sym is_again) was.3)),
-          subst (λ n. EndsAt was.0 n later rep.stopped) (sym at) (Full 1_000_000, is_stopped, refl)),
-          was.4));
+          let past : nat_lt 1_000_000 1_000_001 ≡ true = refl in (
+            was.1 ++ later,
+            are_rows known left was.1 later was.2 (left_row left after row takes),
+            (
+              was.0,
+              (
+                later,
+                (was.1, refl, subst (λ n. Taken b was.0 was.1 n rep.again) (sym is_added) (subst (λ n. Taken b was.0 was.1 added n) (sym is_again) was.3)),
+                subst (λ n. EndsAt was.0 n later rep.stopped) (sym at) (Full 1_000_000, is_stopped, refl),
+              ),
+              was.4,
+            ),
+          );
     }
 
     -- the next row could not be read
@@ -286,9 +310,9 @@ module _ {S : Type 0} (g : Ghosts S) where
         → Runs g (λ rows. Some rows) old now known whole (Err (record { fault = fault; added = added; again = again }))
     runs_unread fault whole cause other =
         let first : HasCleanDisk (state g now.conn) → (b : ActState) → Ties g old b → (rows : List Fields) × AreRows known rows × HoldsFirst g now b rows added again = λ cl b ties.
-            let was = it.begun cl b ties in
-            let later : List Fields = unwrap_or left [] in
-            (was.1 ++ later, are_rows known left was.1 later was.2 (left_itself left), (was.0, later, (was.1, refl, was.3), was.4)) in
+        let was = it.begun cl b ties in
+        let later : List Fields = unwrap_or left [] in
+        (was.1 ++ later, are_rows known left was.1 later was.2 (left_itself left), (was.0, later, (was.1, refl, was.3), was.4)) in
         record {
           clean = it.clean;
           dropped = (λ none. absurd (no_book_there now.book it.is_there none), λ is. absurd (other is));
@@ -296,13 +320,45 @@ module _ {S : Type 0} (g : Ghosts S) where
           ended = tt;
           left = λ cl b ties. elim fault as (λ f. HasCause f (whole ≡ false) → f ≢ faults.Store
               → (rows : List Fields) × AreRows known rows × HoldsFirst g now b rows added again → LeavesOf g (λ rows. Some rows) now b known (Err (record { fault = f; added = added; again = again }))) [
-            | faults.OutOfMemory ↦ λ h o it. it
-            | faults.Input ↦ λ h o it. it
-            | faults.Store ↦ λ h o it. absurd (o refl)
-            | faults.Reopen ↦ λ h o it. absurd h
-            | faults.Output ↦ λ h o it. absurd h
-          ] cause other (first cl b ties);
+                | faults.OutOfMemory ↦ λ h o it. it
+                | faults.Input ↦ λ h o it. it
+                | faults.Store ↦ λ h o it. absurd (o refl)
+                | faults.Reopen ↦ λ h o it. absurd h
+                | faults.Output ↦ λ h o it. absurd h
+              ] cause other (first cl b ties);
         }
+
+  -- ---- one command
+
+  -- a keeper's book counts the commands of the state that it is tied to
+  counted : (k : KeeperValue S) (b : ActState) (n : ℕ) → ReachedCounts → Ties g k b → IsSome k.book → IfSome k.book (λ s. n ≡ s.accepted) → n ≡ length b.accepted
+  counted k b n law ties is has =
+      elim k.book as (λ o. IsSome o → IfSome o (λ s. n ≡ s.accepted) → IfSome o (λ s. s ≡ b.book) → n ≡ length b.accepted) [
+        | None ↦ λ x y z. absurd (true≢false (sym x))
+        | Some s ↦ λ x y z. y ∙ ap (λ (t : BookState). t.accepted) z ∙ law b ties.kept.reached
+      ] is has ties.book
+
+  grows : (c : ActState) (a : Referenced) (before after : ℕ) → before ≡ length c.accepted → after ≡ length (act c a).accepted → nat_lt before after ≡ is_accepted c a
+  grows c a before after e f = elim (is_accepted c a) as (λ t. length (act c a).accepted ≡ length c.accepted + cond t 1 0 → nat_lt before after ≡ t) [
+    | true ↦ λ h. lt-ltb before after (omega (arith, e, f, h))
+    | false ↦ λ h. le-ltb before after (omega (arith, e, f, h))
+  ] (act_grows c a)
+
+  -- a command was answered a reply
+  pub adds_ok : (old new : KeeperValue S) (b : ActState) (a : Referenced) (reply : Reply) (before after : ℕ) → ReachedCounts → IsSome old.book → Ties g old b
+      → IfSome old.book (λ s. before ≡ s.accepted) → IfSome new.book (λ s. after ≡ s.accepted)
+      → (answer b a ≡ Ok reply) × Ties g new (act b a) × IsSome new.book → Adds g new b a (Ok (nat_lt before after))
+  adds_ok old new b a reply before after law is ties was now made =
+      (ap is_ok made.0, grows b a before after (counted old b before law ties is was) (counted new (act b a) after law made.1 made.2 now), (made.1, made.2))
+
+  -- it was not
+  pub adds_err : (old new : KeeperValue S) (b : ActState) (a : Referenced) (stop : Stop) → IsSome old.book → Acted g old new b a (Err stop) → Adds g new b a (Err stop)
+  adds_err old new b a (stops.Refused refusal) is made = (made.0, (made.1, subst (λ o. IsSome o) (sym made.2) is))
+  adds_err old new b a (stops.Fault faults.OutOfMemory) is made = (made.0, subst (λ o. IsSome o) (sym made.1) is)
+  adds_err old new b a (stops.Fault faults.Store) is made = made
+  adds_err old new b a (stops.Fault faults.Reopen) is made = made
+  adds_err old new b a (stops.Fault faults.Input) is made = made
+  adds_err old new b a (stops.Fault faults.Output) is made = made
 
   -- ---- the header
 
@@ -311,9 +367,9 @@ module _ {S : Type 0} (g : Ghosts S) where
       → Runs g after_header old old known whole (Err (record { fault = fault; added = 0; again = 0 }))
   runs_nothing old known whole fault is cause other =
       let first : (b : ActState) → Ties g old b → (rows : List Fields) × AreRows known rows × HoldsFirst g old b (unwrap_or (after_header rows) []) 0 0 = λ b ties.
-          let rows : List Fields = unwrap_or known [] in
-          let body : List Fields = unwrap_or (after_header rows) [] in
-          (rows, elim known as (λ k. AreRows k (unwrap_or k [])) [ None ↦ tt | Some k ↦ refl ], (b, body, ([], refl, taken_none b), (ties, is))) in
+      let rows : List Fields = unwrap_or known [] in
+      let body : List Fields = unwrap_or (after_header rows) [] in
+      (rows, elim known as (λ k. AreRows k (unwrap_or k [])) [ None ↦ tt | Some k ↦ refl ], (b, body, ([], refl, taken_none b), (ties, is))) in
       record {
         clean = λ clean. clean;
         dropped = (λ none. absurd (no_book_there old.book is none), λ e. absurd (other e));
@@ -321,13 +377,21 @@ module _ {S : Type 0} (g : Ghosts S) where
         ended = tt;
         left = λ cl b ties. elim fault as (λ f. HasCause f (whole ≡ false) → f ≢ faults.Store
             → (rows : List Fields) × AreRows known rows × HoldsFirst g old b (unwrap_or (after_header rows) []) 0 0 → LeavesOf g after_header old b known (Err (record { fault = f; added = 0; again = 0 }))) [
-          | faults.OutOfMemory ↦ λ h o it. it
-          | faults.Input ↦ λ h o it. it
-          | faults.Store ↦ λ h o it. absurd (o refl)
-          | faults.Reopen ↦ λ h o it. absurd h
-          | faults.Output ↦ λ h o it. absurd h
-        ] cause other (first b ties);
+              | faults.OutOfMemory ↦ λ h o it. it
+              | faults.Input ↦ λ h o it. it
+              | faults.Store ↦ λ h o it. absurd (o refl)
+              | faults.Reopen ↦ λ h o it. absurd h
+              | faults.Output ↦ λ h o it. absurd h
+            ] cause other (first b ties);
       }
+
+  -- memory was refused before anything was read
+  pub leaves_nothing : (old : KeeperValue S) (known : Option (List Fields)) (b : ActState) → IsSome old.book → Ties g old b
+      → LeavesOf g after_header old b known (Err (record { fault = faults.OutOfMemory; added = 0; again = 0 }))
+  leaves_nothing old known b is ties =
+      let rows : List Fields = unwrap_or known [] in
+      let body : List Fields = unwrap_or (after_header rows) [] in
+      (rows, elim known as (λ k. AreRows k (unwrap_or k [])) [ None ↦ tt | Some k ↦ refl ], (b, body, ([], refl, taken_none b), (ties, is)))
 
   -- the rows of a text that begin with a row that was taken, if one was
   begins_with : (left after : Option (List Fields)) (found : Bool) (row : Fields) → TakesRow left after found row → (rows : List Fields) × AreRows left (cond found (row ∷ rows) [])

@@ -1,5 +1,5 @@
 //! One row acts.
-ghost use Rattle.std.specs.Prelude.{◌≡◌, ◌↔◌, ◌→◌, None, Err, IsSome, IfSome};
+ghost use Rattle.std.specs.Prelude.{◌≡◌, ◌↔◌, None, Err, IsSome, IfSome};
 ghost use Rattle.sqlite.specs.Held.{state};
 ghost use Rattle.sqlite.specs.State.{HasCleanDisk};
 ghost use Rattle.ob_command.specs.Fields.{IsRow};
@@ -9,8 +9,7 @@ ghost use Rattle.ob_store.specs.Acting.{under};
 ghost use Rattle.ob_import.specs.Acting.{Adds, AddsRow};
 
 use ob_base::{Fault, Ref, Refusal, Stop};
-use ob_book::Command;
-use ob_book::laws::acts_law;
+use ob_book::{Command, acts_law};
 use ob_command::read_row;
 use ob_record::reached_law;
 use ob_rows::Row;
@@ -40,9 +39,7 @@ fn command_in(row: &Row) -> Result<(Ref, Command), Refusal>
     ensures { IsRow row.now result }
 {
     match row.fields() {
-        Some(f) => read_row(&[
-            f.kind, f.reference, f.f1, f.f2, f.f3, f.f4, f.f5, f.f6,
-        ]),
+        Some(f) => read_row(&[f.kind, f.reference, f.f1, f.f2, f.f3, f.f4, f.f5, f.f6]),
         None => Err(Refusal::BadField(0)),
     }
 }
@@ -59,13 +56,10 @@ fn act<S: Alter, T: Timeline>(
     ensures acted { HasCleanDisk (state S.Store keeper.new.conn) → (b : ActState) → Ties S.Store keeper.old b
         → Adds S.Store keeper.new b (under reference command) result }
 {
-    acts_law();
     reached_law();
     let before = accepted(keeper);
-    match keeper.act(reference, command) {
-        Ok(_) => Ok(before < accepted(keeper)),
-        Err(stop) => Err(stop),
-    }
+    keeper.act(reference, command)?;
+    Ok(before < accepted(keeper))
 }
 
 /// How many commands the book has accepted.

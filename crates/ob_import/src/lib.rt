@@ -7,10 +7,10 @@
 
 mod acting;
 mod gather;
-mod import;
 mod report;
 mod rows;
+mod text;
 
-pub use import::{import, import_law, import_text};
 pub use ob_command::read_row;
 pub use report::{ImportFault, ImportReport};
+pub use text::{import, import_law, import_text};

@@ -1,5 +1,5 @@
 //! The rows of a text act in turn, up to the first refusal.
-ghost use Rattle.std.specs.Prelude.{◌≡◌, true, false, Some, Ok, IsSome, IfOk, IfErr};
+ghost use Rattle.std.specs.Prelude.{◌≡◌, ◌≢◌, true, false, Some, Ok, IsSome, IfOk, IfErr};
 ghost use Rattle.ob_rows.specs.Rows.{TakesRow};
 ghost use Rattle.ob_rows.specs.RowReading.{rows_left};
 ghost use Rattle.ob_import.specs.Imports.{after_header};
@@ -62,19 +62,35 @@ fn import_rows<R: Read, S: Alter, T: Timeline>(
         match take_row(rows, row, whole) {
             Ok(true) => {}
             Ok(false) => return Ok(report(added, again, None)),
-            Err(fault) => return Err(ImportFault { fault, added, again }),
+            Err(fault) => return Err(ImportFault {
+                fault,
+                added,
+                again,
+            }),
         }
         match act_row(keeper, row) {
             Ok(true) => added += 1,
             Ok(false) => again += 1,
             Err(Stop::Refused(refusal)) => return Ok(report(added, again, Some((number, refusal)))),
-            Err(Stop::Fault(fault)) => return Err(ImportFault { fault, added, again }),
+            Err(Stop::Fault(fault)) => return Err(ImportFault {
+                fault,
+                added,
+                again,
+            }),
         }
     }
     match take_row(rows, row, whole) {
-        Ok(true) => Ok(report(added, again, Some((MOST_ROWS + 1, Refusal::Full(MOST_ROWS))))),
+        Ok(true) => Ok(report(
+            added,
+            again,
+            Some((MOST_ROWS + 1, Refusal::Full(MOST_ROWS))),
+        )),
         Ok(false) => Ok(report(added, again, None)),
-        Err(fault) => Err(ImportFault { fault, added, again }),
+        Err(fault) => Err(ImportFault {
+            fault,
+            added,
+            again,
+        }),
     }
 }
 

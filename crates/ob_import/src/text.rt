@@ -15,7 +15,6 @@ use crate::gather::{Gathered, Replay, gather};
 use crate::report::{ImportFault, ImportReport};
 use crate::rows::import_all;
 use ob_base::Fault;
-use ob_book::laws::acts_law;
 use ob_command::rows_law;
 use ob_rows::{MOST_BYTES, RowReader};
 use ob_store::Keeper;
@@ -125,7 +124,6 @@ pub fn import_law()
     ensures again { ImportedAgain }
 {
     rows_law();
-    acts_law();
 }
 
 ghost use Rattle.std.specs.Io.KnownBytes.{prepend_known};
