@@ -258,6 +258,25 @@ module _ {S : Type 0} (g : Ghosts S) where
       runs_fault faults.Input whole may dropped acted = absurd may
       runs_fault faults.Output whole may dropped acted = absurd may
 
+    module _ (new : KeeperValue S) (after : Option (List Fields)) (row : Fields) (takes : TakesRow left after true row) (within : number ≤ 1_000_000)
+        (clean : HasCleanDisk (state g new.conn) → HasCleanDisk (state g now.conn)) (stop : Stop)
+        (dropped : (new.book ≡ None) ↔ (◌≡◌ {A = Result Bool Stop} (Err stop) (Err (stops.Fault faults.Store))))
+        (acted : HasCleanDisk (state g new.conn) → (b : ActState) → Ties g now b → AddsRow g new b row (Err stop)) where
+      pub runs_refused_by : (refusal : Refusal) (whole : Bool) (rep : ImportReport) → stop ≡ stops.Refused refusal
+          → rep.added ≡ added → rep.again ≡ again → rep.stopped ≡ Some (number, refusal) → Runs g (λ rows. Some rows) old new known whole (Ok rep)
+      runs_refused_by refusal whole rep is =
+          runs_refused new after row takes within clean refusal whole rep
+          (subst (λ s. (new.book ≡ None) ↔ (◌≡◌ {A = Result Bool Stop} (Err s) (Err (stops.Fault faults.Store)))) is dropped)
+          (λ cl b ties. subst (λ s. AddsRow g new b row (Err s)) is (acted cl b ties))
+
+      pub runs_fault_by : (fault : Fault) (whole : Bool) (e : ImportFault) → stop ≡ stops.Fault fault → IsActStop stop → e ≡ record { fault = fault; added = added; again = again }
+          → Runs g (λ rows. Some rows) old new known whole (Err e)
+      runs_fault_by fault whole e is may told =
+          subst (λ f. Runs g (λ rows. Some rows) old new known whole (Err f)) (sym told)
+          (runs_fault new after row takes within clean fault whole (subst IsActStop is may)
+          (subst (λ s. (new.book ≡ None) ↔ (◌≡◌ {A = Result Bool Stop} (Err s) (Err (stops.Fault faults.Store)))) is dropped)
+          (λ cl b ties. subst (λ s. AddsRow g new b row (Err s)) is (acted cl b ties)))
+
     -- no row is left
     pub runs_none : (after : Option (List Fields)) (row : Fields) (whole : Bool) (rep : ImportReport) → TakesRow left after false row → whole ≡ true
         → rep.added ≡ added → rep.again ≡ again → rep.stopped ≡ None → Runs g (λ rows. Some rows) old now known whole (Ok rep)
@@ -327,6 +346,11 @@ module _ {S : Type 0} (g : Ghosts S) where
                 | faults.Output ↦ λ h o it. absurd h
               ] cause other (first cl b ties);
         }
+
+    pub runs_unread_by : (fault : Fault) (whole : Bool) (e : ImportFault) → HasCause fault (whole ≡ false) → fault ≢ faults.Store → e ≡ record { fault = fault; added = added; again = again }
+        → Runs g (λ rows. Some rows) old now known whole (Err e)
+    runs_unread_by fault whole e cause other told =
+        subst (λ f. Runs g (λ rows. Some rows) old now known whole (Err f)) (sym told) (runs_unread fault whole cause other)
 
   -- ---- one command
 

@@ -1,11 +1,11 @@
 //! One row acts.
-ghost use Rattle.std.specs.Prelude.{◌≡◌, ◌↔◌, None, Err, IsSome, IfSome};
+ghost use Rattle.std.specs.Prelude.{◌≡◌, ◌↔◌, None, Err, IsSome, IfSome, IfErr};
 ghost use Rattle.sqlite.specs.Held.{state};
 ghost use Rattle.sqlite.specs.State.{HasCleanDisk};
 ghost use Rattle.ob_command.specs.Fields.{IsRow};
 ghost use Rattle.ob_book.specs.Acts.{ActState};
 ghost use Rattle.ob_store.specs.Keeping.{Ties};
-ghost use Rattle.ob_store.specs.Acting.{under};
+ghost use Rattle.ob_store.specs.Acting.{IsActStop, under};
 ghost use Rattle.ob_import.specs.Acting.{Adds, AddsRow};
 
 use ob_base::{Fault, Ref, Refusal, Stop};
@@ -23,13 +23,14 @@ pub(crate) fn act_row<S: Alter, T: Timeline>(
     row: &Row,
 ) -> Result<bool, Stop>
     requires { IsSome keeper.old.book }
+    ensures faults { IfErr result IsActStop }
     ensures clean { HasCleanDisk (state S.Store keeper.new.conn) → HasCleanDisk (state S.Store keeper.old.conn) }
     ensures dropped { (keeper.new.book ≡ None) ↔ (result ≡ Err (Stop.Fault Fault.Store)) }
     ensures acted { HasCleanDisk (state S.Store keeper.new.conn) → (b : ActState) → Ties S.Store keeper.old b
         → AddsRow S.Store keeper.new b row.now result }
 {
     match command_in(row) {
-        Ok((reference, command)) => act(keeper, reference, command),
+        Ok(said) => act(keeper, said.0, said.1),
         Err(refusal) => Err(Stop::Refused(refusal)),
     }
 }
@@ -51,6 +52,7 @@ fn act<S: Alter, T: Timeline>(
     command: Command,
 ) -> Result<bool, Stop>
     requires { IsSome keeper.old.book }
+    ensures faults { IfErr result IsActStop }
     ensures clean { HasCleanDisk (state S.Store keeper.new.conn) → HasCleanDisk (state S.Store keeper.old.conn) }
     ensures dropped { (keeper.new.book ≡ None) ↔ (result ≡ Err (Stop.Fault Fault.Store)) }
     ensures acted { HasCleanDisk (state S.Store keeper.new.conn) → (b : ActState) → Ties S.Store keeper.old b

@@ -56,41 +56,23 @@ fn import_rows<R: Read, S: Alter, T: Timeline>(
     requires { IsSome keeper.old.book }
     ensures runs { Runs S.Store (λ rows. Some rows) keeper.old keeper.new (rows_left R.remaining rows.old) whole result }
 {
-    let mut added = 0;
-    let mut again = 0;
+    let mut tally = Tally { added: 0, again: 0 };
     for number in 1..MOST_ROWS + 1 {
         match take_row(rows, row, whole) {
             Ok(true) => {}
-            Ok(false) => return Ok(report(added, again, None)),
-            Err(fault) => return Err(ImportFault {
-                fault,
-                added,
-                again,
-            }),
+            Ok(false) => return Ok(report(tally, None)),
+            Err(fault) => return Err(broken(tally, fault)),
         }
         match act_row(keeper, row) {
-            Ok(true) => added += 1,
-            Ok(false) => again += 1,
-            Err(Stop::Refused(refusal)) => return Ok(report(added, again, Some((number, refusal)))),
-            Err(Stop::Fault(fault)) => return Err(ImportFault {
-                fault,
-                added,
-                again,
-            }),
+            Ok(is_new) => tally.count(is_new),
+            Err(Stop::Refused(refusal)) => return Ok(report(tally, Some((number, refusal)))),
+            Err(Stop::Fault(fault)) => return Err(broken(tally, fault)),
         }
     }
     match take_row(rows, row, whole) {
-        Ok(true) => Ok(report(
-            added,
-            again,
-            Some((MOST_ROWS + 1, Refusal::Full(MOST_ROWS))),
-        )),
-        Ok(false) => Ok(report(added, again, None)),
-        Err(fault) => Err(ImportFault {
-            fault,
-            added,
-            again,
-        }),
+        Ok(true) => Ok(report(tally, Some((MOST_ROWS + 1, Refusal::Full(MOST_ROWS))))),
+        Ok(false) => Ok(report(tally, None)),
+        Err(fault) => Err(broken(tally, fault)),
     }
 }
 
@@ -119,14 +101,50 @@ fn take_row<R: Read>(rows: &mut RowReader<R>, row: &mut Row, whole: bool) -> Res
     }
 }
 
-fn report(added: u32, again: u32, stopped: Option<(u32, Refusal)>) -> ImportReport
-    ensures added { result.added ≡ added }
-    ensures again { result.again ≡ again }
+/// How many rows were taken so far.
+#[derive(Clone, Copy)]
+struct Tally {
+    // Those that added a command.
+    added: u32,
+    // Those that named one that the book had.
+    again: u32,
+}
+
+impl Tally {
+    ghost use Rattle.std.specs.Prelude.{◌≡◌, ◌+◌, ◌<◌, if◌then◌else◌};
+
+    /// One row more, whose command was new to the book or not.
+    fn count(&mut self, is_new: bool)
+        requires { self.old.added + self.old.again < 1_000_000 }
+        ensures added { self.new.added ≡ self.old.added + (if is_new then 1 else 0) }
+        ensures again { self.new.again ≡ self.old.again + (if is_new then 0 else 1) }
+    {
+        if is_new {
+            self.added += 1;
+        } else {
+            self.again += 1;
+        }
+    }
+}
+
+fn report(tally: Tally, stopped: Option<(u32, Refusal)>) -> ImportReport
+    ensures added { result.added ≡ tally.added }
+    ensures again { result.again ≡ tally.again }
     ensures stopped { result.stopped ≡ stopped }
 {
     ImportReport {
-        added,
-        again,
+        added: tally.added,
+        again: tally.again,
         stopped,
+    }
+}
+
+fn broken(tally: Tally, fault: Fault) -> ImportFault
+    ensures fault { result ≡ record { fault = fault; added = tally.added; again = tally.again } }
+{
+    ImportFault {
+        fault,
+        added: tally.added,
+        again: tally.again,
     }
 }
