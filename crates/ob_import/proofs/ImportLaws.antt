@@ -1,6 +1,6 @@
 -- Laws of imports: a text says one import, and its own import once more adds nothing.
-use Rattle.std.proofs.Common.{◌≡◌, ◌≤◌, ◌<◌, ◌∙◌, sym, ap, ap₂, subst, refl, ℕ, zero, suc, ◌+◌, ◌-◌, Bool, true, false, true≢false, List, [], ◌∷◌, ◌++◌, length, cond, Option, Some, None, is_none, is_some, Result, Ok, Err, inl, inr, ◌&&◌, ◌||◌, if◌then◌else◌, nat_lt, arith, add-sub_cancel, length-append, option_map, position, bytes_eq}
-use Rattle.std.specs.Prelude.{slice_get, MatchOption}
+use Rattle.std.proofs.Common.{◌≡◌, ◌≤◌, ◌<◌, ◌∙◌, sym, ap, ap₂, subst, refl, ℕ, zero, suc, ◌+◌, ◌-◌, Bool, true, false, true≢false, List, [], ◌∷◌, ◌++◌, length, cond, Option, Some, None, Result, Ok, Err, inl, inr, ◌||◌, if◌then◌else◌, nat_lt, arith, option_map, bytes_eq}
+use Rattle.std.specs.Prelude.{slice_get}
 use Rattle.std.specs.List.{position_from}
 use Rattle.std.specs.Option.{option_map_or}
 use Rattle.std.specs.Result.{is_ok}
@@ -9,14 +9,14 @@ use Rattle.std.proofs.lemmas.Bool.{le-ltb}
 use Rattle.std.proofs.lemmas.Slice.Eq.{bytes_eq-Decides}
 use Rattle.std.proofs.lemmas.Iterator.Adapters.{position_from-zero}
 use Rattle.ob_base.specs.declared.stop.Refusal.{Refusal}
-use Rattle.ob_base.specs.declared.stop.Refusal.TheVariants.{BadField, Full, RefConflict}
+use Rattle.ob_base.specs.declared.stop.Refusal.TheVariants.{Full, RefConflict}
 use Rattle.ob_rows.specs.Rows.{Fields}
 use Rattle.ob_command.specs.Commands.{body_text}
 use Rattle.ob_command.specs.Fields.{IsRow, RowsSayOneThing}
 use Rattle.ob_command.specs.declared.command.Command.{Command}
 use Rattle.ob_state.specs.Refusals.{refusal}
-use Rattle.ob_book.specs.Acts.{ActState, Referenced, AreTaken, Reply, SentAgain, act, acts, answer, answer_again, answer_new, answer_under, is_accepted, is_known, is_repeat, is_same, number_of, reply_of, take_on}
-use Rattle.ob_import.specs.Imports.{AreAnswered, Begins, EndsAt, Import, ImportedAgain, Imports, ImportsBody, ImportsMakeOneThing, ImportsRows, IsRefused, Say, Says, Stops, Taken, after_header, once_more}
+use Rattle.ob_book.specs.Acts.{ActState, Referenced, act, acts, answer, answer_new, answer_under, is_accepted, is_known, is_repeat, is_same, number_of, reply_of, take_on}
+use Rattle.ob_import.specs.Imports.{AreAnswered, EndsAt, Import, ImportedAgain, ImportsBody, ImportsMakeOneThing, ImportsRows, IsRefused, Say, Says, Taken, after_header, once_more}
 
 -- ---- a text says one import
 

@@ -1,8 +1,7 @@
 -- Rows that were taken, one more of them, and what an import leaves where it ends.
 use Rattle.std.proofs.Common.{◌≡◌, ◌≢◌, ◌≤◌, ◌<◌, ◌∙◌, sym, ap, subst, refl, ℕ, ◌+◌, Bool, true, false, true≢false, is_some, List, [], ◌∷◌, ◌++◌, length, cond, Option, Some, None, Result, Ok, Err, inl, inr, if◌then◌else◌, nat_lt, arith, append_assoc, append-nil, length-append, ◌↔◌}
-use Rattle.std.specs.Prelude.{IsSome, IfSome, IfOk, IfErr, unwrap_or, option_map}
+use Rattle.std.specs.Prelude.{IsSome, IfSome, unwrap_or, option_map}
 use Rattle.std.specs.Result.{is_ok}
-use Rattle.std.specs.Bool.{MatchBool}
 use Rattle.std.proofs.lemmas.Bool.{lt-ltb, le-ltb}
 use Rattle.std.proofs.lemmas.List.Sums.{fold_push}
 use Rattle.sqlite_trees.specs.declared.store.Store.{Ghosts}
@@ -24,9 +23,9 @@ use Rattle.ob_store.specs.Acting.{Acted, IsActStop}
 use Rattle.ob_state.specs.State.{BookState}
 use Rattle.ob_record.specs.Reached.{ReachedCounts}
 use Rattle.ob_import.specs.Acting.{Adds, AddsRow, Holds}
-use Rattle.ob_import.specs.Imports.{AreAnswered, Begins, EndsAt, Import, ImportsRows, IsRefused, Say, Says, Stops, Taken, after_header, headless}
+use Rattle.ob_import.specs.Imports.{AreAnswered, EndsAt, IsRefused, Say, Says, Stops, Taken, after_header}
 use Rattle.ob_import.specs.Gathering.{IsWithin, is_over}
-use Rattle.ob_import.specs.Reports.{AreRows, Breaks, HasCause, HoldsFirst, Imported, Leaves, LeavesOf, LosesNext, Runs, import_as}
+use Rattle.ob_import.specs.Reports.{AreRows, HasCause, HoldsFirst, Imported, LeavesOf, Runs}
 use Rattle.ob_import.specs.declared.report.ImportReport.{ImportReport}
 use Rattle.ob_import.specs.declared.report.ImportFault.{ImportFault}
 

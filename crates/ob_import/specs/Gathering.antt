@@ -1,5 +1,5 @@
 -- What a clause sees of a text that is gathered first.
-use Rattle.std.specs.Prelude.{ℕ, ◌≡◌, ◌≤◌, Bool, true, false, List, [], ◌∷◌, length, Option, Some, None}
+use Rattle.std.specs.Prelude.{ℕ, ◌≤◌, Bool, true, false, List, [], ◌∷◌, length, Option, Some, None}
 
 -- no known byte is left
 abbrev pub is_over : Option (List ℕ) → Bool

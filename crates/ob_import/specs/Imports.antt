@@ -1,5 +1,5 @@
 -- What an import makes of a book: the rows of a text, acted one after the other up to the first refusal.
-use Rattle.std.specs.Prelude.{◌≡◌, ◌⊎◌, ◌≤◌, ℕ, ◌+◌, ⊤, true, List, [], ◌∷◌, ◌++◌, length, Option, Some, None, Ok, Err, nat_lt, MatchOption, unwrap_or, if◌then◌else◌}
+use Rattle.std.specs.Prelude.{◌≡◌, ◌⊎◌, ◌≤◌, ℕ, ◌+◌, ⊤, true, List, [], ◌∷◌, ◌++◌, length, Option, Some, None, Ok, Err, nat_lt, MatchOption, if◌then◌else◌}
 use Rattle.std.specs.Bool.{MatchBool}
 use Rattle.std.specs.Result.{is_ok}
 use Rattle.ob_base.specs.declared.stop.Refusal.{Refusal}

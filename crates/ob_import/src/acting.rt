@@ -9,7 +9,7 @@ ghost use Rattle.ob_store.specs.Acting.{IsActStop, under};
 ghost use Rattle.ob_import.specs.Acting.{Adds, AddsRow};
 
 use ob_base::{Fault, Ref, Refusal, Stop};
-use ob_book::{Command, acts_law};
+use ob_book::Command;
 use ob_command::read_row;
 use ob_record::reached_law;
 use ob_rows::Row;

@@ -1,5 +1,5 @@
 -- What was gathered so far is what was consumed.
-use Rattle.std.proofs.Common.{◌-◌, ◌+◌, ◌≤◌, ◌≡◌, length}
+use Rattle.std.proofs.Common.{◌-◌, ◌+◌, ◌≡◌, length}
 use Rattle.std.specs.Io.KnownBytes.{Consumes}
 use Rattle.ob_stream.specs.Watching.{watched_bytes}
 use Rattle.ob_import.proofs.gather.gather.Given as goal

@@ -1,4 +1,4 @@
-use Rattle.std.proofs.Common.{◌≡◌, ◌∙◌, sym, refl, Bool, true, false, cond, Some}
+use Rattle.std.proofs.Common.{◌≡◌, ◌∙◌, sym, refl, false, cond, Some}
 use Rattle.ob_base.specs.declared.stop.Refusal.TheVariants.{BadField}
 use Rattle.ob_rows.specs.Header.{is_header}
 use Rattle.ob_rows.specs.RowReading.{rows_left}
@@ -25,5 +25,7 @@ pub returns : goal.returns
 returns g c =
     let left = rows_left g.R.Read.remaining in
     let takes = rw c.if-not-found.false at c.in-Ok.ensures.takes in
-    record { runs = runs_after g.S.Store c.args.keeper.now c.import_rows.new.keeper (left c.args.rows.now) (left c.take_row.new.rows) c.args.whole c.take_row.new.row c.import_rows.result takes
-        (sym c.is_header.ensures ∙ c.if-not-is_header.false) c.import_rows.ensures.runs }
+    record {
+      runs = runs_after g.S.Store c.args.keeper.now c.import_rows.new.keeper (left c.args.rows.now) (left c.take_row.new.rows) c.args.whole c.take_row.new.row c.import_rows.result takes
+          (sym c.is_header.ensures ∙ c.if-not-is_header.false) c.import_rows.ensures.runs;
+    }
