@@ -1,5 +1,5 @@
 -- What a command under a reference makes of a keeper.
-use Rattle.std.specs.Prelude.{◌≡◌, ℕ, List, Result, Ok, Err, None, IsSome}
+use Rattle.std.specs.Prelude.{◌≡◌, ⊤, ℕ, List, Result, Ok, Err, None, IsSome}
 use Rattle.sqlite_trees.specs.declared.store.Store.{Ghosts}
 use Rattle.sqlite.specs.Held.{Held, state}
 use Rattle.ob_base.specs.declared.stop.Stop.{Stop}
@@ -10,6 +10,13 @@ use Rattle.ob_state.specs.State.{BookState}
 use Rattle.ob_book.specs.Acts.{ActState, Referenced, Reply, act, answer}
 use Rattle.ob_store.specs.Keeping.{KeeperValue, KeepsBook, KeepsEitherBook, Ties}
 use Rattle.ob_store.specs.declared.reply.Reply.{Reply as GivenReply}
+
+-- why a command on a book isn't answered a reply: it is refused, memory is, or the store fails
+abbrev pub IsActStop : Stop → Type 0
+IsActStop (Refused refusal) = ⊤
+IsActStop (Fault OutOfMemory) = ⊤
+IsActStop (Fault Store) = ⊤
+IsActStop (Fault fault) = ⊥
 
 -- a command under a reference
 abbrev pub under : List ℕ → Command → Referenced

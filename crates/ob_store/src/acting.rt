@@ -5,7 +5,7 @@ ghost use Rattle.sqlite.specs.State.{HasCleanDisk, Survives};
 ghost use Rattle.ob_book.specs.Acts.{ActState, number_of};
 ghost use Rattle.ob_command.specs.Commands.{body_text as body_text_of};
 ghost use Rattle.ob_store.specs.Keeping.{KeepsBook};
-ghost use Rattle.ob_store.specs.Acting.{Acts, under};
+ghost use Rattle.ob_store.specs.Acting.{Acts, IsActStop, under};
 
 use crate::reply::{Moves, Reply};
 use crate::stored::stored_reply;
@@ -28,7 +28,8 @@ pub(crate) fn act_on<S: Alter, T: Timeline>(
 ) -> Result<Reply, Stop>
     requires mode { conn.old.in_transaction ≡ false }
     ensures mode { conn.new.in_transaction ≡ false }
-    ensures faults { IfErr result (λ stop. stop ≢ Stop.Fault Fault.Reopen) }
+    ensures faults { IfErr result IsActStop }
+    ensures clean { HasCleanDisk (state S.Store conn.new) → HasCleanDisk (state S.Store conn.old) }
     ensures book { OnErr result (book.new.state ≡ book.old.state) }
     ensures acts { HasCleanDisk (state S.Store conn.new) → (b : ActState) → KeepsBook (state S.Store conn.old) b
         → book.old.state ≡ b.book
@@ -59,7 +60,7 @@ fn accept<S: Alter, T: Timeline>(
     requires mode { conn.old.in_transaction ≡ false }
     requires body { body.now ≡ body_text_of command.now }
     ensures mode { conn.new.in_transaction ≡ false }
-    ensures faults { IfErr result (λ stop. stop ≢ Stop.Fault Fault.Reopen) }
+    ensures faults { IfErr result IsActStop }
     ensures clean { HasCleanDisk (state S.Store conn.new) → HasCleanDisk (state S.Store conn.old) }
     ensures book { OnErr result (book.new.state ≡ book.old.state) }
     ensures acts { HasCleanDisk (state S.Store conn.new) → (b : ActState) → KeepsBook (state S.Store conn.old) b

@@ -37,12 +37,12 @@ impl<S: Alter, T: Timeline> Model for Keeper<S, T> {
 }
 
 impl<S: Alter, T: Timeline> Keeper<S, T> {
-    ghost use Rattle.std.specs.Prelude.{◌≡◌, ◌↔◌, false, None, Some, Err, IsSome};
+    ghost use Rattle.std.specs.Prelude.{◌≡◌, ◌↔◌, false, None, Some, Err, IsSome, IfErr};
     ghost use Rattle.sqlite.specs.Held.{state};
     ghost use Rattle.sqlite.specs.State.{HasCleanDisk, Survives};
     ghost use Rattle.ob_book.specs.Acts.{ActState};
     ghost use Rattle.ob_store.specs.Keeping.{Ties};
-    ghost use Rattle.ob_store.specs.Acting.{Acted, under};
+    ghost use Rattle.ob_store.specs.Acting.{Acted, IsActStop, under};
     ghost use Rattle.ob_store.specs.Replying.{Replied};
     ghost use Rattle.ob_store.specs.Creating.{Created};
     ghost use Rattle.ob_store.specs.Loading.{Audited, Loaded};
@@ -88,7 +88,9 @@ impl<S: Alter, T: Timeline> Keeper<S, T> {
     pub fn act(&mut self, reference: Ref, command: Command) -> Result<Reply, Stop>
         ensures reopen { (self.old.book ≡ None) ↔ (result ≡ Err (Stop.Fault Fault.Reopen)) }
         ensures unopened { self.old.book ≡ None → self.new ≡ self.old }
-        ensures lost { result ≡ Err (Stop.Fault Fault.Store) → self.new.book ≡ None }
+        ensures faults { IsSome self.old.book → IfErr result IsActStop }
+        ensures dropped { IsSome self.old.book → (self.new.book ≡ None) ↔ (result ≡ Err (Stop.Fault Fault.Store)) }
+        ensures clean { HasCleanDisk (state S.Store self.new.conn) → HasCleanDisk (state S.Store self.old.conn) }
         ensures acted { HasCleanDisk (state S.Store self.new.conn) → (b : ActState) → Ties S.Store self.old b
             → IsSome self.old.book → Acted S.Store self.old self.new b (under reference command) result }
     {

@@ -1,0 +1,475 @@
+-- Rows that were taken, one more of them, and what an import leaves where it ends.
+use Rattle.std.proofs.Common.{◌≡◌, ◌≢◌, ◌≤◌, ◌<◌, ◌∙◌, sym, ap, subst, refl, ℕ, ◌+◌, Bool, true, false, true≢false, is_some, List, [], ◌∷◌, ◌++◌, length, cond, Option, Some, None, Result, Ok, Err, inl, inr, if◌then◌else◌, nat_lt, arith, append_assoc, append-nil, length-append, ◌↔◌}
+use Rattle.std.specs.Prelude.{IsSome, IfSome, unwrap_or, option_map}
+use Rattle.std.specs.Result.{is_ok}
+use Rattle.std.proofs.lemmas.Bool.{lt-ltb, le-ltb}
+use Rattle.std.proofs.lemmas.List.Sums.{fold_push}
+use Rattle.sqlite_trees.specs.declared.store.Store.{Ghosts}
+use Rattle.sqlite.specs.Held.{state}
+use Rattle.sqlite.specs.State.{HasCleanDisk}
+use Rattle.ob_base.specs.declared.stop.Fault.{Fault}
+use Rattle.ob_base.specs.declared.stop.Fault.TheVariants as faults
+use Rattle.ob_base.specs.declared.stop.Refusal.{Refusal}
+use Rattle.ob_base.specs.declared.stop.Refusal.TheVariants.{BadField, Full}
+use Rattle.ob_base.specs.declared.stop.Stop.{Stop}
+use Rattle.ob_base.specs.declared.stop.Stop.TheVariants as stops
+use Rattle.ob_rows.specs.Header.{is_header}
+use Rattle.std.specs.Io.KnownBytes.{Consumes, prepend_known}
+use Rattle.ob_rows.specs.Rows.{Fields, TakesRow, rows_of}
+use Rattle.ob_command.specs.Fields.{IsRow}
+use Rattle.ob_book.specs.Acts.{ActState, Referenced, Reply, act, acts, answer, is_accepted, take_on}
+use Rattle.ob_store.specs.Keeping.{KeeperValue, KeepsEitherBook, Ties}
+use Rattle.ob_store.specs.Acting.{Acted, IsActStop}
+use Rattle.ob_state.specs.State.{BookState}
+use Rattle.ob_record.specs.Reached.{ReachedCounts}
+use Rattle.ob_import.specs.Acting.{Adds, AddsRow, Holds}
+use Rattle.ob_import.specs.Imports.{AreAnswered, EndsAt, IsRefused, Say, Says, Stops, Taken, after_header}
+use Rattle.ob_import.specs.Gathering.{IsWithin, is_over}
+use Rattle.ob_import.specs.Reports.{AreRows, HasCause, HoldsFirst, Imported, LeavesOf, Runs}
+use Rattle.ob_import.specs.declared.report.ImportReport.{ImportReport}
+use Rattle.ob_import.specs.declared.report.ImportFault.{ImportFault}
+
+-- ---- rows that were taken
+
+pub taken_none : (b : ActState) → Taken b b [] 0 0
+taken_none b = record {
+  commands = [];
+  say = tt;
+  answered = tt;
+  state = refl;
+  grown = let e : length b.accepted + 0 ≡ length b.accepted = omega arith in e;
+  all = refl;
+  few = let e : 0 ≤ 1_000_000 = omega arith in e;
+}
+
+say_push : (rows : List Fields) (list : List Referenced) (row : Fields) (a : Referenced) → Say rows list → Says row a → Say (rows ++ row ∷ []) (list ++ a ∷ [])
+say_push [] [] row a h says = (says, tt)
+say_push [] (c ∷ list) row a h says = absurd h
+say_push (x ∷ rows) [] row a h says = absurd h
+say_push (x ∷ rows) (c ∷ list) row a h says = (h.0, say_push rows list row a h.1 says)
+
+answered_push : (b : ActState) (list : List Referenced) (a : Referenced) → AreAnswered b list → is_ok (answer (acts b list) a) ≡ true → AreAnswered b (list ++ a ∷ [])
+answered_push b [] a h ok = (ok, tt)
+answered_push b (c ∷ list) a h ok = (h.0, answered_push (act b c) list a h.1 ok)
+
+-- a command adds itself where it is accepted, and else nothing
+pub act_grows : (c : ActState) (a : Referenced) → length (act c a).accepted ≡ length c.accepted + cond (is_accepted c a) 1 0
+act_grows c a = elim (is_accepted c a) as (λ t. length (if t then take_on c a else c).accepted ≡ length c.accepted + cond t 1 0) [
+  | true ↦ length-append c.accepted (a ∷ [])
+  | false ↦ (let e : length c.accepted ≡ length c.accepted + 0 = omega arith in e)
+]
+
+pub taken_more : (b c : ActState) (rows : List Fields) (added again added2 again2 : ℕ) (row : Fields) (a : Referenced) → Taken b c rows added again → Says row a → is_ok (answer c a) ≡ true
+    → added + again < 1_000_000 → added2 ≡ added + cond (is_accepted c a) 1 0 → added2 + again2 ≡ added + again + 1
+    → Taken b (act c a) (rows ++ row ∷ []) added2 again2
+taken_more b c rows added again added2 again2 row a t says ok few grown both =
+    let one : length (rows ++ row ∷ []) ≡ length rows + 1 = length-append rows (row ∷ []) in
+    let more : length (act c a).accepted ≡ length c.accepted + cond (is_accepted c a) 1 0 = act_grows c a in
+    record {
+      commands = t.commands ++ a ∷ [];
+      say = say_push rows t.commands row a t.say says;
+      answered = answered_push b t.commands a t.answered (subst (λ s. is_ok (answer s a) ≡ true) t.state ok);
+      state = ap (λ s. act s a) t.state ∙ sym (fold_push act b t.commands a);
+      grown = let e : length b.accepted + added2 ≡ length (act c a).accepted = omega (arith, t.grown, more, grown) in e;
+      all = let e : added2 + again2 ≡ length (rows ++ row ∷ []) = omega (arith, t.all, one, both) in e;
+      few = let e : length (rows ++ row ∷ []) ≤ 1_000_000 = omega (arith, t.all, one, few) in e;
+    }
+
+-- ---- known rows, and those that are left
+
+-- these rows were read of known ones, and those are left
+abbrev pub SplitAs : Option (List Fields) → Option (List Fields) → List Fields → Type 0
+SplitAs None left done = Unit {0}
+SplitAs (Some rows) None done = ⊥
+SplitAs (Some rows) (Some later) done = rows ≡ done ++ later
+
+split_init : (known : Option (List Fields)) → SplitAs known known []
+split_init None = tt
+split_init (Some rows) = refl
+
+split_more : (known left after : Option (List Fields)) (done : List Fields) (row : Fields) → SplitAs known left done → TakesRow left after true row → SplitAs known after (done ++ row ∷ [])
+split_more None left after done row split takes = tt
+split_more (Some rows) None after done row split takes = absurd split
+split_more (Some rows) (Some later) None done row split takes = absurd takes
+split_more (Some rows) (Some later) (Some after) done row split takes =
+    split ∙ ap (λ l. done ++ l) takes ∙ sym (append_assoc done (row ∷ []) after)
+
+are_rows : (known left : Option (List Fields)) (done later : List Fields) → SplitAs known left done → IfSome left (λ l. l ≡ later) → AreRows known (done ++ later)
+are_rows None left done later split is = tt
+are_rows (Some rows) None done later split is = absurd split
+are_rows (Some rows) (Some l) done later split is = ap (λ x. done ++ x) (sym is) ∙ sym split
+
+left_itself : (left : Option (List Fields)) → IfSome left (λ l. l ≡ unwrap_or left [])
+left_itself None = tt
+left_itself (Some l) = refl
+
+left_none : (left after : Option (List Fields)) (row : Fields) → TakesRow left after false row → IfSome left (λ l. l ≡ [])
+left_none None after row takes = tt
+left_none (Some l) after row takes = takes
+
+left_row : (left after : Option (List Fields)) (row : Fields) → TakesRow left after true row → IfSome left (λ l. l ≡ row ∷ unwrap_or after [])
+left_row None after row takes = tt
+left_row (Some l) None row takes = absurd takes
+left_row (Some l) (Some rest) row takes = takes
+
+-- ---- an import under way
+
+fault_not_refused : (f : Fault) (r : Refusal) → ◌≡◌ {A = Result Bool Stop} (Err (stops.Fault f)) (Err (stops.Refused r)) → ⊥
+fault_not_refused f r e = cc
+
+fault_there : (is_new : Bool) (stop : Stop) → ◌≡◌ {A = Result Bool Stop} (Ok is_new) (Err stop) → ⊥
+fault_there is_new stop e = true≢false (ap is_ok e)
+
+no_book_there : {X : Type 0} (o : Option X) → IsSome o → o ≡ None → ⊥
+no_book_there o is none = true≢false (sym is ∙ ap is_some none)
+
+module _ {S : Type 0} (g : Ghosts S) where
+  -- a row that was answered said a command
+  taken_row : (new : KeeperValue S) (c : ActState) (row : Fields) (is_new : Bool) → AddsRow g new c row (Ok is_new)
+      → (a : Referenced) × Says row a × (is_ok (answer c a) ≡ true) × (is_new ≡ is_accepted c a) × Holds g new (act c a)
+  taken_row new c row is_new (inl (a, says, made)) = (a, says, made.0, made.1, made.2)
+  taken_row new c row is_new (inr (r, is, err, holds)) = absurd (true≢false (ap is_ok err))
+
+  -- a row that was refused has its refusal
+  refused_row : (new : KeeperValue S) (c : ActState) (row : Fields) (refusal : Refusal) → AddsRow g new c row (Err (stops.Refused refusal)) → IsRefused c row refusal × Holds g new c
+  refused_row new c row refusal (inl (a, says, made)) = (inr (a, says, made.0), made.1)
+  refused_row new c row refusal (inr (r, is, err, holds)) = let same : r ≡ refusal = cc in (inl (subst (λ x. IsRow row (Err x)) same is), holds)
+
+  -- memory was refused at a row
+  starved_row : (new : KeeperValue S) (c : ActState) (row : Fields) → AddsRow g new c row (Err (stops.Fault faults.OutOfMemory)) → Holds g new c
+  starved_row new c row (inl (a, says, made)) = made
+  starved_row new c row (inr (r, is, err, holds)) = holds
+
+  -- the store failed at a row
+  lost_row : (new : KeeperValue S) (c : ActState) (row : Fields) → AddsRow g new c row (Err (stops.Fault faults.Store))
+      → (a : Referenced) × Says row a × KeepsEitherBook (state g new.conn) c (act c a) × (new.book ≡ None)
+  lost_row new c row (inl (a, says, made)) = (a, says, made.0, made.1)
+  lost_row new c row (inr (r, is, err, holds)) = absurd (fault_not_refused faults.Store r err)
+
+  -- the rows before the one of this number were taken, and the keeper holds what they left
+  pub record SoFar (old now : KeeperValue S) (known left : Option (List Fields)) (added again number : ℕ) : Type 0 where
+    pub clean : HasCleanDisk (state g now.conn) → HasCleanDisk (state g old.conn)
+    pub is_there : IsSome now.book
+    pub next : added + again + 1 ≡ number
+    pub begun : HasCleanDisk (state g now.conn) → (b : ActState) → Ties g old b
+        → (c : ActState) × (done : List Fields) × SplitAs known left done × Taken b c done added again × Holds g now c
+
+  pub so_far_none : (old : KeeperValue S) (known : Option (List Fields)) → IsSome old.book → SoFar old old known known 0 0 1
+  so_far_none old known is = record {
+    clean = λ clean. clean;
+    is_there = is;
+    next = refl;
+    begun = λ clean b ties. (b, [], split_init known, taken_none b, (ties, is));
+  }
+
+  module _ (old now : KeeperValue S) (known left : Option (List Fields)) (added again number : ℕ) (it : SoFar old now known left added again number) where
+    module _ (new : KeeperValue S) (after : Option (List Fields)) (row : Fields) (takes : TakesRow left after true row) (within : number ≤ 1_000_000)
+        (clean : HasCleanDisk (state g new.conn) → HasCleanDisk (state g now.conn)) where
+      -- a row that was taken
+      pub so_far_more : (is_new : Bool) (added2 again2 : ℕ) → (new.book ≡ None) ↔ (◌≡◌ {A = Result Bool Stop} (Ok is_new) (Err (stops.Fault faults.Store)))
+          → (HasCleanDisk (state g new.conn) → (b : ActState) → Ties g now b → AddsRow g new b row (Ok is_new))
+          → added2 ≡ added + cond is_new 1 0 → again2 ≡ again + cond is_new 0 1 → SoFar old new known after added2 again2 (number + 1)
+      so_far_more is_new added2 again2 dropped acted more other =
+          let both : added2 + again2 ≡ added + again + 1 = elim is_new as (λ t. added2 ≡ added + cond t 1 0 → again2 ≡ again + cond t 0 1 → added2 + again2 ≡ added + again + 1) [
+            | true ↦ λ e f. omega (arith, e, f)
+            | false ↦ λ e f. omega (arith, e, f)
+          ] more other in
+          record {
+            clean = λ c. it.clean (clean c);
+            is_there = elim new.book as (λ o. (o ≡ None → ⊥) → IsSome o) [
+              | None ↦ λ d. absurd (d refl)
+              | Some s ↦ λ d. refl
+            ] (λ none. fault_there is_new (stops.Fault faults.Store) (dropped.0 none));
+            next = let e : added2 + again2 + 1 ≡ number + 1 = omega (arith, it.next, both) in e;
+            begun = λ cl b ties.
+                let was = it.begun (clean cl) b ties in
+                let few : added + again < 1_000_000 = omega (arith, it.next, within) in
+                let one = taken_row new was.0 row is_new (acted cl was.0 was.4.0) in (
+                  act was.0 one.0,
+                  was.1 ++ row ∷ [],
+                  split_more known left after was.1 row was.2 takes,
+                  taken_more b was.0 was.1 added again added2 again2 row one.0 was.3 one.1 one.2 few (more ∙ ap (λ t. added + cond t 1 0) one.3) both,
+                  one.4,
+                );
+          }
+
+      -- the row stops the import
+      stops_left : (b c : ActState) (done : List Fields) (refusal : Refusal) (rep : ImportReport) → SplitAs known left done → Taken b c done added again → Stops c number row refusal → Holds g new c
+          → rep.added ≡ added → rep.again ≡ again → rep.stopped ≡ Some (number, refusal) → LeavesOf g (λ rows. Some rows) new b known (Ok rep)
+      stops_left b c done refusal rep split taken why holds is_added is_again is_stopped =
+          let later : List Fields = row ∷ unwrap_or after [] in
+          let at : rep.added + rep.again + 1 ≡ number = omega (arith, it.next, is_added, is_again) in (
+            done ++ later,
+            are_rows known left done later split (left_row left after row takes),
+            (
+              c,
+              (
+                later,
+                (done, refl, subst (λ n. Taken b c done n rep.again) (sym is_added) (subst (λ n. Taken b c done added n) (sym is_again) taken)),
+                subst (λ n. EndsAt c n later rep.stopped) (sym at) (refusal, is_stopped, why),
+              ),
+              holds,
+            ),
+          )
+
+      pub runs_refused : (refusal : Refusal) (whole : Bool) (rep : ImportReport) → (new.book ≡ None) ↔ (◌≡◌ {A = Result Bool Stop} (Err (stops.Refused refusal)) (Err (stops.Fault faults.Store)))
+          → (HasCleanDisk (state g new.conn) → (b : ActState) → Ties g now b → AddsRow g new b row (Err (stops.Refused refusal)))
+          → rep.added ≡ added → rep.again ≡ again → rep.stopped ≡ Some (number, refusal) → Runs g (λ rows. Some rows) old new known whole (Ok rep)
+      runs_refused refusal whole rep dropped acted is_added is_again is_stopped = record {
+        clean = λ c. it.clean (clean c);
+        dropped = (λ none. let e : ◌≡◌ {A = Result Bool Stop} (Err (stops.Refused refusal)) (Err (stops.Fault faults.Store)) = dropped.0 none in cc, λ never. absurd never);
+        cause = tt;
+        ended = λ none. let e : ◌≡◌ {A = Option (ℕ × Refusal)} None (Some (number, refusal)) = sym none ∙ is_stopped in cc;
+        left = λ cl b ties.
+            let was = it.begun (clean cl) b ties in
+            let fits : nat_lt 1_000_000 number ≡ false = le-ltb 1_000_000 number within in
+            let made = refused_row new was.0 row refusal (acted cl was.0 was.4.0) in
+            stops_left b was.0 was.1 refusal rep was.2 was.3 (rw fits made.0) made.1 is_added is_again is_stopped;
+      }
+
+      -- the store failed at the row, or memory was refused
+      pub runs_fault : (fault : Fault) (whole : Bool) → IsActStop (stops.Fault fault) → (new.book ≡ None) ↔ (◌≡◌ {A = Result Bool Stop} (Err (stops.Fault fault)) (Err (stops.Fault faults.Store)))
+          → (HasCleanDisk (state g new.conn) → (b : ActState) → Ties g now b → AddsRow g new b row (Err (stops.Fault fault)))
+          → Runs g (λ rows. Some rows) old new known whole (Err (record { fault = fault; added = added; again = again }))
+      runs_fault faults.OutOfMemory whole may dropped acted = record {
+        clean = λ c. it.clean (clean c);
+        dropped = (λ none. let e : ◌≡◌ {A = Result Bool Stop} (Err (stops.Fault faults.OutOfMemory)) (Err (stops.Fault faults.Store)) = dropped.0 none in cc, λ e. cc);
+        cause = tt;
+        ended = tt;
+        left = λ cl b ties.
+            let was = it.begun (clean cl) b ties in
+            let later : List Fields = row ∷ unwrap_or after [] in
+            let holds = starved_row new was.0 row (acted cl was.0 was.4.0) in
+            (was.1 ++ later, are_rows known left was.1 later was.2 (left_row left after row takes), (was.0, later, (was.1, refl, was.3), holds));
+      }
+      runs_fault faults.Store whole may dropped acted = record {
+        clean = λ c. it.clean (clean c);
+        dropped = (λ none. refl, λ e. dropped.1 refl);
+        cause = tt;
+        ended = tt;
+        left = λ cl b ties.
+            let was = it.begun (clean cl) b ties in
+            let later : List Fields = row ∷ unwrap_or after [] in
+            let lost = lost_row new was.0 row (acted cl was.0 was.4.0) in
+            (was.1 ++ later, are_rows known left was.1 later was.2 (left_row left after row takes), (was.0, later, lost.0, (was.1, refl, was.3), lost.1, lost.2, lost.3));
+      }
+      runs_fault faults.Reopen whole may dropped acted = absurd may
+      runs_fault faults.Input whole may dropped acted = absurd may
+      runs_fault faults.Output whole may dropped acted = absurd may
+
+    module _ (new : KeeperValue S) (after : Option (List Fields)) (row : Fields) (takes : TakesRow left after true row) (within : number ≤ 1_000_000)
+        (clean : HasCleanDisk (state g new.conn) → HasCleanDisk (state g now.conn)) (stop : Stop)
+        (dropped : (new.book ≡ None) ↔ (◌≡◌ {A = Result Bool Stop} (Err stop) (Err (stops.Fault faults.Store))))
+        (acted : HasCleanDisk (state g new.conn) → (b : ActState) → Ties g now b → AddsRow g new b row (Err stop)) where
+      pub runs_refused_by : (refusal : Refusal) (whole : Bool) (rep : ImportReport) → stop ≡ stops.Refused refusal
+          → rep.added ≡ added → rep.again ≡ again → rep.stopped ≡ Some (number, refusal) → Runs g (λ rows. Some rows) old new known whole (Ok rep)
+      runs_refused_by refusal whole rep is =
+          runs_refused new after row takes within clean refusal whole rep
+          (subst (λ s. (new.book ≡ None) ↔ (◌≡◌ {A = Result Bool Stop} (Err s) (Err (stops.Fault faults.Store)))) is dropped)
+          (λ cl b ties. subst (λ s. AddsRow g new b row (Err s)) is (acted cl b ties))
+
+      pub runs_fault_by : (fault : Fault) (whole : Bool) (e : ImportFault) → stop ≡ stops.Fault fault → IsActStop stop → e ≡ record { fault = fault; added = added; again = again }
+          → Runs g (λ rows. Some rows) old new known whole (Err e)
+      runs_fault_by fault whole e is may told =
+          subst (λ f. Runs g (λ rows. Some rows) old new known whole (Err f)) (sym told)
+          (runs_fault new after row takes within clean fault whole (subst IsActStop is may)
+          (subst (λ s. (new.book ≡ None) ↔ (◌≡◌ {A = Result Bool Stop} (Err s) (Err (stops.Fault faults.Store)))) is dropped)
+          (λ cl b ties. subst (λ s. AddsRow g new b row (Err s)) is (acted cl b ties)))
+
+    -- no row is left
+    pub runs_none : (after : Option (List Fields)) (row : Fields) (whole : Bool) (rep : ImportReport) → TakesRow left after false row → whole ≡ true
+        → rep.added ≡ added → rep.again ≡ again → rep.stopped ≡ None → Runs g (λ rows. Some rows) old now known whole (Ok rep)
+    runs_none after row whole rep takes is_whole is_added is_again is_stopped = record {
+      clean = it.clean;
+      dropped = (λ none. no_book_there now.book it.is_there none, λ never. absurd never);
+      cause = tt;
+      ended = λ none. is_whole;
+      left = λ cl b ties.
+          let was = it.begun cl b ties in (
+            was.1 ++ [],
+            are_rows known left was.1 [] was.2 (left_none left after row takes),
+            (
+              was.0,
+              ([], (was.1, refl, subst (λ n. Taken b was.0 was.1 n rep.again) (sym is_added) (subst (λ n. Taken b was.0 was.1 added n) (sym is_again) was.3)), is_stopped),
+              was.4,
+            ),
+          );
+    }
+
+    -- there is a row too many
+    pub runs_full : (after : Option (List Fields)) (row : Fields) (whole : Bool) (rep : ImportReport) → TakesRow left after true row → number ≡ 1_000_001
+        → rep.added ≡ added → rep.again ≡ again → rep.stopped ≡ Some (1_000_001, Full 1_000_000) → Runs g (λ rows. Some rows) old now known whole (Ok rep)
+    runs_full after row whole rep takes last is_added is_again is_stopped = record {
+      clean = it.clean;
+      dropped = (λ none. no_book_there now.book it.is_there none, λ never. absurd never);
+      cause = tt;
+      ended = λ none. let e : ◌≡◌ {A = Option (ℕ × Refusal)} None (Some (1_000_001, Full 1_000_000)) = sym none ∙ is_stopped in cc;
+      left = λ cl b ties.
+          let was = it.begun cl b ties in
+          let later : List Fields = row ∷ unwrap_or after [] in
+          let at : rep.added + rep.again + 1 ≡ 1_000_001 = omega (arith, it.next, is_added, is_again, last) in
+          let past : nat_lt 1_000_000 1_000_001 ≡ true = refl in (
+            was.1 ++ later,
+            are_rows known left was.1 later was.2 (left_row left after row takes),
+            (
+              was.0,
+              (
+                later,
+                (was.1, refl, subst (λ n. Taken b was.0 was.1 n rep.again) (sym is_added) (subst (λ n. Taken b was.0 was.1 added n) (sym is_again) was.3)),
+                subst (λ n. EndsAt was.0 n later rep.stopped) (sym at) (Full 1_000_000, is_stopped, refl),
+              ),
+              was.4,
+            ),
+          );
+    }
+
+    -- the next row could not be read
+    pub runs_unread : (fault : Fault) (whole : Bool) → HasCause fault (whole ≡ false) → fault ≢ faults.Store
+        → Runs g (λ rows. Some rows) old now known whole (Err (record { fault = fault; added = added; again = again }))
+    runs_unread fault whole cause other =
+        let first : HasCleanDisk (state g now.conn) → (b : ActState) → Ties g old b → (rows : List Fields) × AreRows known rows × HoldsFirst g now b rows added again = λ cl b ties.
+        let was = it.begun cl b ties in
+        let later : List Fields = unwrap_or left [] in
+        (was.1 ++ later, are_rows known left was.1 later was.2 (left_itself left), (was.0, later, (was.1, refl, was.3), was.4)) in
+        record {
+          clean = it.clean;
+          dropped = (λ none. absurd (no_book_there now.book it.is_there none), λ is. absurd (other is));
+          cause = cause;
+          ended = tt;
+          left = λ cl b ties. elim fault as (λ f. HasCause f (whole ≡ false) → f ≢ faults.Store
+              → (rows : List Fields) × AreRows known rows × HoldsFirst g now b rows added again → LeavesOf g (λ rows. Some rows) now b known (Err (record { fault = f; added = added; again = again }))) [
+                | faults.OutOfMemory ↦ λ h o it. it
+                | faults.Input ↦ λ h o it. it
+                | faults.Store ↦ λ h o it. absurd (o refl)
+                | faults.Reopen ↦ λ h o it. absurd h
+                | faults.Output ↦ λ h o it. absurd h
+              ] cause other (first cl b ties);
+        }
+
+    pub runs_unread_by : (fault : Fault) (whole : Bool) (e : ImportFault) → HasCause fault (whole ≡ false) → fault ≢ faults.Store → e ≡ record { fault = fault; added = added; again = again }
+        → Runs g (λ rows. Some rows) old now known whole (Err e)
+    runs_unread_by fault whole e cause other told =
+        subst (λ f. Runs g (λ rows. Some rows) old now known whole (Err f)) (sym told) (runs_unread fault whole cause other)
+
+  -- ---- one command
+
+  -- a keeper's book counts the commands of the state that it is tied to
+  counted : (k : KeeperValue S) (b : ActState) (n : ℕ) → ReachedCounts → Ties g k b → IsSome k.book → IfSome k.book (λ s. n ≡ s.accepted) → n ≡ length b.accepted
+  counted k b n law ties is has =
+      elim k.book as (λ o. IsSome o → IfSome o (λ s. n ≡ s.accepted) → IfSome o (λ s. s ≡ b.book) → n ≡ length b.accepted) [
+        | None ↦ λ x y z. absurd (true≢false (sym x))
+        | Some s ↦ λ x y z. y ∙ ap (λ (t : BookState). t.accepted) z ∙ law b ties.kept.reached
+      ] is has ties.book
+
+  grows : (c : ActState) (a : Referenced) (before after : ℕ) → before ≡ length c.accepted → after ≡ length (act c a).accepted → nat_lt before after ≡ is_accepted c a
+  grows c a before after e f = elim (is_accepted c a) as (λ t. length (act c a).accepted ≡ length c.accepted + cond t 1 0 → nat_lt before after ≡ t) [
+    | true ↦ λ h. lt-ltb before after (omega (arith, e, f, h))
+    | false ↦ λ h. le-ltb before after (omega (arith, e, f, h))
+  ] (act_grows c a)
+
+  -- a command was answered a reply
+  pub adds_ok : (old new : KeeperValue S) (b : ActState) (a : Referenced) (reply : Reply) (before after : ℕ) → ReachedCounts → IsSome old.book → Ties g old b
+      → IfSome old.book (λ s. before ≡ s.accepted) → IfSome new.book (λ s. after ≡ s.accepted)
+      → (answer b a ≡ Ok reply) × Ties g new (act b a) × IsSome new.book → Adds g new b a (Ok (nat_lt before after))
+  adds_ok old new b a reply before after law is ties was now made =
+      (ap is_ok made.0, grows b a before after (counted old b before law ties is was) (counted new (act b a) after law made.1 made.2 now), (made.1, made.2))
+
+  -- it was not
+  pub adds_err : (old new : KeeperValue S) (b : ActState) (a : Referenced) (stop : Stop) → IsSome old.book → Acted g old new b a (Err stop) → Adds g new b a (Err stop)
+  adds_err old new b a (stops.Refused refusal) is made = (made.0, (made.1, subst (λ o. IsSome o) (sym made.2) is))
+  adds_err old new b a (stops.Fault faults.OutOfMemory) is made = (made.0, subst (λ o. IsSome o) (sym made.1) is)
+  adds_err old new b a (stops.Fault faults.Store) is made = made
+  adds_err old new b a (stops.Fault faults.Reopen) is made = made
+  adds_err old new b a (stops.Fault faults.Input) is made = made
+  adds_err old new b a (stops.Fault faults.Output) is made = made
+
+  -- ---- the header
+
+  -- nothing was read, and nothing acted
+  pub runs_nothing : (old : KeeperValue S) (known : Option (List Fields)) (whole : Bool) (fault : Fault) → IsSome old.book → HasCause fault (whole ≡ false) → fault ≢ faults.Store
+      → Runs g after_header old old known whole (Err (record { fault = fault; added = 0; again = 0 }))
+  runs_nothing old known whole fault is cause other =
+      let first : (b : ActState) → Ties g old b → (rows : List Fields) × AreRows known rows × HoldsFirst g old b (unwrap_or (after_header rows) []) 0 0 = λ b ties.
+      let rows : List Fields = unwrap_or known [] in
+      let body : List Fields = unwrap_or (after_header rows) [] in
+      (rows, elim known as (λ k. AreRows k (unwrap_or k [])) [ None ↦ tt | Some k ↦ refl ], (b, body, ([], refl, taken_none b), (ties, is))) in
+      record {
+        clean = λ clean. clean;
+        dropped = (λ none. absurd (no_book_there old.book is none), λ e. absurd (other e));
+        cause = cause;
+        ended = tt;
+        left = λ cl b ties. elim fault as (λ f. HasCause f (whole ≡ false) → f ≢ faults.Store
+            → (rows : List Fields) × AreRows known rows × HoldsFirst g old b (unwrap_or (after_header rows) []) 0 0 → LeavesOf g after_header old b known (Err (record { fault = f; added = 0; again = 0 }))) [
+              | faults.OutOfMemory ↦ λ h o it. it
+              | faults.Input ↦ λ h o it. it
+              | faults.Store ↦ λ h o it. absurd (o refl)
+              | faults.Reopen ↦ λ h o it. absurd h
+              | faults.Output ↦ λ h o it. absurd h
+            ] cause other (first b ties);
+      }
+
+  -- memory was refused before anything was read
+  pub leaves_nothing : (old : KeeperValue S) (known : Option (List Fields)) (b : ActState) → IsSome old.book → Ties g old b
+      → LeavesOf g after_header old b known (Err (record { fault = faults.OutOfMemory; added = 0; again = 0 }))
+  leaves_nothing old known b is ties =
+      let rows : List Fields = unwrap_or known [] in
+      let body : List Fields = unwrap_or (after_header rows) [] in
+      (rows, elim known as (λ k. AreRows k (unwrap_or k [])) [ None ↦ tt | Some k ↦ refl ], (b, body, ([], refl, taken_none b), (ties, is)))
+
+  -- the rows of a text that begin with a row that was taken, if one was
+  begins_with : (left after : Option (List Fields)) (found : Bool) (row : Fields) → TakesRow left after found row → (rows : List Fields) × AreRows left (cond found (row ∷ rows) [])
+  begins_with None after found row takes = ([], tt)
+  begins_with (Some l) None true row takes = absurd takes
+  begins_with (Some l) (Some rest) true row takes = (rest, sym takes)
+  begins_with (Some l) after false row takes = ([], sym takes)
+
+  -- there is no header
+  pub runs_headless : (old : KeeperValue S) (left after : Option (List Fields)) (found whole : Bool) (row : Fields) (rep : ImportReport) → IsSome old.book → TakesRow left after found row
+      → cond found (is_header row) false ≡ false → rep.added ≡ 0 → rep.again ≡ 0 → rep.stopped ≡ Some (0, BadField 0) → Runs g after_header old old left whole (Ok rep)
+  runs_headless old left after found whole row rep is takes none is_added is_again is_stopped = record {
+    clean = λ clean. clean;
+    dropped = (λ e. no_book_there old.book is e, λ never. absurd never);
+    cause = tt;
+    ended = λ no_stop. let e : ◌≡◌ {A = Option (ℕ × Refusal)} None (Some (0, BadField 0)) = sym no_stop ∙ is_stopped in cc;
+    left = λ cl b ties.
+        let it = begins_with left after found row takes in
+        let lacks : after_header (cond found (row ∷ it.0) []) ≡ None = elim found as (λ t. cond t (is_header row) false ≡ false → after_header (cond t (row ∷ it.0) []) ≡ None) [
+          | true ↦ λ e. rw e refl
+          | false ↦ λ e. refl
+        ] none in
+        (cond found (row ∷ it.0) [], it.1, (b, rw (lacks, is_added, is_again, is_stopped) refl, (ties, is)));
+  }
+
+  -- the rows after the header were imported
+  pub runs_after : (old new : KeeperValue S) (left after : Option (List Fields)) (whole : Bool) (row : Fields) (result : Result ImportReport ImportFault) → TakesRow left after true row → is_header row ≡ true
+      → Runs g (λ rows. Some rows) old new after whole result → Runs g after_header old new left whole result
+  runs_after old new left after whole row result takes header it = record {
+    clean = it.clean;
+    dropped = it.dropped;
+    cause = it.cause;
+    ended = it.ended;
+    left = λ cl b ties.
+        let was = it.left cl b ties in
+        let are : AreRows left (row ∷ was.0) = elim left as (λ l. TakesRow l after true row → AreRows l (row ∷ was.0)) [
+          | None ↦ λ t. tt
+          | Some l ↦ λ t. elim after as (λ m. TakesRow (Some l) m true row → AreRows m was.0 → row ∷ was.0 ≡ l) [
+            | None ↦ λ u v. absurd u
+            | Some rest ↦ λ u v. ap (λ x. row ∷ x) v ∙ sym u
+          ] t was.1
+        ] takes in
+        let body : after_header (row ∷ was.0) ≡ Some was.0 = rw header refl in
+        (row ∷ was.0, are, rw body was.2);
+  }
+
+  -- ---- what was gathered, and then what is left, is the text
+  pub imported_gathered : (k : KeeperValue S) (b : ActState) (old new : Option (List ℕ)) (bytes : List ℕ) (r : Result ImportReport ImportFault) → Consumes old new bytes
+      → Imported g k b (option_map rows_of (prepend_known bytes new)) r → Imported g k b (option_map rows_of old) r
+  imported_gathered k b None new bytes r c h = (h.0, tt, h.2)
+  imported_gathered k b (Some xs) None bytes r c h = absurd c
+  imported_gathered k b (Some xs) (Some ys) bytes r c h = rw c h
+
+pub within_gathered : (old new : Option (List ℕ)) (bytes : List ℕ) (limit : ℕ) → Consumes old new bytes → is_over new ≡ true → length bytes ≤ limit → IsWithin old limit
+within_gathered None new bytes limit c over few = tt
+within_gathered (Some xs) None bytes limit c over few = absurd c
+within_gathered (Some xs) (Some []) bytes limit c over few = rw (c, append-nil bytes) few
+within_gathered (Some xs) (Some (y ∷ ys)) bytes limit c over few = absurd (true≢false (sym over))

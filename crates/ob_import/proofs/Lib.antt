@@ -1,0 +1,2 @@
+pub mod ImportLaws
+pub mod Importing

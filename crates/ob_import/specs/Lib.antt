@@ -1,0 +1,5 @@
+pub mod Imports
+pub mod Acting
+pub mod Reports
+pub mod Gathering
+pub mod Replaying

@@ -1,0 +1,86 @@
+-- What an import tells, and what then stands.
+use Rattle.std.specs.Prelude.{◌≡◌, ◌↔◌, ℕ, ⊤, Bool, true, false, List, [], ◌∷◌, Option, None, Result, Ok, Err, IfSome, IfOk, IfErr, unwrap_or}
+use Rattle.sqlite_trees.specs.declared.store.Store.{Ghosts}
+use Rattle.sqlite.specs.Held.{state}
+use Rattle.sqlite.specs.State.{HasCleanDisk}
+use Rattle.ob_base.specs.declared.stop.Fault.{Fault}
+use Rattle.ob_base.specs.declared.stop.Fault.TheVariants.{OutOfMemory, Store, Reopen, Input, Output}
+use Rattle.ob_rows.specs.Rows.{Fields}
+use Rattle.ob_book.specs.Acts.{ActState, Referenced, act}
+use Rattle.ob_store.specs.Keeping.{KeeperValue, KeepsEitherBook, Ties}
+use Rattle.ob_import.specs.Imports.{Begins, Import, ImportsBody, Says, after_header}
+use Rattle.ob_import.specs.Acting.{Holds}
+use Rattle.ob_import.specs.declared.report.ImportReport.{ImportReport}
+use Rattle.ob_import.specs.declared.report.ImportFault.{ImportFault}
+
+-- an import that left this state and is told by this report
+abbrev pub import_as : ActState → ImportReport → Import
+import_as c report = record { state = c; added = report.added; again = report.again; stopped = report.stopped }
+
+-- the first of these rows says this command
+abbrev pub IsNext : List Fields → Referenced → Type 0
+IsNext [] a = ⊥
+IsNext (row ∷ rows) a = Says row a
+
+-- an import that found no book
+abbrev pub no_book : Result ImportReport ImportFault
+no_book = Err (record { fault = Reopen; added = 0; again = 0 })
+
+-- the store has failed
+abbrev pub IsStoreFault : Result ImportReport ImportFault → Type 0
+IsStoreFault (Ok report) = ⊥
+IsStoreFault (Err e) = e.fault ≡ Store
+
+-- a fault of an import into a book: one of input has this cause
+abbrev pub HasCause : Fault → Type 0 → Type 0
+HasCause OutOfMemory input = ⊤
+HasCause Input input = input
+HasCause Store input = ⊤
+HasCause Reopen input = ⊥
+HasCause Output input = ⊥
+
+-- these are the rows, where those are known
+abbrev pub AreRows : Option (List Fields) → List Fields → Type 0
+AreRows known rows = IfSome known (λ those. rows ≡ those)
+
+module _ {S : Type 0} (g : Ghosts S) where
+  -- the keeper holds what the first of these rows left
+  abbrev pub HoldsFirst : KeeperValue S → ActState → List Fields → ℕ → ℕ → Type 0
+  HoldsFirst new b rows added again = (c : ActState) × (later : List Fields) × Begins b c rows later added again × Holds g new c
+
+  -- the store failed at the command of the row after these: there is no book, and a crash leaves what the first rows left or
+  -- that command with it
+  abbrev pub LosesNext : KeeperValue S → ActState → List Fields → ℕ → ℕ → Type 0
+  LosesNext new b rows added again =
+      (c : ActState) × (later : List Fields) × (a : Referenced) × Begins b c rows later added again × IsNext later a
+      × KeepsEitherBook (state g new.conn) c (act c a) × (new.book ≡ None)
+
+  -- what stands after a fault ended an import
+  abbrev pub Breaks : KeeperValue S → ActState → List Fields → Fault → ℕ → ℕ → Type 0
+  Breaks new b rows OutOfMemory added again = HoldsFirst new b rows added again
+  Breaks new b rows Input added again = HoldsFirst new b rows added again
+  Breaks new b rows Store added again = LosesNext new b rows added again
+  Breaks new b rows Reopen added again = ⊥
+  Breaks new b rows Output added again = ⊥
+
+  -- what an import of the rows after a header made of a keeper over a book, and told
+  abbrev pub Leaves : KeeperValue S → ActState → Option (List Fields) → Result ImportReport ImportFault → Type 0
+  Leaves new b body (Ok report) = (c : ActState) × ImportsBody b body (import_as c report) × Holds g new c
+  Leaves new b body (Err e) = Breaks new b (unwrap_or body []) e.fault e.added e.again
+
+  -- the same of known rows, of which these are after the header; where they aren't known, of some rows
+  abbrev pub LeavesOf : (List Fields → Option (List Fields)) → KeeperValue S → ActState → Option (List Fields) → Result ImportReport ImportFault → Type 0
+  LeavesOf body new b known result = (rows : List Fields) × AreRows known rows × Leaves new b (body rows) result
+
+  -- the same of the rows of a text, its header among them
+  abbrev pub Imported : KeeperValue S → ActState → Option (List Fields) → Result ImportReport ImportFault → Type 0
+  Imported new b known result = LeavesOf after_header new b known result
+
+  -- all that an import of a book promises, of rows of which these are after the header and that are the whole text or not
+  pub record Runs (body : List Fields → Option (List Fields)) (old new : KeeperValue S) (known : Option (List Fields)) (whole : Bool)
+      (result : Result ImportReport ImportFault) : Type 0 where
+    pub clean : HasCleanDisk (state g new.conn) → HasCleanDisk (state g old.conn)
+    pub dropped : (new.book ≡ None) ↔ IsStoreFault result
+    pub cause : IfErr result (λ e. HasCause e.fault (whole ≡ false))
+    pub ended : IfOk result (λ r. r.stopped ≡ None → whole ≡ true)
+    pub left : HasCleanDisk (state g new.conn) → (b : ActState) → Ties g old b → LeavesOf body new b known result

@@ -1,0 +1,150 @@
+//! The rows of a text act in turn, up to the first refusal.
+ghost use Rattle.std.specs.Prelude.{◌≡◌, ◌≢◌, true, false, Some, Ok, IsSome, IfOk, IfErr};
+ghost use Rattle.ob_rows.specs.Rows.{TakesRow};
+ghost use Rattle.ob_rows.specs.RowReading.{rows_left};
+ghost use Rattle.ob_import.specs.Imports.{after_header};
+ghost use Rattle.ob_import.specs.Reports.{HasCause, Runs};
+
+use crate::acting::act_row;
+use crate::report::{ImportFault, ImportReport};
+use ob_base::{Fault, Refusal, Stop};
+use ob_rows::{MOST_ROWS, Row, RowReader};
+use ob_store::Keeper;
+use ob_sweep::Timeline;
+use sqlite::Alter;
+use std::alloc::Global;
+use std::io::Read;
+
+/// Imports the rows of a text, its header among them. Where they aren't the whole text, their reader fails at their end.
+pub(crate) fn import_all<R: Read, S: Alter, T: Timeline>(
+    alloc: Global,
+    rows: &mut RowReader<R>,
+    whole: bool,
+    keeper: &mut Keeper<S, T>,
+) -> Result<ImportReport, ImportFault>
+    requires { IsSome keeper.old.book }
+    ensures runs { Runs S.Store after_header keeper.old keeper.new (rows_left R.remaining rows.old) whole result }
+{
+    let mut row = Row::new(alloc);
+    let found = match take_row(rows, &mut row, whole) {
+        Ok(found) => found,
+        Err(fault) => {
+            return Err(ImportFault {
+                fault,
+                added: 0,
+                again: 0,
+            });
+        }
+    };
+    if !found || !row.is_header() {
+        return Ok(ImportReport {
+            added: 0,
+            again: 0,
+            stopped: Some((0, Refusal::BadField(0))),
+        });
+    }
+    import_rows(rows, &mut row, whole, keeper)
+}
+
+/// Imports the rows after the header.
+fn import_rows<R: Read, S: Alter, T: Timeline>(
+    rows: &mut RowReader<R>,
+    row: &mut Row,
+    whole: bool,
+    keeper: &mut Keeper<S, T>,
+) -> Result<ImportReport, ImportFault>
+    requires { IsSome keeper.old.book }
+    ensures runs { Runs S.Store (λ rows. Some rows) keeper.old keeper.new (rows_left R.remaining rows.old) whole result }
+{
+    let mut tally = Tally { added: 0, again: 0 };
+    for number in 1..MOST_ROWS + 1 {
+        match take_row(rows, row, whole) {
+            Ok(true) => {}
+            Ok(false) => return Ok(report(tally, None)),
+            Err(fault) => return Err(broken(tally, fault)),
+        }
+        match act_row(keeper, row) {
+            Ok(is_new) => tally.count(is_new),
+            Err(Stop::Refused(refusal)) => return Ok(report(tally, Some((number, refusal)))),
+            Err(Stop::Fault(fault)) => return Err(broken(tally, fault)),
+        }
+    }
+    match take_row(rows, row, whole) {
+        Ok(true) => Ok(report(tally, Some((MOST_ROWS + 1, Refusal::Full(MOST_ROWS))))),
+        Ok(false) => Ok(report(tally, None)),
+        Err(fault) => Err(broken(tally, fault)),
+    }
+}
+
+/// The next row into `row`, and whether there was one.
+fn take_row<R: Read>(rows: &mut RowReader<R>, row: &mut Row, whole: bool) -> Result<bool, Fault>
+    ensures takes { IfOk result (λ found. TakesRow (rows_left R.remaining rows.old) (rows_left R.remaining rows.new) found row.new) }
+    ensures ended { result ≡ Ok false → whole ≡ true }
+    ensures fault { IfErr result (λ f. HasCause f (whole ≡ false)) }
+    ensures store { IfErr result (λ f. f ≢ Fault.Store) }
+{
+    match rows.next_row(row) {
+        Ok(found) => {
+            if found || whole {
+                Ok(found)
+            } else {
+                Err(Fault::Input)
+            }
+        }
+        Err(_) => {
+            if whole {
+                Err(Fault::OutOfMemory)
+            } else {
+                Err(Fault::Input)
+            }
+        }
+    }
+}
+
+/// How many rows were taken so far.
+#[derive(Clone, Copy)]
+struct Tally {
+    // Those that added a command.
+    added: u32,
+    // Those that named one that the book had.
+    again: u32,
+}
+
+impl Tally {
+    ghost use Rattle.std.specs.Prelude.{◌≡◌, ◌+◌, ◌<◌, if◌then◌else◌};
+
+    /// One row more, whose command was new to the book or not.
+    fn count(&mut self, is_new: bool)
+        requires { self.old.added + self.old.again < 1_000_000 }
+        ensures added { self.new.added ≡ self.old.added + (if is_new then 1 else 0) }
+        ensures again { self.new.again ≡ self.old.again + (if is_new then 0 else 1) }
+    {
+        if is_new {
+            self.added += 1;
+        } else {
+            self.again += 1;
+        }
+    }
+}
+
+fn report(tally: Tally, stopped: Option<(u32, Refusal)>) -> ImportReport
+    ensures added { result.added ≡ tally.added }
+    ensures again { result.again ≡ tally.again }
+    ensures stopped { result.stopped ≡ stopped }
+{
+    ImportReport {
+        added: tally.added,
+        again: tally.again,
+        stopped,
+    }
+}
+
+fn broken(tally: Tally, fault: Fault) -> ImportFault
+    ensures fault { result ≡ record { fault = fault; added = tally.added; again = tally.again } }
+{
+    ImportFault {
+        fault,
+        added: tally.added,
+        again: tally.again,
+    }
+}

@@ -1,0 +1,129 @@
+//! The imports: of a text, and of what a reader gives.
+ghost use Rattle.std.specs.Prelude.{◌≡◌, ◌↔◌, ◌⊎◌, true, false, None, Some, Ok, Err, IsSome, IfOk, IfErr, option_map};
+ghost use Rattle.sqlite.specs.Held.{state};
+ghost use Rattle.sqlite.specs.State.{HasCleanDisk};
+ghost use Rattle.ob_stream.specs.Streams.{Passes};
+ghost use Rattle.ob_stream.specs.Watching.{HasJustFailed, watched_bytes};
+ghost use Rattle.ob_rows.specs.Rows.{rows_of};
+ghost use Rattle.ob_book.specs.Acts.{ActState};
+ghost use Rattle.ob_store.specs.Keeping.{Ties};
+ghost use Rattle.ob_import.specs.Gathering.{IsWithin, is_over};
+ghost use Rattle.ob_import.specs.Imports.{ImportedAgain, ImportsMakeOneThing, after_header};
+ghost use Rattle.ob_import.specs.Reports.{HasCause, Imported, IsStoreFault, Runs, no_book};
+
+use crate::gather::{Gathered, Replay, gather};
+use crate::report::{ImportFault, ImportReport};
+use crate::rows::import_all;
+use ob_base::Fault;
+use ob_command::rows_law;
+use ob_rows::{MOST_BYTES, RowReader};
+use ob_store::Keeper;
+use ob_stream::{Retries, Watched};
+use ob_sweep::Timeline;
+use sqlite::Alter;
+use std::alloc::Global;
+use std::io::Read;
+
+/// Imports the commands of a CSV text, RFC 4180: its header is `kind,ref,f1,f2,f3,f4,f5,f6`, and each row after it acts on its
+/// own, in their order. The first refusal stops the import, and the rows before it stand.
+///
+/// A text without the header stops at row 0 by `BadField(0)`, a row of other than eight fields by `BadField(0)` too, and the
+/// row 1,000,001 by `Full(1000000)`.
+///
+/// # Errors
+///
+/// `Fault::Reopen` where the keeper has no book, `Fault::OutOfMemory`, `Fault::Store`. The rows that acted before stand; after
+/// a fault of the store the one in work may stand too, which the next `load` shows.
+pub fn import_text<S: Alter, T: Timeline>(
+    alloc: Global,
+    text: &[u8],
+    keeper: &mut Keeper<S, T>,
+) -> Result<ImportReport, ImportFault>
+    ensures reopen { (keeper.old.book ≡ None) ↔ (result ≡ no_book) }
+    ensures unopened { keeper.old.book ≡ None → keeper.new ≡ keeper.old }
+    ensures imported { HasCleanDisk (state S.Store keeper.new.conn) → (b : ActState) → Ties S.Store keeper.old b
+        → IsSome keeper.old.book → Imported S.Store keeper.new b (Some (rows_of text.now)) result }
+    ensures clean { HasCleanDisk (state S.Store keeper.new.conn) → HasCleanDisk (state S.Store keeper.old.conn) }
+    ensures dropped { IsSome keeper.old.book → (keeper.new.book ≡ None) ↔ IsStoreFault result }
+    ensures cause { IsSome keeper.old.book → IfErr result (λ e. HasCause e.fault ⊥) }
+{
+    if keeper.book().is_none() {
+        return Err(unopened());
+    }
+    let mut rows = RowReader::new(alloc, text);
+    import_all(alloc, &mut rows, true, keeper)
+}
+
+/// Imports the commands of the CSV text that a reader gives, as `import_text` does. The text has at most
+/// `ob_rows::MOST_BYTES` bytes; an interrupted read is tried again, 65,536 times in all.
+///
+/// # Errors
+///
+/// Those of `import_text`, and `Fault::Input` where the reader fails or the text is longer: the whole rows before that have
+/// acted then, and stand.
+pub fn import<R: Read, S: Alter, T: Timeline>(
+    alloc: Global,
+    reader: &mut Watched<R>,
+    keeper: &mut Keeper<S, T>,
+) -> Result<ImportReport, ImportFault>
+    ensures reopen { (keeper.old.book ≡ None) ↔ (result ≡ no_book) }
+    ensures unopened { keeper.old.book ≡ None → keeper.new ≡ keeper.old }
+    ensures imported { HasCleanDisk (state S.Store keeper.new.conn) → (b : ActState) → Ties S.Store keeper.old b
+        → IsSome keeper.old.book → Imported S.Store keeper.new b (option_map rows_of (watched_bytes R.remaining reader.old)) result }
+    ensures clean { HasCleanDisk (state S.Store keeper.new.conn) → HasCleanDisk (state S.Store keeper.old.conn) }
+    ensures dropped { IsSome keeper.old.book → (keeper.new.book ≡ None) ↔ IsStoreFault result }
+    ensures cause { IsSome keeper.old.book → IfErr result (λ e. HasCause e.fault
+        (HasJustFailed reader.new ⊎ Passes (watched_bytes R.remaining reader.old) 268435456)) }
+    ensures bound { IfOk result (λ r. r.stopped ≡ None → IsWithin (watched_bytes R.remaining reader.old) 268435456) }
+{
+    if keeper.book().is_none() {
+        return Err(unopened());
+    }
+    let mut retries = Retries::new();
+    match gather(alloc, reader, &mut retries, MOST_BYTES) {
+        Ok(gathered) => import_gathered(alloc, &gathered, reader, keeper),
+        Err(_) => Err(ImportFault {
+            fault: Fault::OutOfMemory,
+            added: 0,
+            again: 0,
+        }),
+    }
+}
+
+/// Imports what was gathered from a reader.
+fn import_gathered<R: Read, S: Alter, T: Timeline>(
+    alloc: Global,
+    gathered: &Gathered,
+    reader: &Watched<R>,
+    keeper: &mut Keeper<S, T>,
+) -> Result<ImportReport, ImportFault>
+    requires book { IsSome keeper.old.book }
+    requires ended { gathered.now.whole ≡ true → is_over (watched_bytes R.remaining reader.now) ≡ true }
+    ensures runs { Runs S.Store after_header keeper.old keeper.new
+        (option_map rows_of (prepend_known gathered.now.bytes.items (watched_bytes R.remaining reader.now))) gathered.now.whole result }
+{
+    let mut rows = RowReader::new(alloc, Replay::new(gathered, reader));
+    import_all(alloc, &mut rows, gathered.whole, keeper)
+}
+
+/// There is no book to import into.
+fn unopened() -> ImportFault
+    ensures { Err result ≡ no_book }
+{
+    ImportFault {
+        fault: Fault::Reopen,
+        added: 0,
+        again: 0,
+    }
+}
+
+/// An import of a text makes one thing of a book; and a text that is imported again leaves the state that its own import left,
+/// and adds nothing. It does nothing when it runs.
+pub fn import_law()
+    ensures one { ImportsMakeOneThing }
+    ensures again { ImportedAgain }
+{
+    rows_law();
+}
+
+ghost use Rattle.std.specs.Io.KnownBytes.{prepend_known};
