@@ -6,3 +6,4 @@ pub mod Answered
 pub mod Beginning
 pub mod Reading
 pub mod Naming
+pub mod Handing

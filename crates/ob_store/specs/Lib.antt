@@ -3,3 +3,4 @@ pub mod Acting
 pub mod Replying
 pub mod Creating
 pub mod Finding
+pub mod MovingOut

@@ -5,8 +5,10 @@ mod acting;
 mod creating;
 mod keeper;
 mod named;
+mod out;
 mod reply;
 mod stored;
 
 pub use keeper::Keeper;
+pub use out::MoveSink;
 pub use reply::{Moves, Reply};
