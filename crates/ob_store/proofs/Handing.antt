@@ -87,14 +87,22 @@ module _ (old mid new : State) (text : List ℕ) (prepared : HasCleanDisk mid �
   pub query_survives : old.now.schema ≡ book_schema → Survives old new (λ _. ⊥)
   query_survives has = still_then old mid new first (quiet moved_listing moved_is old mid new text prepared has s)
 
-  -- and keeps what is kept
-  pub query_keeps : (HasCleanDisk new → old.now.schema ≡ book_schema → IsSpared mid new) → (t : Tables) → Keeps old t → Keeps new t
-  query_keeps spared t keeps = keeps_when new t (λ clean.
+  in_turn : (t : Tables) → Keeps old t → HasCleanDisk new → old.now.schema ≡ book_schema
+  in_turn t keeps clean =
       let middle : HasCleanDisk mid = omega (arith, s.clean, clean) in
       let early : HasCleanDisk old = omega (arith, first.clean, middle) in
-      let same = (prepared middle).1 in
-      let has = (keeps.settled early same.0.was_open).schema in
-      keeps_after mid new (quiet moved_listing moved_is old mid new text prepared has s) (λ late. spared late has) t (keeps_after old mid first (λ late. inl (prepared late).1) t keeps))
+      (keeps.settled early (prepared middle).1.0.was_open).schema
+
+  -- where it begins, it keeps what is kept
+  pub begun_keeps : (HasCleanDisk new → old.now.schema ≡ book_schema → IsUnchanged old new) → (t : Tables) → Keeps old t → Keeps new t
+  begun_keeps same t keeps = keeps_when new t (λ clean.
+      let has = in_turn t keeps clean in
+      keeps_after old new (query_survives has) (λ late. inl (same late has)) t keeps)
+
+  -- and where it doesn't
+  pub query_keeps : (HasCleanDisk new → IsSpared mid new) → (t : Tables) → Keeps old t → Keeps new t
+  query_keeps spared t keeps = keeps_when new t (λ clean.
+      keeps_after mid new (quiet moved_listing moved_is old mid new text prepared (in_turn t keeps clean) s) spared t (keeps_after old mid first (λ late. inl (prepared late).1) t keeps))
 
 -- ---- the moves of the accepted commands are the rows of the table
 module _ (b : ActState) where
