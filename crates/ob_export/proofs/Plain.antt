@@ -1,5 +1,5 @@
 -- The text of a record whose fields call for no quotes.
-use Rattle.std.proofs.Common.{◌≡◌, ◌<◌, ◌≤◌, ◌∙◌, ℕ, suc, pos, negsuc, ℤ, ◌^◌, List, [], ◌∷◌, ◌++◌, Bool, true, false, arith, ap, sym, refl, append_assoc, append-nil, FitsSigned, w64}
+use Rattle.std.proofs.Common.{◌≡◌, ◌<◌, ◌≤◌, ℕ, suc, pos, negsuc, ℤ, ◌^◌, List, [], ◌∷◌, true, false, arith, refl, append_assoc, append-nil, FitsSigned, w64}
 use Rattle.std.specs.Fmt.{decimal, signed_decimal}
 use Rattle.std.specs.List.{list_any}
 use Rattle.std.specs.Str.{all_ascii_digits}

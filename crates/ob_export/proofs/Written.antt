@@ -1,5 +1,5 @@
 -- The lines that a sink wrote.
-use Rattle.std.proofs.Common.{◌≡◌, ◌≢◌, ◌⊎◌, inl, inr, ℕ, zero, suc, List, [], ◌∷◌, ◌++◌, length, take, drop, Option, None, Some, Result, Ok, Err, refl, sym, ap, subst, ◌∙◌}
+use Rattle.std.proofs.Common.{◌≡◌, ◌≢◌, inl, inr, ℕ, zero, suc, List, [], ◌∷◌, ◌++◌, take, drop, Option, None, Some, Result, Ok, Err, refl, sym, ap, subst, ◌∙◌}
 use Rattle.std.specs.Io.KnownBytes.{Appends}
 use Rattle.std.proofs.KnownBytes.{Appends-trans}
 use Rattle.std.proofs.lemmas.List.{append_assoc, append-nil}
@@ -17,7 +17,7 @@ use Rattle.ob_tables.specs.Steps.{IsStoreFault}
 use Rattle.ob_store.specs.Keeping.{KeeperValue, Ties}
 use Rattle.ob_store.specs.MovingOut.{Numbered, Takes, TakesAll, FailsAmong, TakesFront, HandsOver, MovesOut, StoreFails, all_moves}
 use Rattle.ob_export.specs.declared.lines.Lines.{Lines}
-use Rattle.ob_export.specs.Text.{header, lines_of, moved_line}
+use Rattle.ob_export.specs.Text.{lines_of, moved_line}
 use Rattle.ob_export.specs.Exporting.{AppendsPart, PutsLine, Exports}
 
 nothing : (bytes : Option (List ℕ)) → Appends bytes bytes []
@@ -76,11 +76,7 @@ module _ {W : Type 0} (contents : W → Option (List ℕ)) where
   no_store_fault fault memory store (inl is) = memory cc
   no_store_fault fault memory store (inr is) = store cc
 
-  -- no take asks for a book
-  pub never_reopen : (was is : Lines W) → ¬ HandsOver puts was is (Err (Fault Reopen))
-  never_reopen was is h = elim h.3 [ inl failed ↦ failed.1.1 | inr store ↦ no_store_fault Reopen (λ e. absurd cc) (λ e. absurd cc) store.1 ]
-
-  -- and one that tells of the output left it failed
+  -- a take that tells of the output left it failed
   pub has_failed : (was is : Lines W) → HandsOver puts was is (Err (Fault Output)) → HasJustFailed is.writer.now
   has_failed was is h = elim h.3 [ inl failed ↦ failed.1.1.1 | inr store ↦ absurd (no_store_fault Output (λ e. absurd cc) (λ e. absurd cc) store.1) ]
 

@@ -3,7 +3,6 @@ ghost use Rattle.std.specs.Prelude.{◌≡◌};
 ghost use Rattle.ob_export.specs.Text.{moved_line};
 ghost use Rattle.ob_export.specs.Exporting.{PutsLine};
 
-
 use crate::line::line_of;
 use ob_base::Fault;
 use ob_post::Moved;

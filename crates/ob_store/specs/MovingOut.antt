@@ -14,11 +14,13 @@ use Rattle.ob_post.specs.declared.Moved.{Moved}
 use Rattle.ob_book.specs.Acts.{ActState, reply_of}
 use Rattle.ob_tables.specs.Rows.{Columns, moved_row}
 use Rattle.ob_tables.specs.Steps.{IsStoreFault}
+use Rattle.ob_tables.specs.declared.table.Table.TheVariants.{Moved as MovedTable}
+use Rattle.ob_record.specs.Tables.{tables_of}
 use Rattle.ob_compare.specs.Listing.{Lists}
 use Rattle.ob_compare.specs.Moves.{moved_listing}
 use Rattle.ob_store.specs.Keeping.{KeeperValue, KeepsBook, Ties}
-use Rattle.ob_store.specs.declared.out.Halt.{Halt}
-use Rattle.ob_store.specs.declared.out.Halt.TheVariants as halts
+use Rattle.ob_store.specs.declared.moving.Halt.{Halt}
+use Rattle.ob_store.specs.declared.moving.Halt.TheVariants as halts
 
 -- an amount that moved, under the number of its command
 abbrev pub Numbered : Type 0
@@ -35,6 +37,10 @@ all_moves b = flat_map (moves_of b) (range_with_len 1 (length b.accepted))
 -- its row
 abbrev pub row_of_move : Numbered → Columns
 row_of_move x = moved_row x.0 (dim_number x.1.dim) x.1.key x.1.delta
+
+-- their rows are those of the table of moved amounts, in order
+abbrev pub MovesAreRows : Type 0
+MovesAreRows = (b : ActState) → map row_of_move (all_moves b) ≡ tables_of b MovedTable
 
 -- what a take makes of a sink, whether it fails or not
 abbrev pub Takes : Type 0 → Type 1

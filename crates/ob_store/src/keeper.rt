@@ -1,7 +1,7 @@
 //! The keeper: a book, and the connection to the store that keeps its tables.
 use crate::acting::act_on;
 use crate::creating::create_on;
-use crate::out::{Halt, MoveSink, hand_out};
+use crate::moving::{Halt, MoveSink, hand_out, moves_law};
 use crate::reply::Reply;
 use crate::stored::reply_at;
 use ob_base::{Fault, Ref, Stop};
@@ -44,7 +44,7 @@ impl<S: Alter, T: Timeline> Keeper<S, T> {
     ghost use Rattle.ob_store.specs.Acting.{Acted, under};
     ghost use Rattle.ob_store.specs.Replying.{Replied};
     ghost use Rattle.ob_store.specs.Creating.{Created};
-    ghost use Rattle.ob_store.specs.MovingOut.{HandsOver, MovesOut};
+    ghost use Rattle.ob_store.specs.MovingOut.{HandsOver, MovesAreRows, MovesOut};
     ghost use Rattle.ob_tables.specs.Schema.{book_schema};
     ghost use Rattle.std.specs.Option.{option_map};
 
@@ -135,7 +135,9 @@ impl<S: Alter, T: Timeline> Keeper<S, T> {
             → Survives (state S.Store self.old.conn) (state S.Store self.new.conn) (λ _. ⊥) }
         ensures moves { HasCleanDisk (state S.Store self.new.conn) → (b : ActState) → Ties S.Store self.old b
             → IsSome self.old.book → MovesOut S.Store V.takes self.old self.new sink.old sink.new b result }
+        ensures rows { MovesAreRows }
     {
+        moves_law();
         if self.book.is_none() {
             return Err(Stop::Fault(Fault::Reopen));
         }

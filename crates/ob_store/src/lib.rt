@@ -4,11 +4,11 @@
 mod acting;
 mod creating;
 mod keeper;
+mod moving;
 mod named;
-mod out;
 mod reply;
 mod stored;
 
 pub use keeper::Keeper;
-pub use out::MoveSink;
+pub use moving::MoveSink;
 pub use reply::{Moves, Reply};

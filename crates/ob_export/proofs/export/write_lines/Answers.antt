@@ -1,4 +1,4 @@
-use Rattle.std.proofs.Common.{◌≡◌, sym, subst, subst₂, rules}
+use Rattle.std.proofs.Common.{◌≡◌, subst, subst₂, rules}
 use Rattle.ob_stream.specs.Watching.{HasJustFailed, watched_bytes}
 use Rattle.ob_store.specs.MovingOut.{HandsOver, all_moves}
 use Rattle.ob_export.specs.Text.{lines_of}

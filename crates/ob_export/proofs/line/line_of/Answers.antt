@@ -1,6 +1,5 @@
-use Rattle.std.proofs.Common.{◌≡◌, ◌<◌, ◌^◌, ◌∙◌, arith, rules, w64, FitsSigned, to_z-of_z}
+use Rattle.std.proofs.Common.{◌<◌, ◌^◌, ◌∙◌, arith, rules, w64, FitsSigned, to_z-of_z}
 use Rattle.std.proofs.lemmas.Result.{IfOk-weaker}
-use Rattle.ob_export.specs.Text.{dim_name, moved_line}
 use Rattle.ob_export.proofs.Plain.{moved_record}
 use Rattle.ob_export.proofs.line.line_of.Goals as goal
 

@@ -14,7 +14,7 @@ ghost use Rattle.ob_commit.specs.Keeps.{Keeps};
 ghost use Rattle.ob_book.specs.Acts.{ActState};
 ghost use Rattle.ob_compare.specs.Moves.{moved_listing};
 ghost use Rattle.ob_store.specs.Keeping.{KeepsBook};
-ghost use Rattle.ob_store.specs.MovingOut.{ComesNext, Hands, HandsOut, row_of_move};
+ghost use Rattle.ob_store.specs.MovingOut.{ComesNext, Hands, HandsOut, MovesAreRows, row_of_move};
 
 use ob_base::{Fault, Stop};
 use ob_post::{Dim, Moved};
@@ -34,6 +34,11 @@ pub trait MoveSink {
     fn take(&mut self, cmd: u32, m: &Moved) -> Result<(), Fault>
         ensures { takes self.old cmd m.now result self.new };
 }
+
+/// A law of what commands moved: row by row it is the table of moved amounts.
+pub(crate) fn moves_law()
+    ensures { MovesAreRows }
+{}
 
 /// Why a handing out ended early.
 pub(crate) enum Halt {
