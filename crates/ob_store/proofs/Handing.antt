@@ -1,5 +1,5 @@
 -- The rows of what commands moved are handed out in order, and the store keeps its tables.
-use Rattle.std.proofs.Common.{◌≡◌, ◌⊎◌, inl, inr, ℕ, zero, suc, ◌+◌, ◌-◌, List, [], ◌∷◌, ◌++◌, length, map, take, fold, IsTrue, None, Some, Option, Ok, refl, sym, ap, ap₂, subst, ◌∙◌, arith}
+use Rattle.std.proofs.Common.{◌≡◌, ◌⊎◌, inl, inr, ℕ, ◌+◌, ◌-◌, List, [], ◌∷◌, ◌++◌, length, map, take, IsTrue, None, Some, Option, Ok, refl, sym, ap, ap₂, subst, ◌∙◌, arith}
 use Rattle.std.specs.List.{flat_map, range_with_len}
 use Rattle.std.proofs.lemmas.List.{append_assoc, append-nil, length-append}
 use Rattle.std.proofs.lemmas.List.Sums.{fold_push}
@@ -7,12 +7,11 @@ use Rattle.sqlite_trees.specs.declared.store.Store.{Ghosts}
 use Rattle.sqlite_resolve.specs.declared.compiled.Compiled.{Compiled}
 use Rattle.sqlite_schema.specs.declared.command.Returning.{Returning}
 use Rattle.sqlite.specs.Order.{Row}
-use Rattle.sqlite.specs.Tree.{Trees}
 use Rattle.sqlite.specs.Effect.{Database}
 use Rattle.sqlite.specs.Clock.{timed}
 use Rattle.sqlite.specs.declared.error.Error.{Error}
 use Rattle.sqlite.specs.Held.{Held, state}
-use Rattle.sqlite.specs.Given.{HasGiven, HasBegun}
+use Rattle.sqlite.specs.Given.{HasGiven}
 use Rattle.sqlite.specs.State.{State, HasCleanDisk, IsUnchanged, IsRolledBack, Fails, IsNotRun, FailsToQuery, FailsToShow, Survives, CommitsShowing}
 use Rattle.ob_post.specs.Keys.{dim_number}
 use Rattle.ob_post.specs.declared.Dim.{Dim}
@@ -30,10 +29,10 @@ use Rattle.ob_commit.proofs.Commits.{settled_as}
 use Rattle.ob_record.specs.Tables.{tables_of}
 use Rattle.ob_compare.specs.Listing.{Lists}
 use Rattle.ob_compare.specs.Moves.{moved_listing}
-use Rattle.ob_compare.proofs.Listing.{begins, begun_list, quiet, still_then}
+use Rattle.ob_compare.proofs.Listing.{begun_list, quiet, still_then}
 use Rattle.ob_compare.proofs.Order.{numbered, rows_are}
 use Rattle.ob_compare.proofs.Rowing.{moved_is, lists_moved}
-use Rattle.ob_store.specs.MovingOut.{Numbered, Takes, TakesAll, FailsAmong, TakesFront, all_moves, moves_of, row_of_move}
+use Rattle.ob_store.specs.MovingOut.{Numbered, Takes, TakesAll, all_moves, moves_of, row_of_move}
 
 -- ---- what the store keeps
 -- nothing has changed, or all was undone

@@ -1,13 +1,11 @@
-use Rattle.std.proofs.Common.{◌≡◌, [], refl, sym, ap, subst, ◌∙◌, arith, rules}
-use Rattle.sqlite.specs.Effect.{Database}
-use Rattle.sqlite.specs.State.{HasCleanDisk, IsUnchanged, Survives}
+use Rattle.std.proofs.Common.{◌≡◌, [], sym, subst, arith, rules}
+use Rattle.sqlite.specs.State.{HasCleanDisk, Survives}
 use Rattle.sqlite.specs.Held.{state}
 use Rattle.ob_record.specs.Tables.{tables_of}
 use Rattle.ob_commit.specs.Keeps.{Keeps}
 use Rattle.ob_compare.specs.Moves.{moved_listing}
 use Rattle.ob_compare.proofs.Listing.{begins, still_then}
 use Rattle.ob_compare.proofs.Rowing.{moved_is}
-use Rattle.ob_store.specs.Keeping.{KeepsBook}
 use Rattle.ob_store.proofs.Handing.{begun_keeps, keeps_after, query_keeps, query_survives, spared_unasked, spared_unread}
 use Rattle.ob_store.proofs.moving.hand_out.Goals as goal
 

@@ -1,11 +1,9 @@
-use Rattle.std.proofs.Common.{◌≡◌, ◌+◌, List, [], ◌∷◌, ◌++◌, length, map, None, Some, Ok, Err, sym, ap, subst, ◌∙◌, arith}
+use Rattle.std.proofs.Common.{◌≡◌, [], ◌∷◌, ◌++◌, length, map, sym, ap, subst, ◌∙◌, arith}
 use Rattle.std.proofs.lemmas.List.{length-append}
 use Rattle.sqlite.specs.Effect.{Database}
 use Rattle.sqlite.specs.State.{HasCleanDisk}
 use Rattle.sqlite.specs.Held.{state}
 use Rattle.sqlite.proofs.Callers.{unchanged_then}
-use Rattle.ob_compare.specs.Listing.{Lists}
-use Rattle.ob_compare.specs.Moves.{moved_listing}
 use Rattle.ob_compare.proofs.Listing.{still_then}
 use Rattle.ob_record.specs.Tables.{tables_of}
 use Rattle.ob_store.specs.MovingOut.{Numbered, ComesNext, TakesAll, all_moves, row_of_move}
