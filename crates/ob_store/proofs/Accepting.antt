@@ -1,5 +1,5 @@
 -- What stands once a command under a new reference was decided on, and once its rows were committed or not.
-use Rattle.std.proofs.Common.{◌≡◌, ◌⊎◌, inl, inr, ℕ, ◌+◌, List, length, Some, None, Result, Ok, Err, true, refl, sym, ap, ap₂, subst, ◌∙◌, arith}
+use Rattle.std.proofs.Common.{◌≡◌, inl, inr, ◌+◌, length, Some, None, Ok, Err, true, refl, sym, ap, subst}
 use Rattle.std.specs.List.Sorted.{IsPermutation}
 use Rattle.std.proofs.lemmas.List.Sorted.{IsPermutation-trans}
 use Rattle.sqlite_trees.specs.declared.store.Store.{Ghosts}

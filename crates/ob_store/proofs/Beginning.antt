@@ -1,30 +1,27 @@
 -- A new book: why there is none, and its tables.
-use Rattle.std.proofs.Common.{◌≡◌, ◌≢◌, ◌⊎◌, inl, inr, ℕ, ◌+◌, ◌-◌, List, Result, Ok, Err, refl, sym, ap, ap₂, subst, ◌∙◌, arith, IsTrue}
+use Rattle.std.proofs.Common.{◌≡◌, ◌≢◌, ◌⊎◌, inl, inr, ℕ, List, Err, refl, sym, ap, ap₂, subst, ◌∙◌, arith}
 use Rattle.std.specs.List.Sorted.{IsPermutation}
-use Rattle.std.proofs.lemmas.List.Sorted.{IsPermutation-refl, IsPermutation-trans}
+use Rattle.std.proofs.lemmas.List.Sorted.{IsPermutation-refl}
 use Rattle.sqlite_trees.specs.declared.store.Store.{Ghosts}
-use Rattle.sqlite.specs.Tree.{Trees}
 use Rattle.sqlite.specs.Held.{Held, state}
-use Rattle.sqlite.specs.State.{State, HasCleanDisk, Survives}
+use Rattle.sqlite.specs.State.{State, Survives}
 use Rattle.ob_base.specs.Stop.{IsRefusedOrNoMemory, out_of_memory}
 use Rattle.ob_base.specs.declared.stop.Stop.{Stop}
 use Rattle.ob_base.specs.declared.stop.Stop.TheVariants.{Refused, Fault}
 use Rattle.ob_base.specs.declared.stop.Refusal.TheVariants.{BadPeriod, BadBook}
-use Rattle.ob_base.specs.declared.stop.Fault.TheVariants.{OutOfMemory, Store}
+use Rattle.ob_base.specs.declared.stop.Fault.TheVariants.{Store}
 use Rattle.ob_time.specs.Calendar.{Calendar, day_count}
 use Rattle.ob_time.specs.Dates.{day_text}
 use Rattle.ob_time.specs.Period.{IsPeriodText}
-use Rattle.ob_state.specs.State.{empty_book}
-use Rattle.ob_state.specs.States.{BookValue}
-use Rattle.ob_book.specs.Acts.{ActState, start}
-use Rattle.ob_tables.specs.Rows.{Tables, Holds}
+use Rattle.ob_book.specs.Acts.{start}
+use Rattle.ob_tables.specs.Rows.{Tables}
 use Rattle.ob_tables.specs.Schema.{no_schema}
 use Rattle.ob_tables.specs.Steps.{IsStoreFault}
 use Rattle.ob_tables.specs.declared.table.Table.{Table}
 use Rattle.ob_tables.specs.declared.table.Table.TheVariants.{Meta, Cause, Node, Device, Customer, Entry, Mark, Command, Moved, Posting}
-use Rattle.ob_commit.specs.Keeps.{Keeps, Leaves}
+use Rattle.ob_commit.specs.Keeps.{Keeps}
 use Rattle.ob_creation.specs.NewBook.{new_tables}
-use Rattle.ob_creation.specs.Begins.{Begins, ShowsAsBefore, Stays, StaysOrBegins}
+use Rattle.ob_creation.specs.Begins.{Stays, StaysOrBegins}
 use Rattle.ob_record.specs.Reached.{IsReached, StartHasFirstRows, StartIsReached, first_rows}
 use Rattle.ob_record.specs.Tables.{tables_of}
 use Rattle.ob_store.specs.Keeping.{KeepsBook}

@@ -1,21 +1,20 @@
 -- What the rows under a reference say of the accepted commands.
-use Rattle.std.proofs.Common.{◌≡◌, ◌⊎◌, inl, inr, ℕ, ◌+◌, ◌-◌, ◌<◌, ◌≤◌, ◌&&◌, Bool, true, false, cond, List, [], ◌∷◌, ◌++◌, length, filter, Some, None, Option, refl, sym, ap, ap₂, subst, ◌∙◌, arith, zero, suc, true≢false, Ordering, Less, Equal, Greater, nat_lt}
+use Rattle.std.proofs.Common.{◌≡◌, inl, inr, ℕ, ◌+◌, ◌-◌, ◌<◌, ◌≤◌, ◌&&◌, Bool, true, false, List, [], ◌∷◌, length, filter, Some, None, refl, sym, ap, ◌∙◌, arith, suc, true≢false, Ordering, Less, Equal, Greater, nat_lt}
 use Rattle.std.specs.Prelude.{nat_eq, slice_get}
 use Rattle.std.specs.Ordering.{is_eq, nat_cmp, ordering_then}
 use Rattle.std.specs.Cmp.Lexicographic.{slice_cmp}
-use Rattle.std.specs.List.{position_or_len, position}
+use Rattle.std.specs.List.{position_or_len}
 use Rattle.std.specs.Str.{bytes_eq}
 use Rattle.std.proofs.lemmas.Bool.{cases_Bool}
 use Rattle.std.proofs.lemmas.Bool.Decides.{nat_tests}
 use Rattle.sqlite_value.proofs.OrderLemmas.{value_cmp-Text}
 use Rattle.sqlite_sql.specs.Ops.{binary, is_true, from_truth}
 use Rattle.sqlite_schema.specs.Rules.{equal}
-use Rattle.sqlite.specs.declared.types.Value.{Value}
-use Rattle.sqlite.specs.declared.types.Value.TheVariants.{Text, Int}
+use Rattle.sqlite.specs.declared.types.Value.TheVariants.{Text}
 use Rattle.sqlite.specs.Collation.TheVariants.{Binary}
 use Rattle.ob_command.specs.Commands.{body_text}
 use Rattle.ob_book.specs.Acts.{ActState, Referenced, number_of}
-use Rattle.ob_tables.specs.Rows.{Columns, command_row, is_reference}
+use Rattle.ob_tables.specs.Rows.{command_row, is_reference}
 use Rattle.ob_record.specs.Tables.{numbered, row_of_command}
 
 truth_is : (b : Bool) → is_true (from_truth (Some b)) ≡ b

@@ -11,3 +11,4 @@ pub mod Holding
 pub mod Leads
 pub mod Differing
 pub mod Found
+pub mod Handing

@@ -1,11 +1,10 @@
 -- What the readings of the heading and of the commands say of a book.
-use Rattle.std.proofs.Common.{◌≡◌, ◌≢◌, ℕ, ◌<◌, ◌≤◌, ◌^◌, List, [], ◌∷◌, map, Option, Some, None, refl, sym, subst, arith}
+use Rattle.std.proofs.Common.{◌≡◌, ◌<◌, ◌^◌, List, map, Option, Some, None, refl, subst, arith}
 use Rattle.std.specs.Prelude.{Vec}
 use Rattle.std.specs.declared.alloc.Global.{Global}
 use Rattle.std.specs.List.Sorted.{IsPermutation}
 use Rattle.std.proofs.lemmas.List.Sorted.{IsPermutation-refl}
 use Rattle.sqlite.specs.Tree.{Trees}
-use Rattle.ob_book.specs.Acts.{ActState}
 use Rattle.ob_tables.specs.Rows.{Columns, shown, tree_of}
 use Rattle.ob_tables.specs.declared.table.Table.TheVariants.{Meta, Command}
 use Rattle.ob_record.specs.Tables.{Shows, tables_of}
@@ -14,7 +13,7 @@ use Rattle.ob_time.specs.Dates.{day_text}
 use Rattle.ob_compare.specs.Reading.{AreFiled, IsCommands, IsHeading}
 use Rattle.ob_compare.specs.declared.filed.Filed.{Filed}
 use Rattle.ob_compare.specs.declared.heading.Heading.{Heading}
-use Rattle.ob_store.specs.Finding.{HasNoBook, IsBookOf, IsNamed}
+use Rattle.ob_store.specs.Finding.{HasNoBook, IsNamed}
 use Rattle.ob_store.specs.declared.named.Named.{Named}
 
 -- the rows of the heading were read so

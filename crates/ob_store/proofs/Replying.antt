@@ -1,6 +1,5 @@
 -- The rows of what one command moved, among those of all.
-use Rattle.std.proofs.Common.{◌≡◌, ℕ, ◌+◌, ◌-◌, ◌<◌, ◌≤◌, ◌==◌, Bool, true, false, List, [], ◌∷◌, ◌++◌, length, filter, fold, map, take, Some, refl, sym, ap, ap₂, subst, ◌∙◌, arith, zero, suc, pos, ◌⊎◌, inl, inr}
-use Rattle.std.proofs.lemmas.Bool.{cases_Bool}
+use Rattle.std.proofs.Common.{◌≡◌, ℕ, ◌+◌, ◌<◌, ◌==◌, Bool, true, false, List, [], ◌∷◌, ◌++◌, length, filter, fold, take, Some, refl, sym, ap, ap₂, ◌∙◌, arith, zero, suc, pos}
 use Rattle.std.proofs.lemmas.Bool.Decides.{nat_tests}
 use Rattle.std.specs.Ordering.{is_eq, int_cmp}
 use Rattle.sqlite_value.proofs.OrderLemmas.{value_cmp-Int}
@@ -13,7 +12,7 @@ use Rattle.ob_post.specs.declared.Moved.{Moved}
 use Rattle.ob_state.specs.State.{BookState, empty_book}
 use Rattle.ob_state.specs.Next.{next}
 use Rattle.ob_state.specs.Amounts.{moves}
-use Rattle.ob_book.specs.Acts.{ActState, Referenced, book_at, of_commands, start, take_on}
+use Rattle.ob_book.specs.Acts.{ActState, Referenced, book_at, start, take_on}
 use Rattle.ob_tables.specs.Rows.{Columns, number, is_key}
 use Rattle.ob_tables.specs.declared.table.Table.TheVariants as tables
 use Rattle.ob_record.specs.Tables.{rows_of_moves, moved_rows, tables_of}

@@ -6,3 +6,4 @@ pub mod Finding
 pub mod Loading
 pub mod Leading
 pub mod Differing
+pub mod MovingOut

@@ -2,6 +2,7 @@
 use crate::acting::act_on;
 use crate::creating::create_on;
 use crate::loading::{audit_on, load_on};
+use crate::moving::{Halt, MoveSink, hand_out, moves_law};
 use crate::reply::Reply;
 use crate::stored::reply_at;
 use ob_base::{Fault, Ref, Stop};
@@ -46,6 +47,7 @@ impl<S: Alter, T: Timeline> Keeper<S, T> {
     ghost use Rattle.ob_store.specs.Replying.{Replied};
     ghost use Rattle.ob_store.specs.Creating.{Created};
     ghost use Rattle.ob_store.specs.Loading.{Audited, Loaded};
+    ghost use Rattle.ob_store.specs.MovingOut.{HandsOver, MovesAreRows, MovesOut};
     ghost use Rattle.ob_tables.specs.Schema.{book_schema};
     ghost use Rattle.std.specs.Option.{option_map};
 
@@ -165,6 +167,34 @@ impl<S: Alter, T: Timeline> Keeper<S, T> {
                 Err(Stop::Fault(Fault::Store))
             }
             Err(stop) => Err(stop),
+        }
+    }
+
+    /// Hands what the accepted commands moved to a sink, one amount at a time, by number, dimension and key, and tells how
+    /// many they are. A fault of the sink ends it and is answered as it is. Nothing is written. `Reopen` where there is no
+    /// book.
+    pub fn moves_out<V: MoveSink>(&mut self, sink: &mut V) -> Result<u64, Stop>
+        ensures reopen { self.old.book ≡ None → result ≡ Err (Stop.Fault Fault.Reopen) }
+        ensures unopened { self.old.book ≡ None → (self.new ≡ self.old) × (sink.new ≡ sink.old) }
+        ensures sink { IsSome self.old.book → HandsOver V.takes sink.old sink.new result }
+        ensures survives { self.old.conn.schema ≡ book_schema
+            → Survives (state S.Store self.old.conn) (state S.Store self.new.conn) (λ _. ⊥) }
+        ensures moves { HasCleanDisk (state S.Store self.new.conn) → (b : ActState) → Ties S.Store self.old b
+            → IsSome self.old.book → MovesOut S.Store V.takes self.old self.new sink.old sink.new b result }
+        ensures rows { MovesAreRows }
+    {
+        moves_law();
+        if self.book.is_none() {
+            return Err(Stop::Fault(Fault::Reopen));
+        }
+        match hand_out(&mut self.conn, sink) {
+            Ok(count) => Ok(count),
+            Err(Halt::Sink(fault)) => Err(Stop::Fault(fault)),
+            Err(Halt::Store(Stop::Fault(Fault::Store))) => {
+                self.book = None;
+                Err(Stop::Fault(Fault::Store))
+            }
+            Err(Halt::Store(stop)) => Err(stop),
         }
     }
 

@@ -6,10 +6,12 @@ mod creating;
 mod keeper;
 mod led;
 mod loading;
+mod moving;
 mod named;
 mod off;
 mod reply;
 mod stored;
 
 pub use keeper::Keeper;
+pub use moving::MoveSink;
 pub use reply::{Moves, Reply};

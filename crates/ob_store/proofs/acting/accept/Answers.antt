@@ -1,13 +1,10 @@
-use Rattle.std.proofs.Common.{◌≡◌, ℕ, ◌+◌, length, None, Ok, Result, Err, sym, ap, ap₂, subst, ◌∙◌}
-use Rattle.sqlite.specs.Held.{state}
-use Rattle.ob_base.specs.declared.stop.Stop.TheVariants.{Refused, Fault}
+use Rattle.std.proofs.Common.{◌≡◌, ◌+◌, None, Ok, Err, sym, ap, ap₂, subst, ◌∙◌}
 use Rattle.ob_post.specs.MoveLaws.{AreSmall}
 use Rattle.ob_state.specs.Amounts.{amount, moves}
 use Rattle.ob_state.specs.Next.{next}
 use Rattle.ob_state.specs.Refusals.{refusal}
-use Rattle.ob_book.specs.Acts.{answer}
 use Rattle.ob_record.specs.Leading.{Records}
-use Rattle.ob_store.specs.Acting.{reply_as, under}
+use Rattle.ob_store.specs.Acting.{under}
 use Rattle.ob_store.proofs.Accepting.{answered, book_is, decided, done, failed}
 use Rattle.ob_store.proofs.acting.accept.Goals as goal
 

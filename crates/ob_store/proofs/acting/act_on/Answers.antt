@@ -1,12 +1,9 @@
-use Rattle.std.proofs.Common.{◌≡◌, ◌≢◌, ℕ, sym, ap, subst, ◌∙◌, arith, refl, filter}
+use Rattle.std.proofs.Common.{◌≢◌, sym, ◌∙◌, arith, refl}
 use Rattle.sqlite.specs.Held.{state}
 use Rattle.sqlite.specs.State.{HasCleanDisk}
 use Rattle.ob_command.specs.Commands.{body_text}
-use Rattle.ob_book.specs.Acts.{number_of}
-use Rattle.ob_tables.specs.Rows.{command_row, is_reference}
-use Rattle.ob_tables.specs.declared.table.Table.TheVariants as tables
 use Rattle.ob_record.specs.Tables.{tables_of}
-use Rattle.ob_store.specs.Acting.{Acts, under}
+use Rattle.ob_store.specs.Acting.{under}
 use Rattle.ob_store.specs.Keeping.{KeepsBook}
 use Rattle.ob_store.proofs.Known.{is_new, is_known}
 use Rattle.ob_store.proofs.Answering.{reached_act, stays, again, conflict, fault_acts, again_acts, each_ok}

@@ -1,6 +1,5 @@
-use Rattle.std.proofs.Common.{◌≡◌, ℕ, List, Err, sym, ap, subst, ◌∙◌, refl, pos, ◌+ℤ◌, ℤ, arith}
+use Rattle.std.proofs.Common.{◌≡◌, Err, sym, ap, ◌∙◌, pos, ◌+ℤ◌, arith}
 use Rattle.std.proofs.lemmas.Int.{ints}
-use Rattle.std.specs.String.{string_bytes}
 use Rattle.ob_time.specs.Dates.{day_text}
 use Rattle.ob_time.specs.Moment.{IsTextOfDay}
 use Rattle.ob_store.proofs.Beginning.{no_memory, no_period, kept, failed}

@@ -1,8 +1,3 @@
-use Rattle.std.proofs.Common.{◌≡◌, Option, Some, None}
-use Rattle.std.specs.Prelude.{Vec}
-use Rattle.std.specs.declared.alloc.Global.{Global}
-use Rattle.ob_compare.specs.declared.filed.Filed.{Filed}
-use Rattle.ob_compare.specs.declared.heading.Heading.{Heading}
 use Rattle.ob_store.specs.Finding.{Finds, HasNoBook, IsNamed}
 use Rattle.ob_store.proofs.Reading.{read_ok, then_bad, then_good, then_more}
 use Rattle.ob_store.proofs.Naming.{CommandsRead, HeadingRead, named, no_commands, no_heading}

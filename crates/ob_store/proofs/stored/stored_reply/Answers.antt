@@ -1,10 +1,10 @@
-use Rattle.std.proofs.Common.{◌≡◌, ℕ, ◌+◌, ◌-◌, ◌<◌, suc, sym, ap, ap₂, subst, ◌∙◌, arith, filter}
+use Rattle.std.proofs.Common.{◌≡◌, ◌+◌, ◌-◌, suc, sym, ap, subst, ◌∙◌, arith, filter}
 use Rattle.std.specs.List.Sorted.{IsPermutation}
 use Rattle.std.proofs.lemmas.List.Sorted.{IsPermutation-refl}
 use Rattle.ob_time.specs.Calendar.{day_count}
 use Rattle.ob_post.specs.MoveLaws.{change_from}
 use Rattle.ob_state.specs.Amounts.{amount, moves}
-use Rattle.ob_book.specs.Acts.{book_at, reply_of}
+use Rattle.ob_book.specs.Acts.{book_at}
 use Rattle.ob_tables.specs.Rows.{is_key}
 use Rattle.ob_tables.specs.declared.table.Table.TheVariants as tables
 use Rattle.ob_record.specs.Tables.{rows_of_moves, tables_of}

@@ -1,0 +1,45 @@
+-- What an export leaves behind.
+use Rattle.std.specs.Prelude.{◌≡◌, ⊤, ℕ, List, ◌++◌, length, Option, None, Result, Ok, Err}
+use Rattle.std.specs.Io.KnownBytes.{Appends}
+use Rattle.sqlite_trees.specs.declared.store.Store.{Ghosts}
+use Rattle.sqlite.specs.Held.{state}
+use Rattle.ob_base.specs.declared.stop.Fault.{Fault as AFault}
+use Rattle.ob_base.specs.declared.stop.Fault.TheVariants.{OutOfMemory, Store, Output}
+use Rattle.ob_base.specs.declared.stop.Stop.{Stop}
+use Rattle.ob_base.specs.declared.stop.Stop.TheVariants.{Refused, Fault}
+use Rattle.ob_stream.specs.Streams.{AppendsFront}
+use Rattle.ob_stream.specs.Watching.{HasJustFailed, watched_bytes}
+use Rattle.ob_stream.specs.declared.watched.Watched.{Watched}
+use Rattle.ob_book.specs.Acts.{ActState}
+use Rattle.ob_store.specs.Keeping.{KeeperValue, KeepsBook, Ties}
+use Rattle.ob_store.specs.MovingOut.{all_moves}
+
+-- a first part of the text was written
+pub record AppendsPart (old new : Option (List ℕ)) (text : List ℕ) : Type 0 where
+  pub front : List ℕ
+  pub rest : List ℕ
+  pub parts : text ≡ front ++ rest
+  pub appends : Appends old new front
+
+module _ {W : Type 0} (contents : W → Option (List ℕ)) where
+  -- the line was written whole; or nothing, where memory was refused; or a front of it, and then the writer's last call failed
+  abbrev pub PutsLine : Watched W → Watched W → List ℕ → Result ⊤ AFault → Type 0
+  PutsLine old new line (Ok done) = Appends (watched_bytes contents old) (watched_bytes contents new) line
+  PutsLine old new line (Err OutOfMemory) = new ≡ old
+  PutsLine old new line (Err Output) =
+      AppendsFront (watched_bytes contents old) (watched_bytes contents new) line × HasJustFailed new
+  PutsLine old new line (Err fault) = ⊥
+
+  -- behind these bytes the text was written whole, with what the book's commands moved, so many amounts; or a first part of
+  -- it, and then memory was refused, the store failed, or the writer's last call did. The store keeps the book as before
+  abbrev pub Exports : {S : Type 0} → Ghosts S → KeeperValue S → KeeperValue S → Option (List ℕ) → Watched W → ActState → List ℕ → Result ℕ Stop → Type 0
+  Exports g old new was is b text (Ok count) =
+      Appends was (watched_bytes contents is) text × (count ≡ length (all_moves b)) × Ties g new b × (new.book ≡ old.book)
+  Exports g old new was is b text (Err (Refused refusal)) = ⊥
+  Exports g old new was is b text (Err (Fault OutOfMemory)) =
+      AppendsPart was (watched_bytes contents is) text × Ties g new b × (new.book ≡ old.book)
+  Exports g old new was is b text (Err (Fault Store)) =
+      AppendsPart was (watched_bytes contents is) text × KeepsBook (state g new.conn) b × (new.book ≡ None)
+  Exports g old new was is b text (Err (Fault Output)) =
+      AppendsPart was (watched_bytes contents is) text × HasJustFailed is × Ties g new b × (new.book ≡ old.book)
+  Exports g old new was is b text (Err (Fault fault)) = ⊥

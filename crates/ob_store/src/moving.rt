@@ -1,0 +1,187 @@
+//! What accepted commands moved, handed out row by row.
+ghost use Rattle.std.specs.Prelude.{◌≡◌, false, List, [], IsTrue, IfOk, IfErr, IfSome, OnOk};
+ghost use Rattle.sqlite.specs.Order.{Row as ARow, column};
+ghost use Rattle.sqlite.specs.Held.{state};
+ghost use Rattle.sqlite.specs.declared.types.Value.TheVariants.{Int};
+ghost use Rattle.sqlite.specs.Given.{Advances, HasGiven, row_if};
+ghost use Rattle.sqlite.specs.State.{HasCleanDisk, IsUnchanged, Survives};
+ghost use Rattle.ob_post.specs.Keys.{dim_number};
+ghost use Rattle.ob_post.specs.declared.Moved.{Moved as AMoved};
+ghost use Rattle.ob_tables.specs.Schema.{book_schema};
+ghost use Rattle.ob_tables.specs.Rows.{Tables, number};
+ghost use Rattle.ob_tables.specs.Steps.{IsStoreFault};
+ghost use Rattle.ob_commit.specs.Keeps.{Keeps};
+ghost use Rattle.ob_book.specs.Acts.{ActState};
+ghost use Rattle.ob_compare.specs.Moves.{moved_listing};
+ghost use Rattle.ob_store.specs.Keeping.{KeepsBook};
+ghost use Rattle.ob_store.specs.MovingOut.{ComesNext, Hands, HandsOut, MovesAreRows, row_of_move};
+
+use ob_base::{Fault, Stop};
+use ob_post::{Dim, Moved};
+use sqlite::{Alter, Connection, Error, ErrorCode, Row, Rows};
+use sqlite_value::value::ValueRef;
+
+/// Takes amounts that commands moved, one after another.
+pub trait MoveSink {
+    ghost use Rattle.std.specs.Prelude.{⊤, ℕ, Result};
+    ghost use Rattle.ob_post.specs.declared.Moved.{Moved as AMoved};
+    ghost use Rattle.ob_base.specs.declared.stop.Fault.{Fault as AFault};
+
+    /// What a take makes of a sink, whether it fails or not.
+    ghost takes: { Self → ℕ → AMoved → Result ⊤ AFault → Self → Type 0 };
+
+    /// Takes an amount that the command of a number moved.
+    fn take(&mut self, cmd: u32, m: &Moved) -> Result<(), Fault>
+        ensures { takes self.old cmd m.now result self.new };
+}
+
+/// A law of what commands moved: row by row it is the table of moved amounts.
+pub(crate) fn moves_law()
+    ensures { MovesAreRows }
+{}
+
+/// Why a handing out ended early.
+pub(crate) enum Halt {
+    /// The sink failed.
+    Sink(Fault),
+    /// Memory was refused, or the store failed.
+    Store(Stop),
+}
+
+/// A failure of the store as a fault.
+fn stop_of(error: Error) -> Stop
+    ensures { IsStoreFault result }
+{
+    match error {
+        Error::SqliteFailure(ErrorCode::OutOfMemory) => Stop::Fault(Fault::OutOfMemory),
+        _ => Stop::Fault(Fault::Store),
+    }
+}
+
+/// The number in a column.
+fn int_at(row: &Row, at: usize) -> Option<i64>
+    ensures { IfSome result (λ n. column row.now at ≡ Int n) }
+{
+    match row.get_ref(at) {
+        Ok(ValueRef::Int(n)) => Some(n),
+        _ => None,
+    }
+}
+
+/// The dimension of a number.
+fn dim_of(n: i64) -> Option<Dim>
+    ensures { IfSome result (λ dim. Int n ≡ number (dim_number dim)) }
+{
+    match n {
+        1 => Some(Dim::Cause),
+        2 => Some(Dim::Feeder),
+        3 => Some(Dim::Day),
+        _ => None,
+    }
+}
+
+/// What a row says that a command moved, under the number of the command.
+fn read_moved(row: &Row) -> Option<(u32, Moved)>
+    ensures { IfSome result (λ it. row.now ≡ row_of_move it) }
+{
+    if row.column_count() != 4 {
+        return None;
+    }
+    let cmd = u32::try_from(int_at(row, 0)?).ok()?;
+    let dim = dim_of(int_at(row, 1)?)?;
+    let key = u16::try_from(int_at(row, 2)?).ok()?;
+    let delta = int_at(row, 3)?;
+    Some((cmd, Moved { dim, key, delta }))
+}
+
+/// Moves to the next row, or past the last.
+fn advance<S: Alter>(rows: &mut Rows<'_, S>) -> Result<(), Stop>
+    ensures same_reference { rows.new.conn.ghost_name ≡ rows.old.conn.ghost_name }
+    ensures survives { Survives (state S.Store rows.old.conn.now) (state S.Store rows.new.conn.now) (λ _. ⊥) }
+    ensures mode { rows.old.conn.now.in_transaction ≡ false → rows.new.conn.now.in_transaction ≡ false }
+    ensures faults { IfErr result IsStoreFault }
+    ensures kept { (t : Tables) → Keeps (state S.Store rows.old.conn.now) t → Keeps (state S.Store rows.new.conn.now) t }
+    ensures same { HasCleanDisk (state S.Store rows.new.conn.now)
+        → OnOk result (IsUnchanged (state S.Store rows.old.conn.now) (state S.Store rows.new.conn.now)) }
+    ensures goes { HasCleanDisk (state S.Store rows.new.conn.now) → OnOk result
+        (Advances S.Store rows.old.conn.now rows.new.conn.now (row_if rows.new.has_row rows.new.conn.now)) }
+{
+    match rows.advance() {
+        Ok(()) => Ok(()),
+        Err(error) => Err(stop_of(error)),
+    }
+}
+
+/// What the next row says that a command moved, under the number of the command; None where no row is left.
+fn next_moved<S: Alter>(rows: &mut Rows<'_, S>) -> Result<Option<(u32, Moved)>, Stop>
+    ensures same_reference { rows.new.conn.ghost_name ≡ rows.old.conn.ghost_name }
+    ensures survives { Survives (state S.Store rows.old.conn.now) (state S.Store rows.new.conn.now) (λ _. ⊥) }
+    ensures mode { rows.old.conn.now.in_transaction ≡ false → rows.new.conn.now.in_transaction ≡ false }
+    ensures faults { IfErr result IsStoreFault }
+    ensures kept { (t : Tables) → Keeps (state S.Store rows.old.conn.now) t → Keeps (state S.Store rows.new.conn.now) t }
+    ensures same { HasCleanDisk (state S.Store rows.new.conn.now)
+        → OnOk result (IsUnchanged (state S.Store rows.old.conn.now) (state S.Store rows.new.conn.now)) }
+    ensures next { HasCleanDisk (state S.Store rows.new.conn.now) → IfOk result (λ found.
+        (state S.Store rows.old.conn.now).now.schema ≡ book_schema → (given : List ARow)
+        → HasGiven S.Store moved_listing.text [] rows.old.conn.now given
+        → ComesNext S.Store found rows.new.conn.now given) }
+{
+    advance(rows)?;
+    match rows.get() {
+        Some(row) => match read_moved(row) {
+            Some(it) => Ok(Some(it)),
+            None => Err(Stop::Fault(Fault::Store)),
+        },
+        None => Ok(None),
+    }
+}
+
+/// Hands the rows to come to a sink, one at a time, and tells how many they are.
+fn hand_rows<S: Alter, V: MoveSink>(rows: &mut Rows<'_, S>, sink: &mut V) -> Result<u64, Halt>
+    ensures same_reference { rows.new.conn.ghost_name ≡ rows.old.conn.ghost_name }
+    ensures survives { Survives (state S.Store rows.old.conn.now) (state S.Store rows.new.conn.now) (λ _. ⊥) }
+    ensures mode { rows.old.conn.now.in_transaction ≡ false → rows.new.conn.now.in_transaction ≡ false }
+    ensures sink { Hands V.takes sink.old sink.new result }
+    ensures kept { (t : Tables) → Keeps (state S.Store rows.old.conn.now) t → Keeps (state S.Store rows.new.conn.now) t }
+    ensures hands { HasCleanDisk (state S.Store rows.new.conn.now) → (b : ActState)
+        → KeepsBook (state S.Store rows.old.conn.now) b → IsTrue (state S.Store rows.old.conn.now).is_open
+        → HasGiven S.Store moved_listing.text [] rows.old.conn.now []
+        → HandsOut V.takes sink.old sink.new b result }
+{
+    'moves: for count in 0..u64::MAX {
+        match next_moved(rows) {
+            Ok(Some((cmd, it))) => match sink.take(cmd, &it) {
+                Ok(()) => {}
+                Err(fault) => return Err(Halt::Sink(fault)),
+            },
+            Ok(None) => return Ok(count),
+            Err(stop) => return Err(Halt::Store(stop)),
+        }
+    }
+    Err(Halt::Store(Stop::Fault(Fault::Store)))
+}
+
+/// Hands what the accepted commands moved to a sink: by number, dimension and key. Nothing is written.
+pub(crate) fn hand_out<S: Alter, V: MoveSink>(
+    conn: &mut Connection<S>,
+    sink: &mut V,
+) -> Result<u64, Halt>
+    ensures mode { conn.old.in_transaction ≡ false → conn.new.in_transaction ≡ false }
+    ensures survives { conn.old.schema ≡ book_schema
+        → Survives (state S.Store conn.old) (state S.Store conn.new) (λ _. ⊥) }
+    ensures sink { Hands V.takes sink.old sink.new result }
+    ensures kept { (b : ActState) → KeepsBook (state S.Store conn.old) b → KeepsBook (state S.Store conn.new) b }
+    ensures hands { HasCleanDisk (state S.Store conn.new) → (b : ActState) → KeepsBook (state S.Store conn.old) b
+        → HandsOut V.takes sink.old sink.new b result }
+{
+    let statement = match conn.prepare(
+        "SELECT cmd, dim, k, delta FROM moved ORDER BY cmd, dim, k",
+    ) {
+        Ok(statement) => statement,
+        Err(error) => return Err(Halt::Store(stop_of(error))),
+    };
+    match conn.query_prepared(&statement, &[]) {
+        Ok(mut rows) => hand_rows(&mut rows, sink),
+        Err(error) => Err(Halt::Store(stop_of(error))),
+    }
+}
