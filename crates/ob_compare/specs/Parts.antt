@@ -13,7 +13,7 @@ use Rattle.ob_tables.specs.declared.table.Table.{Table}
 use Rattle.ob_tables.specs.declared.table.Table.TheVariants.{Meta, Cause, Node, Device, Customer, Entry, Mark, Command, Moved, Posting}
 use Rattle.ob_commit.specs.Keeps.{Keeps}
 use Rattle.ob_record.specs.Tables.{Shows}
-use Rattle.ob_compare.specs.Faults.{IsReadFault, bad_book}
+use Rattle.ob_compare.specs.Faults.{HasNoMeaning, IsMissed, IsReadFault, bad_book}
 use Rattle.ob_compare.specs.Listing.{Listing, list_query, keyed}
 
 -- the query of all rows of a table, by key
@@ -82,6 +82,9 @@ module _ {S : Type 0} (g : Ghosts S) where
     pub faults : IfErr result IsReadFault
     -- it is refused only where the tables aren't those of a book
     pub foreign : HasCleanDisk (state g new) → IfErr result (λ stop. stop ≡ bad_book → old.schema ≢ book_schema)
+    -- and it is refused where the schema has no such table, unless other trouble came before
+    pub missed : HasNoMeaning old.schema (select_of table) → Survives (state g old) (state g new) (λ _. ⊥)
+        × (HasCleanDisk (state g new) → IsMissed (state g old) (state g new) result)
     pub same : HasCleanDisk (state g new) → OnOk result (old.schema ≡ book_schema → IsUnchanged (state g old) (state g new))
     -- the table has just these rows, in some order
     pub holds : HasCleanDisk (state g new) → IfOk result (λ is. old.schema ≡ book_schema → (rows : List Columns)

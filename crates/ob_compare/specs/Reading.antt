@@ -1,21 +1,14 @@
 -- What the tables of the heading and of the commands are read as.
-use Rattle.std.specs.Prelude.{◌≡◌, ◌≢◌, ◌⊎◌, ℕ, ◌<◌, ◌≤◌, ◌^◌, ⊤, List, [], ◌∷◌, ◌++◌, length, Option, Some, None, Result, Ok, Err, Vec}
+use Rattle.std.specs.Prelude.{◌≡◌, ◌≢◌, ℕ, ◌<◌, ◌≤◌, ◌^◌, ⊤, List, [], ◌∷◌, ◌++◌, length, Option, Some, None, Vec}
 use Rattle.std.specs.declared.alloc.Global.{Global}
 use Rattle.std.specs.List.{AllByRecursion}
 use Rattle.std.specs.List.Sorted.{IsPermutation}
 use Rattle.sqlite.specs.Order.{Row}
 use Rattle.sqlite.specs.Held.{Held, state}
-use Rattle.sqlite.specs.Listing.{understood}
-use Rattle.sqlite.specs.Schema.{Schema}
-use Rattle.sqlite.specs.State.{State, HasCause}
-use Rattle.sqlite_trees.specs.declared.error.StoreError.TheVariants.{Io, Broken}
-use Rattle.sqlite_resolve.specs.declared.compiled.Compiled.{Compiled}
-use Rattle.ob_base.specs.Stop.{out_of_memory}
 use Rattle.sqlite.specs.Given.{HasGiven}
 use Rattle.sqlite_trees.specs.declared.store.Store.{Ghosts}
 use Rattle.sqlite.specs.declared.error.Error.{Error}
 use Rattle.sqlite.specs.declared.error.Error.TheVariants.{SqlInputError}
-use Rattle.ob_base.specs.declared.stop.Stop.{Stop}
 use Rattle.ob_book.specs.Acts.{Referenced}
 use Rattle.ob_tables.specs.Rows.{Columns, meta_row}
 use Rattle.ob_tables.specs.declared.table.Table.TheVariants.{Command}
@@ -26,7 +19,7 @@ use Rattle.ob_compare.specs.declared.filed.Filed.{Filed}
 use Rattle.ob_compare.specs.declared.heading.Heading.{Heading}
 use Rattle.ob_compare.specs.declared.commands.Next.{Next}
 use Rattle.ob_compare.specs.declared.commands.Next.TheVariants.{Due, Other, End}
-pub use Rattle.ob_compare.specs.Faults.{IsReadFault, bad_book}
+pub use Rattle.ob_compare.specs.Faults.{HasNoMeaning, HasTrouble, IsMissed, IsReadFault, bad_book}
 use Rattle.ob_compare.specs.Listing.{Listing, Lists, referenced, filed_of}
 use Rattle.ob_compare.specs.Parts.{listing_of}
 
@@ -35,19 +28,6 @@ IsFiled f = IsReferenced (referenced f)
 
 abbrev pub row_of_filed : ℕ → Filed → Columns
 row_of_filed id f = row_of_command id (referenced f)
-
--- memory was refused, the disk failed, or the store was shut before
-abbrev pub HasTrouble : State → State → Stop → Type 0
-HasTrouble old new stop = (stop ≡ out_of_memory) ⊎ (HasCause old new ⊥ Io ⊎ HasCause old new ⊥ Broken)
-
--- the tables aren't those of a book, unless other trouble came before
-abbrev pub IsMissed : {X : Type 0} → State → State → Result X Stop → Type 0
-IsMissed old new (Ok x) = ⊥
-IsMissed old new (Err stop) = (stop ≡ bad_book) ⊎ HasTrouble old new stop
-
--- the schema gives the text no meaning
-abbrev pub HasNoMeaning : Schema → List ℕ → Type 0
-HasNoMeaning schema sql = (c : Compiled) → understood schema sql ≢ Ok c
 
 -- a text wasn't understood
 abbrev pub IsInputError : Error → Type 0

@@ -11,8 +11,9 @@ ghost use Rattle.ob_tables.specs.declared.table.Table.{Table as ATable};
 ghost use Rattle.ob_commit.specs.Keeps.{Keeps};
 ghost use Rattle.ob_record.specs.Tables.{Shows};
 ghost use Rattle.ob_compare.specs.declared.filed.Filed.{Filed as AFiled};
-ghost use Rattle.ob_compare.specs.Reading.{AreFiled, IsCommands, IsDue, IsFiled, IsReadFault, Stands};
-ghost use Rattle.ob_compare.specs.Reading.{bad_book, command_listing, row_of_filed};
+ghost use Rattle.ob_compare.specs.Faults.{HasNoMeaning, IsMissed, IsReadFault, bad_book};
+ghost use Rattle.ob_compare.specs.Reading.{AreFiled, IsCommands, IsDue, IsFiled, Stands};
+ghost use Rattle.ob_compare.specs.Reading.{command_listing, row_of_filed};
 
 use crate::columns::{has_number, text_at};
 use crate::filed::Filed;
@@ -120,6 +121,9 @@ pub fn read_commands<S: Alter>(
     ensures valid { IfOk result AreFiled }
     ensures foreign { HasCleanDisk (state S.Store conn.new)
         → IfErr result (λ stop. stop ≡ bad_book → conn.old.schema ≢ book_schema) }
+    ensures missed { HasNoMeaning conn.old.schema command_listing.text
+        → Survives (state S.Store conn.old) (state S.Store conn.new) (λ _. ⊥)
+        × (HasCleanDisk (state S.Store conn.new) → IsMissed (state S.Store conn.old) (state S.Store conn.new) result) }
     ensures same { HasCleanDisk (state S.Store conn.new) → OnOk result (conn.old.schema ≡ book_schema
         → IsUnchanged (state S.Store conn.old) (state S.Store conn.new)) }
     ensures read { HasCleanDisk (state S.Store conn.new) → IfOk result (λ found. conn.old.schema ≡ book_schema

@@ -8,7 +8,9 @@ ghost use Rattle.ob_tables.specs.Rows.{Columns, Tables};
 ghost use Rattle.ob_tables.specs.declared.table.Table.{Table as ATable};
 ghost use Rattle.ob_commit.specs.Keeps.{Keeps};
 ghost use Rattle.ob_record.specs.Tables.{Shows};
-ghost use Rattle.ob_compare.specs.Reading.{IsHeading, IsHeadingRow, IsMissed, IsReadFault, bad_book};
+ghost use Rattle.ob_compare.specs.Faults.{HasNoMeaning, IsMissed, IsReadFault, bad_book};
+ghost use Rattle.ob_compare.specs.Parts.{select_of};
+ghost use Rattle.ob_compare.specs.Reading.{IsHeading, IsHeadingRow};
 
 use crate::columns::{has_number, small_at, text_at};
 use crate::listed::select_of;
@@ -80,6 +82,9 @@ pub fn read_heading<S: Alter>(
     ensures faults { IfErr result IsReadFault }
     ensures foreign { HasCleanDisk (state S.Store conn.new)
         → IfErr result (λ stop. stop ≡ bad_book → conn.old.schema ≢ book_schema) }
+    ensures missed { HasNoMeaning conn.old.schema (select_of ATable.Meta)
+        → Survives (state S.Store conn.old) (state S.Store conn.new) (λ _. ⊥)
+        × (HasCleanDisk (state S.Store conn.new) → IsMissed (state S.Store conn.old) (state S.Store conn.new) result) }
     ensures empty { conn.old.schema ≡ no_schema
         → Survives (state S.Store conn.old) (state S.Store conn.new) (λ _. ⊥)
         × (HasCleanDisk (state S.Store conn.new) → IsMissed (state S.Store conn.old) (state S.Store conn.new) result) }

@@ -15,7 +15,7 @@ ghost use Rattle.ob_tables.specs.Steps.{IsStoreFault};
 ghost use Rattle.ob_tables.specs.declared.table.Table.{Table as ATable};
 ghost use Rattle.ob_commit.specs.Keeps.{Keeps};
 ghost use Rattle.ob_record.specs.Tables.{Shows, rows_of_moves};
-ghost use Rattle.ob_compare.specs.Faults.{IsReadFault, bad_book};
+ghost use Rattle.ob_compare.specs.Faults.{HasNoMeaning, IsMissed, IsReadFault, bad_book};
 ghost use Rattle.ob_compare.specs.Listing.{Goes, filed_of};
 ghost use Rattle.ob_compare.specs.Moves.{HasMoved, commands_of, ends_of, moved_listing};
 
@@ -213,6 +213,9 @@ pub fn holds_moves<S: Alter, T: Timeline>(
     ensures faults { IfErr result IsReadFault }
     ensures foreign { HasCleanDisk (state S.Store conn.new)
         → IfErr result (λ stop. stop ≡ bad_book → conn.old.schema ≢ book_schema) }
+    ensures missed { HasNoMeaning conn.old.schema moved_listing.text
+        → Survives (state S.Store conn.old) (state S.Store conn.new) (λ _. ⊥)
+        × (HasCleanDisk (state S.Store conn.new) → IsMissed (state S.Store conn.old) (state S.Store conn.new) result) }
     ensures same { HasCleanDisk (state S.Store conn.new) → OnOk result (conn.old.schema ≡ book_schema
         → IsUnchanged (state S.Store conn.old) (state S.Store conn.new)) }
     ensures moved { HasCleanDisk (state S.Store conn.new) → IfOk result (λ is. conn.old.schema ≡ book_schema

@@ -9,12 +9,10 @@ use Rattle.ob_base.specs.declared.stop.Stop.{Stop}
 use Rattle.ob_book.specs.Acts.{ActState}
 use Rattle.ob_tables.specs.Creation.{before}
 use Rattle.ob_tables.specs.Rows.{shown, tree_of}
-use Rattle.ob_tables.specs.Steps.{IsStoreFault}
 use Rattle.ob_tables.specs.declared.table.Table.{Table}
 use Rattle.ob_tables.specs.declared.table.Table.TheVariants.{Meta, Cause, Node, Device, Customer, Entry, Mark, Command, Moved, Posting}
 use Rattle.ob_record.specs.Tables.{Shows, tables_of}
 use Rattle.ob_compare.specs.Parts.{Compares}
-use Rattle.ob_compare.specs.Reading.{bad_book}
 use Rattle.ob_store.specs.Differing.{IsFirstOff, IsFirstOffOf, IsOff, NoneSo}
 use Rattle.ob_store.specs.Finding.{Finds}
 use Rattle.ob_store.proofs.Reading.{fails, read_err, read_ok, then_good, then_more}
@@ -80,10 +78,6 @@ part_at (suc (suc (suc (suc (suc zero))))) low = refl
 part_at (suc (suc (suc (suc (suc (suc zero)))))) low = refl
 part_at (suc (suc (suc (suc (suc (suc (suc at))))))) low = absurd (omega (arith, low))
 
-no_bad_book : (stop : Stop) → IsStoreFault stop → stop ≢ bad_book
-no_bad_book stop (inl memory) bad = let e = sym memory ∙ bad in cc
-no_bad_book stop (inr store) bad = let e = sym store ∙ bad in cc
-
 module _ {S : Type 0} (g : Ghosts S) where
   -- what was found is so of the trees, or tells more of them
   find_as : {X : Type 0} (Good Good' : Trees → X → Type 0) (Bad Bad' : Trees → Type 0) (old new : Held S) (r : Result X Stop) → ((trees : Trees) (x : X) → Good trees x → Good' trees x) → ((trees : Trees) → Bad trees → Bad' trees)
@@ -114,7 +108,7 @@ module _ {S : Type 0} (g : Ghosts S) where
         let rows = map (shown t) ((state g old).now.trees (tree_of t)) in
         read_ok g (Decides t) NoneSo old new is it.mode it.survives it.clean it.kept it.same (λ clean has. it.holds clean has rows (IsPermutation-refl rows))
     compared t old new (Err stop) it =
-        read_err g (Decides t) NoneSo old new stop it.mode it.survives it.clean it.kept (inl it.faults) (λ clean bad. absurd (no_bad_book stop it.faults bad))
+        read_err g (Decides t) NoneSo old new stop it.mode it.survives it.clean it.kept it.faults it.foreign
 
     pub part_right : (t : Table) (old new : Held S) (is : Bool) → is ≡ true → Compares g t (tables_of b t) old new (Ok is) → Finds g (IsOff b t) NoneSo old new (Ok None)
     part_right t old new is right it = then_good g (Decides t) NoneSo (IsOff b t) NoneSo old new is (compared t old new (Ok is) it) None (λ trees both. both.0 right)

@@ -29,7 +29,7 @@ store_alone bad = absurd cc
 
 -- what is found of each book with a state is found of all of them
 module _ {S : Type 0} (g : Ghosts S) {X : Type 0} (P : ActState → Trees → X → Type 0) (s : BookState) (old new : Held S) where
-  bare : ActState
+  abbrev bare : ActState
   bare = record { book = s; accepted = [] }
 
   abbrev pub Each : Trees → X → Type 0
@@ -78,7 +78,7 @@ module _ {S : Type 0} (g : Ghosts S) {L : Type 0} (state_of : L → BookState) (
   both : (r : Result (Option Table) Stop) → Compared r → Finds g Both Neither old new r
   both r second = then_more g Led HasNoBook Off NoneSo old mid new l r first (of_each g (λ b. IsFirstOff b (moved_of l)) (state_of l) mid new r second)
 
-  finding : (trees : Trees) (found : Option Table) → Both trees found → Finding trees found
+  abbrev finding : (trees : Trees) (found : Option Table) → Both trees found → Finding trees found
   finding trees found it = (it.0.book, it.0.is_book, it.1 it.0.book (sym it.0.state) it.0.is_book.commands it.0.moves)
 
   -- the first table that differs

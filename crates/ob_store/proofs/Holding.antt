@@ -33,7 +33,7 @@ module _ {S : Type 0} (g : Ghosts S) {X : Type 0} (Good : Trees → X → Type 0
   shows_the_same x it = (only_reads (Ok x) it, (it.same clean schema).0.now_is)
 
   shows_the_bad : Finds g Good Bad old new (Err bad_book) → ShowsTheSame g old new
-  shows_the_bad it = (only_reads (Err bad_book) it, (it.same_bad clean refl schema).0.now_is)
+  shows_the_bad it = (only_reads (Err bad_book) it, it.same_bad clean refl schema)
 
 module _ {S : Type 0} (g : Ghosts S) (old new : KeeperValue S) (schema : old.conn.schema ≡ book_schema) (clean : HasCleanDisk (state g new.conn)) where
   -- the first table that differs was found, or none

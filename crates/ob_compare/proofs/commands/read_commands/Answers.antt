@@ -6,9 +6,10 @@ use Rattle.sqlite.proofs.Callers.{begun_plain, unchanged_then}
 use Rattle.ob_tables.specs.declared.table.Table.TheVariants.{Command}
 use Rattle.ob_record.specs.Tables.{Shows}
 use Rattle.ob_commit.specs.Keeps.{Keeps}
+use Rattle.ob_compare.specs.Faults.{HasNoMeaning, IsMissed}
 use Rattle.ob_commit.proofs.Steps.{on_ok}
 use Rattle.ob_compare.specs.Reading.{command_listing}
-use Rattle.ob_compare.proofs.Asking.{foreign_tables, listing_quiet}
+use Rattle.ob_compare.proofs.Asking.{foreign_tables, listing_quiet, never_clean}
 use Rattle.ob_compare.proofs.Kept.{kept_asked, unread}
 use Rattle.ob_compare.proofs.Listing.{begins, still_then}
 use Rattle.ob_compare.proofs.Rowing.{if_ok}
@@ -94,3 +95,28 @@ returns-clause-kept g c t keeps =
     let refused = rw c.in-Err-query_prepared.is at c.query_prepared.follows.holds-at-none in
     kept_asked command_listing (is_listing Command) old mid end text (λ clean. let it = c.in-Ok.ensures.prepared clean in (it.0 ∙ c.select_of.ensures, it.1)) t keeps c.prepare.ensures.survives refused.survives
     (λ late plain. unread mid end text [] c.in-Err-query_prepared.error (refused.err late))
+
+pub returns-in-Ok-query_prepared-clause-missed : goal.returns-in-Ok-query_prepared-clause-missed
+returns-in-Ok-query_prepared-clause-missed g c none =
+    let old = state g.S.Store c.args.conn.now in
+    let mid = state g.S.Store c.prepare.new.conn in
+    let start = state g.S.Store c.in-Ok-query_prepared.rows.conn.now in
+    let last = c.filed_rows.new.rows.conn.now in
+    let same : last ≡ c.conn-1.given.0 = search rules in
+    let unread : HasCleanDisk start → ⊥ = λ clean. c.in-Ok.ensures.missed (omega (arith, c.in-Ok-query_prepared.ensures.survives.clean, clean)) (subst (HasNoMeaning old.now.schema) (sym c.select_of.ensures) none) in
+    let all = still_then old start (state g.S.Store last) (never_clean old mid start _ c.prepare.ensures.survives c.in-Ok-query_prepared.ensures.survives unread) c.filed_rows.ensures.survives in
+    let never : HasCleanDisk (state g.S.Store last) → ⊥ = λ clean. unread (omega (arith, c.filed_rows.ensures.survives.clean, clean)) in
+    subst (λ x. Survives old (state g.S.Store x) (λ _. ⊥) × (HasCleanDisk (state g.S.Store x) → IsMissed old (state g.S.Store x) c.filed_rows.result)) same (all, λ clean. absurd (never clean))
+
+pub returns-clause-missed : goal.returns-clause-missed
+returns-clause-missed g c none =
+    let old = state g.S.Store c.args.conn.now in
+    let mid = state g.S.Store c.prepare.new.conn in
+    let end = state g.S.Store c.query_prepared.follows.lender-at-none in
+    let refused = rw c.in-Err-query_prepared.is at c.query_prepared.follows.holds-at-none in
+    let never : HasCleanDisk end → ⊥ = λ clean. c.in-Ok.ensures.missed (omega (arith, refused.survives.clean, clean)) (subst (HasNoMeaning old.now.schema) (sym c.select_of.ensures) none) in
+    (never_clean old mid end _ c.prepare.ensures.survives refused.survives never, λ clean. absurd (never clean))
+
+pub returns-in-Err-clause-missed : goal.returns-in-Err-clause-missed
+returns-in-Err-clause-missed g c none =
+    (c.prepare.ensures.survives, λ clean. c.in-Err.ensures.missed clean (subst (HasNoMeaning c.args.conn.now.schema) (sym c.select_of.ensures) none))

@@ -2,6 +2,7 @@ use Rattle.std.proofs.Common.{List, sym, subst}
 use Rattle.sqlite.specs.Held.{state}
 use Rattle.sqlite.specs.Order.{Row}
 use Rattle.ob_tables.specs.declared.table.Table.TheVariants.{Meta}
+use Rattle.ob_compare.specs.Faults.{HasNoMeaning}
 use Rattle.ob_compare.specs.Reading.{IsHeading}
 use Rattle.ob_compare.proofs.Headings.{meta_listing, heading_read, no_meaning, ok_always}
 use Rattle.ob_compare.proofs.Selects.{is_listing}
@@ -38,3 +39,9 @@ returns-in-Ok-clause-kept g c = c.list_all.ensures.kept meta_listing (is_listing
 
 pub returns-in-Err-clause-kept : goal.returns-in-Err-clause-kept
 returns-in-Err-clause-kept g c = c.list_all.ensures.kept meta_listing (is_listing Meta) (sym c.select_of.ensures)
+
+pub returns-in-Ok-clause-missed : goal.returns-in-Ok-clause-missed
+returns-in-Ok-clause-missed g c none = let it = c.in-Ok.ensures.missed (subst (HasNoMeaning c.args.conn.now.schema) (sym c.select_of.ensures) none) in (it.0, λ late. absurd (it.1 late))
+
+pub returns-in-Err-clause-missed : goal.returns-in-Err-clause-missed
+returns-in-Err-clause-missed g c none = c.in-Err.ensures.missed (subst (HasNoMeaning c.args.conn.now.schema) (sym c.select_of.ensures) none)

@@ -3,8 +3,9 @@ use Rattle.sqlite.specs.Effect.{Database}
 use Rattle.sqlite.specs.State.{HasCleanDisk, IsUnchanged}
 use Rattle.sqlite.specs.Held.{state}
 use Rattle.sqlite.proofs.Callers.{begun_plain, unchanged_then}
+use Rattle.ob_compare.specs.Faults.{HasNoMeaning}
 use Rattle.ob_compare.specs.Parts.{Compares, listing_of, standing, select_of}
-use Rattle.ob_compare.proofs.Asking.{faults_alone, faults_read, foreign_tables}
+use Rattle.ob_compare.proofs.Asking.{faults_alone, faults_read, foreign_tables, never_clean}
 use Rattle.ob_compare.proofs.Kept.{kept_asked, unread}
 use Rattle.ob_compare.proofs.Listing.{still_then, quiet, begins}
 use Rattle.ob_compare.proofs.Places.{rows_alike, if_ok, on_ok}
@@ -40,6 +41,9 @@ returns-in-Ok-query_prepared g c =
       clean = λ clean. omega (arith, c.prepare.ensures.survives.clean, c.in-Ok-query_prepared.ensures.survives.clean, c.matches.ensures.survives.clean, clean);
       faults = faults_read c.matches.result c.matches.ensures.faults;
       foreign = λ clean. faults_alone c.matches.result _ c.matches.ensures.faults;
+      missed = λ none.
+          let never : HasCleanDisk start → ⊥ = λ clean. c.in-Ok.ensures.missed (omega (arith, c.in-Ok-query_prepared.ensures.survives.clean, clean)) (subst (HasNoMeaning old.now.schema) (sym text_is) none) in
+          (still_then old start last (never_clean old mid start _ c.prepare.ensures.survives c.in-Ok-query_prepared.ensures.survives never) c.matches.ensures.survives, λ clean. absurd (never (begun clean)));
       same = λ clean.
           on_ok c.matches.result (c.matches.ensures.same clean) (λ step has.
           let b = begins g.S.Store (listing_of t) (is_listing t) at_old at_mid at_start text (ready (early clean)) has (c.in-Ok-query_prepared.ensures.begun (begun clean)) in
@@ -67,6 +71,9 @@ returns g c =
       clean = λ clean. omega (arith, c.prepare.ensures.survives.clean, refused.survives.clean, clean);
       faults = inl c.stop_of.ensures;
       foreign = λ clean. faults_alone {X = Bool} (Err c.stop_of.result) _ c.stop_of.ensures;
+      missed = λ none.
+          let never : HasCleanDisk end → ⊥ = λ clean. c.in-Ok.ensures.missed (omega (arith, refused.survives.clean, clean)) (subst (HasNoMeaning old.now.schema) (sym text_is) none) in
+          (never_clean old mid end _ c.prepare.ensures.survives refused.survives never, λ clean. absurd (never clean));
       same = λ clean. tt;
       holds = λ clean. tt;
     }
@@ -82,6 +89,7 @@ returns-in-Err g c =
       clean = λ clean. omega (arith, c.prepare.ensures.survives.clean, clean);
       faults = c.in-Err.ensures.faults;
       foreign = λ clean bad. foreign_tables (listing_of t) (is_listing t) (state g.S.Store c.args.conn.now) _ (sym text_is) (c.in-Err.ensures.foreign clean bad).0;
+      missed = λ none. (c.prepare.ensures.survives, λ clean. c.in-Err.ensures.missed clean (subst (HasNoMeaning c.args.conn.now.schema) (sym text_is) none));
       same = λ clean. tt;
       holds = λ clean. tt;
     }

@@ -8,8 +8,9 @@ use Rattle.ob_tables.specs.declared.table.Table.TheVariants.{Moved as MovedTable
 use Rattle.ob_compare.specs.Moves.{moved_listing}
 use Rattle.ob_compare.proofs.Listing.{still_then, quiet, begins}
 use Rattle.ob_commit.specs.Keeps.{Keeps}
+use Rattle.ob_compare.specs.Faults.{HasNoMeaning, IsMissed}
 use Rattle.ob_commit.proofs.Steps.{on_ok}
-use Rattle.ob_compare.proofs.Asking.{foreign_tables}
+use Rattle.ob_compare.proofs.Asking.{foreign_tables, never_clean}
 use Rattle.ob_compare.proofs.Kept.{kept_asked, unread}
 use Rattle.ob_compare.proofs.Rowing.{if_ok, moved_is}
 use Rattle.ob_compare.proofs.moves.holds_moves.Goals as goal
@@ -93,3 +94,28 @@ returns-clause-kept g c t keeps =
     let refused = rw c.in-Err-query_prepared.is at c.query_prepared.follows.holds-at-none in
     kept_asked moved_listing moved_is old mid end text (λ ready. let it = c.in-Ok.ensures.prepared ready in (it.0 ∙ c.select_of.ensures, it.1)) t keeps c.prepare.ensures.survives refused.survives
     (λ late plain. unread mid end text [] c.in-Err-query_prepared.error (refused.err late))
+
+pub returns-in-Ok-query_prepared-clause-missed : goal.returns-in-Ok-query_prepared-clause-missed
+returns-in-Ok-query_prepared-clause-missed g c none =
+    let old = state g.S.Store c.args.conn.now in
+    let mid = state g.S.Store c.prepare.new.conn in
+    let start = state g.S.Store c.in-Ok-query_prepared.rows.conn.now in
+    let last = c.follows.new.rows.conn.now in
+    let same : last ≡ c.conn-1.given.0 = search rules in
+    let unread : HasCleanDisk start → ⊥ = λ clean. c.in-Ok.ensures.missed (omega (arith, c.in-Ok-query_prepared.ensures.survives.clean, clean)) (subst (HasNoMeaning old.now.schema) (sym c.select_of.ensures) none) in
+    let all = still_then old start (state g.S.Store last) (never_clean old mid start _ c.prepare.ensures.survives c.in-Ok-query_prepared.ensures.survives unread) c.follows.ensures.survives in
+    let never : HasCleanDisk (state g.S.Store last) → ⊥ = λ clean. unread (omega (arith, c.follows.ensures.survives.clean, clean)) in
+    subst (λ x. Survives old (state g.S.Store x) (λ _. ⊥) × (HasCleanDisk (state g.S.Store x) → IsMissed old (state g.S.Store x) c.follows.result)) same (all, λ clean. absurd (never clean))
+
+pub returns-clause-missed : goal.returns-clause-missed
+returns-clause-missed g c none =
+    let old = state g.S.Store c.args.conn.now in
+    let mid = state g.S.Store c.prepare.new.conn in
+    let end = state g.S.Store c.query_prepared.follows.lender-at-none in
+    let refused = rw c.in-Err-query_prepared.is at c.query_prepared.follows.holds-at-none in
+    let never : HasCleanDisk end → ⊥ = λ clean. c.in-Ok.ensures.missed (omega (arith, refused.survives.clean, clean)) (subst (HasNoMeaning old.now.schema) (sym c.select_of.ensures) none) in
+    (never_clean old mid end _ c.prepare.ensures.survives refused.survives never, λ clean. absurd (never clean))
+
+pub returns-in-Err-clause-missed : goal.returns-in-Err-clause-missed
+returns-in-Err-clause-missed g c none =
+    (c.prepare.ensures.survives, λ clean. c.in-Err.ensures.missed clean (subst (HasNoMeaning c.args.conn.now.schema) (sym c.select_of.ensures) none))

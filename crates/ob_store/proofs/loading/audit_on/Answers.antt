@@ -16,6 +16,6 @@ pub returns-in-Ok-first_off : goal.returns-in-Ok-first_off
 returns-in-Ok-first_off g c =
     found_ok g.S.Store (λ (l : Led g.row.T.Denot). l.book.state) (λ (l : Led g.row.T.Denot). l.moved) c.in-Ok.led c.args.conn.now c.read_led.new.conn c.first_off.new.conn c.in-Ok.ensures.finds c.in-Ok-first_off.found c.in-Ok-first_off.ensures
 
-pub returns-in-Err-first_off : goal.returns-in-Err-first_off
-returns-in-Err-first_off g c =
+pub returns : goal.returns
+returns g c =
     found_err g.S.Store (λ (l : Led g.row.T.Denot). l.book.state) (λ (l : Led g.row.T.Denot). l.moved) c.in-Ok.led c.args.conn.now c.read_led.new.conn c.first_off.new.conn c.in-Ok.ensures.finds Finding HasNoBook c.in-Err-first_off.stop c.in-Err-first_off.ensures
