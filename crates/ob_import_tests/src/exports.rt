@@ -75,13 +75,7 @@ fn sinks_that_fail(rt: HostRuntime) -> Result<(), Fail> {
 }
 
 // A sink with too little room takes the first amounts, and its fault comes back.
-fn fills(
-    rt: &impl Abort,
-    alloc: Global,
-    office: &mut Office,
-    room: usize,
-    moved: &[(u32, Moved)],
-) {
+fn fills(rt: &impl Abort, alloc: Global, office: &mut Office, room: usize, moved: &[(u32, Moved)]) {
     let mut sink = Shelf::new(alloc, room);
     assert!(rt; office.hands(&mut sink) == Err(Stop::Fault(Fault::Output)));
     assert!(rt; sink.taken.len() == room && moved.starts_with(sink.taken.as_slice()));

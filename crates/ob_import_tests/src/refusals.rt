@@ -43,7 +43,8 @@ fn bad_rows(rt: HostRuntime) -> Result<(), Fail> {
 }
 
 // A text with a leading mark, CRLF, quotes, an empty line, and no end of its last line.
-const QUOTED: &[u8] = b"\xEF\xBB\xBFkind,\"ref\",f1,f2,f3,f4,f5,f6\r\n\"cause\",R1,\"3\",STORM,,,,\"\"\r\n\r\n\
+const QUOTED: &[u8] =
+    b"\xEF\xBB\xBFkind,\"ref\",f1,f2,f3,f4,f5,f6\r\n\"cause\",R1,\"3\",STORM,,,,\"\"\r\n\r\n\
 bus,R2,\"BUS-A\",,,,,\r\n\"section\",R3,S1,001,,,,";
 
 // The same rows.

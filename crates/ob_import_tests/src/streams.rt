@@ -111,17 +111,6 @@ fn readers_that_fail(rt: HostRuntime) -> Result<(), Fail> {
 }
 
 #[test]
-fn a_reader_that_fails_in_a_new_book(rt: HostRuntime) -> Result<(), Fail> {
-    let text = TWO_NAMES.as_bytes();
-    let mut office = Office::new(&rt, rt.alloc())?;
-    let front = &text[..text.len().min(80)];
-    assert!(rt; whole_rows(front) == 2);
-    let wanted = broken(2, 0, Fault::Input);
-    assert!(rt; office.reads(&mut Source::new(front, true)) == wanted);
-    office.leaves(&rt, &[1, 2, 2, 0, 0, 0, 0, 2, 0, 320])
-}
-
-#[test]
 fn an_interrupted_reader(rt: HostRuntime) -> Result<(), Fail> {
     let mut office = Office::new(&rt, rt.alloc())?;
     let mut reader = Source::new(OUTAGE.as_bytes(), false);
