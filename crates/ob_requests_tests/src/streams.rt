@@ -1,0 +1,46 @@
+//! Streams of several requests, cut and failing ones.
+use crate::reading::told_of;
+use std::io::ErrorKind;
+use std::test::Fail;
+
+const COMMAND: &'static str = "\
+POST /commands HTTP/1.1\r\nHost: localhost\r\nContent-Length: 49\r\n\r\n\
+{\"kind\":\"cause\",\"ref\":\"R1\",\"f1\":\"3\",\"f2\":\"STORM\"}";
+
+#[test]
+fn one_after_another(rt: HostRuntime) -> Result<(), Fail> {
+    let mut text = COMMAND.as_bytes().to_vec(rt.alloc())?;
+    text.extend_from_slice(b"GET /totals HTTP/1.1\nHost: a\n\n")?;
+    text.extend_from_slice(COMMAND.as_bytes())?;
+    for step in [1, 7, 115, 4096] {
+        let told = told_of(rt.alloc(), &text, step, None)?;
+        assert!(rt; told.as_str() == "POST /commands 49;GET /totals 0;POST /commands 49;end");
+    }
+    Ok(())
+}
+
+#[test]
+fn cut_or_failing(rt: HostRuntime) -> Result<(), Fail> {
+    let bytes = COMMAND.as_bytes();
+    for count in 1..bytes.len() {
+        assert!(rt; told_of(rt.alloc(), &bytes[..count], 9, None)?.as_str() == "cut");
+        assert!(rt;
+            told_of(rt.alloc(), &bytes[..count], 9, Some(ErrorKind::Other))?.as_str() == "input"
+        );
+    }
+    assert!(rt; told_of(rt.alloc(), b"", 9, None)?.as_str() == "end");
+    assert!(rt; told_of(rt.alloc(), b"\r\n", 9, None)?.as_str() == "cut");
+    Ok(())
+}
+
+#[test]
+fn interrupted_for_ever(rt: HostRuntime) -> Result<(), Fail> {
+    let told = told_of(
+        rt.alloc(),
+        COMMAND.as_bytes(),
+        9,
+        Some(ErrorKind::Interrupted),
+    )?;
+    assert!(rt; told.as_str() == "POST /commands 49;input");
+    Ok(())
+}
