@@ -1,5 +1,6 @@
 //! What heads ask, and which are refused.
 use crate::reading::told_of;
+use ob_requests::{Method, Request};
 use std::test::Fail;
 
 const HEADS: &[(&'static str, &'static str)] = &[
@@ -136,5 +137,25 @@ fn long_heads(rt: HostRuntime) -> Result<(), Fail> {
     assert!(rt; whole.len() == 16_384);
     assert!(rt; told_of(rt.alloc(), &whole, 4096, None)?.as_str() == "GET /a 0;end");
     assert!(rt; told_of(rt.alloc(), &longer, 4096, None)?.as_str() == "431");
+    Ok(())
+}
+
+#[test]
+fn paths(rt: HostRuntime) -> Result<(), Fail> {
+    for (target, path) in [
+        ("/a", "/a"),
+        ("/a?b=%20", "/a"),
+        ("/%3F?", "/%3F"),
+        ("/?/?", "/"),
+    ] {
+        let request = Request {
+            method: Method::Get,
+            target: String::from_str(rt.alloc(), target)?,
+            body: Vec::new(rt.alloc()),
+            waits: false,
+            closes: false,
+        };
+        assert!(rt; request.path() == path);
+    }
     Ok(())
 }

@@ -1,5 +1,5 @@
 //! What a stream is read as, as a text.
-use crate::source::Source;
+use crate::source::{Sink, Source};
 use ob_base::Fault;
 use ob_requests::{Ahead, HeadRefusal, Method, Next, Request, read_request};
 use ob_stream::{Retries, Watched};
@@ -49,47 +49,57 @@ pub fn told_of(
     step: usize,
     failure: Option<ErrorKind>,
 ) -> Result<String, AllocError> {
+    told_with_room(
+        alloc,
+        Source {
+            rest: bytes,
+            step,
+            failure,
+        },
+        1_000,
+    )
+}
+
+/// The requests of a reader, and then how they end; what was written goes behind, at most `room` bytes.
+pub fn told_with_room(alloc: Global, source: Source, room: usize) -> Result<String, AllocError> {
     let mut told = String::new(alloc);
-    let mut reader = Watched::new(Source {
-        rest: bytes,
-        step,
-        failure,
+    let mut reader = Watched::new(source);
+    let mut writer = Watched::new(Sink {
+        taken: Vec::new(alloc),
+        room,
     });
-    let mut writer = Watched::new(Vec::new(alloc));
-    let mut retries = Retries::new();
-    let Ok(mut ahead) = Ahead::new(alloc) else {
-        return Ok(told);
-    };
-    for _ in 0..100 {
-        match read_request(alloc, &mut reader, &mut writer, &mut retries, &mut ahead) {
-            Ok(Next::Request(request)) => {
-                told_request(alloc, &mut told, &request)?;
-                if request.closes {
-                    break;
-                }
-            }
-            Ok(Next::Refused(status)) => {
-                told.push_str(told_refusal(status))?;
-                break;
-            }
-            Ok(Next::End) => {
-                told.push_str("end")?;
-                break;
-            }
-            Ok(Next::Cut) => {
-                told.push_str("cut")?;
-                break;
-            }
-            Err(fault) => {
-                told.push_str(told_fault(fault))?;
-                break;
-            }
-        }
-    }
-    let (written, _) = writer.into_parts();
-    if !written.is_empty() {
-        let text = String::from_utf8_lossy(alloc, &written)?;
+    told_requests(alloc, &mut told, &mut reader, &mut writer)?;
+    let (sink, _) = writer.into_parts();
+    if !sink.taken.is_empty() {
+        let text = String::from_utf8_lossy(alloc, &sink.taken)?;
         told.push_str(&text)?;
     }
     Ok(told)
+}
+
+fn told_requests(
+    alloc: Global,
+    told: &mut String,
+    reader: &mut Watched<Source>,
+    writer: &mut Watched<Sink>,
+) -> Result<(), AllocError> {
+    let mut retries = Retries::new();
+    let Ok(mut ahead) = Ahead::new(alloc) else {
+        return Ok(());
+    };
+    for _ in 0..100 {
+        match read_request(alloc, reader, writer, &mut retries, &mut ahead) {
+            Ok(Next::Request(request)) => {
+                told_request(alloc, told, &request)?;
+                if request.closes {
+                    return Ok(());
+                }
+            }
+            Ok(Next::Refused(status)) => return told.push_str(told_refusal(status)),
+            Ok(Next::End) => return told.push_str("end"),
+            Ok(Next::Cut) => return told.push_str("cut"),
+            Err(fault) => return told.push_str(told_fault(fault)),
+        }
+    }
+    Ok(())
 }

@@ -1,6 +1,6 @@
-//! A reader for tests.
+//! A reader and a writer for tests.
 use std::io;
-use std::io::{ErrorKind, Read};
+use std::io::{ErrorKind, Read, Write};
 
 /// Gives at most `step` bytes a read. Behind its bytes it answers this error, or ends.
 #[derive(Drop)]
@@ -22,5 +22,28 @@ impl Read for Source<'_> {
         buf[..count].copy_from_slice(&self.rest[..count]);
         self.rest = &self.rest[count..];
         Ok(count)
+    }
+}
+
+/// Takes this many bytes more, and then fails.
+#[derive(Drop)]
+pub struct Sink {
+    pub taken: Vec<u8>,
+    pub room: usize,
+}
+
+impl Write for Sink {
+    fn write(&mut self, buf: &[u8]) -> io::Result<usize> {
+        if self.room == 0 {
+            return Err(io::Error::from(ErrorKind::Other));
+        }
+        let count = buf.len().min(self.room);
+        self.taken.extend_from_slice(&buf[..count])?;
+        self.room -= count;
+        Ok(count)
+    }
+
+    fn flush(&mut self) -> io::Result<()> {
+        Ok(())
     }
 }

@@ -1,5 +1,6 @@
 //! Streams of several requests, cut and failing ones.
-use crate::reading::told_of;
+use crate::reading::{told_of, told_with_room};
+use crate::source::Source;
 use std::io::ErrorKind;
 use std::test::Fail;
 
@@ -42,5 +43,18 @@ fn interrupted_for_ever(rt: HostRuntime) -> Result<(), Fail> {
         Some(ErrorKind::Interrupted),
     )?;
     assert!(rt; told.as_str() == "POST /commands 49;input");
+    Ok(())
+}
+
+/// The interim reply, of which the writer takes all but its last byte.
+#[test]
+fn a_writer_that_fails(rt: HostRuntime) -> Result<(), Fail> {
+    let source = Source {
+        rest: b"POST /c HTTP/1.1\r\nHost: a\r\nExpect: 100-continue\r\nContent-Length: 1\r\n\r\n1",
+        step: 9,
+        failure: None,
+    };
+    let told = told_with_room(rt.alloc(), source, 24)?;
+    assert!(rt; told.as_str() == "outputHTTP/1.1 100 Continue\r\n\r");
     Ok(())
 }
