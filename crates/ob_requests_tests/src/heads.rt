@@ -1,9 +1,12 @@
 //! What heads ask, and which are refused.
 use crate::reading::told_of;
 use ob_requests::{Method, Request};
+use std::alloc::{AllocError, Global};
 use std::test::Fail;
 
 const HEADS: &[(&'static str, &'static str)] = &[
+    ("", "end"),
+    ("\r\n", "cut"),
     (
         "GET /totals HTTP/1.1\r\nHost: a\r\n\r\n",
         "GET /totals 0;end",
@@ -103,40 +106,62 @@ fn heads(rt: HostRuntime) -> Result<(), Fail> {
     Ok(())
 }
 
-/// A head with so many field lines, Host among them.
-#[test]
-fn many_fields(rt: HostRuntime) -> Result<(), Fail> {
-    let mut text = b"GET /a HTTP/1.1\r\nHost: a\r\n".to_vec(rt.alloc())?;
-    for _ in 1..64 {
-        text.extend_from_slice(b"A:\r\n")?;
+/// A text with so many of its middle part, and what is told of it: with 64 field lines and 65, with 16,383 bytes of a
+/// head and 16,384 that don't end it, and with 16,384 bytes that do and one more.
+const BOUNDS: &[(
+    &'static str,
+    &'static str,
+    usize,
+    &'static str,
+    &'static str,
+)] = &[
+    (
+        "GET /a HTTP/1.1\r\nHost: a\r\n",
+        "A:\r\n",
+        63,
+        "\r\n",
+        "GET /a 0;end",
+    ),
+    (
+        "GET /a HTTP/1.1\r\nHost: a\r\n",
+        "A:\r\n",
+        64,
+        "\r\n",
+        "431",
+    ),
+    ("GET /", "a", 16_378, "", "cut"),
+    ("GET /", "a", 16_379, "", "431"),
+    (
+        "GET /a HTTP/1.1\r\nHost: ",
+        "a",
+        16_357,
+        "\r\n\r\n",
+        "GET /a 0;end",
+    ),
+    ("GET /a HTTP/1.1\r\nHost: ", "a", 16_358, "\r\n\r\n", "431"),
+];
+
+/// What is told of a text with so many of its middle part.
+fn told_of_many(
+    alloc: Global,
+    front: &str,
+    middle: &str,
+    count: usize,
+    back: &str,
+) -> Result<String, AllocError> {
+    let mut text = front.as_bytes().to_vec(alloc)?;
+    for _ in 0..count {
+        text.extend_from_slice(middle.as_bytes())?;
     }
-    let mut more = text.clone()?;
-    text.extend_from_slice(b"\r\n")?;
-    more.extend_from_slice(b"A:\r\n\r\n")?;
-    assert!(rt; told_of(rt.alloc(), &text, 4096, None)?.as_str() == "GET /a 0;end");
-    assert!(rt; told_of(rt.alloc(), &more, 4096, None)?.as_str() == "431");
-    Ok(())
+    text.extend_from_slice(back.as_bytes())?;
+    told_of(alloc, &text, 4096, None)
 }
 
 #[test]
-fn long_heads(rt: HostRuntime) -> Result<(), Fail> {
-    let mut target = b"GET /".to_vec(rt.alloc())?;
-    for _ in 1..16_379 {
-        target.push(b'a')?;
+fn heads_at_the_bounds(rt: HostRuntime) -> Result<(), Fail> {
+    for (front, middle, count, back, told) in BOUNDS {
+        assert!(rt; told_of_many(rt.alloc(), front, middle, *count, back)?.as_str() == *told);
     }
-    assert!(rt; told_of(rt.alloc(), &target, 4096, None)?.as_str() == "cut");
-    target.push(b'a')?;
-    assert!(rt; told_of(rt.alloc(), &target, 4096, None)?.as_str() == "431");
-    let mut whole = b"GET /a HTTP/1.1\r\nHost: ".to_vec(rt.alloc())?;
-    for _ in 0..16_357 {
-        whole.push(b'a')?;
-    }
-    let mut longer = whole.clone()?;
-    whole.extend_from_slice(b"\r\n\r\n")?;
-    longer.extend_from_slice(b"a\r\n\r\n")?;
-    assert!(rt; whole.len() == 16_384);
-    assert!(rt; told_of(rt.alloc(), &whole, 4096, None)?.as_str() == "GET /a 0;end");
-    assert!(rt; told_of(rt.alloc(), &longer, 4096, None)?.as_str() == "431");
     Ok(())
 }
 
