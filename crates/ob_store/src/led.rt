@@ -66,7 +66,12 @@ fn follow<S: Alter, T: Timeline>(
     };
     let mut ends = Vec::new(alloc);
     match holds_moves(conn, &mut book, &named.commands, &mut ends) {
-        Ok(true) => Ok(Some(Led { book, names, ends, moved: true })),
+        Ok(true) => Ok(Some(Led {
+            book,
+            names,
+            ends,
+            moved: true,
+        })),
         Ok(false) => Ok(None),
         Err(stop) => Err(stop),
     }
@@ -89,7 +94,12 @@ fn again<T: Timeline>(alloc: Global, named: &Named) -> Result<Led<T>, Stop>
     };
     let mut ends = Vec::new(alloc);
     match lead(&mut book, &named.commands, &mut ends) {
-        Ok(true) => Ok(Led { book, names, ends, moved: false }),
+        Ok(true) => Ok(Led {
+            book,
+            names,
+            ends,
+            moved: false,
+        }),
         Ok(false) => Err(BAD_BOOK),
         Err(stop) => Err(stop),
     }

@@ -13,7 +13,7 @@ returns-in-Ok-true-clause-led g c =
     let led = c.lead.ensures.book (c.in-Ok-true.is ∙ ap Ok c.in-Ok-true.field-0-test) in (
       led_by it first c.in-Ok.ensures.new c.deref-2.result.now c.deref-2.ensures.value s led,
       has_parts it first c.in-Ok.ensures.new c.deref-2.result.now c.deref-2.ensures.value s led c.in-Ok-names_of.names.items c.deref.result.now c.deref.ensures.value c.in-Ok-names_of.ensures.names
-      c.new-ends.result.items c.lead.new.noted.items c.new-ends.ensures.items (c.lead.ensures.noted (c.in-Ok-true.is ∙ ap Ok c.in-Ok-true.field-0-test)),
+          c.new-ends.result.items c.lead.new.noted.items c.new-ends.ensures.items (c.lead.ensures.noted (c.in-Ok-true.is ∙ ap Ok c.in-Ok-true.field-0-test)),
       refl,
     )
 
