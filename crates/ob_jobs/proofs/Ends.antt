@@ -1,5 +1,5 @@
 -- How a job ends: its work, and the text that tells it.
-use Rattle.std.proofs.Common.{◌≡◌, ◌≢◌, ◌⊎◌, inl, inr, ℕ, List, Option, Some, Result, Ok, Err, refl, sym, subst}
+use Rattle.std.proofs.Common.{◌≡◌, ◌≢◌, inl, inr, ℕ, List, Option, Some, Result, Ok, Err, refl, sym, subst}
 use Rattle.std.specs.Bool.{⊤}
 use Rattle.ob_base.specs.declared.stop.Stop.{Stop}
 use Rattle.ob_base.specs.declared.stop.Stop.TheVariants.{Refused, Fault}

@@ -14,6 +14,6 @@ use Rattle.ob_jobs.proofs.audit.run_audit.Goals as goal
 pub returns-in-Err : goal.returns-in-Err
 returns-in-Err g c =
     stopped (λ (found : Result (Option Table) Stop). HasCleanDisk (state g.S.Store c.audit.new.self.conn)
-        → c.args.keeper.now.conn.schema ≡ book_schema → Audited g.S.Store c.args.keeper.now c.audit.new.self found)
+    → c.args.keeper.now.conn.schema ≡ book_schema → Audited g.S.Store c.args.keeper.now c.audit.new.self found)
     audit_line g.W.Write.contents c.args.writer.now c.args.writer.now c.in-Err.stop c.in-Err.ensures.audited
     (not_output c.in-Err.stop c.in-Err.ensures.stops) (Keeps-refl (watched_bytes g.W.Write.contents c.args.writer.now))

@@ -1,4 +1,4 @@
-use Rattle.std.proofs.Common.{◌≡◌, sym, ◌∙◌}
+use Rattle.std.proofs.Common.{sym, ◌∙◌}
 use Rattle.ob_jobs.proofs.Ends.{printed}
 use Rattle.ob_jobs.proofs.table.run_table.Goals as goal
 
