@@ -11,8 +11,9 @@ abbrev pub stop_status : Stop → ℕ
 stop_status (stops.Refused refusal) = 2
 stop_status (stops.Fault fault) = 1
 
--- 0 where the job was done, else the status of what kept it from being done
+-- 0 where the job was done, 2 where an audit found a difference, else the status of what kept it from being done
 abbrev pub run_status : {A : Type 0} → Result A Unfinished → ℕ
 run_status (Ok done) = 0
 run_status (Err (ends.Words wrong)) = status_of wrong
 run_status (Err (ends.Stopped stop row)) = stop_status stop
+run_status (Err ends.Differs) = 2

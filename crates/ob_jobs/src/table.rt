@@ -1,0 +1,32 @@
+//! The job that prints the annual table.
+ghost use Rattle.std.specs.Prelude.{◌≡◌};
+ghost use Rattle.ob_jobs.specs.Tabling.{HasTable, table_text};
+ghost use Rattle.ob_jobs.specs.Telling.{Tells};
+
+use crate::tell::tell;
+use ob_base::{Fault, Stop};
+use ob_store::Keeper;
+use ob_stream::Watched;
+use ob_sweep::Timeline;
+use sqlite::Alter;
+use std::io::Write;
+
+/// Writes the annual table of the keeper's book.
+///
+/// # Errors
+///
+/// `Fault::Reopen` where the keeper has no book, `Fault::OutOfMemory`, `Fault::Output` where the writer fails.
+pub fn run_table<S: Alter, T: Timeline, W: Write>(
+    keeper: &Keeper<S, T>,
+    writer: &mut Watched<W>,
+) -> Result<(), Stop>
+    ensures { Tells (HasTable keeper.now.book) (λ _. table_text keeper.now.book) W.contents writer.old writer.new result }
+{
+    let Some(book) = keeper.book() else {
+        return Err(Stop::Fault(Fault::Reopen));
+    };
+    match book.annual_text() {
+        Ok(text) => tell(writer, text.as_slice()),
+        Err(stop) => Err(stop),
+    }
+}
