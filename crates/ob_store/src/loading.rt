@@ -26,7 +26,7 @@ pub(crate) fn audit_on<S: Alter, T: Timeline>(
         Err(stop) => return Err(stop),
     };
     match first_off(conn, &led) {
-        Ok(found) => { let _ = found; Ok(None) }
+        Ok(found) => Ok(found),
         Err(stop) => Err(stop),
     }
 }
