@@ -49,6 +49,7 @@ impl<S: Alter, T: Timeline> Keeper<S, T> {
     ghost use Rattle.ob_store.specs.Loading.{Audited, Loaded};
     ghost use Rattle.ob_store.specs.MovingOut.{HandsOver, MovesAreRows, MovesOut};
     ghost use Rattle.ob_tables.specs.Schema.{book_schema};
+    ghost use Rattle.ob_compare.specs.Reading.{IsReadFault};
     ghost use Rattle.std.specs.Option.{option_map};
 
     /// A keeper over a connection with no open transaction; it has no book yet.
@@ -136,6 +137,7 @@ impl<S: Alter, T: Timeline> Keeper<S, T> {
     /// as `BadBook`; a book that the keeper had goes then on as before. Nothing is written.
     pub fn load(&mut self) -> Result<(), Stop>
         ensures lost { result ≡ Err (Stop.Fault Fault.Store) → self.new.book ≡ None }
+        ensures stops { IfErr result IsReadFault }
         ensures loaded { HasCleanDisk (state S.Store self.new.conn) → self.old.conn.schema ≡ book_schema
             → Loaded S.Store self.old self.new result }
     {
@@ -157,6 +159,7 @@ impl<S: Alter, T: Timeline> Keeper<S, T> {
     /// where none does. `BadBook` where heading and commands are those of no book. It needs no book, and nothing is written.
     pub fn audit(&mut self) -> Result<Option<Table>, Stop>
         ensures lost { result ≡ Err (Stop.Fault Fault.Store) → self.new.book ≡ None }
+        ensures stops { IfErr result IsReadFault }
         ensures audited { HasCleanDisk (state S.Store self.new.conn) → self.old.conn.schema ≡ book_schema
             → Audited S.Store self.old self.new result }
     {
