@@ -107,7 +107,7 @@ fn filed_rows<S: Alter>(alloc: Global, rows: &mut Rows<'_, S>) -> Result<Option<
 }
 
 /// The commands of the table `cmd`, by number; None where its rows aren't those of commands numbered from 1 under
-/// references, no more than a book takes.
+/// references, no more than a book takes. A database without the table is refused as no book's.
 pub fn read_commands<S: Alter>(
     alloc: Global,
     conn: &mut Connection<S>,

@@ -48,7 +48,8 @@ fn holds_posted<S: Alter, T: Timeline>(
 }
 
 /// Whether a table holds what a book has of it: any table but those of commands and of what they moved. Of the book's
-/// network these are the names of the nodes and the ends of the devices. Nothing is written.
+/// network these are the names of the nodes and the ends of the devices. Nothing is written. A database without the
+/// table is refused as no book's.
 pub fn holds_part<S: Alter, T: Timeline>(
     conn: &mut Connection<S>,
     book: &Book<T>,

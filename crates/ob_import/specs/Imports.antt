@@ -25,8 +25,8 @@ abbrev pub AreAnswered : ActState → List Referenced → Type 0
 AreAnswered b [] = ⊤
 AreAnswered b (a ∷ list) = (is_ok (answer b a) ≡ true) × AreAnswered (act b a) list
 
--- rows whose commands were each answered a reply, and left this state: so many of them were new to the book, and the others it
--- had already
+-- rows whose commands were each answered a reply, and left this state: so many of them were new to the book, and the
+-- others it had already
 pub record Taken (b c : ActState) (rows : List Fields) (added again : ℕ) : Type 0 where
   pub commands : List Referenced
   pub say : Say rows commands
@@ -53,7 +53,8 @@ abbrev pub EndsAt : ActState → ℕ → List Fields → Option (ℕ × Refusal)
 EndsAt c number [] stopped = stopped ≡ None
 EndsAt c number (row ∷ rows) stopped = (refusal : Refusal) × (stopped ≡ Some (number, refusal)) × Stops c number row refusal
 
--- the state that an import leaves, how many commands it added, how many the book had already, and the row that stopped it
+-- the state that an import leaves, how many commands it added, how many the book had already, and the row that stopped
+-- it
 pub record Import : Type 0 where
   pub state : ActState
   pub added : ℕ

@@ -48,8 +48,8 @@ module _ {S : Type 0} (g : Ghosts S) where
   abbrev pub HoldsFirst : KeeperValue S → ActState → List Fields → ℕ → ℕ → Type 0
   HoldsFirst new b rows added again = (c : ActState) × (later : List Fields) × Begins b c rows later added again × Holds g new c
 
-  -- the store failed at the command of the row after these: there is no book, and a crash leaves what the first rows left or
-  -- that command with it
+  -- the store failed at the command of the row after these: there is no book, and a crash leaves what the first rows
+  -- left or that command with it
   abbrev pub LosesNext : KeeperValue S → ActState → List Fields → ℕ → ℕ → Type 0
   LosesNext new b rows added again =
       (c : ActState) × (later : List Fields) × (a : Referenced) × Begins b c rows later added again × IsNext later a

@@ -15,7 +15,8 @@ use sqlite::Alter;
 use std::alloc::Global;
 use std::io::Read;
 
-/// Imports the rows of a text, its header among them. Where they aren't the whole text, their reader fails at their end.
+/// Imports the rows of a text, its header among them. Where they aren't the whole text, their reader fails at
+/// their end.
 pub(crate) fn import_all<R: Read, S: Alter, T: Timeline>(
     alloc: Global,
     rows: &mut RowReader<R>,

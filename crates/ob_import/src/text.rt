@@ -24,16 +24,16 @@ use sqlite::Alter;
 use std::alloc::Global;
 use std::io::Read;
 
-/// Imports the commands of a CSV text, RFC 4180: its header is `kind,ref,f1,f2,f3,f4,f5,f6`, and each row after it acts on its
-/// own, in their order. The first refusal stops the import, and the rows before it stand.
+/// Imports the commands of a CSV text, RFC 4180: its header is `kind,ref,f1,f2,f3,f4,f5,f6`, and each row after it
+/// acts on its own, in their order. The first refusal stops the import, and the rows before it stand.
 ///
-/// A text without the header stops at row 0 by `BadField(0)`, a row of other than eight fields by `BadField(0)` too, and the
-/// row 1,000,001 by `Full(1000000)`.
+/// A text without the header stops at row 0 by `BadField(0)`, a row of other than eight fields stops by
+/// `BadField(0)` too, and the row 1,000,001 by `Full(1000000)`.
 ///
 /// # Errors
 ///
-/// `Fault::Reopen` where the keeper has no book, `Fault::OutOfMemory`, `Fault::Store`. The rows that acted before stand; after
-/// a fault of the store the one in work may stand too, which the next `load` shows.
+/// `Fault::Reopen` where the keeper has no book, `Fault::OutOfMemory`, `Fault::Store`. The rows that acted before
+/// stand; after a fault of the store the one in work may stand too, which the next `load` shows.
 pub fn import_text<S: Alter, T: Timeline>(
     alloc: Global,
     text: &[u8],
@@ -59,8 +59,8 @@ pub fn import_text<S: Alter, T: Timeline>(
 ///
 /// # Errors
 ///
-/// Those of `import_text`, and `Fault::Input` where the reader fails or the text is longer: the whole rows before that have
-/// acted then, and stand.
+/// Those of `import_text`, and `Fault::Input` where the reader fails or the text is longer: the whole rows before
+/// that have acted then, and stand.
 pub fn import<R: Read, S: Alter, T: Timeline>(
     alloc: Global,
     reader: &mut Watched<R>,
@@ -117,8 +117,8 @@ fn unopened() -> ImportFault
     }
 }
 
-/// An import of a text makes one thing of a book; and a text that is imported again leaves the state that its own import left,
-/// and adds nothing. It does nothing when it runs.
+/// An import of a text makes one thing of a book; and a text that is imported again leaves the state that its own
+/// import left, and adds nothing. It does nothing when it runs.
 pub fn import_law()
     ensures one { ImportsMakeOneThing }
     ensures again { ImportedAgain }

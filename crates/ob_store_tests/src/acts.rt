@@ -8,7 +8,8 @@ use std::alloc::Global;
 use std::process::Abort;
 use std::test::Fail;
 
-// On the two feeders the lines of two scripts are answered as they say, and leave so many rows and so much in total.
+// On the two feeders the lines of two scripts are answered as they say, and leave the book, so many rows and so much in
+// total.
 fn shows(
     rt: &impl Abort,
     alloc: Global,
@@ -20,7 +21,7 @@ fn shows(
     let mut office = Office::two_feeders(rt, alloc)?;
     office.take(rt, first)?;
     office.take(rt, then)?;
-    office.leaves(rt, rows, total)
+    office.reopened(rt)?.leaves(rt, rows, total)
 }
 
 #[test]

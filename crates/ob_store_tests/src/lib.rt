@@ -1,5 +1,5 @@
-//! Tests of the keeper over a store in memory: commands under references with what each is answered, new books, and
-//! what stands in the tables in the end.
+//! Tests of the keeper over a store in memory: commands under references with what each is answered, new books, what
+//! stands in the tables in the end, the books that are loaded from them, and tables that are no book's.
 //!
 //! It holds tests alone. The amounts are worked out by hand from the definitions.
 #![tactic(auto)]
@@ -7,7 +7,11 @@
 #[cfg(test)]
 mod acts;
 #[cfg(test)]
+mod audits;
+#[cfg(test)]
 mod creations;
+#[cfg(test)]
+mod loads;
 #[cfg(test)]
 mod office;
 #[cfg(test)]

@@ -75,6 +75,51 @@ impl Office {
         }
     }
 
+    /// Reads the book that the tables hold.
+    pub fn load(&mut self) -> Result<(), Stop> {
+        self.keeper.load()
+    }
+
+    /// The first table that differs from those of the commands, `none` where none does; or why there is no answer.
+    pub fn audited(&mut self) -> &'static str {
+        match self.keeper.audit() {
+            Ok(Some(table)) => table.name(),
+            Ok(None) => "none",
+            Err(stop) => stop.name(),
+        }
+    }
+
+    /// The totals, the indices and the annual table of the book.
+    pub fn views(&self) -> Result<Vec<u8>, Fail> {
+        let book = self.keeper.book().ok_or("a book")?;
+        let mut text = book.totals_text()?;
+        text.extend_from_slice(&book.indices_text()?)?;
+        text.extend_from_slice(&book.annual_text()?)?;
+        Ok(text)
+    }
+
+    /// The stored replies of the commands, one a line; there are fewer than thirty.
+    pub fn replies(&mut self) -> Result<String, Fail> {
+        let mut text = String::new(self.alloc);
+        for no in 0..30 {
+            text.push_str(self.stored(no)?.as_str())?;
+            text.push_str("\n")?;
+        }
+        Ok(text)
+    }
+
+    /// A keeper that loads the same tables, and then shows the same book and the same replies.
+    pub fn reopened(mut self, rt: &impl Abort) -> Result<Office, Fail> {
+        let alloc = self.alloc;
+        let (views, replies) = (self.views()?, self.replies()?);
+        let mut again = Office::over(rt, alloc, self.into_connection());
+        assert!(rt; again.audited() == "none");
+        assert!(rt; again.load().is_ok());
+        assert!(rt; again.views()? == views);
+        assert!(rt; again.replies()? == replies);
+        Ok(again)
+    }
+
     /// Whether it has a book.
     pub fn has_book(&self) -> bool {
         self.keeper.book().is_some()
