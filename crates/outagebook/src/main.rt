@@ -88,6 +88,8 @@ fn told<R: Print + Eprint + AllocGlobal>(
             tell_stop(rt, &Stop::Fault(*fault), None);
         }
         Err(Unfinished::Stopped(stop, row)) => tell_stop(rt, stop, *row),
+        // The audit has told it.
+        Err(Unfinished::Differs) => {}
     }
     run
 }
