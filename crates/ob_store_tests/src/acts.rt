@@ -20,8 +20,7 @@ fn shows(
 ) -> Result<(), Fail> {
     let mut office = Office::two_feeders(rt, alloc)?;
     office.take(rt, first)?;
-    office.take(rt, then)?;
-    office.reopened(rt)?.leaves(rt, rows, total)
+    office.ends(rt, then, rows, total)
 }
 
 #[test]

@@ -1,21 +1,16 @@
 //! Tables that are no book's: which of them the audit names, and that they aren't loaded.
 use crate::office::Office;
-use crate::scripts::OUTAGE;
 use ob_net::{Refusal, Stop};
-use sqlite::Connection;
 use std::alloc::Global;
 use std::process::Abort;
 use std::test::Fail;
 
-// The tables of the outage with its day marked, after some statements.
-fn changed(rt: &impl Abort, alloc: Global, sql: &str) -> Result<Office, Fail> {
-    let mut office = Office::two_feeders(rt, alloc)?;
-    office.take(rt, OUTAGE)?;
+// The outage, with its day marked.
+fn marked(rt: &impl Abort, alloc: Global) -> Result<Office, Fail> {
+    let mut office = Office::outage(rt, alloc)?;
     office.take(rt, "N26 mark 2024-01-01 E1 => 26")?;
     assert!(rt; office.audited() == "none");
-    let mut conn = office.into_connection();
-    conn.execute_batch(sql)?;
-    Ok(Office::over(rt, alloc, conn))
+    Ok(office)
 }
 
 // There is no book in the tables.
@@ -24,17 +19,22 @@ fn is_not_loaded(rt: &impl Abort, office: &mut Office) {
     assert!(rt; !office.has_book());
 }
 
-// After each of these statements the audit names this table, or the refusal, and no book is loaded.
+// After this statement the audit names this table, or the refusal, and no book is loaded.
+fn is_found(rt: &impl Abort, alloc: Global, sql: &str, wanted: &str) -> Result<(), Fail> {
+    let mut office = marked(rt, alloc)?.changed(rt, sql)?;
+    let found = office.audited();
+    assert!(rt; found == wanted, "{sql}: {found}");
+    is_not_loaded(rt, &mut office);
+    Ok(())
+}
+
 fn are_found(
     rt: &impl Abort,
     alloc: Global,
     cases: &[(&'static str, &'static str)],
 ) -> Result<(), Fail> {
     for (sql, wanted) in cases {
-        let mut office = changed(rt, alloc, sql)?;
-        let found = office.audited();
-        assert!(rt; found == *wanted, "{sql}: {found}");
-        is_not_loaded(rt, &mut office);
+        is_found(rt, alloc, sql, wanted)?;
     }
     Ok(())
 }
@@ -125,9 +125,7 @@ fn the_first_of_several_tables(rt: HostRuntime) -> Result<(), Fail> {
 
 // A database that is made by some statements holds no book.
 fn holds_none(rt: &impl Abort, alloc: Global, sql: &str) -> Result<(), Fail> {
-    let mut conn = Connection::open_in_memory(alloc)?;
-    conn.execute_batch(sql)?;
-    let mut office = Office::over(rt, alloc, conn);
+    let mut office = Office::new(rt, alloc)?.changed(rt, sql)?;
     assert!(rt; office.audited() == "BadBook");
     is_not_loaded(rt, &mut office);
     Ok(())

@@ -1,6 +1,6 @@
 //! Books that are loaded: commands go on, and a book stays where the tables turn into those of none.
 use crate::office::Office;
-use crate::scripts::{CORRECTED, OPENED_BEFORE, OUTAGE, REFUSED, WITHDRAWN};
+use crate::scripts::{CORRECTED, OPENED_BEFORE, REFUSED, WITHDRAWN};
 use ob_net::{Refusal, Stop};
 use std::alloc::Global;
 use std::process::Abort;
@@ -15,11 +15,8 @@ fn goes_on(
     rows: &[i64],
     total: i64,
 ) -> Result<(), Fail> {
-    let mut office = Office::two_feeders(rt, alloc)?;
-    office.take(rt, OUTAGE)?;
-    let mut again = office.reopened(rt)?;
-    again.take(rt, then)?;
-    again.reopened(rt)?.leaves(rt, rows, total)
+    let office = Office::outage(rt, alloc)?;
+    office.reopened(rt)?.ends(rt, then, rows, total)
 }
 
 #[test]
@@ -46,13 +43,9 @@ const HEADING: &'static str =
 
 // The outage, under such a heading.
 fn headed(rt: &impl Abort, alloc: Global) -> Result<Office, Fail> {
-    let mut office = Office::two_feeders(rt, alloc)?;
-    office.take(rt, OUTAGE)?;
-    let mut conn = office.into_connection();
-    conn.execute_batch(HEADING)?;
-    let mut again = Office::over(rt, alloc, conn);
-    assert!(rt; again.load().is_ok());
-    Ok(again)
+    let mut office = Office::outage(rt, alloc)?.changed(rt, HEADING)?;
+    assert!(rt; office.load().is_ok());
+    Ok(office)
 }
 
 // The tables are no book's, and the keeper goes on with the one that it has.

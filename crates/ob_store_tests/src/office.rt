@@ -1,5 +1,5 @@
 //! A keeper over a store in memory, and what it is asked.
-use crate::scripts::TWO_FEEDERS;
+use crate::scripts::{OUTAGE, TWO_FEEDERS};
 use crate::tables::{has_amounts, has_rows};
 use crate::texts::{reply_text, stop_text};
 use ob_command::read_body;
@@ -10,6 +10,12 @@ use sqlite::{Connection, MemStore};
 use std::alloc::Global;
 use std::process::Abort;
 use std::test::Fail;
+
+// Puts a text of a book behind others.
+fn push_text(text: &mut Vec<u8>, more: Result<Vec<u8>, Stop>) -> Result<(), Fail> {
+    text.extend_from_slice(&more?)?;
+    Ok(())
+}
 
 /// A keeper over a store in memory.
 #[derive(Drop)]
@@ -37,6 +43,13 @@ impl Office {
         let mut office = Office::new(rt, alloc)?;
         assert!(rt; office.create(b"2024-01-01", 1, b"UTC0").is_ok());
         office.take(rt, TWO_FEEDERS)?;
+        Ok(office)
+    }
+
+    /// The two feeders after the outage.
+    pub fn outage(rt: &impl Abort, alloc: Global) -> Result<Office, Fail> {
+        let mut office = Office::two_feeders(rt, alloc)?;
+        office.take(rt, OUTAGE)?;
         Ok(office)
     }
 
@@ -93,36 +106,59 @@ impl Office {
     pub fn views(&self) -> Result<Vec<u8>, Fail> {
         let book = self.keeper.book().ok_or("a book")?;
         let mut text = book.totals_text()?;
-        text.extend_from_slice(&book.indices_text()?)?;
-        text.extend_from_slice(&book.annual_text()?)?;
+        push_text(&mut text, book.indices_text())?;
+        push_text(&mut text, book.annual_text())?;
         Ok(text)
     }
 
-    /// The stored replies of the commands, one a line; there are fewer than thirty.
-    pub fn replies(&mut self) -> Result<String, Fail> {
-        let mut text = String::new(self.alloc);
+    // What the book shows, and the stored replies of its commands, of which there are fewer than thirty.
+    fn shown(&mut self) -> Result<Vec<u8>, Fail> {
+        let mut text = self.views()?;
         for no in 0..30 {
-            text.push_str(self.stored(no)?.as_str())?;
-            text.push_str("\n")?;
+            text.extend_from_slice(self.stored(no)?.as_bytes())?;
         }
         Ok(text)
     }
 
+    // The tables hold a book that shows this.
+    fn loads(&mut self, rt: &impl Abort, shown: &[u8]) -> Result<(), Fail> {
+        assert!(rt; self.audited() == "none");
+        assert!(rt; self.load().is_ok());
+        assert!(rt; self.shown()?.as_slice() == shown);
+        Ok(())
+    }
+
     /// A keeper that loads the same tables, and then shows the same book and the same replies.
     pub fn reopened(mut self, rt: &impl Abort) -> Result<Office, Fail> {
-        let alloc = self.alloc;
-        let (views, replies) = (self.views()?, self.replies()?);
-        let mut again = Office::over(rt, alloc, self.into_connection());
-        assert!(rt; again.audited() == "none");
-        assert!(rt; again.load().is_ok());
-        assert!(rt; again.views()? == views);
-        assert!(rt; again.replies()? == replies);
+        let shown = self.shown()?;
+        let mut again = Office::over(rt, self.alloc, self.into_connection());
+        again.loads(rt, &shown)?;
         Ok(again)
+    }
+
+    /// A keeper without a book, over the tables after some statements.
+    pub fn changed(self, rt: &impl Abort, sql: &str) -> Result<Office, Fail> {
+        let alloc = self.alloc;
+        let mut conn = self.into_connection();
+        conn.execute_batch(sql)?;
+        Ok(Office::over(rt, alloc, conn))
     }
 
     /// Whether it has a book.
     pub fn has_book(&self) -> bool {
         self.keeper.book().is_some()
+    }
+
+    /// The lines of a script are answered as they say, and leave the book, so many rows and so much in total.
+    pub fn ends(
+        mut self,
+        rt: &impl Abort,
+        script: &str,
+        rows: &[i64],
+        total: i64,
+    ) -> Result<(), Fail> {
+        self.take(rt, script)?;
+        self.reopened(rt)?.leaves(rt, rows, total)
     }
 
     /// Gives the keeper up; the tables then have so many rows and amounts of so much in total.

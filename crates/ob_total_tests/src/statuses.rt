@@ -74,6 +74,7 @@ fn status_of(stop: Stop) -> u8 {
 fn statuses_of_stops(rt: HostRuntime) {
     assert!(rt; status_of(Stop::Refused(Refusal::NameTaken)) == 2);
     assert!(rt; status_of(Stop::Fault(Fault::Output)) == 1);
+    assert!(rt; status_of_run(&Err(Unfinished::Differs)) == 2);
 }
 
 // The words' own status is these words' as those of a run.

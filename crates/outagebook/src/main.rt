@@ -5,7 +5,10 @@
 //! contracts say what they do; nothing stands above this crate.
 #![tactic(auto)]
 
-use ob_net::{Fault, Stop, Watched};
+mod books;
+
+use ob_net::{Fault, Refusal, Stop, Watched};
+use ob_tables::Table;
 pub use ob_total::{TotalStop, run_total};
 pub use ob_words::{Job, Unfinished, Word, WrongWords, complaint_of, read_words, status_of_run};
 use std::alloc::{AllocError, Global};
@@ -19,7 +22,7 @@ fn main(rt: HostRuntime) -> ExitCode {
 }
 
 /// Runs the job that the words name.
-fn run<R: Env + Input + Print + AllocGlobal>(rt: &R) -> Result<(), Unfinished> {
+fn run(rt: &HostRuntime) -> Result<(), Unfinished> {
     let words = match words_of(rt) {
         Ok(words) => words,
         Err(error) => return Err(Unfinished::Words(unread_words(rt.alloc(), &error))),
@@ -28,12 +31,24 @@ fn run<R: Env + Input + Print + AllocGlobal>(rt: &R) -> Result<(), Unfinished> {
         return Err(faulty(Fault::OutOfMemory));
     };
     match read_words(rt.alloc(), &texts) {
-        Ok(Job::Total) => total(rt),
-        // Their jobs wait for a book that can be loaded again.
-        Ok(Job::Init { .. }) => Err(to_come(rt.alloc(), "init")),
-        Ok(Job::Table { .. }) => Err(to_come(rt.alloc(), "table")),
-        Ok(Job::Audit { .. }) => Err(to_come(rt.alloc(), "audit")),
+        Ok(job) => run_job(rt, job),
         Err(wrong) => Err(Unfinished::Words(wrong)),
+    }
+}
+
+fn run_job(rt: &HostRuntime, job: Job) -> Result<(), Unfinished> {
+    match job {
+        Job::Total => total(rt),
+        Job::Init {
+            book,
+            first,
+            days,
+            zone,
+        } => ended(books::init(rt, &book, &first, days, &zone)),
+        Job::Import { book, input } => imported(books::import(rt, &book, &input)),
+        Job::Export { book, output } => ended(books::export(rt, &book, &output)),
+        Job::Table { book } => ended(books::table(rt, &book)),
+        Job::Audit { book } => audited(books::audit(rt, &book)),
     }
 }
 
@@ -101,14 +116,36 @@ fn tell_stop<R: Eprint + AllocGlobal>(rt: &R, stop: &Stop, row: Option<u32>) {
     }
 }
 
-/// A subcommand whose job isn't there yet, as words that name none.
-fn to_come(alloc: Global, name: &str) -> Unfinished {
-    match format!(in alloc; "error: `{name}` isn't there yet\n") {
-        Ok(text) => Unfinished::Words(WrongWords::Wrong(text)),
-        Err(_) => faulty(Fault::OutOfMemory),
+/// The end of a job on a book.
+fn ended(job: Result<(), Stop>) -> Result<(), Unfinished> {
+    match job {
+        Ok(()) => Ok(()),
+        Err(stop) => Err(stopped(stop)),
     }
 }
 
+/// The end of an import, which may have stopped at a row.
+fn imported(job: Result<Option<(u32, Refusal)>, Stop>) -> Result<(), Unfinished> {
+    match job {
+        Ok(None) => Ok(()),
+        Ok(Some((row, refusal))) => Err(Unfinished::Stopped(Stop::Refused(refusal), Some(row))),
+        Err(stop) => Err(stopped(stop)),
+    }
+}
+
+/// The end of an audit, which has told what it found.
+fn audited(job: Result<Option<Table>, Stop>) -> Result<(), Unfinished> {
+    match job {
+        Ok(None) => Ok(()),
+        Ok(Some(_)) => Err(Unfinished::Differs),
+        Err(stop) => Err(stopped(stop)),
+    }
+}
+
+fn stopped(stop: Stop) -> Unfinished {
+    Unfinished::Stopped(stop, None)
+}
+
 fn faulty(fault: Fault) -> Unfinished {
-    Unfinished::Stopped(Stop::Fault(fault), None)
+    stopped(Stop::Fault(fault))
 }

@@ -1,0 +1,22 @@
+//! Tests of imports into a book and of exports from one, over a store in memory: what is added, what is there already,
+//! which row stops, and what readers, writers and sinks that fail leave behind.
+//!
+//! It holds tests alone. The reports, rows and amounts are worked out by hand from the definitions.
+#![tactic(auto)]
+
+#[cfg(test)]
+mod exports;
+#[cfg(test)]
+mod imports;
+#[cfg(test)]
+mod office;
+#[cfg(test)]
+mod refusals;
+#[cfg(test)]
+mod sinks;
+#[cfg(test)]
+mod streams;
+#[cfg(test)]
+mod tables;
+#[cfg(test)]
+mod texts;

@@ -1,0 +1,89 @@
+//! The jobs on the file of a book.
+use ob_jobs::{run_audit, run_export, run_import, run_init, run_table};
+use ob_net::{Fault, Refusal, Stop, Watched};
+use ob_store::Keeper;
+use ob_sweep::Windowed;
+use ob_tables::Table;
+use ob_time::Period;
+use ob_words::Word;
+use sqlite::{Connection, Error, ErrorCode, FileFrom, FileStore, Wary};
+use std::fs::File;
+use std::io;
+
+/// A keeper of the book in a file.
+type FileKeeper = Keeper<FileStore<FileFrom<Wary>>, Windowed>;
+
+/// Makes the book of a period. A period that can't be is refused before there is a file.
+pub(crate) fn init(
+    rt: &HostRuntime,
+    book: &Word,
+    first: &Word,
+    days: u16,
+    zone: &Word,
+) -> Result<(), Stop> {
+    let (first, zone) = (first.as_str().as_bytes(), zone.as_str().as_bytes());
+    Period::from_text(rt.alloc(), first, days, zone)?;
+    let mut keeper = keeper_of(rt, book)?;
+    let mut writer = Watched::new(io::writer(rt));
+    let ran = run_init(&mut keeper, first, days, zone, &mut writer);
+    fold(keeper);
+    ran
+}
+
+/// Acts the commands of a CSV file on a book; it answers the row that was refused, and why.
+pub(crate) fn import(
+    rt: &HostRuntime,
+    book: &Word,
+    input: &Word,
+) -> Result<Option<(u32, Refusal)>, Stop> {
+    let mut keeper = keeper_of(rt, book)?;
+    keeper.load()?;
+    let Ok(file) = File::open(rt, input.as_str()) else {
+        return Err(Stop::Fault(Fault::Input));
+    };
+    let mut writer = Watched::new(io::writer(rt));
+    let ran = run_import(rt.alloc(), &mut keeper, &mut Watched::new(file), &mut writer);
+    fold(keeper);
+    Ok(ran?.stopped)
+}
+
+/// Writes what a book's commands moved into a CSV file, which is made anew.
+pub(crate) fn export(rt: &HostRuntime, book: &Word, output: &Word) -> Result<(), Stop> {
+    let mut keeper = keeper_of(rt, book)?;
+    keeper.load()?;
+    let Ok(file) = File::create(rt, output.as_str()) else {
+        return Err(Stop::Fault(Fault::Output));
+    };
+    let mut writer = Watched::new(io::writer(rt));
+    run_export(rt.alloc(), &mut keeper, &mut Watched::new(file), &mut writer)?;
+    Ok(())
+}
+
+/// Prints the annual table of a book.
+pub(crate) fn table(rt: &HostRuntime, book: &Word) -> Result<(), Stop> {
+    let mut keeper = keeper_of(rt, book)?;
+    keeper.load()?;
+    run_table(&keeper, &mut Watched::new(io::writer(rt)))
+}
+
+/// Compares the tables of a book with its commands; it answers the first table that differs.
+pub(crate) fn audit(rt: &HostRuntime, book: &Word) -> Result<Option<Table>, Stop> {
+    let mut keeper = keeper_of(rt, book)?;
+    run_audit(rt.alloc(), &mut keeper, &mut Watched::new(io::writer(rt)))
+}
+
+/// Opens the file of a book, which is made where there is none.
+fn keeper_of(rt: &HostRuntime, book: &Word) -> Result<FileKeeper, Stop> {
+    match Connection::open_from(rt, book.as_str(), false, Wary) {
+        Ok(conn) => Ok(Keeper::adopt_connection(rt.alloc(), conn)),
+        Err((Error::SqliteFailure(ErrorCode::OutOfMemory), _)) => {
+            Err(Stop::Fault(Fault::OutOfMemory))
+        }
+        Err(_) => Err(Stop::Fault(Fault::Store)),
+    }
+}
+
+/// Copies what was committed from the log beside the file into the file. Where that fails, the log keeps it.
+fn fold(keeper: FileKeeper) {
+    let _ = keeper.into_connection().close();
+}
