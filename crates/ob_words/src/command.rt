@@ -81,16 +81,23 @@ fn import_command<'a>(alloc: Global) -> Result<Command<'a>, AllocError>
     ensures app { IfOk result (λ c. app_of c ≡ import_app) }
     ensures local { IfOk result (λ c. (out-Command c).has_globals ≡ false) }
 {
-    book_command(alloc, "import", "Acts the commands of a CSV file on a book")?
-        .arg(file_word(alloc, "INPUT", "The CSV file to read"))
+    book_command(alloc, "import", "Acts the commands of a CSV file on a book")?.arg(file_word(
+        alloc,
+        "INPUT",
+        "The CSV file to read",
+    ))
 }
 
 fn export_command<'a>(alloc: Global) -> Result<Command<'a>, AllocError>
     ensures app { IfOk result (λ c. app_of c ≡ export_app) }
     ensures local { IfOk result (λ c. (out-Command c).has_globals ≡ false) }
 {
-    book_command(alloc, "export", "Writes what a book's commands moved as CSV")?
-        .arg(file_word(alloc, "OUTPUT", "The CSV file to write"))
+    book_command(
+        alloc,
+        "export",
+        "Writes what a book's commands moved as CSV",
+    )?
+    .arg(file_word(alloc, "OUTPUT", "The CSV file to write"))
 }
 
 fn table_command<'a>(alloc: Global) -> Result<Command<'a>, AllocError>

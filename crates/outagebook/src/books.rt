@@ -42,7 +42,12 @@ pub(crate) fn import(
         return Err(Stop::Fault(Fault::Input));
     };
     let mut writer = Watched::new(io::writer(rt));
-    let ran = run_import(rt.alloc(), &mut keeper, &mut Watched::new(file), &mut writer);
+    let ran = run_import(
+        rt.alloc(),
+        &mut keeper,
+        &mut Watched::new(file),
+        &mut writer,
+    );
     fold(keeper);
     Ok(ran?.stopped)
 }
@@ -55,7 +60,12 @@ pub(crate) fn export(rt: &HostRuntime, book: &Word, output: &Word) -> Result<(),
         return Err(Stop::Fault(Fault::Output));
     };
     let mut writer = Watched::new(io::writer(rt));
-    run_export(rt.alloc(), &mut keeper, &mut Watched::new(file), &mut writer)?;
+    run_export(
+        rt.alloc(),
+        &mut keeper,
+        &mut Watched::new(file),
+        &mut writer,
+    )?;
     Ok(())
 }
 
