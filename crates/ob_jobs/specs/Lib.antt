@@ -1,3 +1,5 @@
 pub mod Telling
 pub mod Lines
 pub mod Tabling
+pub mod Importing
+pub mod After

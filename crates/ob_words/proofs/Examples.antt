@@ -5,7 +5,7 @@ use Rattle.clap.specs.Walk.{walked}
 use Rattle.clap.specs.Words.{Text}
 use Rattle.clap.specs.declared.error.kind.ErrorKind.TheVariants as kind
 use Rattle.ob_words.specs.Jobs.{errors_of, job_of}
-use Rattle.ob_words.specs.declared.job.Job.TheVariants.{Total, Init, Table, Audit}
+use Rattle.ob_words.specs.declared.job.Job.TheVariants.{Total, Init, Import, Export, Table, Audit}
 
 total_is_a_job : job_of (codes "outagebook" ∷ codes "total" ∷ []) ≡ Some Total
 unfolding defaults_fault walk_fault walked
@@ -50,3 +50,12 @@ init_is_of_65535_days_at_most : errors_of (init_words (codes "65536") (codes "--
     ≡ kind.ValueValidation ∷ []
 unfolding defaults_fault walk_fault walked
 init_is_of_65535_days_at_most = refl
+
+import_of_a_file : job_of (codes "outagebook" ∷ codes "import" ∷ codes "year.csv" ∷ [])
+    ≡ Some (Import (codes "book.db") (codes "year.csv"))
+unfolding defaults_fault walk_fault walked
+import_of_a_file = refl
+
+export_wants_a_file : errors_of (codes "outagebook" ∷ codes "export" ∷ []) ≡ kind.MissingRequiredArgument ∷ []
+unfolding defaults_fault walk_fault walked
+export_wants_a_file = refl

@@ -15,6 +15,10 @@ required_rule name = record (option_rule name) { required = true }
 abbrev pub number_rule : Text → Rule
 number_rule name = record (required_rule name) { parser = Some (parser.Signed (pos 0) (pos 65535)) }
 
+-- a word that must stand by itself
+abbrev pub word_rule : Text → Rule
+word_rule name = record (new_rule name) { required = true }
+
 -- the book that the program works on where the words name none
 abbrev pub default_book : Text
 default_book = codes "book.db"
@@ -49,6 +53,14 @@ table_app = over_book (codes "table")
 abbrev pub audit_app : App
 audit_app = over_book (codes "audit")
 
+-- `import --book FILE INPUT`
+abbrev pub import_app : App
+import_app = with_rule (over_book (codes "import")) (word_rule (codes "INPUT"))
+
+-- `export --book FILE OUTPUT`
+abbrev pub export_app : App
+export_app = with_rule (over_book (codes "export")) (word_rule (codes "OUTPUT"))
+
 -- the program's own command, which needs a subcommand
 abbrev pub bare_app : App
 bare_app =
@@ -61,4 +73,5 @@ with_subcommands a (s ∷ rest) = with_subcommands (with_subcommand a s.top) res
 
 -- the command line of the program
 abbrev pub outagebook_app : App
-outagebook_app = with_subcommands bare_app (total_app ∷ init_app ∷ table_app ∷ audit_app ∷ [])
+outagebook_app = with_subcommands bare_app
+    (total_app ∷ init_app ∷ import_app ∷ export_app ∷ table_app ∷ audit_app ∷ [])

@@ -8,7 +8,7 @@ use Rattle.ob_base.specs.declared.stop.Fault.TheVariants.{OutOfMemory}
 use Rattle.ob_words.specs.Commands.{outagebook_app}
 use Rattle.ob_words.specs.Values.{with_number, with_word}
 use Rattle.ob_words.specs.declared.job.Job.{Job}
-use Rattle.ob_words.specs.declared.job.Job.TheVariants.{Total, Init, Table, Audit}
+use Rattle.ob_words.specs.declared.job.Job.TheVariants.{Total, Init, Import, Export, Table, Audit}
 use Rattle.ob_words.specs.declared.read.WrongWords.{WrongWords}
 use Rattle.ob_words.specs.declared.read.WrongWords.TheVariants as wrong
 
@@ -17,6 +17,12 @@ abbrev pub init_job : List Row → Option Job
 init_job rows = with_word (codes "book") rows (λ book. with_word (codes "first") rows (λ first.
     with_number (codes "days") rows (λ days. with_word (codes "zone") rows (λ zone.
     Some (Init book first days zone)))))
+
+abbrev pub import_job : List Row → Option Job
+import_job rows = with_word (codes "book") rows (λ book. with_word (codes "INPUT") rows (λ input. Some (Import book input)))
+
+abbrev pub export_job : List Row → Option Job
+export_job rows = with_word (codes "book") rows (λ book. with_word (codes "OUTPUT") rows (λ output. Some (Export book output)))
 
 abbrev pub table_job : List Row → Option Job
 table_job rows = with_word (codes "book") rows (λ book. Some (Table book))
@@ -29,6 +35,8 @@ abbrev pub job_named : Text × List Row → Option Job
 job_named p =
     if bytes_eq p.0 (codes "total") then Some Total
     else if bytes_eq p.0 (codes "init") then init_job p.1
+    else if bytes_eq p.0 (codes "import") then import_job p.1
+    else if bytes_eq p.0 (codes "export") then export_job p.1
     else if bytes_eq p.0 (codes "table") then table_job p.1
     else if bytes_eq p.0 (codes "audit") then audit_job p.1
     else None

@@ -2,8 +2,8 @@
 ghost use Rattle.std.specs.Prelude.{◌≡◌, IfOk, false};
 ghost use Rattle.clap.specs.Words.{app_of, rule_of};
 ghost use Rattle.clap.specs.declared.builder.command.Command.TheViews.{out-Command};
-ghost use Rattle.ob_words.specs.Commands.{audit_app, bare_app, book_rule, init_app, number_rule};
-ghost use Rattle.ob_words.specs.Commands.{outagebook_app, over_book, required_rule, table_app, total_app};
+ghost use Rattle.ob_words.specs.Commands.{audit_app, bare_app, book_rule, export_app, import_app, init_app, number_rule};
+ghost use Rattle.ob_words.specs.Commands.{outagebook_app, over_book, required_rule, table_app, total_app, word_rule};
 
 use clap::{Arg, Command, value_parser};
 use std::alloc::{AllocError, Global};
@@ -37,6 +37,14 @@ fn number_option<'a>(alloc: Global, name: &'a str, help: &'a str) -> Arg<'a>
     required_option(alloc, name, "N", help).value_parser(value_parser!(u16))
 }
 
+/// A word of its own that names a file.
+fn file_word<'a>(alloc: Global, name: &'a str, help: &'a str) -> Arg<'a>
+    ensures rule { rule_of result ≡ word_rule name.entry.now }
+    ensures local { result.global ≡ false }
+{
+    Arg::new(alloc, name).required(true).help(help)
+}
+
 fn total_command<'a>(alloc: Global) -> Command<'a>
     ensures app { app_of result ≡ total_app }
     ensures local { (out-Command result).has_globals ≡ false }
@@ -67,6 +75,29 @@ fn init_command<'a>(alloc: Global) -> Result<Command<'a>, AllocError>
         ))?
         .arg(number_option(alloc, "days", "How many days the period has"))?
         .arg(required_option(alloc, "zone", "TEXT", "The time zone, as a POSIX rule"))
+}
+
+fn import_command<'a>(alloc: Global) -> Result<Command<'a>, AllocError>
+    ensures app { IfOk result (λ c. app_of c ≡ import_app) }
+    ensures local { IfOk result (λ c. (out-Command c).has_globals ≡ false) }
+{
+    book_command(alloc, "import", "Acts the commands of a CSV file on a book")?.arg(file_word(
+        alloc,
+        "INPUT",
+        "The CSV file to read",
+    ))
+}
+
+fn export_command<'a>(alloc: Global) -> Result<Command<'a>, AllocError>
+    ensures app { IfOk result (λ c. app_of c ≡ export_app) }
+    ensures local { IfOk result (λ c. (out-Command c).has_globals ≡ false) }
+{
+    book_command(
+        alloc,
+        "export",
+        "Writes what a book's commands moved as CSV",
+    )?
+    .arg(file_word(alloc, "OUTPUT", "The CSV file to write"))
 }
 
 fn table_command<'a>(alloc: Global) -> Result<Command<'a>, AllocError>
@@ -102,6 +133,8 @@ pub(crate) fn outagebook_command<'a>(alloc: Global) -> Result<Command<'a>, Alloc
     bare_command(alloc)
         .subcommand(total_command(alloc))?
         .subcommand(init_command(alloc)?)?
+        .subcommand(import_command(alloc)?)?
+        .subcommand(export_command(alloc)?)?
         .subcommand(table_command(alloc)?)?
         .subcommand(audit_command(alloc)?)
 }

@@ -48,6 +48,20 @@ pub enum Job {
         /// The time zone.
         zone: Word,
     },
+    /// Act the commands of a CSV file on a book.
+    Import {
+        /// The book's file.
+        book: Word,
+        /// The file of the commands.
+        input: Word,
+    },
+    /// Write what a book's commands moved into a CSV file.
+    Export {
+        /// The book's file.
+        book: Word,
+        /// The file to write, which is made anew.
+        output: Word,
+    },
     /// Print the annual table of a book.
     Table {
         /// The book's file.

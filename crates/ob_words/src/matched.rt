@@ -1,7 +1,7 @@
 //! The job that a subcommand's matches give.
 ghost use Rattle.std.specs.Prelude.{◌≡◌, IfOk, option_and_then};
 ghost use Rattle.clap.specs.Words.{first_of, found_of, rows_of, subcommand_rows_of};
-ghost use Rattle.ob_words.specs.Jobs.{audit_job, init_job, job_named, table_job};
+ghost use Rattle.ob_words.specs.Jobs.{audit_job, export_job, import_job, init_job, job_named, table_job};
 ghost use Rattle.ob_words.specs.Values.{number_given};
 
 use crate::job::{Job, Word};
@@ -41,6 +41,28 @@ fn init_from(alloc: Global, matches: &ArgMatches<'_>) -> Result<Option<Job>, All
     }
 }
 
+fn import_from(alloc: Global, matches: &ArgMatches<'_>) -> Result<Option<Job>, AllocError>
+    ensures { IfOk result (λ r. r ≡ import_job (rows_of (found_of matches.now))) }
+{
+    let book = word_of(alloc, matches, "book")?;
+    let input = word_of(alloc, matches, "INPUT")?;
+    match (book, input) {
+        (Some(book), Some(input)) => Ok(Some(Job::Import { book, input })),
+        _ => Ok(None),
+    }
+}
+
+fn export_from(alloc: Global, matches: &ArgMatches<'_>) -> Result<Option<Job>, AllocError>
+    ensures { IfOk result (λ r. r ≡ export_job (rows_of (found_of matches.now))) }
+{
+    let book = word_of(alloc, matches, "book")?;
+    let output = word_of(alloc, matches, "OUTPUT")?;
+    match (book, output) {
+        (Some(book), Some(output)) => Ok(Some(Job::Export { book, output })),
+        _ => Ok(None),
+    }
+}
+
 fn table_from(alloc: Global, matches: &ArgMatches<'_>) -> Result<Option<Job>, AllocError>
     ensures { IfOk result (λ r. r ≡ table_job (rows_of (found_of matches.now))) }
 {
@@ -65,6 +87,8 @@ fn job_from(alloc: Global, name: &str, matches: &ArgMatches<'_>) -> Result<Optio
     match name {
         "total" => Ok(Some(Job::Total)),
         "init" => init_from(alloc, matches),
+        "import" => import_from(alloc, matches),
+        "export" => export_from(alloc, matches),
         "table" => table_from(alloc, matches),
         "audit" => audit_from(alloc, matches),
         _ => Ok(None),

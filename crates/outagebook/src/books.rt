@@ -1,12 +1,13 @@
 //! The jobs on the file of a book.
-use ob_jobs::{run_audit, run_init, run_table};
-use ob_net::{Fault, Stop, Watched};
+use ob_jobs::{run_audit, run_export, run_import, run_init, run_table};
+use ob_net::{Fault, Refusal, Stop, Watched};
 use ob_store::Keeper;
 use ob_sweep::Windowed;
 use ob_tables::Table;
 use ob_time::Period;
 use ob_words::Word;
 use sqlite::{Connection, Error, ErrorCode, FileFrom, FileStore, Wary};
+use std::fs::File;
 use std::io;
 
 /// A keeper of the book in a file.
@@ -27,6 +28,45 @@ pub(crate) fn init(
     let ran = run_init(&mut keeper, first, days, zone, &mut writer);
     fold(keeper);
     ran
+}
+
+/// Acts the commands of a CSV file on a book; it answers the row that was refused, and why.
+pub(crate) fn import(
+    rt: &HostRuntime,
+    book: &Word,
+    input: &Word,
+) -> Result<Option<(u32, Refusal)>, Stop> {
+    let mut keeper = keeper_of(rt, book)?;
+    keeper.load()?;
+    let Ok(file) = File::open(rt, input.as_str()) else {
+        return Err(Stop::Fault(Fault::Input));
+    };
+    let mut writer = Watched::new(io::writer(rt));
+    let ran = run_import(
+        rt.alloc(),
+        &mut keeper,
+        &mut Watched::new(file),
+        &mut writer,
+    );
+    fold(keeper);
+    Ok(ran?.stopped)
+}
+
+/// Writes what a book's commands moved into a CSV file, which is made anew.
+pub(crate) fn export(rt: &HostRuntime, book: &Word, output: &Word) -> Result<(), Stop> {
+    let mut keeper = keeper_of(rt, book)?;
+    keeper.load()?;
+    let Ok(file) = File::create(rt, output.as_str()) else {
+        return Err(Stop::Fault(Fault::Output));
+    };
+    let mut writer = Watched::new(io::writer(rt));
+    run_export(
+        rt.alloc(),
+        &mut keeper,
+        &mut Watched::new(file),
+        &mut writer,
+    )?;
+    Ok(())
 }
 
 /// Prints the annual table of a book.

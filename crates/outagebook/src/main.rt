@@ -7,7 +7,7 @@
 
 mod books;
 
-use ob_net::{Fault, Stop, Watched};
+use ob_net::{Fault, Refusal, Stop, Watched};
 use ob_tables::Table;
 pub use ob_total::{TotalStop, run_total};
 pub use ob_words::{Job, Unfinished, Word, WrongWords, complaint_of, read_words, status_of_run};
@@ -45,6 +45,8 @@ fn run_job(rt: &HostRuntime, job: Job) -> Result<(), Unfinished> {
             days,
             zone,
         } => ended(books::init(rt, &book, &first, days, &zone)),
+        Job::Import { book, input } => imported(books::import(rt, &book, &input)),
+        Job::Export { book, output } => ended(books::export(rt, &book, &output)),
         Job::Table { book } => ended(books::table(rt, &book)),
         Job::Audit { book } => audited(books::audit(rt, &book)),
     }
@@ -118,6 +120,15 @@ fn tell_stop<R: Eprint + AllocGlobal>(rt: &R, stop: &Stop, row: Option<u32>) {
 fn ended(job: Result<(), Stop>) -> Result<(), Unfinished> {
     match job {
         Ok(()) => Ok(()),
+        Err(stop) => Err(stopped(stop)),
+    }
+}
+
+/// The end of an import, which may have stopped at a row.
+fn imported(job: Result<Option<(u32, Refusal)>, Stop>) -> Result<(), Unfinished> {
+    match job {
+        Ok(None) => Ok(()),
+        Ok(Some((row, refusal))) => Err(Unfinished::Stopped(Stop::Refused(refusal), Some(row))),
         Err(stop) => Err(stopped(stop)),
     }
 }

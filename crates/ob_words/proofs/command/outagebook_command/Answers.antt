@@ -13,8 +13,12 @@ returns c =
     ∙ ap₂ with_subcommand c.bare_command.ensures.app (ap top c.total_command.ensures.app) in
     let two = c.in_ok-subcommand-2.ensures.shape c.in_ok-init_command.ensures.local
     ∙ ap₂ with_subcommand one (ap top c.in_ok-init_command.ensures.app) in
-    let three = c.in_ok-subcommand-3.ensures.shape c.in_ok-table_command.ensures.local
-    ∙ ap₂ with_subcommand two (ap top c.in_ok-table_command.ensures.app) in
-    IfOk-weaker c.subcommand-4.result _ _
+    let three = c.in_ok-subcommand-3.ensures.shape c.in_ok-import_command.ensures.local
+    ∙ ap₂ with_subcommand two (ap top c.in_ok-import_command.ensures.app) in
+    let four = c.in_ok-subcommand-4.ensures.shape c.in_ok-export_command.ensures.local
+    ∙ ap₂ with_subcommand three (ap top c.in_ok-export_command.ensures.app) in
+    let five = c.in_ok-subcommand-5.ensures.shape c.in_ok-table_command.ensures.local
+    ∙ ap₂ with_subcommand four (ap top c.in_ok-table_command.ensures.app) in
+    IfOk-weaker c.subcommand-6.result _ _
     (λ r h. h.shape c.in_ok-audit_command.ensures.local
-    ∙ ap₂ with_subcommand three (ap top c.in_ok-audit_command.ensures.app)) c.subcommand-4.ensures
+    ∙ ap₂ with_subcommand five (ap top c.in_ok-audit_command.ensures.app)) c.subcommand-6.ensures

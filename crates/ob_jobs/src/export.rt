@@ -1,0 +1,59 @@
+//! The job that writes what a book's commands moved.
+ghost use Rattle.std.specs.Prelude.{◌≡◌, IfOk, IsSome, string_bytes};
+ghost use Rattle.sqlite.specs.Held.{state};
+ghost use Rattle.sqlite.specs.State.{HasCleanDisk};
+ghost use Rattle.ob_book.specs.Acts.{ActState};
+ghost use Rattle.ob_stream.specs.Watching.{watched_bytes};
+ghost use Rattle.ob_store.specs.Keeping.{Ties};
+ghost use Rattle.ob_export.specs.Exporting.{Exports};
+ghost use Rattle.ob_export.specs.Text.{moves_text};
+ghost use Rattle.ob_jobs.specs.Importing.{export_line};
+ghost use Rattle.ob_jobs.specs.After.{TellsAfter};
+
+use crate::tell::tell;
+use ob_base::{Fault, Stop};
+use ob_export::export_moves;
+use ob_store::Keeper;
+use ob_stream::Watched;
+use ob_sweep::Timeline;
+use sqlite::Alter;
+use std::alloc::{AllocError, Global};
+use std::io::Write;
+
+/// Writes what the accepted commands moved into a file, as [`ob_export::export_moves`], and then `rows`, how many amounts they
+/// are, and LF.
+///
+/// # Errors
+///
+/// Those of [`ob_export::export_moves`], and then nothing is told; `Fault::Output` also where the writer fails.
+pub fn run_export<F: Write, S: Alter, T: Timeline, W: Write>(
+    alloc: Global,
+    keeper: &mut Keeper<S, T>,
+    file: &mut Watched<F>,
+    writer: &mut Watched<W>,
+) -> Result<u64, Stop>
+    ensures { TellsAfter (λ done. HasCleanDisk (state S.Store keeper.new.conn) → (b : ActState)
+        → Ties S.Store keeper.old b → IsSome keeper.old.book
+        → Exports F.contents S.Store keeper.old keeper.new (watched_bytes F.contents file.old) file.new b (moves_text b) done)
+        export_line W.contents writer.old writer.new result }
+{
+    let rows = match export_moves(alloc, keeper, file) {
+        Ok(rows) => rows,
+        Err(stop) => return Err(stop),
+    };
+    let line = match line_of(alloc, rows) {
+        Ok(line) => line,
+        Err(_) => return Err(Stop::Fault(Fault::OutOfMemory)),
+    };
+    match tell(writer, line.as_bytes()) {
+        Ok(()) => Ok(rows),
+        Err(stop) => Err(stop),
+    }
+}
+
+/// The line that tells how many amounts were written.
+fn line_of(alloc: Global, rows: u64) -> Result<String, AllocError>
+    ensures { IfOk result (λ line. string_bytes line ≡ export_line rows) }
+{
+    format!(in alloc; "rows {rows}\n")
+}

@@ -1,0 +1,61 @@
+//! The job that acts the commands of a CSV file on a book.
+ghost use Rattle.std.specs.Prelude.{◌≡◌, IfOk, IsSome, option_map, string_bytes};
+ghost use Rattle.sqlite.specs.Held.{state};
+ghost use Rattle.sqlite.specs.State.{HasCleanDisk};
+ghost use Rattle.ob_book.specs.Acts.{ActState};
+ghost use Rattle.ob_rows.specs.Rows.{rows_of};
+ghost use Rattle.ob_stream.specs.Watching.{watched_bytes};
+ghost use Rattle.ob_store.specs.Keeping.{Ties};
+ghost use Rattle.ob_import.specs.Reports.{Imported};
+ghost use Rattle.ob_jobs.specs.Importing.{ImportsAs, import_line};
+ghost use Rattle.ob_jobs.specs.After.{TellsAfter};
+
+use crate::tell::tell;
+use ob_base::{Fault, Stop};
+use ob_import::{ImportReport, import};
+use ob_store::Keeper;
+use ob_stream::Watched;
+use ob_sweep::Timeline;
+use sqlite::Alter;
+use std::alloc::{AllocError, Global};
+use std::io::{Read, Write};
+
+/// Acts the commands of the CSV text that a reader gives, as [`ob_import::import`], and writes `added`, how many rows added a
+/// command, `again`, how many named one that the book had, and LF; also where a row was refused, which is answered.
+///
+/// # Errors
+///
+/// The fault that ended the import, and then nothing is written; `Fault::Output` where the writer fails, and then the import
+/// is done.
+pub fn run_import<R: Read, S: Alter, T: Timeline, W: Write>(
+    alloc: Global,
+    keeper: &mut Keeper<S, T>,
+    reader: &mut Watched<R>,
+    writer: &mut Watched<W>,
+) -> Result<ImportReport, Stop>
+    ensures { TellsAfter (ImportsAs (λ done. HasCleanDisk (state S.Store keeper.new.conn) → (b : ActState)
+        → Ties S.Store keeper.old b → IsSome keeper.old.book
+        → Imported S.Store keeper.new b (option_map rows_of (watched_bytes R.remaining reader.old)) done))
+        import_line W.contents writer.old writer.new result }
+{
+    let report = match import(alloc, reader, keeper) {
+        Ok(report) => report,
+        Err(failed) => return Err(Stop::Fault(failed.fault)),
+    };
+    let line = match line_of(alloc, &report) {
+        Ok(line) => line,
+        Err(_) => return Err(Stop::Fault(Fault::OutOfMemory)),
+    };
+    match tell(writer, line.as_bytes()) {
+        Ok(()) => Ok(report),
+        Err(stop) => Err(stop),
+    }
+}
+
+/// The line that tells how many rows were taken.
+fn line_of(alloc: Global, report: &ImportReport) -> Result<String, AllocError>
+    ensures { IfOk result (λ line. string_bytes line ≡ import_line report.now) }
+{
+    let ImportReport { added, again, .. } = *report;
+    format!(in alloc; "added {added} again {again}\n")
+}
