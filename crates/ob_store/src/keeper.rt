@@ -49,6 +49,7 @@ impl<S: Alter, T: Timeline> Keeper<S, T> {
     ghost use Rattle.ob_store.specs.Loading.{Audited, Loaded};
     ghost use Rattle.ob_store.specs.MovingOut.{HandsOver, MovesAreRows, MovesOut};
     ghost use Rattle.ob_tables.specs.Schema.{book_schema};
+    ghost use Rattle.ob_tables.specs.Steps.{IsStoreFault};
     ghost use Rattle.ob_compare.specs.Reading.{IsReadFault};
     ghost use Rattle.std.specs.Option.{option_map};
 
@@ -115,8 +116,10 @@ impl<S: Alter, T: Timeline> Keeper<S, T> {
     pub fn reply_of(&mut self, no: u32) -> Result<Option<Reply>, Stop>
         ensures reopen { (self.old.book ≡ None) ↔ (result ≡ Err (Stop.Fault Fault.Reopen)) }
         ensures unopened { self.old.book ≡ None → self.new ≡ self.old }
+        ensures faults { IsSome self.old.book → IfErr result IsStoreFault }
+        ensures dropped { IsSome self.old.book → (self.new.book ≡ None) ↔ (result ≡ Err (Stop.Fault Fault.Store)) }
+        ensures clean { HasCleanDisk (state S.Store self.new.conn) → HasCleanDisk (state S.Store self.old.conn) }
         ensures survives { Survives (state S.Store self.old.conn) (state S.Store self.new.conn) (λ _. ⊥) }
-        ensures lost { result ≡ Err (Stop.Fault Fault.Store) → self.new.book ≡ None }
         ensures replied { HasCleanDisk (state S.Store self.new.conn) → (b : ActState) → Ties S.Store self.old b
             → IsSome self.old.book → Replied S.Store self.old self.new b no result }
     {

@@ -1,5 +1,5 @@
 //! The stored reply of an accepted command.
-ghost use Rattle.std.specs.Prelude.{◌≡◌, ◌≢◌, ◌≤◌, false, length, IfOk, IfErr};
+ghost use Rattle.std.specs.Prelude.{◌≡◌, ◌≤◌, false, length, IfOk, IfErr};
 ghost use Rattle.sqlite.specs.Held.{state};
 ghost use Rattle.sqlite.specs.State.{HasCleanDisk, Survives};
 ghost use Rattle.ob_tables.specs.Steps.{IsStoreFault};
@@ -52,7 +52,7 @@ pub(crate) fn reply_at<S: Alter, T: Timeline>(
 ) -> Result<Option<Reply>, Stop>
     requires mode { conn.old.in_transaction ≡ false }
     ensures mode { conn.new.in_transaction ≡ false }
-    ensures faults { IfErr result (λ stop. stop ≢ Stop.Fault Fault.Reopen) }
+    ensures faults { IfErr result IsStoreFault }
     ensures survives { Survives (state S.Store conn.old) (state S.Store conn.new) (λ _. ⊥) }
     ensures replies { HasCleanDisk (state S.Store conn.new) → (b : ActState)
         → KeepsBook (state S.Store conn.old) b → book.now.state ≡ b.book → Replies S.Store conn.new b no result }
