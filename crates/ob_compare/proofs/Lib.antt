@@ -9,10 +9,6 @@ pub mod Same
 pub mod Standing
 mod Selects
 mod Places
-mod Rising
-mod Numbered
-mod Network
-mod Keyed
 pub mod Reaching
 mod Twins
 mod Naming

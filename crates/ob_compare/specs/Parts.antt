@@ -1,5 +1,5 @@
--- The rows of each table by rising key, and what stands at the places of a part of a book.
-use Rattle.std.specs.Prelude.{◌≡◌, ◌≢◌, ⊤, ℕ, ◌+◌, Bool, false, List, [], ◌∷◌, codes, Option, Some, None, Result, IsTrue, IfOk, IfErr, OnOk, ◌↔◌}
+-- The rows of each table by rising key, and a table compared with the rows that are expected of it.
+use Rattle.std.specs.Prelude.{◌≡◌, ◌≢◌, ℕ, Bool, false, List, [], ◌∷◌, codes, Option, Some, None, Result, IsTrue, IfOk, IfErr, OnOk, ◌↔◌}
 use Rattle.std.specs.List.Sorted.{IsPermutation}
 use Rattle.std.specs.declared.cmp.Ordering.{Ordering}
 use Rattle.sqlite.specs.Query.{output_cmp}
@@ -59,12 +59,6 @@ abbrev pub row_cmp : Table → Columns → Columns → Ordering
 row_cmp table a b =
     output_cmp (list_query (listing_of table)) (keyed (listing_of table) a) (keyed (listing_of table) b)
 
--- a row for each place that holds something, with its number; the first place has this one
-abbrev pub placed : {X : Type 0} → (ℕ → X → Columns) → ℕ → List (Option X) → List (Option Columns)
-placed row n [] = []
-placed row n (None ∷ xs) = None ∷ placed row (n + 1) xs
-placed row n (Some x ∷ xs) = Some (row n x) ∷ placed row (n + 1) xs
-
 -- what stands at places, of which some are empty
 abbrev pub standing : {X : Type 0} → List (Option X) → List X
 standing [] = []
@@ -89,9 +83,3 @@ module _ {S : Type 0} (g : Ghosts S) where
     -- the table has just these rows, in some order
     pub holds : HasCleanDisk (state g new) → IfOk result (λ is. old.schema ≡ book_schema → (rows : List Columns)
         → Shows (state g old).now.trees table rows → IsTrue is ↔ IsPermutation rows expected)
-
--- the table isn't that of commands nor that of what they moved
-abbrev pub IsPart : Table → Type 0
-IsPart Command = ⊥
-IsPart Moved = ⊥
-IsPart _ = ⊤

@@ -22,7 +22,7 @@ use ob_tables::Table;
 use sqlite::{Alter, Connection, Row, Rows};
 
 /// A part of a book as rows of a table: each of its places has one or none. They rise by key.
-pub(crate) trait Listed {
+pub trait Listed {
     /// The table that the rows are of.
     ghost table: { ATable };
 
@@ -142,7 +142,7 @@ fn matches<S: Alter, L: Listed>(rows: &mut Rows<'_, S>, listed: &L) -> Result<bo
 
 /// Whether a table holds just the rows of a part of a book, which rise by key. Nothing is written. A database without
 /// the table is refused as no book's.
-pub(crate) fn holds<S: Alter, L: Listed>(conn: &mut Connection<S>, listed: &L) -> Result<bool, Stop>
+pub fn holds<S: Alter, L: Listed>(conn: &mut Connection<S>, listed: &L) -> Result<bool, Stop>
     requires rises { IsStrictlySortedBy (row_cmp L.table) (standing (L.places listed.now)) }
     ensures { Compares S.Store L.table (standing (L.places listed.now)) conn.old conn.new result }
 {

@@ -2,13 +2,13 @@
 ghost use Rattle.std.specs.Prelude.{◌≡◌, map};
 ghost use Rattle.ob_book.specs.Acts.{ActState};
 ghost use Rattle.ob_compare.specs.Moves.{ends_of};
-ghost use Rattle.ob_compare.specs.Parts.{IsPart};
+ghost use Rattle.ob_parts.specs.Parts.{IsPart};
 ghost use Rattle.ob_store.specs.Finding.{Finds};
 ghost use Rattle.ob_store.specs.Differing.{IsFirstOff, IsFirstOffOf, IsOff, NoneSo};
 
 use crate::led::Led;
 use ob_base::Stop;
-use ob_compare::holds_part;
+use ob_parts::holds_part;
 use ob_sweep::Timeline;
 use ob_tables::Table;
 use sqlite::{Alter, Connection};

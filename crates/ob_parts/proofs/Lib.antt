@@ -1,0 +1,4 @@
+mod Rising
+mod Numbered
+mod Network
+mod Keyed

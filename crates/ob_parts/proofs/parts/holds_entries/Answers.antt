@@ -1,0 +1,22 @@
+use Rattle.std.proofs.Common.{[], ◌∷◌, sym, subst}
+use Rattle.std.specs.List.Sorted.{IsStrictlySortedBy}
+use Rattle.ob_sheet.specs.declared.Entry.{Entry as SheetEntry}
+use Rattle.ob_tables.specs.Rows.{bit, number, position_number}
+use Rattle.sqlite.specs.declared.types.Value.TheVariants.{Text}
+use Rattle.ob_tables.specs.declared.table.Table.TheVariants.{Entry}
+use Rattle.ob_record.specs.Tables.{row_of_entry}
+use Rattle.ob_compare.specs.Parts.{Compares, row_cmp}
+use Rattle.ob_parts.proofs.Numbered.{entries_rise}
+use Rattle.ob_parts.proofs.Rising.{rise_mapped, standing_all}
+use Rattle.ob_parts.proofs.parts.holds_entries.Goals as goal
+
+pub holds-requires : goal.holds-requires
+holds-requires g c =
+    let es = c.args.sheet.now.entries in
+    let rising = rise_mapped (λ (e : SheetEntry). e.«no»)
+    (λ (e : SheetEntry). number e.rev ∷ number e.device ∷ number (position_number e.pos) ∷ number e.second ∷ number e.cause ∷ Text e.crew ∷ number (bit e.kept) ∷ [])
+    es (entries_rise es c.entry.ensures.numbered) in
+    record { rises = subst (IsStrictlySortedBy (row_cmp Entry)) (sym (standing_all row_of_entry es)) rising }
+
+pub returns : goal.returns
+returns g c = subst (λ e. Compares g.S.Store Entry e c.args.conn.now c.holds.new.conn c.holds.result) (standing_all row_of_entry c.args.sheet.now.entries) c.holds.ensures

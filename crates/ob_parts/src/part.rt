@@ -1,0 +1,78 @@
+//! Each table against what a book has of it.
+ghost use Rattle.std.specs.Prelude.{◌≡◌, [], ◌∷◌, map};
+ghost use Rattle.ob_time.specs.Calendar.{day_count};
+ghost use Rattle.ob_time.specs.Dates.{day_text};
+ghost use Rattle.ob_state.specs.Amounts.{amount};
+ghost use Rattle.ob_book.specs.Acts.{ActState};
+ghost use Rattle.ob_commit.specs.Amounts.{amount_rows};
+ghost use Rattle.ob_tables.specs.Rows.{meta_row};
+ghost use Rattle.ob_tables.specs.declared.table.Table.{Table as ATable};
+ghost use Rattle.ob_record.specs.Tables.{tables_of};
+ghost use Rattle.ob_compare.specs.Moves.{ends_of};
+ghost use Rattle.ob_compare.specs.Parts.{Compares};
+ghost use Rattle.ob_parts.specs.Parts.{IsPart};
+
+use crate::parts::{
+    holds_amounts, holds_causes, holds_customers, holds_devices, holds_entries, holds_heading,
+    holds_marks, holds_nodes,
+};
+use ob_base::{Name, Stop};
+use ob_book::Book;
+use ob_compare::Ends;
+use ob_sweep::Timeline;
+use ob_tables::Table;
+use ob_time::Period;
+use sqlite::{Alter, Connection};
+
+/// Whether the table of the heading holds that of a period. Nothing is written.
+fn holds_period<S: Alter>(conn: &mut Connection<S>, period: &Period) -> Result<bool, Stop>
+    ensures { Compares S.Store ATable.Meta
+        (meta_row 1 (day_text period.now.first_day) (day_count period.now) period.now.zone ∷ [])
+        conn.old conn.new result }
+{
+    let days = period.days();
+    match period.date_text(0) {
+        Ok(first_day) => holds_heading(conn, first_day.as_bytes(), days, period.zone_text()),
+        Err(stop) => Err(stop),
+    }
+}
+
+/// Whether the table of amounts holds those of a book. Nothing is written.
+fn holds_posted<S: Alter, T: Timeline>(
+    conn: &mut Connection<S>,
+    book: &Book<T>,
+) -> Result<bool, Stop>
+    ensures { Compares S.Store ATable.Posting (amount_rows (day_count book.now.state.period) (amount book.now.state))
+        conn.old conn.new result }
+{
+    holds_amounts(conn, book.postings(), book.period().days())
+}
+
+/// Whether a table holds what a book has of it: any table but those of commands and of what they moved. Of the book's
+/// network these are the names of the nodes and the ends of the devices. Nothing is written. A database without the
+/// table is refused as no book's.
+pub fn holds_part<S: Alter, T: Timeline>(
+    conn: &mut Connection<S>,
+    book: &Book<T>,
+    names: &[Name],
+    ends: &[Ends],
+    table: Table,
+) -> Result<bool, Stop>
+    requires part { IsPart table }
+    requires names { names.now ≡ map (λ n. n.name) book.now.state.network.nodes }
+    requires ends { ends.now ≡ ends_of book.now.state.network }
+    ensures { (b : ActState) → b.book ≡ book.now.state
+        → Compares S.Store table (tables_of b table) conn.old conn.new result }
+{
+    match table {
+        Table::Meta => holds_period(conn, book.period()),
+        Table::Cause => holds_causes(conn, book),
+        Table::Node => holds_nodes(conn, book.net(), names),
+        Table::Device => holds_devices(conn, book.net(), ends),
+        Table::Customer => holds_customers(conn, book.roll()),
+        Table::Entry => holds_entries(conn, book.sheet()),
+        Table::Mark => holds_marks(conn, book.marks(), book.period().days()),
+        Table::Posting => holds_posted(conn, book),
+        Table::Command | Table::Moved => unreachable!(),
+    }
+}
