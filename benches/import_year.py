@@ -8,11 +8,11 @@ books lie in the folder, bench-data/ where none is named: a commit takes what it
 """
 
 import argparse
-import os
 import sqlite3
 import subprocess
 import sys
-import time
+import tempfile
+from contextlib import closing
 from pathlib import Path
 
 from compare import PROGRAM
@@ -24,14 +24,14 @@ TABLES = ["meta", "cause", "node", "device", "customer", "entry", "mark", "cmd",
 
 def measure(words):
     """The seconds by the clock and of the processor, the peak in MB and the output of a process."""
-    begin = time.perf_counter()
-    child = subprocess.Popen(words, stdout=subprocess.PIPE, text=True)
-    output = child.stdout.read()
-    _, status, usage = os.wait4(child.pid, 0)
-    child.returncode = os.waitstatus_to_exitcode(status)
-    if child.returncode:
-        sys.exit(f"{' '.join(map(str, words))}: status {child.returncode}\n{output}")
-    return time.perf_counter() - begin, usage.ru_utime + usage.ru_stime, usage.ru_maxrss / 1024, output
+    # By way of GNU time, a small process: a peak would begin with that of the one which it is started from.
+    with tempfile.NamedTemporaryFile("r") as figures:
+        timed = ["/usr/bin/time", "-f", "%e %U %S %M", "-o", figures.name, *map(str, words)]
+        ended = subprocess.run(timed, stdout=subprocess.PIPE, text=True, check=False)
+        if ended.returncode:
+            sys.exit(f"{' '.join(map(str, words))}: status {ended.returncode}\n{ended.stdout}")
+        clock, user, system, peak = map(float, figures.read().split())
+    return clock, user + system, peak / 1024, ended.stdout
 
 
 def show(name, words):
@@ -54,7 +54,7 @@ def clear(*paths):
 
 def first_difference(one, other):
     """The first table in which two books differ, None where there is none."""
-    with sqlite3.connect(one) as database:
+    with closing(sqlite3.connect(one)) as database:
         database.execute("ATTACH ? AS other", (str(other),))
         for table in TABLES:
             for a, b in [("main", "other"), ("other", "main")]:
