@@ -1,11 +1,15 @@
-use Rattle.ob_answers.proofs.AnsweringLemmas.{answered_report, answered_stop}
+use Rattle.ob_answers.proofs.ServingLemmas.{serves_report, serves_stopped, serves_unopened}
 use Rattle.ob_answers.proofs.post.post_import.Goals as goal
 
-pub returns-in-Ok-clause-gives : goal.returns-in-Ok-clause-gives
-returns-in-Ok-clause-gives g c clean b ties is =
-    answered_report g.S.Store c.import_text.new.keeper b c.args.body.now c.in-Ok.report c.args.closes c.reported.result (c.in-Ok.ensures.imported clean b ties is) c.reported.ensures
+pub returns-then-is_none : goal.returns-then-is_none
+returns-then-is_none g c = serves_unopened g.S.Store c.args.keeper.now _ c.args.closes ?
 
-pub returns-in-Err-clause-gives : goal.returns-in-Err-clause-gives
-returns-in-Err-clause-gives g c clean b ties is =
-    let broke = c.in-Err.ensures.imported clean b ties is in
-    answered_stop g.S.Store c.import_text.new.keeper b c.args.body.now c.in-Err.stopped.fault c.in-Err.stopped.added c.in-Err.stopped.again c.args.closes (c.in-Err.ensures.cause is) broke.0 broke.1 broke.2
+pub returns-in-Ok : goal.returns-in-Ok
+returns-in-Ok g c =
+    let e = c.in-Ok.ensures in
+    serves_report g.S.Store c.args.keeper.now c.import_text.new.keeper c.args.body.now c.in-Ok.report c.args.closes c.reported.result ? e.dropped e.clean e.imported c.reported.ensures
+
+pub returns-in-Err : goal.returns-in-Err
+returns-in-Err g c =
+    let e = c.in-Err.ensures in
+    serves_stopped g.S.Store c.args.keeper.now c.import_text.new.keeper c.args.body.now c.in-Err.stopped c.args.closes ? e.dropped e.cause e.clean e.imported
