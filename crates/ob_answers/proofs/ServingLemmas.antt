@@ -101,13 +101,13 @@ module _ {S : Type 0} (g : Ghosts S) where
   -- what the part below owes is what this one owes
   pub serves_as : (old new : KeeperValue S) (owed due : ActState → Type 0) (plain : Option Answer) (closes : Bool) (result : Result ReplyText Fault)
       → ((b : ActState) → owed b → due b) → Serves g old new owed plain closes result → Serves g old new due plain closes result
-  serves_as old new owed due plain closes result as h = record {
+  serves_as old new owed due plain closes result grants h = record {
     constant = h.constant;
     unopened = h.unopened;
     faults = h.faults;
     dropped = h.dropped;
     clean = h.clean;
-    answered = λ clean b ties is. as b (h.answered clean b ties is);
+    answered = λ clean b ties is. grants b (h.answered clean b ties is);
   }
 
   -- an answer that needs no book
@@ -171,7 +171,7 @@ module _ {S : Type 0} (g : Ghosts S) where
   serves_view k s view closes result at made =
       serves_made k (λ b. Gives g k b (got b (routes.View view)) closes result) (found (media_of view) (view_text s view)) closes result (shown_there k s at) made
       (λ b ties. gives_made g k b (got b (routes.View view)) closes result
-          (subst (λ (t : BookState). Makes (found (media_of view) (view_text t view)) closes result) (tied_book k s b at ties) made) ties)
+      (subst (λ (t : BookState). Makes (found (media_of view) (view_text t view)) closes result) (tied_book k s b at ties) made) ties)
 
   -- ---- a stored reply
 
@@ -207,9 +207,9 @@ module _ {S : Type 0} (g : Ghosts S) where
         dropped = λ there. neither (λ none. ok_is_no_err given (stops.Fault Store) ((dropped there).0 none)) (makes_no_store_fault answer_of closes result goes);
         clean = clean;
         answered = λ is b ties there. (
-          let h = made is b ties there in
-          gives_made g new b (got b (routes.Command number)) closes result
-              (subst (λ (r : Option Reply). Makes (found types.Json (option_map reply_body r)) closes result) h.0 goes) h.1);
+            let h = made is b ties there in
+            gives_made g new b (got b (routes.Command number)) closes result
+            (subst (λ (r : Option Reply). Makes (found types.Json (option_map reply_body r)) closes result) h.0 goes) h.1);
       }
   serves_found old new number (Err (stops.Refused refusal)) closes result reopen unopened faults dropped clean made goes = record {
     constant = tt;
@@ -315,6 +315,6 @@ module _ {S : Type 0} (g : Ghosts S) where
     dropped = λ there. ((λ none. ap Err ((dropped there).0 none)), (λ same. (dropped there).1 (same_answer_fault e.fault Store same)));
     clean = clean;
     answered = λ cl b ties there. (
-      let h = made cl b ties there in
-      answered_stop g new b body e.fault e.added e.again closes (cause there) h.0 h.1 h.2);
+        let h = made cl b ties there in
+        answered_stop g new b body e.fault e.added e.again closes (cause there) h.0 h.1 h.2);
   }

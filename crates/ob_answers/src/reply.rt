@@ -6,8 +6,10 @@ ghost use Rattle.ob_answers.specs.Answering.{Makes, text_bytes};
 
 use ob_base::{Fault, Refusal};
 use ob_import::ImportReport;
-use ob_replies::{MediaType, Status, accepted_text, empty_reply, refusal_status, refused_text};
-use ob_replies::{reply_text, report_status, report_text};
+use ob_replies::{
+    MediaType, Status, accepted_text, empty_reply, refusal_status, refused_text, reply_text,
+    report_status, report_text,
+};
 use ob_store::Reply;
 use std::alloc::Global;
 
@@ -81,15 +83,17 @@ pub(crate) fn accepted(alloc: Global, reply: &Reply, closes: bool) -> Result<Rep
 }
 
 /// The reply to a refused command.
-pub(crate) fn refused(
-    alloc: Global,
-    refusal: &Refusal,
-    closes: bool,
-) -> Result<ReplyText, Fault>
+pub(crate) fn refused(alloc: Global, refusal: &Refusal, closes: bool) -> Result<ReplyText, Fault>
     ensures { Makes (refused_of refusal.now) closes result }
 {
     match refused_text(alloc, refusal) {
-        Ok(body) => with_body(alloc, refusal_status(refusal), MediaType::Json, &body, closes),
+        Ok(body) => with_body(
+            alloc,
+            refusal_status(refusal),
+            MediaType::Json,
+            &body,
+            closes,
+        ),
         Err(_) => Err(Fault::OutOfMemory),
     }
 }

@@ -28,11 +28,7 @@ fn named_entry<T: Timeline>(book: &Book<T>, no: u32) -> Option<(Entry, Name)>
 }
 
 /// The entry of a number, as it is shown; None where there is none.
-fn entry_shown<T: Timeline>(
-    alloc: Global,
-    book: &Book<T>,
-    no: u32,
-) -> Result<Option<Vec<u8>>, Stop>
+fn entry_shown<T: Timeline>(alloc: Global, book: &Book<T>, no: u32) -> Result<Option<Vec<u8>>, Stop>
     ensures text { IfOk result (λ text. option_map (λ t. t.items) text
         ≡ option_map (shown_entry book.now.state) (entry_of book.now.state.entries «no»)) }
     ensures err { IfErr result (λ stop. stop ≡ out_of_memory) }

@@ -1,8 +1,7 @@
 //! The bytes of replies.
 use ob_base::Refusal;
 use ob_replies::{
-    Allow, MediaType, Status, empty_reply, refusal_status, reply_text,
-    report_status,
+    Allow, MediaType, Status, empty_reply, refusal_status, reply_text, report_status,
 };
 use std::alloc::Global;
 use std::process::Abort;

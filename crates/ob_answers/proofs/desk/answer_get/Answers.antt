@@ -19,4 +19,4 @@ pub returns-in-Import : goal.returns-in-Import
 returns-in-Import g c =
     rw c.in-Import.is
     (serves_plain g.S.Store c.args.keeper.now _ (empty (statuses.MethodNotAllowed allows.Post)) c.args.closes c.nothing-in-Import.result c.nothing-in-Import.ensures
-        (λ b ties. (c.nothing-in-Import.ensures, ties)))
+    (λ b ties. (c.nothing-in-Import.ensures, ties)))
