@@ -1,13 +1,16 @@
 """Each request for memory refused in turn, each read and each write failing in turn, in every job of a small book.
 
-    python3 benches/refused_memory.py [--program FILE] [--what memory|read|write ..] [--most N]
+    python3 benches/refused_memory.py [--program FILE] [--what memory|read|write ..] [--only JOB ..] [--first N] [--every N]
 
 The jobs: `init`, an import that a row stops, the changed text, `table`, `export`, `audit`. Each is run with its first request
 refused, with its second, and so on until a run meets none. A refused run has to end with status 1 and a line of a fault on
-standard error, without counts, or as if nothing had been refused. The book is whole then (`audit ok`, where there is one), and
-the same job again does what was left of it: no command is lost and none is there twice. All later jobs print what they print
-where nothing is refused, and in the end the rows of all ten tables are the same. It ends with status 1 at the first run where that
-is not so. What is refused is chosen by refuse.c, which `cc` builds: so this wants Linux with the GNU C library.
+standard error, without counts, or as if nothing had been refused (but for its line on standard error, which may be what was
+refused). The book is whole then (`audit ok`, where there is one), and the same job again does what was left of it: no command is
+lost and none is there twice. All later jobs print what they print where nothing is refused, and in the end the rows of all ten
+tables are the same. It ends with status 1 at the first run where that is not so. What is refused is chosen by refuse.c, which
+`cc` builds: so this wants Linux with the GNU C library.
+
+Most of some 7,000 requests for memory of a job are those of the book's loading, so all of them take hours; `--every 50` takes some of them.
 """
 
 import argparse
@@ -19,6 +22,7 @@ import subprocess
 import sys
 import tempfile
 from collections import Counter
+from itertools import count
 from pathlib import Path
 
 from compare import PROGRAM
@@ -57,7 +61,7 @@ def run(program, folder, job, refusal=None):
 def rows_of(folder):
     """All rows of the ten tables."""
     with sqlite3.connect(folder / "book.db") as database:
-        return [(table, row) for table in TABLES for row in database.execute(f"SELECT * FROM {table} ORDER BY 1, 2, 3")]
+        return {table: sorted(database.execute(f"SELECT * FROM {table}"), key=repr) for table in TABLES}
 
 
 def wanted_again(job, wanted, found):
@@ -77,7 +81,8 @@ def goes_on(program, folder, place, wanted, end, refusal):
     if not met:
         return None
     fault = FAULT.fullmatch(first[1])
-    if first != wanted[place] and not (fault and first[2] == 1 and not COUNTS.search(first[0])):
+    done = first in [wanted[place], (wanted[place][0], "", wanted[place][2])]
+    if not done and not (fault and first[2] == 1 and not COUNTS.search(first[0])):
         raise Wrong(f"answered {first}")
     if place > 0 and (audited := run(program, folder, ("audit",))[0]) != ("audit ok\n", "", 0):
         raise Wrong(f"answered {first}, then the audit {audited}")
@@ -89,10 +94,10 @@ def goes_on(program, folder, place, wanted, end, refusal):
             raise Wrong(f"answered {first}, then {' '.join(JOBS[later])}: {found}")
     if (rows_of(folder), (folder / "moves.csv").read_text()) != end:
         raise Wrong(f"answered {first}, and in the end other rows")
-    return "as if nothing were refused" if first == wanted[place] else first[1].strip()
+    return "as if nothing were refused" if done else first[1].strip()
 
 
-def refuse_each(program, library, what, most, work):
+def refuse_each(program, library, what, words, work):
     """Every job with each request of one kind refused in turn."""
     start, states, wanted = work / "start", [], []
     start.mkdir()
@@ -103,9 +108,10 @@ def refuse_each(program, library, what, most, work):
         wanted.append(run(program, start, job)[0])
     end = rows_of(start), (start / "moves.csv").read_text()
     for place, job in enumerate(JOBS):
-        told, nth = Counter(), 0
-        while nth < most:
-            nth += 1
+        if words.only and job[0] not in words.only:
+            continue
+        told = Counter()
+        for nth in count(words.first, words.every):
             folder = shutil.copytree(states[place], work / "now")
             try:
                 answer = goes_on(program, folder, place, wanted, end, (library, what, nth))
@@ -115,15 +121,17 @@ def refuse_each(program, library, what, most, work):
             if answer is None:
                 break
             told[answer] += 1
-        counts = ", ".join(f"{count} {answer}" for answer, count in sorted(told.items()))
-        print(f"| {what} | {job[0]} {job[-1] if job[0] in ('import', 'export') else ''} | {sum(told.values())} | {counts} |", flush=True)
+        answers = ", ".join(f"{runs} {answer}" for answer, runs in sorted(told.items()))
+        print(f"| {what} | {job[0]} {job[-1] if job[0] in ('import', 'export') else ''} | {sum(told.values())} | {answers} |", flush=True)
 
 
 def main():
     words = argparse.ArgumentParser(description="Each request for memory, read and write refused in turn.")
     words.add_argument("--program", default=PROGRAM, help="the program (that of crates/outagebook)")
     words.add_argument("--what", nargs="+", default=["memory", "read", "write"], choices=["memory", "read", "write"])
-    words.add_argument("--most", type=int, default=100_000, help="how many requests of a job are refused at most (100,000)")
+    words.add_argument("--only", nargs="+", help="the jobs whose requests are refused (all)")
+    words.add_argument("--first", type=int, default=1, help="the first request that is refused (1)")
+    words.add_argument("--every", type=int, default=1, help="which of them from there on: each second one, .. (1, all)")
     words = words.parse_args()
     with tempfile.TemporaryDirectory() as folder:
         library = Path(folder) / "refuse.so"
@@ -132,7 +140,7 @@ def main():
         for what in words.what:
             work = Path(folder) / what
             work.mkdir()
-            refuse_each(Path(words.program).resolve(), library, what, words.most, work)
+            refuse_each(Path(words.program).resolve(), library, what, words, work)
     return 0
 
 

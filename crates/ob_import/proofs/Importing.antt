@@ -588,3 +588,23 @@ within_gathered None new bytes limit c over few = tt
 within_gathered (Some xs) None bytes limit c over few = absurd c
 within_gathered (Some xs) (Some []) bytes limit c over few = rw (c, append-nil bytes) few
 within_gathered (Some xs) (Some (y ∷ ys)) bytes limit c over few = absurd (true≢false (sym over))
+
+-- ---- causes and bounds
+
+has_cause : (fault : Fault) (X Y : Type 0) → (X → Y) → HasCause fault X → HasCause fault Y
+has_cause faults.OutOfMemory X Y f h = tt
+has_cause faults.Input X Y f h = f h
+has_cause faults.Store X Y f h = tt
+has_cause faults.Reopen X Y f h = absurd h
+has_cause faults.Output X Y f h = absurd h
+
+-- a fault of input that has one cause has another that follows from it
+pub cause_by : (r : Result ImportReport ImportFault) (X Y : Type 0) → (X → Y) → IfErr r (λ e. HasCause e.fault X) → IfErr r (λ e. HasCause e.fault Y)
+cause_by (Ok report) X Y f h = tt
+cause_by (Err e) X Y f h = has_cause e.fault X Y f h
+
+-- an import that wasn't stopped had the whole text, which has so many bytes at most
+pub bound_by : (r : Result ImportReport ImportFault) (old new : Option (List ℕ)) (bytes : List ℕ) (whole : Bool) (limit : ℕ) → Consumes old new bytes
+    → (whole ≡ true → (is_over new ≡ true) × (length bytes ≤ limit)) → IfOk r (λ report. report.stopped ≡ None → whole ≡ true) → IfOk r (λ report. report.stopped ≡ None → IsWithin old limit)
+bound_by (Ok report) old new bytes whole limit consumed fits ended = λ none. let it = fits (ended none) in within_gathered old new bytes limit consumed it.0 it.1
+bound_by (Err e) old new bytes whole limit consumed fits ended = tt

@@ -1,7 +1,8 @@
-use Rattle.std.specs.Prelude.{option_map}
-use Rattle.ob_stream.specs.Watching.{watched_bytes}
+use Rattle.std.specs.Prelude.{◌≡◌, ◌⊎◌, false, option_map}
+use Rattle.ob_stream.specs.Streams.{Passes}
+use Rattle.ob_stream.specs.Watching.{HasJustFailed, watched_bytes}
 use Rattle.ob_rows.specs.Rows.{rows_of}
-use Rattle.ob_import.proofs.Importing.{broken_gathered, imported_gathered, leaves_nothing}
+use Rattle.ob_import.proofs.Importing.{bound_by, broken_gathered, cause_by, imported_gathered, leaves_nothing}
 use Rattle.ob_import.proofs.text.import.Goals as goal
 
 pub returns-in-Ok-clause-imported : goal.returns-in-Ok-clause-imported
@@ -23,3 +24,15 @@ returns-in-Ok-clause-broken g c clean b ties is =
 pub returns-in-Err-clause-imported : goal.returns-in-Err-clause-imported
 returns-in-Err-clause-imported g c clean b ties is =
     leaves_nothing g.S.Store c.args.keeper.now (option_map rows_of (watched_bytes g.R.Read.remaining c.args.reader.now)) b is ties
+
+pub returns-in-Ok-clause-cause : goal.returns-in-Ok-clause-cause
+returns-in-Ok-clause-cause g c is =
+    cause_by c.import_gathered.result (c.in-Ok.gathered.whole ≡ false) (HasJustFailed c.gather.new.reader ⊎ Passes (watched_bytes g.R.Read.remaining c.args.reader.now) 268435456)
+    c.in-Ok.ensures.cut c.import_gathered.ensures.runs.cause
+
+pub returns-in-Ok-clause-bound : goal.returns-in-Ok-clause-bound
+returns-in-Ok-clause-bound g c =
+    let bytes = watched_bytes g.R.Read.remaining in
+    let it = c.in-Ok.gathered in
+    bound_by c.import_gathered.result (bytes c.args.reader.now) (bytes c.gather.new.reader) it.bytes.items it.whole 268435456 c.in-Ok.ensures.consumed c.in-Ok.ensures.whole
+    c.import_gathered.ensures.runs.ended
