@@ -1,6 +1,6 @@
 -- Rows that were taken, one more of them, and what an import leaves where it ends.
 use Rattle.std.proofs.Common.{◌≡◌, ◌≢◌, ◌≤◌, ◌<◌, ◌∙◌, sym, ap, subst, refl, ℕ, ◌+◌, Bool, true, false, true≢false, is_some, List, [], ◌∷◌, ◌++◌, length, cond, Option, Some, None, Result, Ok, Err, inl, inr, if◌then◌else◌, nat_lt, arith, append_assoc, append-nil, length-append, ◌↔◌}
-use Rattle.std.specs.Prelude.{IsSome, IfSome, unwrap_or, option_map}
+use Rattle.std.specs.Prelude.{IsSome, IfSome, IfOk, IfErr, unwrap_or, option_map}
 use Rattle.std.specs.Result.{is_ok}
 use Rattle.std.proofs.lemmas.Bool.{lt-ltb, le-ltb}
 use Rattle.std.proofs.lemmas.List.Sums.{fold_push}
@@ -13,8 +13,9 @@ use Rattle.ob_base.specs.declared.stop.Refusal.{Refusal}
 use Rattle.ob_base.specs.declared.stop.Refusal.TheVariants.{BadField, Full}
 use Rattle.ob_base.specs.declared.stop.Stop.{Stop}
 use Rattle.ob_base.specs.declared.stop.Stop.TheVariants as stops
+use Rattle.std.specs.Io.KnownBytes.{Consumes}
 use Rattle.ob_rows.specs.Header.{is_header}
-use Rattle.std.specs.Io.KnownBytes.{Consumes, prepend_known}
+use Rattle.ob_rows.specs.WholeRows.{WholeRowsStand, whole_rows}
 use Rattle.ob_rows.specs.Rows.{Fields, TakesRow, rows_of}
 use Rattle.ob_command.specs.Fields.{IsRow}
 use Rattle.ob_book.specs.Acts.{ActState, Referenced, Reply, act, acts, answer, is_accepted, take_on}
@@ -23,9 +24,9 @@ use Rattle.ob_store.specs.Acting.{Acted, IsActStop}
 use Rattle.ob_state.specs.State.{BookState}
 use Rattle.ob_record.specs.Reached.{ReachedCounts}
 use Rattle.ob_import.specs.Acting.{Adds, AddsRow, Holds}
-use Rattle.ob_import.specs.Imports.{AreAnswered, EndsAt, IsRefused, Say, Says, Stops, Taken, after_header}
-use Rattle.ob_import.specs.Gathering.{IsWithin, is_over}
-use Rattle.ob_import.specs.Reports.{AreRows, HasCause, HoldsFirst, Imported, LeavesOf, Runs}
+use Rattle.ob_import.specs.Imports.{AreAnswered, EndsAt, Import, ImportsBody, ImportsRows, IsRefused, Say, Says, Stops, Taken, after_header}
+use Rattle.ob_import.specs.Gathering.{IsWithin, gathered_rows, is_over}
+use Rattle.ob_import.specs.Reports.{AreRows, Breaks, HasCause, HoldsAll, HoldsAllOf, HoldsFirst, HoldsWholeRows, Imported, IsNext, Leaves, LeavesOf, Runs, import_as}
 use Rattle.ob_import.specs.declared.report.ImportReport.{ImportReport}
 use Rattle.ob_import.specs.declared.report.ImportFault.{ImportFault}
 
@@ -112,6 +113,21 @@ left_row None after row takes = tt
 left_row (Some l) None row takes = absurd takes
 left_row (Some l) (Some rest) row takes = takes
 
+-- where a row was taken, there was one
+taken_some : (left after : Option (List Fields)) (row : Fields) → TakesRow left after true row → left ≢ Some []
+taken_some None after row takes e = cc
+taken_some (Some l) None row takes e = absurd takes
+taken_some (Some l) (Some rest) row takes e = let none : l ≡ [] = cc in let some : row ∷ rest ≡ [] = sym takes ∙ none in cc
+
+-- where none follows, the text is whole; so where it isn't there was one
+pub found_some : (left after : Option (List Fields)) (found whole : Bool) (row : Fields) → TakesRow left after found row → (found ≡ false → whole ≡ true) → whole ≡ false → left ≢ Some []
+found_some left after true whole row takes ended cut = taken_some left after row takes
+found_some left after false whole row takes ended cut = absurd (true≢false (sym (ended refl) ∙ cut))
+
+pub some_row : (left after : Option (List Fields)) (row : Fields) (r : Result ImportReport ImportFault) → TakesRow left after true row → IfOk r (λ report. left ≢ Some [])
+some_row left after row (Ok report) takes = taken_some left after row takes
+some_row left after row (Err e) takes = tt
+
 -- ---- an import under way
 
 fault_not_refused : (f : Fault) (r : Refusal) → ◌≡◌ {A = Result Bool Stop} (Err (stops.Fault f)) (Err (stops.Refused r)) → ⊥
@@ -119,6 +135,12 @@ fault_not_refused f r e = cc
 
 fault_there : (is_new : Bool) (stop : Stop) → ◌≡◌ {A = Result Bool Stop} (Ok is_new) (Err stop) → ⊥
 fault_there is_new stop e = true≢false (ap is_ok e)
+
+memory_not_input : ◌≡◌ {A = Fault} faults.OutOfMemory faults.Input → ⊥
+memory_not_input e = cc
+
+store_not_input : ◌≡◌ {A = Fault} faults.Store faults.Input → ⊥
+store_not_input e = cc
 
 no_book_there : {X : Type 0} (o : Option X) → IsSome o → o ≡ None → ⊥
 no_book_there o is none = true≢false (sym is ∙ ap is_some none)
@@ -225,6 +247,7 @@ module _ {S : Type 0} (g : Ghosts S) where
             let fits : nat_lt 1_000_000 number ≡ false = le-ltb 1_000_000 number within in
             let made = refused_row new was.0 row refusal (acted cl was.0 was.4.0) in
             stops_left b was.0 was.1 refusal rep was.2 was.3 (rw fits made.0) made.1 is_added is_again is_stopped;
+        all = λ cl b ties. tt;
       }
 
       -- the store failed at the row, or memory was refused
@@ -241,6 +264,7 @@ module _ {S : Type 0} (g : Ghosts S) where
             let later : List Fields = row ∷ unwrap_or after [] in
             let holds = starved_row new was.0 row (acted cl was.0 was.4.0) in
             (was.1 ++ later, are_rows known left was.1 later was.2 (left_row left after row takes), (was.0, later, (was.1, refl, was.3), holds));
+        all = λ cl b ties is. absurd (memory_not_input is);
       }
       runs_fault faults.Store whole may dropped acted = record {
         clean = λ c. it.clean (clean c);
@@ -252,6 +276,7 @@ module _ {S : Type 0} (g : Ghosts S) where
             let later : List Fields = row ∷ unwrap_or after [] in
             let lost = lost_row new was.0 row (acted cl was.0 was.4.0) in
             (was.1 ++ later, are_rows known left was.1 later was.2 (left_row left after row takes), (was.0, later, lost.0, (was.1, refl, was.3), lost.1, lost.2, lost.3));
+        all = λ cl b ties is. absurd (store_not_input is);
       }
       runs_fault faults.Reopen whole may dropped acted = absurd may
       runs_fault faults.Input whole may dropped acted = absurd may
@@ -294,6 +319,7 @@ module _ {S : Type 0} (g : Ghosts S) where
               was.4,
             ),
           );
+      all = λ cl b ties. tt;
     }
 
     -- there is a row too many
@@ -321,12 +347,13 @@ module _ {S : Type 0} (g : Ghosts S) where
               was.4,
             ),
           );
+      all = λ cl b ties. tt;
     }
 
     -- the next row could not be read
-    pub runs_unread : (fault : Fault) (whole : Bool) → HasCause fault (whole ≡ false) → fault ≢ faults.Store
+    pub runs_unread : (fault : Fault) (whole : Bool) → HasCause fault (whole ≡ false) → fault ≢ faults.Store → (fault ≡ faults.Input → IfSome left (λ l. l ≡ []))
         → Runs g (λ rows. Some rows) old now known whole (Err (record { fault = fault; added = added; again = again }))
-    runs_unread fault whole cause other =
+    runs_unread fault whole cause other none =
         let first : HasCleanDisk (state g now.conn) → (b : ActState) → Ties g old b → (rows : List Fields) × AreRows known rows × HoldsFirst g now b rows added again = λ cl b ties.
         let was = it.begun cl b ties in
         let later : List Fields = unwrap_or left [] in
@@ -344,12 +371,15 @@ module _ {S : Type 0} (g : Ghosts S) where
                 | faults.Reopen ↦ λ h o it. absurd h
                 | faults.Output ↦ λ h o it. absurd h
               ] cause other (first cl b ties);
+          all = λ cl b ties is.
+              let was = it.begun cl b ties in
+              (was.1 ++ [], are_rows known left was.1 [] was.2 (none is), (was.0, subst (λ rows. Taken b was.0 rows added again) (sym (append-nil was.1)) was.3, was.4));
         }
 
-    pub runs_unread_by : (fault : Fault) (whole : Bool) (e : ImportFault) → HasCause fault (whole ≡ false) → fault ≢ faults.Store → e ≡ record { fault = fault; added = added; again = again }
-        → Runs g (λ rows. Some rows) old now known whole (Err e)
-    runs_unread_by fault whole e cause other told =
-        subst (λ f. Runs g (λ rows. Some rows) old now known whole (Err f)) (sym told) (runs_unread fault whole cause other)
+    pub runs_unread_by : (fault : Fault) (whole : Bool) (e : ImportFault) → HasCause fault (whole ≡ false) → fault ≢ faults.Store → (fault ≡ faults.Input → IfSome left (λ l. l ≡ []))
+        → e ≡ record { fault = fault; added = added; again = again } → Runs g (λ rows. Some rows) old now known whole (Err e)
+    runs_unread_by fault whole e cause other none told =
+        subst (λ f. Runs g (λ rows. Some rows) old now known whole (Err f)) (sym told) (runs_unread fault whole cause other none)
 
   -- ---- one command
 
@@ -387,8 +417,8 @@ module _ {S : Type 0} (g : Ghosts S) where
 
   -- nothing was read, and nothing acted
   pub runs_nothing : (old : KeeperValue S) (known : Option (List Fields)) (whole : Bool) (fault : Fault) → IsSome old.book → HasCause fault (whole ≡ false) → fault ≢ faults.Store
-      → Runs g after_header old old known whole (Err (record { fault = fault; added = 0; again = 0 }))
-  runs_nothing old known whole fault is cause other =
+      → (fault ≡ faults.Input → IfSome known (λ rows. rows ≡ [])) → Runs g after_header old old known whole (Err (record { fault = fault; added = 0; again = 0 }))
+  runs_nothing old known whole fault is cause other none =
       let first : (b : ActState) → Ties g old b → (rows : List Fields) × AreRows known rows × HoldsFirst g old b (unwrap_or (after_header rows) []) 0 0 = λ b ties.
       let rows : List Fields = unwrap_or known [] in
       let body : List Fields = unwrap_or (after_header rows) [] in
@@ -406,6 +436,9 @@ module _ {S : Type 0} (g : Ghosts S) where
               | faults.Reopen ↦ λ h o it. absurd h
               | faults.Output ↦ λ h o it. absurd h
             ] cause other (first b ties);
+        all = λ cl b ties broke.
+            let no_rows : AreRows known [] = elim known as (λ k. IfSome k (λ rows. rows ≡ []) → AreRows k []) [ None ↦ λ h. tt | Some rows ↦ λ h. sym h ] (none broke) in
+            ([], no_rows, (b, taken_none b, (ties, is)));
       }
 
   -- memory was refused before anything was read
@@ -438,38 +471,140 @@ module _ {S : Type 0} (g : Ghosts S) where
           | false ↦ λ e. refl
         ] none in
         (cond found (row ∷ it.0) [], it.1, (b, rw (lacks, is_added, is_again, is_stopped) refl, (ties, is)));
+    all = λ cl b ties. tt;
   }
+
+  -- the rows after a row, and that row before them
+  row_before : (left after : Option (List Fields)) (row : Fields) (rows : List Fields) → TakesRow left after true row → AreRows after rows → AreRows left (row ∷ rows)
+  row_before None after row rows takes are = tt
+  row_before (Some l) None row rows takes are = absurd takes
+  row_before (Some l) (Some rest) row rows takes are = ap (λ x. row ∷ x) are ∙ sym takes
 
   -- the rows after the header were imported
   pub runs_after : (old new : KeeperValue S) (left after : Option (List Fields)) (whole : Bool) (row : Fields) (result : Result ImportReport ImportFault) → TakesRow left after true row → is_header row ≡ true
       → Runs g (λ rows. Some rows) old new after whole result → Runs g after_header old new left whole result
-  runs_after old new left after whole row result takes header it = record {
-    clean = it.clean;
-    dropped = it.dropped;
-    cause = it.cause;
-    ended = it.ended;
-    left = λ cl b ties.
-        let was = it.left cl b ties in
-        let are : AreRows left (row ∷ was.0) = elim left as (λ l. TakesRow l after true row → AreRows l (row ∷ was.0)) [
-          | None ↦ λ t. tt
-          | Some l ↦ λ t. elim after as (λ m. TakesRow (Some l) m true row → AreRows m was.0 → row ∷ was.0 ≡ l) [
-            | None ↦ λ u v. absurd u
-            | Some rest ↦ λ u v. ap (λ x. row ∷ x) v ∙ sym u
-          ] t was.1
-        ] takes in
-        let body : after_header (row ∷ was.0) ≡ Some was.0 = rw header refl in
-        (row ∷ was.0, are, rw body was.2);
-  }
+  runs_after old new left after whole row result takes header it =
+      let body : (rows : List Fields) → after_header (row ∷ rows) ≡ Some rows = λ rows. rw header refl in
+      record {
+        clean = it.clean;
+        dropped = it.dropped;
+        cause = it.cause;
+        ended = it.ended;
+        left = λ cl b ties.
+            let was = it.left cl b ties in
+            (row ∷ was.0, row_before left after row was.0 takes was.1, rw (body was.0) was.2);
+        all = λ cl b ties. elim result as (λ r. IfErr r (λ e. e.fault ≡ faults.Input → HoldsAllOf g (λ rows. Some rows) new b after e.added e.again)
+            → IfErr r (λ e. e.fault ≡ faults.Input → HoldsAllOf g after_header new b left e.added e.again)) [
+              | Ok report ↦ λ h. tt
+              | Err e ↦ λ h is. let was = h is in (row ∷ was.0, row_before left after row was.0 takes was.1, rw (body was.0) was.2)
+            ] (it.all cl b ties);
+      }
 
   -- ---- what was gathered, and then what is left, is the text
-  pub imported_gathered : (k : KeeperValue S) (b : ActState) (old new : Option (List ℕ)) (bytes : List ℕ) (r : Result ImportReport ImportFault) → Consumes old new bytes
-      → Imported g k b (option_map rows_of (prepend_known bytes new)) r → Imported g k b (option_map rows_of old) r
-  imported_gathered k b None new bytes r c h = (h.0, tt, h.2)
-  imported_gathered k b (Some xs) None bytes r c h = absurd c
-  imported_gathered k b (Some xs) (Some ys) bytes r c h = rw c h
+
+  -- an import that stopped within the first rows stops there among more of them
+  ends_more : (c : ActState) (number : ℕ) (later more : List Fields) (stopped : Option (ℕ × Refusal)) → stopped ≢ None → EndsAt c number later stopped → EndsAt c number (later ++ more) stopped
+  ends_more c number [] more stopped goes ends = absurd (goes ends)
+  ends_more c number (row ∷ later) more stopped goes ends = ends
+
+  rows_more : (b : ActState) (rows more : List Fields) (i : Import) → i.stopped ≢ None → ImportsRows b rows i → ImportsRows b (rows ++ more) i
+  rows_more b rows more i goes (later, (done, split, taken), ends) =
+      (later ++ more, (done, ap (λ l. l ++ more) split ∙ append_assoc done later more, taken), ends_more i.state (i.added + i.again + 1) later more i.stopped goes ends)
+
+  report_more : (k : KeeperValue S) (b : ActState) (rows more : List Fields) (report : ImportReport) → report.stopped ≢ None → rows ≢ []
+      → Leaves g k b (after_header rows) (Ok report) → Leaves g k b (after_header (rows ++ more)) (Ok report)
+  report_more k b [] more report goes some h = absurd (some refl)
+  report_more k b (header ∷ rows) more report goes some h =
+      elim (is_header header) as (λ t. (c : ActState) × ImportsBody b (if t then Some rows else None) (import_as c report) × Holds g k c
+      → (c : ActState) × ImportsBody b (if t then Some (rows ++ more) else None) (import_as c report) × Holds g k c) [
+        | true ↦ λ it. (it.0, rows_more b rows more (import_as it.0 report) goes it.1, it.2)
+        | false ↦ λ it. it
+      ] h
+
+  -- the rows after the header are the first of those after it in a longer text
+  body_more : (rows more : List Fields) → (rest : List Fields) × (unwrap_or (after_header (rows ++ more)) [] ≡ unwrap_or (after_header rows) [] ++ rest)
+  body_more [] more = (unwrap_or (after_header more) [], refl)
+  body_more (header ∷ rows) more =
+      elim (is_header header) as (λ t. (rest : List Fields) × (unwrap_or (if t then Some (rows ++ more) else None) [] ≡ unwrap_or (if t then Some rows else None) [] ++ rest)) [
+        | true ↦ (more, refl)
+        | false ↦ ([], refl)
+      ]
+
+  next_more : (later more : List Fields) (a : Referenced) → IsNext later a → IsNext (later ++ more) a
+  next_more [] more a next = absurd next
+  next_more (row ∷ later) more a next = next
+
+  first_more : (k : KeeperValue S) (b : ActState) (rows more : List Fields) (added again : ℕ) → HoldsFirst g k b rows added again → HoldsFirst g k b (rows ++ more) added again
+  first_more k b rows more added again (c, later, (done, split, taken), holds) = (c, later ++ more, (done, ap (λ l. l ++ more) split ∙ append_assoc done later more, taken), holds)
+
+  breaks_more : (k : KeeperValue S) (b : ActState) (rows more : List Fields) (fault : Fault) (added again : ℕ) → Breaks g k b rows fault added again → Breaks g k b (rows ++ more) fault added again
+  breaks_more k b rows more faults.OutOfMemory added again h = first_more k b rows more added again h
+  breaks_more k b rows more faults.Input added again h = first_more k b rows more added again h
+  breaks_more k b rows more faults.Store added again (c, later, a, (done, split, taken), next, keeps, none) =
+      (c, later ++ more, a, (done, ap (λ l. l ++ more) split ∙ append_assoc done later more, taken), next_more later more a next, keeps, none)
+  breaks_more k b rows more faults.Reopen added again h = absurd h
+  breaks_more k b rows more faults.Output added again h = absurd h
+
+  -- what an import of the first rows left is what one of all leaves, where it stopped or broke off among them
+  leaves_more : (k : KeeperValue S) (b : ActState) (rows more : List Fields) (r : Result ImportReport ImportFault) → IfOk r (λ report. report.stopped ≢ None) → IfOk r (λ report. rows ≢ [])
+      → Leaves g k b (after_header rows) r → Leaves g k b (after_header (rows ++ more)) r
+  leaves_more k b rows more (Ok report) goes some h = report_more k b rows more report goes some h
+  leaves_more k b rows more (Err e) goes some h =
+      let body = body_more rows more in
+      rw body.1 (breaks_more k b (unwrap_or (after_header rows) []) body.0 e.fault e.added e.again h)
+
+  pub imported_gathered : (k : KeeperValue S) (b : ActState) (old new : Option (List ℕ)) (bytes : List ℕ) (whole : Bool) (r : Result ImportReport ImportFault) → WholeRowsStand → Consumes old new bytes
+      → (whole ≡ true → is_over new ≡ true) → IfOk r (λ report. report.stopped ≡ None → whole ≡ true) → (whole ≡ false → IfOk r (λ report. Some (gathered_rows whole bytes) ≢ Some []))
+      → Imported g k b (Some (gathered_rows whole bytes)) r → Imported g k b (option_map rows_of old) r
+  imported_gathered k b None new bytes whole r law c over ended some h = (h.0, tt, h.2)
+  imported_gathered k b (Some xs) None bytes whole r law c over ended some h = absurd c
+  imported_gathered k b (Some xs) (Some []) bytes true r law c over ended some h = rw (c, append-nil bytes) h
+  imported_gathered k b (Some xs) (Some (y ∷ ys)) bytes true r law c over ended some h = absurd (true≢false (sym (over refl)))
+  imported_gathered k b (Some xs) (Some ys) bytes false r law c over ended some h =
+      let begins = law bytes ys in
+      let goes : IfOk r (λ report. report.stopped ≢ None) = elim r as (λ x. IfOk x (λ report. report.stopped ≡ None → false ≡ true) → IfOk x (λ report. report.stopped ≢ None)) [
+        | Ok report ↦ λ e none. true≢false (sym (e none))
+        | Err e ↦ λ e. tt
+      ] ended in
+      let rows : IfOk r (λ report. whole_rows bytes ≢ []) = elim r as (λ x. IfOk x (λ report. Some (whole_rows bytes) ≢ Some []) → IfOk x (λ report. whole_rows bytes ≢ [])) [
+        | Ok report ↦ λ e none. e (ap (λ l. Some l) none)
+        | Err e ↦ λ e. tt
+      ] (some refl) in
+      rw (c, begins.1) (whole_rows bytes ++ begins.0, refl, leaves_more k b (whole_rows bytes) begins.0 r goes rows (subst (λ l. Leaves g k b (after_header l) r) h.1 h.2))
+
+  -- a reader broke off, and all whole rows of what it gave were taken
+  pub broken_gathered : (k : KeeperValue S) (b : ActState) (old new : Option (List ℕ)) (bytes : List ℕ) (whole : Bool) (r : Result ImportReport ImportFault) → Consumes old new bytes
+      → IfErr r (λ e. HasCause e.fault (whole ≡ false)) → IfErr r (λ e. e.fault ≡ faults.Input → HoldsAllOf g after_header k b (Some (gathered_rows whole bytes)) e.added e.again)
+      → IfErr r (λ e. e.fault ≡ faults.Input → HoldsWholeRows g k b old new e.added e.again)
+  broken_gathered k b old new bytes whole (Ok report) consumed cause all = tt
+  broken_gathered k b old new bytes whole (Err e) consumed cause all = λ is.
+      let cut : whole ≡ false = subst (λ f. HasCause f (whole ≡ false)) is cause in
+      let held = all is in
+      let rows : held.0 ≡ whole_rows bytes = rw cut at held.1 in
+      (bytes, consumed, subst (λ l. HoldsAll g k b (unwrap_or (after_header l) []) e.added e.again) rows held.2)
 
 pub within_gathered : (old new : Option (List ℕ)) (bytes : List ℕ) (limit : ℕ) → Consumes old new bytes → is_over new ≡ true → length bytes ≤ limit → IsWithin old limit
 within_gathered None new bytes limit c over few = tt
 within_gathered (Some xs) None bytes limit c over few = absurd c
 within_gathered (Some xs) (Some []) bytes limit c over few = rw (c, append-nil bytes) few
 within_gathered (Some xs) (Some (y ∷ ys)) bytes limit c over few = absurd (true≢false (sym over))
+
+-- ---- causes and bounds
+
+has_cause : (fault : Fault) (X Y : Type 0) → (X → Y) → HasCause fault X → HasCause fault Y
+has_cause faults.OutOfMemory X Y f h = tt
+has_cause faults.Input X Y f h = f h
+has_cause faults.Store X Y f h = tt
+has_cause faults.Reopen X Y f h = absurd h
+has_cause faults.Output X Y f h = absurd h
+
+-- a fault of input that has one cause has another that follows from it
+pub cause_by : (r : Result ImportReport ImportFault) (X Y : Type 0) → (X → Y) → IfErr r (λ e. HasCause e.fault X) → IfErr r (λ e. HasCause e.fault Y)
+cause_by (Ok report) X Y f h = tt
+cause_by (Err e) X Y f h = has_cause e.fault X Y f h
+
+-- an import that wasn't stopped had the whole text, which has so many bytes at most
+pub bound_by : (r : Result ImportReport ImportFault) (old new : Option (List ℕ)) (bytes : List ℕ) (whole : Bool) (limit : ℕ) → Consumes old new bytes
+    → (whole ≡ true → (is_over new ≡ true) × (length bytes ≤ limit)) → IfOk r (λ report. report.stopped ≡ None → whole ≡ true) → IfOk r (λ report. report.stopped ≡ None → IsWithin old limit)
+bound_by (Ok report) old new bytes whole limit consumed fits ended = λ none. let it = fits (ended none) in within_gathered old new bytes limit consumed it.0 it.1
+bound_by (Err e) old new bytes whole limit consumed fits ended = tt

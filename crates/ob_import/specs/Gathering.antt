@@ -1,5 +1,7 @@
 -- What a clause sees of a text that is gathered first.
-use Rattle.std.specs.Prelude.{ℕ, ◌≤◌, Bool, true, false, List, [], ◌∷◌, length, Option, Some, None}
+use Rattle.std.specs.Prelude.{ℕ, ◌≤◌, Bool, true, false, List, [], ◌∷◌, length, Option, Some, None, if◌then◌else◌}
+use Rattle.ob_rows.specs.Rows.{Fields, rows_of}
+use Rattle.ob_rows.specs.WholeRows.{whole_rows}
 
 -- no known byte is left
 abbrev pub is_over : Option (List ℕ) → Bool
@@ -11,3 +13,7 @@ is_over (Some (byte ∷ bytes)) = false
 abbrev pub IsWithin : Option (List ℕ) → ℕ → Type 0
 IsWithin None limit = Unit {0}
 IsWithin (Some bytes) limit = length bytes ≤ limit
+
+-- the rows of what was gathered: all of a whole text, and of one that broke off its whole rows
+abbrev pub gathered_rows : Bool → List ℕ → List Fields
+gathered_rows whole bytes = if whole then rows_of bytes else whole_rows bytes

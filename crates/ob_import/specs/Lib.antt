@@ -2,4 +2,3 @@ pub mod Imports
 pub mod Acting
 pub mod Reports
 pub mod Gathering
-pub mod Replaying

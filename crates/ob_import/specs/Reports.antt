@@ -1,14 +1,16 @@
 -- What an import tells, and what then stands.
 use Rattle.std.specs.Prelude.{◌≡◌, ◌↔◌, ℕ, ⊤, Bool, true, false, List, [], ◌∷◌, Option, None, Result, Ok, Err, IfSome, IfOk, IfErr, unwrap_or}
+use Rattle.std.specs.Io.KnownBytes.{Consumes}
 use Rattle.sqlite_trees.specs.declared.store.Store.{Ghosts}
 use Rattle.sqlite.specs.Held.{state}
 use Rattle.sqlite.specs.State.{HasCleanDisk}
 use Rattle.ob_base.specs.declared.stop.Fault.{Fault}
 use Rattle.ob_base.specs.declared.stop.Fault.TheVariants.{OutOfMemory, Store, Reopen, Input, Output}
 use Rattle.ob_rows.specs.Rows.{Fields}
+use Rattle.ob_rows.specs.WholeRows.{whole_rows}
 use Rattle.ob_book.specs.Acts.{ActState, Referenced, act}
 use Rattle.ob_store.specs.Keeping.{KeeperValue, KeepsEitherBook, Ties}
-use Rattle.ob_import.specs.Imports.{Begins, Import, ImportsBody, Says, after_header}
+use Rattle.ob_import.specs.Imports.{Begins, Import, ImportsBody, Says, Taken, after_header}
 use Rattle.ob_import.specs.Acting.{Holds}
 use Rattle.ob_import.specs.declared.report.ImportReport.{ImportReport}
 use Rattle.ob_import.specs.declared.report.ImportFault.{ImportFault}
@@ -55,6 +57,10 @@ module _ {S : Type 0} (g : Ghosts S) where
       (c : ActState) × (later : List Fields) × (a : Referenced) × Begins b c rows later added again × IsNext later a
       × KeepsEitherBook (state g new.conn) c (act c a) × (new.book ≡ None)
 
+  -- the keeper holds what all these rows left
+  abbrev pub HoldsAll : KeeperValue S → ActState → List Fields → ℕ → ℕ → Type 0
+  HoldsAll new b rows added again = (c : ActState) × Taken b c rows added again × Holds g new c
+
   -- what stands after a fault ended an import
   abbrev pub Breaks : KeeperValue S → ActState → List Fields → Fault → ℕ → ℕ → Type 0
   Breaks new b rows OutOfMemory added again = HoldsFirst new b rows added again
@@ -76,6 +82,15 @@ module _ {S : Type 0} (g : Ghosts S) where
   abbrev pub Imported : KeeperValue S → ActState → Option (List Fields) → Result ImportReport ImportFault → Type 0
   Imported new b known result = LeavesOf after_header new b known result
 
+  -- the keeper holds what all known rows left, of which these are after the header
+  abbrev pub HoldsAllOf : (List Fields → Option (List Fields)) → KeeperValue S → ActState → Option (List Fields) → ℕ → ℕ → Type 0
+  HoldsAllOf body new b known added again = (rows : List Fields) × AreRows known rows × HoldsAll new b (unwrap_or (body rows) []) added again
+
+  -- what stands after a reader broke off: all the whole rows of the bytes that it gave were taken
+  abbrev pub HoldsWholeRows : KeeperValue S → ActState → Option (List ℕ) → Option (List ℕ) → ℕ → ℕ → Type 0
+  HoldsWholeRows new b bytes left added again =
+      (given : List ℕ) × Consumes bytes left given × HoldsAll new b (unwrap_or (after_header (whole_rows given)) []) added again
+
   -- all that an import of a book promises, of rows of which these are after the header and that are the whole text or not
   pub record Runs (body : List Fields → Option (List Fields)) (old new : KeeperValue S) (known : Option (List Fields)) (whole : Bool)
       (result : Result ImportReport ImportFault) : Type 0 where
@@ -84,3 +99,4 @@ module _ {S : Type 0} (g : Ghosts S) where
     pub cause : IfErr result (λ e. HasCause e.fault (whole ≡ false))
     pub ended : IfOk result (λ r. r.stopped ≡ None → whole ≡ true)
     pub left : HasCleanDisk (state g new.conn) → (b : ActState) → Ties g old b → LeavesOf body new b known result
+    pub all : HasCleanDisk (state g new.conn) → (b : ActState) → Ties g old b → IfErr result (λ e. e.fault ≡ Input → HoldsAllOf body new b known e.added e.again)

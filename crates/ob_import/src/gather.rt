@@ -1,15 +1,15 @@
-//! A text that is gathered first and then read from memory, up to where its reader stopped.
+//! A text that is gathered before its rows are read: what its reader gave up to where it stopped.
 ghost use Rattle.std.specs.Prelude.{◌≡◌, ◌⊎◌, ◌≤◌, ◌<◌, ◌+◌, ◌^◌, true, false, length, take, drop, IfOk};
 ghost use Rattle.std.specs.Io.{ReadsAtMost};
-ghost use Rattle.std.specs.Io.KnownBytes.{Consumes, IsAtEnd, ReadConsumes};
+ghost use Rattle.std.specs.Io.KnownBytes.{Consumes, IsAtEnd};
 ghost use Rattle.ob_stream.specs.Watching.{HasJustFailed, watched_bytes};
 ghost use Rattle.ob_stream.specs.Streams.{Passes};
 ghost use Rattle.ob_import.specs.Gathering.{is_over};
 
+use ob_rows::whole_rows_end;
 use ob_stream::{Retries, Watched, read_some};
 use std::alloc::{AllocError, Global};
-use std::io;
-use std::io::{ErrorKind, Read};
+use std::io::Read;
 
 /// What a reader gave, and whether that was all.
 #[derive(Drop)]
@@ -51,52 +51,20 @@ pub(crate) fn gather<R: Read>(
     })
 }
 
-/// Gives the bytes that were gathered, and then ends or fails as their reader did.
-#[derive(Drop)]
-pub(crate) struct Replay<'a, R: Read> {
-    rest: &'a [u8],
-    whole: bool,
-    reader: &'a Watched<R>,
-    ghost ended: { whole ≡ true → is_over (watched_bytes R.remaining reader.now) ≡ true },
-}
+impl Gathered {
+    ghost use Rattle.std.specs.Prelude.{◌≡◌};
+    ghost use Rattle.ob_rows.specs.Rows.{rows_of};
+    ghost use Rattle.ob_import.specs.Gathering.{gathered_rows};
 
-impl<'a, R: Read> Replay<'a, R> {
-    ghost use Rattle.std.specs.Prelude.{◌≡◌, true};
-    ghost use Rattle.std.specs.Io.KnownBytes.{IsAtEnd, prepend_known};
-    ghost use Rattle.ob_stream.specs.Watching.{watched_bytes};
-    ghost use Rattle.ob_import.specs.Gathering.{is_over};
-    ghost use Rattle.ob_import.specs.Replaying.{replayed};
-
-    /// What was gathered from this reader.
-    pub(crate) fn new(gathered: &'a Gathered, reader: &'a Watched<R>) -> Replay<'a, R>
-        requires { gathered.now.whole ≡ true → is_over (watched_bytes R.remaining reader.now) ≡ true }
-        ensures { replayed result ≡ prepend_known gathered.entry.now.bytes.items (watched_bytes R.remaining reader.entry.now) }
+    /// The part that has the rows which may act: all of a whole text, and of one that broke off its whole rows.
+    pub(crate) fn whole_part(&self) -> &[u8]
+        ensures { rows_of result.now ≡ gathered_rows self.now.whole self.now.bytes.items }
     {
-        Replay {
-            rest: gathered.bytes.as_slice(),
-            whole: gathered.whole,
-            reader,
-        }
-    }
-}
-
-impl<'a, R: Read> Read for Replay<'a, R> {
-    ghost use Rattle.std.specs.Io.{ReadsAtMost};
-    ghost use Rattle.std.specs.Io.KnownBytes.{ReadConsumes};
-    ghost use Rattle.ob_import.specs.Replaying.{replayed};
-
-    ghost remaining = { λ s. replayed s };
-
-    fn read(&mut self, buf: &mut [u8]) -> io::Result<usize>
-        ensures bound { ReadsAtMost result buf.new }
-        ensures bytes { ReadConsumes (replayed self.old) (replayed self.new) result buf.new }
-    {
-        if !self.rest.is_empty() {
-            return self.rest.read(buf);
-        }
+        let text = self.bytes.as_slice();
         if self.whole {
-            return Ok(0);
+            text
+        } else {
+            &text[..whole_rows_end(text)]
         }
-        Err(io::Error::from(ErrorKind::Other))
     }
 }

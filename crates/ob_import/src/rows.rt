@@ -1,5 +1,5 @@
 //! The rows of a text act in turn, up to the first refusal.
-ghost use Rattle.std.specs.Prelude.{◌≡◌, ◌≢◌, true, false, Some, Ok, IsSome, IfOk, IfErr};
+ghost use Rattle.std.specs.Prelude.{◌≡◌, ◌≢◌, true, false, [], Some, Ok, IsSome, IfSome, IfOk, IfErr};
 ghost use Rattle.ob_rows.specs.Rows.{TakesRow};
 ghost use Rattle.ob_rows.specs.RowReading.{rows_left};
 ghost use Rattle.ob_import.specs.Imports.{after_header};
@@ -15,8 +15,8 @@ use sqlite::Alter;
 use std::alloc::Global;
 use std::io::Read;
 
-/// Imports the rows of a text, its header among them. Where they aren't the whole text, their reader fails at
-/// their end.
+/// Imports the rows of a text, its header among them. Where they aren't the whole text, the input breaks off behind the
+/// last of them.
 pub(crate) fn import_all<R: Read, S: Alter, T: Timeline>(
     alloc: Global,
     rows: &mut RowReader<R>,
@@ -25,6 +25,7 @@ pub(crate) fn import_all<R: Read, S: Alter, T: Timeline>(
 ) -> Result<ImportReport, ImportFault>
     requires { IsSome keeper.old.book }
     ensures runs { Runs S.Store after_header keeper.old keeper.new (rows_left R.remaining rows.old) whole result }
+    ensures some { whole ≡ false → IfOk result (λ _. rows_left R.remaining rows.old ≢ Some []) }
 {
     let mut row = Row::new(alloc);
     let found = match take_row(rows, &mut row, whole) {
@@ -77,12 +78,13 @@ fn import_rows<R: Read, S: Alter, T: Timeline>(
     }
 }
 
-/// The next row into `row`, and whether there was one.
+/// The next row into `row`, and whether there was one. `Input` behind the last row of what isn't the whole text.
 fn take_row<R: Read>(rows: &mut RowReader<R>, row: &mut Row, whole: bool) -> Result<bool, Fault>
     ensures takes { IfOk result (λ found. TakesRow (rows_left R.remaining rows.old) (rows_left R.remaining rows.new) found row.new) }
     ensures ended { result ≡ Ok false → whole ≡ true }
     ensures fault { IfErr result (λ f. HasCause f (whole ≡ false)) }
     ensures store { IfErr result (λ f. f ≢ Fault.Store) }
+    ensures all { IfErr result (λ f. f ≡ Fault.Input → IfSome (rows_left R.remaining rows.old) (λ rows. rows ≡ [])) }
 {
     match rows.next_row(row) {
         Ok(found) => {
@@ -92,13 +94,7 @@ fn take_row<R: Read>(rows: &mut RowReader<R>, row: &mut Row, whole: bool) -> Res
                 Err(Fault::Input)
             }
         }
-        Err(_) => {
-            if whole {
-                Err(Fault::OutOfMemory)
-            } else {
-                Err(Fault::Input)
-            }
-        }
+        Err(_) => Err(Fault::OutOfMemory),
     }
 }
 

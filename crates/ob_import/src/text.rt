@@ -1,5 +1,5 @@
 //! The imports: of a text, and of what a reader gives.
-ghost use Rattle.std.specs.Prelude.{◌≡◌, ◌↔◌, ◌⊎◌, true, false, None, Some, Ok, Err, IsSome, IfOk, IfErr, option_map};
+ghost use Rattle.std.specs.Prelude.{◌≡◌, ◌≢◌, ◌↔◌, ◌⊎◌, true, false, [], None, Some, Ok, Err, IsSome, IfOk, IfErr, option_map};
 ghost use Rattle.sqlite.specs.Held.{state};
 ghost use Rattle.sqlite.specs.State.{HasCleanDisk};
 ghost use Rattle.ob_stream.specs.Streams.{Passes};
@@ -7,16 +7,16 @@ ghost use Rattle.ob_stream.specs.Watching.{HasJustFailed, watched_bytes};
 ghost use Rattle.ob_rows.specs.Rows.{rows_of};
 ghost use Rattle.ob_book.specs.Acts.{ActState};
 ghost use Rattle.ob_store.specs.Keeping.{Ties};
-ghost use Rattle.ob_import.specs.Gathering.{IsWithin, is_over};
+ghost use Rattle.ob_import.specs.Gathering.{IsWithin, gathered_rows};
 ghost use Rattle.ob_import.specs.Imports.{ImportedAgain, ImportsMakeOneThing, after_header};
-ghost use Rattle.ob_import.specs.Reports.{HasCause, Imported, IsStoreFault, Runs, no_book};
+ghost use Rattle.ob_import.specs.Reports.{HasCause, HoldsWholeRows, Imported, IsStoreFault, Runs, no_book};
 
-use crate::gather::{Gathered, Replay, gather};
+use crate::gather::{Gathered, gather};
 use crate::report::{ImportFault, ImportReport};
 use crate::rows::import_all;
 use ob_base::Fault;
 use ob_command::rows_law;
-use ob_rows::{MOST_BYTES, RowReader};
+use ob_rows::{MOST_BYTES, RowReader, whole_rows_law};
 use ob_store::Keeper;
 use ob_stream::{Retries, Watched};
 use ob_sweep::Timeline;
@@ -59,8 +59,8 @@ pub fn import_text<S: Alter, T: Timeline>(
 ///
 /// # Errors
 ///
-/// Those of `import_text`, and `Fault::Input` where the reader fails or the text is longer: the whole rows before
-/// that have acted then, and stand.
+/// Those of `import_text`, and `Fault::Input` where the reader fails or the text is longer: all the whole rows of what it
+/// gave have acted then, and stand. The last row is whole where its line end is there.
 pub fn import<R: Read, S: Alter, T: Timeline>(
     alloc: Global,
     reader: &mut Watched<R>,
@@ -74,14 +74,18 @@ pub fn import<R: Read, S: Alter, T: Timeline>(
     ensures dropped { IsSome keeper.old.book → (keeper.new.book ≡ None) ↔ IsStoreFault result }
     ensures cause { IsSome keeper.old.book → IfErr result (λ e. HasCause e.fault
         (HasJustFailed reader.new ⊎ Passes (watched_bytes R.remaining reader.old) 268435456)) }
+    ensures broken { HasCleanDisk (state S.Store keeper.new.conn) → (b : ActState) → Ties S.Store keeper.old b
+        → IsSome keeper.old.book → IfErr result (λ e. e.fault ≡ Fault.Input
+        → HoldsWholeRows S.Store keeper.new b (watched_bytes R.remaining reader.old) (watched_bytes R.remaining reader.new) e.added e.again) }
     ensures bound { IfOk result (λ r. r.stopped ≡ None → IsWithin (watched_bytes R.remaining reader.old) 268435456) }
 {
     if keeper.book().is_none() {
         return Err(unopened());
     }
     let mut retries = Retries::new();
+    whole_rows_law();
     match gather(alloc, reader, &mut retries, MOST_BYTES) {
-        Ok(gathered) => import_gathered(alloc, &gathered, reader, keeper),
+        Ok(gathered) => import_gathered(alloc, &gathered, keeper),
         Err(_) => Err(ImportFault {
             fault: Fault::OutOfMemory,
             added: 0,
@@ -91,18 +95,18 @@ pub fn import<R: Read, S: Alter, T: Timeline>(
 }
 
 /// Imports what was gathered from a reader.
-fn import_gathered<R: Read, S: Alter, T: Timeline>(
+fn import_gathered<S: Alter, T: Timeline>(
     alloc: Global,
     gathered: &Gathered,
-    reader: &Watched<R>,
     keeper: &mut Keeper<S, T>,
 ) -> Result<ImportReport, ImportFault>
-    requires book { IsSome keeper.old.book }
-    requires ended { gathered.now.whole ≡ true → is_over (watched_bytes R.remaining reader.now) ≡ true }
+    requires { IsSome keeper.old.book }
     ensures runs { Runs S.Store after_header keeper.old keeper.new
-        (option_map rows_of (prepend_known gathered.now.bytes.items (watched_bytes R.remaining reader.now))) gathered.now.whole result }
+        (Some (gathered_rows gathered.now.whole gathered.now.bytes.items)) gathered.now.whole result }
+    ensures some { gathered.now.whole ≡ false
+        → IfOk result (λ _. Some (gathered_rows gathered.now.whole gathered.now.bytes.items) ≢ Some []) }
 {
-    let mut rows = RowReader::new(alloc, Replay::new(gathered, reader));
+    let mut rows = RowReader::new(alloc, gathered.whole_part());
     import_all(alloc, &mut rows, gathered.whole, keeper)
 }
 
@@ -125,5 +129,3 @@ pub fn import_law()
 {
     rows_law();
 }
-
-ghost use Rattle.std.specs.Io.KnownBytes.{prepend_known};

@@ -7,6 +7,8 @@
 #[cfg(test)]
 mod exports;
 #[cfg(test)]
+mod fortnight;
+#[cfg(test)]
 mod imports;
 #[cfg(test)]
 mod office;

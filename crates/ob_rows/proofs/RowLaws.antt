@@ -17,7 +17,7 @@ use Rattle.ob_rows.specs.CsvSetup.{ReadsRows, is_absent, reads_one, rows_in, row
 use Rattle.ob_rows.specs.Rows.{Fields, TakesRow, rows_from}
 
 -- what ends a record leaves a state between records
-abbrev LeavesBetween : State × Action → Type 0
+abbrev pub LeavesBetween : State × Action → Type 0
 LeavesBetween next = is_end next.1 ≡ true → ends_at_end next.0 ≡ false
 
 either : (b : Bool) (x y : State × Action) → LeavesBetween x → LeavesBetween y → LeavesBetween (if b then x else y)
@@ -40,7 +40,7 @@ start_field_leaves c = either (c == 34) _ _ (goes_on st.InQuoted act.Skip refl) 
 start_record_leaves : (c : ℕ) → LeavesBetween (start_record default_config c)
 start_record_leaves c = either ((c == 13) || (c == 10)) _ _ (goes_on st.StartRecord act.Skip refl) (start_field_leaves c)
 
-step_leaves : (s : State) (c : ℕ) → LeavesBetween (step default_config s c)
+pub step_leaves : (s : State) (c : ℕ) → LeavesBetween (step default_config s c)
 step_leaves st.StartRecord c = start_record_leaves c
 step_leaves st.StartField c = start_field_leaves c
 step_leaves st.InField c = in_field_leaves c
@@ -84,7 +84,7 @@ no_bytes : (s : State) (next : Read) → ends_at_end s ≡ false → next_record
 unfolding next_record
 no_bytes s next between e = none_some next (rw between at e)
 
-fewer : (s : State) (text : List ℕ) (next : Read) → ends_at_end s ≡ false → next_record default_config s [] [] text ≡ Some next → length next.2 < length text
+pub fewer : (s : State) (text : List ℕ) (next : Read) → ends_at_end s ≡ false → next_record default_config s [] [] text ≡ Some next → length next.2 < length text
 fewer s [] next between e = absurd (no_bytes s next between e)
 fewer s (c ∷ rest) next between e = let g = next_goes s [] [] (c ∷ rest) next e in omega (arith, g.shorter)
 

@@ -3,3 +3,5 @@ pub mod Header
 pub mod RowFields
 pub mod RowReading
 pub mod Rows
+pub mod Scanning
+pub mod WholeRows

@@ -7,9 +7,11 @@
 
 mod reader;
 mod row;
+mod whole;
 
 pub use reader::RowReader;
 pub use row::{Row, RowFields};
+pub use whole::{whole_rows_end, whole_rows_law};
 
 /// How many rows a text may have after its header.
 pub const MOST_ROWS: u32 = 1_000_000;
