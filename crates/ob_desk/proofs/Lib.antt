@@ -1,0 +1,5 @@
+pub mod RequestLemmas
+pub mod RunLemmas
+pub mod TurnLemmas
+pub mod ReplyLemmas
+pub mod WriteLemmas
