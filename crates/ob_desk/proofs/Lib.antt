@@ -1,5 +1,7 @@
+pub mod AnswerLemmas
+pub mod ReplyLemmas
 pub mod RequestLemmas
 pub mod RunLemmas
+pub mod StandLemmas
 pub mod TurnLemmas
-pub mod ReplyLemmas
 pub mod WriteLemmas

@@ -6,17 +6,25 @@ use Rattle.std.specs.Io.KnownBytes.{Appends, Keeps}
 use Rattle.ob_base.specs.declared.stop.Fault.{Fault}
 use Rattle.ob_base.specs.declared.stop.Fault.TheVariants.{OutOfMemory, Store, Reopen, Input, Output}
 use Rattle.ob_stream.specs.declared.watched.Watched.{Watched}
+use Rattle.sqlite_trees.specs.declared.store.Store.{Ghosts}
+use Rattle.sqlite.specs.Held.{state}
+use Rattle.sqlite.specs.State.{HasCleanDisk}
+use Rattle.ob_book.specs.Acts.{ActState}
+use Rattle.ob_store.specs.Keeping.{KeeperValue}
 use Rattle.ob_requests.specs.Continue.{interim_text}
 use Rattle.ob_requests.specs.Message.{Message}
 use Rattle.ob_requests.specs.Stream.{AfterKnown, ends}
 use Rattle.ob_requests.specs.Unread.{unread}
 use Rattle.ob_requests.specs.declared.framing.HeadRefusal.{HeadRefusal}
-use Rattle.ob_desk.specs.Run.{Replies}
-use Rattle.ob_desk.specs.Serving.{TurnAnswers, TurnIs, TurnFails, Breaks, HasCause, Serves, Fails}
-use Rattle.ob_desk.specs.declared.Turn.{Turn}
-use Rattle.ob_desk.specs.declared.Turn.TheVariants as turns
+use Rattle.ob_desk.specs.Exchanges.{Replies, ending_text, refusal_text}
+use Rattle.ob_desk.specs.Serving.{Breaks, Fails, HasCause, Serves}
+use Rattle.ob_desk.specs.Standing.{Over, Stands}
+use Rattle.ob_desk.specs.Turns.{TurnAnswers, TurnFails, TurnIs}
+use Rattle.ob_desk.specs.declared.turn.Turn.{Turn}
+use Rattle.ob_desk.specs.declared.turn.Turn.TheVariants as turns
 use Rattle.ob_desk.proofs.RequestLemmas.{known-start, known-then, known-last, known-end}
 use Rattle.ob_desk.proofs.ReplyLemmas.{replies-then}
+use Rattle.ob_desk.proofs.StandLemmas.{over-before, over-stands, over-then}
 use Rattle.ob_desk.proofs.WriteLemmas.{Appends-then, Appends-nothing, Keeps-same}
 
 -- where the connection goes on, one request more is allowed
@@ -30,50 +38,47 @@ goes-on allowed m some e = not-last allowed some (or-false m.closes (allowed == 
     not-last : (n : ℕ) → 1 ≤ n → (n == 1) ≡ false → 1 ≤ n - 1
     not-last n some e = grind (arith, nat_tests)
 
-module _ {K X : Type 0} (AnswersAt : X → Message → Bool → List ℕ → X → Type 0) (Over : K → K → X → Type 0) (Stands : K → X → Type 0)
-    (Leaves : K → X → Message → Bool → Fault → Type 0) (IsShut : K → Type 0) (refusal_text : HeadRefusal → List ℕ) (unavailable_text : List ℕ)
-    (over-stands : (old new : K) (x : X) → Over old new x → Stands old x)
-    (over-then : (old mid new : K) (x y : X) (ms : List Message) (text : List ℕ) → Replies AnswersAt 1000 x ms text y → Over old new x → Stands mid y → Over mid new y) where
+module _ {S : Type 0} (g : Ghosts S) where
 
   -- the requests so far were read and answered, and after none of them the connection ends
-  pub record SoFar (stream now had has : Option (List ℕ)) (old new : K) (allowed : ℕ) : Type 0 where
+  pub record SoFar (stream now had has : Option (List ℕ)) (old new : KeeperValue S) (allowed : ℕ) : Type 0 where
     pub requests : List Message
     pub read : AfterKnown 1000 stream requests now
     pub count : allowed + length requests ≡ 1000
     pub some : 1 ≤ allowed
-    pub answered : (x : X) → Over old new x → (text : List ℕ) × (y : X) × Replies AnswersAt 1000 x requests text y × Appends had has text × Stands new y
+    pub answered : (x : Option ActState) → Over g old new x → (text : List ℕ) × (y : Option ActState) × Replies 1000 x requests text y × Appends had has text × Stands g new y
 
   same-allowed : (allowed : ℕ) (ms : List Message) → allowed + length ms ≡ 1000 → 1000 - length ms ≡ allowed
   same-allowed allowed ms count = omega (arith, count)
 
   -- what is written and stands after one answer more
-  one-more : (stream now left had mid has : Option (List ℕ)) (old at new : K) (allowed : ℕ) (ended : Bool) → ((x : X) → Over old new x → Over old at x)
-      → (run : SoFar stream now had mid old at allowed) (turn : TurnAnswers AnswersAt Over Stands Leaves IsShut refusal_text unavailable_text allowed now left mid has at new ended)
-      → (x : X) → Over old new x → (text : List ℕ) × (y : X) × Replies AnswersAt 1000 x (run.requests ++ turn.message ∷ []) text y × Appends had has text × Stands new y
+  one-more : (stream now left had mid has : Option (List ℕ)) (old at new : KeeperValue S) (allowed : ℕ) (ended : Bool) → (HasCleanDisk (state g new.conn) → HasCleanDisk (state g at.conn))
+      → (run : SoFar stream now had mid old at allowed) (turn : TurnAnswers g allowed now left mid has at new ended)
+      → (x : Option ActState) → Over g old new x → (text : List ℕ) × (y : Option ActState) × Replies 1000 x (run.requests ++ turn.message ∷ []) text y × Appends had has text × Stands g new y
   one-more stream now left had mid has old at new allowed ended clean run turn x over =
-      let so = run.answered x (clean x over) in
-      let more = turn.answered so.1 (over-then old at new x so.1 run.requests so.0 so.2 over so.4) in
+      let so = run.answered x (over-before g old at new x clean over) in
+      let more = turn.answered so.1 (over-then g old at new x so.1 1000 run.requests so.0 so.2 over so.4) in
       let is : ended ≡ ends (1000 - length run.requests) turn.message = turn.last ∙ ap (λ n. ends n turn.message) (sym (same-allowed allowed run.requests run.count)) in (
         so.0 ++ (interim_text turn.message.waits ++ more.0),
         more.1,
-        replies-then AnswersAt 1000 x so.1 more.1 run.requests so.0 more.0 turn.message so.2 (subst (λ e. AnswersAt so.1 turn.message e more.0 more.1) is more.2),
+        replies-then 1000 x so.1 more.1 run.requests so.0 more.0 turn.message so.2 (subst (λ e. AnswersAt so.1 turn.message e more.0 more.1) is more.2),
         Appends-then had mid has so.0 _ so.3 more.3,
         more.4,
       )
 
   -- no request so far
-  pub run-starts : (stream had : Option (List ℕ)) (old : K) → SoFar stream (unread [] stream) had had old old 1000
+  pub run-starts : (stream had : Option (List ℕ)) (old : KeeperValue S) → SoFar stream (unread [] stream) had had old old 1000
   run-starts stream had old = record {
     requests = [];
     read = known-start 1000 stream;
     count = omega arith;
     some = omega arith;
-    answered = λ x over. ([], x, (refl, refl), Appends-nothing had had (Keeps-same had), over-stands old old x over);
+    answered = λ x over. ([], x, (refl, refl), Appends-nothing had had (Keeps-same had), over-stands g old old x over);
   }
 
   -- the connection goes on
-  pub run-goes : (stream now left had mid has : Option (List ℕ)) (old at new : K) (allowed : ℕ) (ended : Bool) → ((x : X) → Over old new x → Over old at x) → ended ≡ false
-      → SoFar stream now had mid old at allowed → TurnAnswers AnswersAt Over Stands Leaves IsShut refusal_text unavailable_text allowed now left mid has at new ended
+  pub run-goes : (stream now left had mid has : Option (List ℕ)) (old at new : KeeperValue S) (allowed : ℕ) (ended : Bool) → (HasCleanDisk (state g new.conn) → HasCleanDisk (state g at.conn)) → ended ≡ false
+      → SoFar stream now had mid old at allowed → TurnAnswers g allowed now left mid has at new ended
       → SoFar stream left had has old new (allowed - 1)
   run-goes stream now left had mid has old at new allowed ended clean on run turn =
       let goes : ends allowed turn.message ≡ false = sym turn.last ∙ on in record {
@@ -86,9 +91,9 @@ module _ {K X : Type 0} (AnswersAt : X → Message → Bool → List ℕ → X �
       }
 
   -- the connection ends after this request
-  pub run-ended : (stream now left had mid has : Option (List ℕ)) (old at new : K) (allowed : ℕ) (ended : Bool) → ((x : X) → Over old new x → Over old at x) → ended ≡ true
-      → SoFar stream now had mid old at allowed → TurnAnswers AnswersAt Over Stands Leaves IsShut refusal_text unavailable_text allowed now left mid has at new ended
-      → Serves AnswersAt Over Stands Leaves IsShut refusal_text unavailable_text stream had has old new (1000 - allowed + 1)
+  pub run-ended : (stream now left had mid has : Option (List ℕ)) (old at new : KeeperValue S) (allowed : ℕ) (ended : Bool) → (HasCleanDisk (state g new.conn) → HasCleanDisk (state g at.conn)) → ended ≡ true
+      → SoFar stream now had mid old at allowed → TurnAnswers g allowed now left mid has at new ended
+      → Serves g stream had has old new (1000 - allowed + 1)
   run-ended stream now left had mid has old at new allowed ended clean on run turn =
       let more = one-more stream now left had mid has old at new allowed ended clean run turn in record {
         requests = run.requests ++ turn.message ∷ [];
@@ -102,16 +107,16 @@ module _ {K X : Type 0} (AnswersAt : X → Message → Bool → List ℕ → X �
       }
 
   -- the stream has no byte more, or bytes that are refused: the keeper stays
-  ends-so : (stream now had mid has : Option (List ℕ)) (old at new : K) (allowed : ℕ) (ending : Option HeadRefusal) (tail : List ℕ) → new ≡ at
+  ends-so : (stream now had mid has : Option (List ℕ)) (old at new : KeeperValue S) (allowed : ℕ) (ending : Option HeadRefusal) (tail : List ℕ) → new ≡ at
       → (run : SoFar stream now had mid old at allowed) → Appends mid has tail
-      → (x : X) → Over old new x → (text : List ℕ) × (y : X) × Replies AnswersAt 1000 x run.requests text y × Appends had has (text ++ tail) × Stands new y
+      → (x : Option ActState) → Over g old new x → (text : List ℕ) × (y : Option ActState) × Replies 1000 x run.requests text y × Appends had has (text ++ tail) × Stands g new y
   ends-so stream now had mid has old at new allowed ending tail same run more x over =
-      let so = run.answered x (subst (λ k. Over old k x) same over) in
-      (so.0, so.1, so.2, Appends-then had mid has so.0 tail so.3 more, subst (λ k. Stands k so.1) (sym same) so.4)
+      let so = run.answered x (subst (λ k. Over g old k x) same over) in
+      (so.0, so.1, so.2, Appends-then had mid has so.0 tail so.3 more, subst (λ k. Stands g k so.1) (sym same) so.4)
 
-  pub run-closed : (stream now left had mid has : Option (List ℕ)) (old at new : K) (allowed : ℕ) → SoFar stream now had mid old at allowed
-      → TurnIs AnswersAt Over Stands Leaves IsShut refusal_text unavailable_text allowed now left mid has at new turns.Closed
-      → Serves AnswersAt Over Stands Leaves IsShut refusal_text unavailable_text stream had has old new (1000 - allowed)
+  pub run-closed : (stream now left had mid has : Option (List ℕ)) (old at new : KeeperValue S) (allowed : ℕ) → SoFar stream now had mid old at allowed
+      → TurnIs g allowed now left mid has at new turns.Closed
+      → Serves g stream had has old new (1000 - allowed)
   run-closed stream now left had mid has old at new allowed run (none, kept, same) = record {
     requests = run.requests;
     ending = None;
@@ -121,9 +126,9 @@ module _ {K X : Type 0} (AnswersAt : X → Message → Bool → List ℕ → X �
     answered = ends-so stream now had mid has old at new allowed None [] same run (Appends-nothing mid has kept);
   }
 
-  pub run-refused : (stream now left had mid has : Option (List ℕ)) (old at new : K) (allowed : ℕ) → SoFar stream now had mid old at allowed
-      → TurnIs AnswersAt Over Stands Leaves IsShut refusal_text unavailable_text allowed now left mid has at new turns.Refused
-      → Serves AnswersAt Over Stands Leaves IsShut refusal_text unavailable_text stream had has old new (1000 - allowed + 1)
+  pub run-refused : (stream now left had mid has : Option (List ℕ)) (old at new : KeeperValue S) (allowed : ℕ) → SoFar stream now had mid old at allowed
+      → TurnIs g allowed now left mid has at new turns.Refused
+      → Serves g stream had has old new (1000 - allowed + 1)
   run-refused stream now left had mid has old at new allowed run (refusal, refused, more, same) = record {
     requests = run.requests;
     ending = Some refusal;
@@ -134,10 +139,10 @@ module _ {K X : Type 0} (AnswersAt : X → Message → Bool → List ℕ → X �
   }
 
   -- a fault ends the stream
-  pub run-fails : {R W : Type 0} (stream now had mid has : Option (List ℕ)) (reader : Watched R) (writer : Watched W) (old at new : K) (allowed : ℕ) (fault : Fault)
-      → ((x : X) → Over old new x → Over old at x) → (HasCause AnswersAt Over Stands Leaves IsShut refusal_text unavailable_text now reader writer at fault → HasCause AnswersAt Over Stands Leaves IsShut refusal_text unavailable_text now reader writer old fault)
-      → SoFar stream now had mid old at allowed → TurnFails AnswersAt Over Stands Leaves IsShut refusal_text unavailable_text allowed now mid has reader writer at new fault
-      → Fails AnswersAt Over Stands Leaves IsShut refusal_text unavailable_text stream had has reader writer old new fault
+  pub run-fails : {R W : Type 0} (stream now had mid has : Option (List ℕ)) (reader : Watched R) (writer : Watched W) (old at new : KeeperValue S) (allowed : ℕ) (fault : Fault)
+      → (HasCleanDisk (state g new.conn) → HasCleanDisk (state g at.conn)) → (HasCause g now reader writer at fault → HasCause g now reader writer old fault)
+      → SoFar stream now had mid old at allowed → TurnFails g allowed now mid has reader writer at new fault
+      → Fails g stream had has reader writer old new fault
   run-fails stream now had mid has reader writer old at new allowed fault clean cause run turn = record {
     requests = run.requests;
     rest = now;
@@ -145,8 +150,8 @@ module _ {K X : Type 0} (AnswersAt : X → Message → Bool → List ℕ → X �
     few = omega (arith, run.count, run.some);
     cause = cause turn.cause;
     answered = λ x over.
-        let so = run.answered x (clean x over) in
-        let broken = turn.broken so.1 (over-then old at new x so.1 run.requests so.0 so.2 over so.4) in
+        let so = run.answered x (over-before g old at new x clean over) in
+        let broken = turn.broken so.1 (over-then g old at new x so.1 1000 run.requests so.0 so.2 over so.4) in
         (so.0, broken.0, so.1, so.2, Appends-then had mid has so.0 broken.0 so.3 broken.1,
-            subst (λ n. Breaks AnswersAt Over Stands Leaves IsShut refusal_text unavailable_text n now broken.0 new so.1 fault) (sym (same-allowed allowed run.requests run.count)) broken.2);
+            subst (λ n. Breaks g n now broken.0 new so.1 fault) (sym (same-allowed allowed run.requests run.count)) broken.2);
   }

@@ -1,2 +1,4 @@
-pub mod Run
+pub mod Exchanges
 pub mod Serving
+pub mod Standing
+pub mod Turns
