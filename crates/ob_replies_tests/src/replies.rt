@@ -1,8 +1,7 @@
 //! The bytes of replies.
 use ob_base::Refusal;
 use ob_replies::{
-    Allow, MediaType, Status, continue_reply, empty_reply, refusal_status, reply_text,
-    report_status,
+    Allow, MediaType, Status, empty_reply, refusal_status, reply_text, report_status,
 };
 use std::alloc::Global;
 use std::process::Abort;
@@ -49,7 +48,6 @@ fn are_empty(rt: &impl Abort, replies: &[(Status, bool, &[u8])]) {
 
 #[test]
 fn replies_without_a_body(rt: HostRuntime) {
-    assert!(rt; continue_reply() == b"HTTP/1.1 100 Continue\r\n\r\n".as_slice());
     are_empty(
         &rt,
         &[
