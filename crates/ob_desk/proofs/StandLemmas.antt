@@ -1,14 +1,16 @@
 -- How a keeper stands to a book, before a call and after it.
-use Rattle.std.proofs.Common.{◌≡◌, ℕ, List, [], ◌∷◌, Option, None, Some, ap, ◌∙◌}
-use Rattle.std.specs.Prelude.{IsSome}
+use Rattle.std.proofs.Common.{◌≡◌, ℕ, List, [], ◌∷◌, Option, None, Some, ap, refl, ◌∙◌}
+use Rattle.std.specs.Prelude.{◌↔◌, IsSome, Result, Ok, Err}
 use Rattle.sqlite_trees.specs.declared.store.Store.{Ghosts}
 use Rattle.sqlite.specs.Held.{state}
 use Rattle.sqlite.specs.State.{HasCleanDisk}
+use Rattle.ob_base.specs.declared.stop.Fault.{Fault}
+use Rattle.ob_base.specs.declared.stop.Fault.TheVariants.{Store}
 use Rattle.ob_book.specs.Acts.{ActState}
 use Rattle.ob_store.specs.Keeping.{KeeperValue}
 use Rattle.ob_requests.specs.Message.{Message}
 use Rattle.ob_desk.specs.Exchanges.{Replies}
-use Rattle.ob_desk.specs.Standing.{Over, Stands}
+use Rattle.ob_desk.specs.Standing.{IsKept, Over, Stands, fault_of}
 
 -- requests bring no book
 stays-none : (allowed : ℕ) (ms : List Message) (text : List ℕ) (c : ActState) → Replies allowed None ms text (Some c) → ⊥
@@ -20,7 +22,44 @@ pub is-some : {A : Type 0} (o : Option A) → (o ≡ None → ⊥) → IsSome o
 is-some None h = absurd (h (λ i. None))
 is-some (Some a) h = tt
 
+not-none : {A : Type 0} (o : Option A) → IsSome o → o ≡ None → ⊥
+not-none None some e = absurd some
+not-none (Some a) some e = cc
+
+-- the fault is that of the store exactly where the result says so
+pub lost-by : {A : Type 0} (result : Result A Fault) (P : Type 0) → (P ↔ (result ≡ Err Store)) → (P ↔ (fault_of result ≡ Some Store))
+lost-by result P (to, from) = ((λ p. ap fault_of (to p)), λ e. from (back result e))
+  where
+    back : {A : Type 0} (r : Result A Fault) → fault_of r ≡ Some Store → r ≡ Err Store
+    back (Ok x) e = absurd (none-some e)
+      where
+        none-some : (let o : Option Fault = None in o) ≡ Some Store → ⊥
+        none-some e = cc
+    back (Err f) e = ap Err (same f e)
+      where
+        same : (f : Fault) → Some f ≡ Some Store → f ≡ Store
+        same f e = cc
+
 module _ {S : Type 0} (g : Ghosts S) where
+  -- nothing changed, and the store has not failed
+  pub kept-same : (k : KeeperValue S) (fault : Option Fault) → (fault ≡ Some Store → ⊥) → IsKept g k k fault
+  kept-same k fault other = record {
+    clean = λ disk. disk;
+    unopened = λ none. refl;
+    dropped = λ some. ((λ none. absurd (not-none k.book some none)), λ lost. absurd (other lost));
+  }
+
+  -- one call after another, which met no fault
+  pub kept-then : (old at new : KeeperValue S) (fault : Option Fault) → IsKept g old at None → IsKept g at new fault → IsKept g old new fault
+  kept-then old at new fault first second = record {
+    clean = λ disk. first.clean (second.clean disk);
+    unopened = λ none. let same = first.unopened none in second.unopened (ap (λ k. k.book) same ∙ none) ∙ same;
+    dropped = λ some. second.dropped (is-some at.book (λ none. not-lost ((first.dropped some).0 none)));
+  }
+    where
+      not-lost : (let o : Option Fault = None in o) ≡ Some Store → ⊥
+      not-lost e = cc
+
   pub over-stands : (old new : KeeperValue S) (x : Option ActState) → Over g old new x → Stands g old x
   over-stands old new None h = h
   over-stands old new (Some b) (clean, ties, some) = (ties, some)

@@ -1,3 +1,4 @@
+pub mod Crashes
 pub mod Exchanges
 pub mod Serving
 pub mod Standing

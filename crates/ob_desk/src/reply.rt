@@ -1,10 +1,9 @@
 //! The reply to one request, or to bytes that are none.
-ghost use Rattle.std.specs.Prelude.{◌≡◌, ◌↔◌, None, Err, IsSome, IfErr, OnOk};
-ghost use Rattle.sqlite.specs.Held.{state};
-ghost use Rattle.sqlite.specs.State.{HasCleanDisk};
+ghost use Rattle.std.specs.Prelude.{◌≡◌, IfErr, OnOk};
 ghost use Rattle.ob_stream.specs.Watching.{watched_bytes};
 ghost use Rattle.ob_requests.specs.Reading.{message_of};
 ghost use Rattle.ob_desk.specs.Exchanges.{head_status};
+ghost use Rattle.ob_desk.specs.Standing.{IsKept, fault_of};
 ghost use Rattle.ob_desk.specs.Turns.{HasAnswerCause, IsAnswered, IsUnanswered};
 
 use ob_answers::{Routes, answer};
@@ -47,9 +46,7 @@ pub(crate) fn reply_to<W: Write, S: Alter, T: Timeline>(
     ensures unanswered { IfErr result (IsUnanswered S.Store (watched_bytes W.contents writer.old) (watched_bytes W.contents writer.new)
         keeper.old keeper.new (message_of request.now) ends) }
     ensures cause { IfErr result (HasAnswerCause S.Store writer.new keeper.old) }
-    ensures clean { HasCleanDisk (state S.Store keeper.new.conn) → HasCleanDisk (state S.Store keeper.old.conn) }
-    ensures unopened { keeper.old.book ≡ None → keeper.new ≡ keeper.old }
-    ensures dropped { IsSome keeper.old.book → (keeper.new.book ≡ None) ↔ (result ≡ Err Fault.Store) }
+    ensures kept { IsKept S.Store keeper.old keeper.new (fault_of result) }
 {
     match answer(alloc, routes, keeper, request, ends) {
         Ok(text) => write_text(writer, retries, text.bytes()),

@@ -1,10 +1,11 @@
 //! The run of one stream.
-ghost use Rattle.std.specs.Prelude.{◌≡◌, ◌↔◌, ◌≤◌, None, Err, IsSome, IfErr, IfOk};
+ghost use Rattle.std.specs.Prelude.{◌≡◌, ◌↔◌, [], None, Err, IsSome, IfErr, IfOk};
 ghost use Rattle.sqlite.specs.Held.{state};
 ghost use Rattle.sqlite.specs.State.{HasCleanDisk};
 ghost use Rattle.ob_stream.specs.Watching.{watched_bytes};
 ghost use Rattle.ob_requests.specs.Unread.{unread};
 ghost use Rattle.ob_desk.specs.Serving.{Fails, Serves};
+ghost use Rattle.ob_desk.specs.Standing.{IsKept, fault_of};
 
 use crate::turn::{Turn, serve_turn};
 use ob_answers::Routes;
@@ -74,9 +75,7 @@ fn serve_requests<R: Read, W: Write, S: Alter, T: Timeline>(
         (watched_bytes W.contents writer.old) (watched_bytes W.contents writer.new) keeper.old keeper.new served.requests) }
     ensures fails { IfErr result (Fails S.Store (watched_bytes R.remaining reader.old)
         (watched_bytes W.contents writer.old) (watched_bytes W.contents writer.new) reader.new writer.new keeper.old keeper.new) }
-    ensures clean { HasCleanDisk (state S.Store keeper.new.conn) → HasCleanDisk (state S.Store keeper.old.conn) }
-    ensures unopened { keeper.old.book ≡ None → keeper.new ≡ keeper.old }
-    ensures dropped { IsSome keeper.old.book → (keeper.new.book ≡ None) ↔ (result ≡ Err Fault.Store) }
+    ensures kept { IsKept S.Store keeper.old keeper.new (fault_of result) }
 {
     let mut retries = Retries::new();
     let mut allowed = MOST_REQUESTS;

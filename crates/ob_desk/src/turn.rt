@@ -1,11 +1,10 @@
 //! One turn of a stream: a request is read and answered, or the stream ends.
-ghost use Rattle.std.specs.Prelude.{◌≡◌, ◌↔◌, ◌≤◌, None, Err, IsSome, IfErr, IfOk};
-ghost use Rattle.sqlite.specs.Held.{state};
-ghost use Rattle.sqlite.specs.State.{HasCleanDisk};
+ghost use Rattle.std.specs.Prelude.{◌≡◌, IfErr, IfOk};
 ghost use Rattle.ob_stream.specs.Watching.{watched_bytes};
 ghost use Rattle.ob_requests.specs.Reading.{message_of};
 ghost use Rattle.ob_requests.specs.Stream.{ends};
 ghost use Rattle.ob_requests.specs.Unread.{unread};
+ghost use Rattle.ob_desk.specs.Standing.{IsKept, fault_of};
 ghost use Rattle.ob_desk.specs.Turns.{TurnFails, TurnIs};
 
 use crate::reply::{head_status, reply_to};
@@ -55,9 +54,7 @@ pub(crate) fn serve_turn<R: Read, W: Write, S: Alter, T: Timeline>(
         (watched_bytes W.contents writer.old) (watched_bytes W.contents writer.new) keeper.old keeper.new) }
     ensures fails { IfErr result (TurnFails S.Store allowed (unread ahead.old (watched_bytes R.remaining reader.old))
         (watched_bytes W.contents writer.old) (watched_bytes W.contents writer.new) reader.new writer.new keeper.old keeper.new) }
-    ensures clean { HasCleanDisk (state S.Store keeper.new.conn) → HasCleanDisk (state S.Store keeper.old.conn) }
-    ensures unopened { keeper.old.book ≡ None → keeper.new ≡ keeper.old }
-    ensures dropped { IsSome keeper.old.book → (keeper.new.book ≡ None) ↔ (result ≡ Err Fault.Store) }
+    ensures kept { IsKept S.Store keeper.old keeper.new (fault_of result) }
 {
     match read_request(alloc, reader, writer, retries, ahead)? {
         Next::End => Ok(Turn::Closed),

@@ -1,0 +1,24 @@
+-- What requests make of a book, and what a crash leaves of it.
+use Rattle.std.specs.Prelude.{◌≡◌, ⊤, ℕ, List, take, Option, None, Some, option_map}
+use Rattle.sqlite_trees.specs.declared.store.Store.{Ghosts}
+use Rattle.sqlite.specs.Tree.{Trees}
+use Rattle.sqlite.specs.Held.{state}
+use Rattle.sqlite.specs.State.{State, HasCleanDisk}
+use Rattle.ob_book.specs.Acts.{ActState, Referenced, acts}
+use Rattle.ob_commit.specs.Keeps.{Leaves}
+use Rattle.ob_record.specs.Tables.{tables_of}
+use Rattle.ob_store.specs.Keeping.{KeeperValue}
+
+-- one state is that of the other after some commands
+abbrev pub IsActed : Option ActState → Option ActState → Type 0
+IsActed x y = (commands : List Referenced) × (y ≡ option_map (λ b. acts b commands) x)
+
+-- whatever a crash leaves are the tables of the book after the first of these commands
+abbrev pub LeavesFirst : State → ActState → List Referenced → Type 0
+LeavesFirst s b work = HasCleanDisk s → (trees : Trees) → s.may_leave trees → (count : ℕ) × Leaves (tables_of (acts b (take count work))) trees
+
+module _ {S : Type 0} (g : Ghosts S) where
+  -- the book outlasts a crash, with the first of the commands that were in work
+  abbrev pub Outlasts : KeeperValue S → Option ActState → Type 0
+  Outlasts new None = ⊤
+  Outlasts new (Some b) = (work : List Referenced) × LeavesFirst (state g new.conn) b work
