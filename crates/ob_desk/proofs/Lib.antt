@@ -1,4 +1,5 @@
 pub mod AnswerLemmas
+pub mod CrashLemmas
 pub mod ReplyLemmas
 pub mod RequestLemmas
 pub mod RunLemmas

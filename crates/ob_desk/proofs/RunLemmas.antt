@@ -16,13 +16,15 @@ use Rattle.ob_requests.specs.Message.{Message}
 use Rattle.ob_requests.specs.Stream.{AfterKnown, ends}
 use Rattle.ob_requests.specs.Unread.{unread}
 use Rattle.ob_requests.specs.declared.framing.HeadRefusal.{HeadRefusal}
-use Rattle.ob_desk.specs.Exchanges.{Replies, ending_text, refusal_text}
+use Rattle.ob_desk.specs.Crashes.{IsActed}
+use Rattle.ob_desk.specs.Exchanges.{AnswersAt, Replies, refusal_text}
 use Rattle.ob_desk.specs.Serving.{Breaks, Fails, HasCause, Serves}
 use Rattle.ob_desk.specs.Standing.{Over, Stands}
 use Rattle.ob_desk.specs.Turns.{TurnAnswers, TurnFails, TurnIs}
 use Rattle.ob_desk.specs.declared.turn.Turn.{Turn}
 use Rattle.ob_desk.specs.declared.turn.Turn.TheVariants as turns
 use Rattle.ob_desk.proofs.RequestLemmas.{known-start, known-then, known-last, known-end}
+use Rattle.ob_desk.proofs.CrashLemmas.{breaks-outlast, replies-act}
 use Rattle.ob_desk.proofs.ReplyLemmas.{replies-then}
 use Rattle.ob_desk.proofs.StandLemmas.{over-before, over-stands, over-then}
 use Rattle.ob_desk.proofs.WriteLemmas.{Appends-then, Appends-nothing, Keeps-same}
@@ -103,16 +105,16 @@ module _ {S : Type 0} (g : Ghosts S) where
         counted = omega (arith, run.count, run.some, length-append run.requests (turn.message ∷ []));
         most = omega (arith, run.count, run.some, length-append run.requests (turn.message ∷ []));
         answered = λ x over. let so = more x over in
-            (so.0, so.1, so.2, subst (Appends had has) (sym (append-nil so.0)) so.3, so.4);
+            (so.0, so.1, so.2, subst (Appends had has) (sym (append-nil so.0)) so.3, so.4, replies-act 1000 x so.1 _ so.0 so.2);
       }
 
   -- the stream has no byte more, or bytes that are refused: the keeper stays
   ends-so : (stream now had mid has : Option (List ℕ)) (old at new : KeeperValue S) (allowed : ℕ) (ending : Option HeadRefusal) (tail : List ℕ) → new ≡ at
       → (run : SoFar stream now had mid old at allowed) → Appends mid has tail
-      → (x : Option ActState) → Over g old new x → (text : List ℕ) × (y : Option ActState) × Replies 1000 x run.requests text y × Appends had has (text ++ tail) × Stands g new y
+      → (x : Option ActState) → Over g old new x → (text : List ℕ) × (y : Option ActState) × Replies 1000 x run.requests text y × Appends had has (text ++ tail) × Stands g new y × IsActed x y
   ends-so stream now had mid has old at new allowed ending tail same run more x over =
       let so = run.answered x (subst (λ k. Over g old k x) same over) in
-      (so.0, so.1, so.2, Appends-then had mid has so.0 tail so.3 more, subst (λ k. Stands g k so.1) (sym same) so.4)
+      (so.0, so.1, so.2, Appends-then had mid has so.0 tail so.3 more, subst (λ k. Stands g k so.1) (sym same) so.4, replies-act 1000 x so.1 run.requests so.0 so.2)
 
   pub run-closed : (stream now left had mid has : Option (List ℕ)) (old at new : KeeperValue S) (allowed : ℕ) → SoFar stream now had mid old at allowed
       → TurnIs g allowed now left mid has at new turns.Closed
@@ -153,5 +155,6 @@ module _ {S : Type 0} (g : Ghosts S) where
         let so = run.answered x (over-before g old at new x clean over) in
         let broken = turn.broken so.1 (over-then g old at new x so.1 1000 run.requests so.0 so.2 over so.4) in
         (so.0, broken.0, so.1, so.2, Appends-then had mid has so.0 broken.0 so.3 broken.1,
-            subst (λ n. Breaks g n now broken.0 new so.1 fault) (sym (same-allowed allowed run.requests run.count)) broken.2);
+            subst (λ n. Breaks g n now broken.0 new so.1 fault) (sym (same-allowed allowed run.requests run.count)) broken.2,
+            replies-act 1000 x so.1 run.requests so.0 so.2, breaks-outlast g allowed now broken.0 new so.1 fault broken.2);
   }

@@ -4,10 +4,12 @@ use Rattle.sqlite_trees.specs.declared.store.Store.{Ghosts}
 use Rattle.sqlite.specs.Tree.{Trees}
 use Rattle.sqlite.specs.Held.{state}
 use Rattle.sqlite.specs.State.{State, HasCleanDisk}
+use Rattle.ob_base.specs.declared.stop.Fault.{Fault}
+use Rattle.ob_base.specs.declared.stop.Fault.TheVariants.{Store}
 use Rattle.ob_book.specs.Acts.{ActState, Referenced, acts}
 use Rattle.ob_commit.specs.Keeps.{Leaves}
 use Rattle.ob_record.specs.Tables.{tables_of}
-use Rattle.ob_store.specs.Keeping.{KeeperValue}
+use Rattle.ob_store.specs.Keeping.{KeeperValue, Ties}
 
 -- one state is that of the other after some commands
 abbrev pub IsActed : Option ActState → Option ActState → Type 0
@@ -22,3 +24,9 @@ module _ {S : Type 0} (g : Ghosts S) where
   abbrev pub Outlasts : KeeperValue S → Option ActState → Type 0
   Outlasts new None = ⊤
   Outlasts new (Some b) = (work : List Referenced) × LeavesFirst (state g new.conn) b work
+
+  -- The book is that of some commands more. Where the store has failed, a crash leaves the book of some commands, with the first
+  -- of those that were in work.
+  abbrev pub IsLeft : KeeperValue S → ActState → Option Fault → Type 0
+  IsLeft new b (Some Store) = (done : List Referenced) × Outlasts new (Some (acts b done))
+  IsLeft new b fault = (done : List Referenced) × Ties g new (acts b done)

@@ -13,6 +13,7 @@ use Rattle.ob_requests.specs.Message.{Message, IsCut, IsRefused, ReadsKnown}
 use Rattle.ob_requests.specs.Reading.{AfterHead}
 use Rattle.ob_requests.specs.Stream.{AfterKnown, Requests, ends}
 use Rattle.ob_requests.specs.declared.framing.HeadRefusal.{HeadRefusal}
+use Rattle.ob_desk.specs.Crashes.{IsActed, Outlasts}
 use Rattle.ob_desk.specs.Exchanges.{AnswersAt, Replies, ending_count, ending_text, refusal_text, unavailable_text}
 use Rattle.ob_desk.specs.Standing.{Over, Stands, LeftBy}
 
@@ -76,7 +77,7 @@ module _ {S : Type 0} (g : Ghosts S) where
   HasCause rest reader writer old Output = HasJustFailed writer
 
   -- A run: the stream is these requests and this ending. Each request was answered in its turn; what is written are the replies,
-  -- one after the other, and that of the ending; and the state that the last one leaves stands.
+  -- one after the other, and that of the ending; and the state that the last one leaves stands, which is that of some commands.
   pub record Serves (stream had has : Option (List ℕ)) (old new : KeeperValue S) (replies : ℕ) : Type 0 where
     pub requests : List Message
     pub ending : Option HeadRefusal
@@ -85,9 +86,11 @@ module _ {S : Type 0} (g : Ghosts S) where
     pub most : length requests ≤ 1000
     pub answered : (x : Option ActState) → Over g old new x
         → (text : List ℕ) × (y : Option ActState) × Replies 1000 x requests text y × Appends had has (text ++ ending_text ending) × Stands g new y
+        × IsActed x y
 
   -- A run that a fault ended: the first requests of the stream were answered, and their replies are written; of the next one
-  -- a part is written, and what stands is what it left.
+  -- a part is written, and what stands is what it left. A crash leaves the book after the requests that were answered, with
+  -- the first of the commands of the one in work.
   pub record Fails {R W : Type 0} (stream had has : Option (List ℕ)) (reader : Watched R) (writer : Watched W) (old new : KeeperValue S) (fault : Fault) : Type 0 where
     pub requests : List Message
     pub rest : Option (List ℕ)
@@ -96,4 +99,4 @@ module _ {S : Type 0} (g : Ghosts S) where
     pub cause : HasCause rest reader writer old fault
     pub answered : (x : Option ActState) → Over g old new x
         → (text : List ℕ) × (part : List ℕ) × (y : Option ActState) × Replies 1000 x requests text y × Appends had has (text ++ part)
-        × Breaks (1000 - length requests) rest part new y fault
+        × Breaks (1000 - length requests) rest part new y fault × IsActed x y × Outlasts g new y

@@ -2,6 +2,10 @@
 ghost use Rattle.std.specs.Prelude.{◌≡◌, ◌↔◌, None, Err, IsSome, IfErr};
 ghost use Rattle.sqlite.specs.Held.{state};
 ghost use Rattle.sqlite.specs.State.{HasCleanDisk};
+ghost use Rattle.ob_book.specs.Acts.{ActState};
+ghost use Rattle.ob_store.specs.Keeping.{Ties};
+ghost use Rattle.ob_desk.specs.Crashes.{IsLeft};
+ghost use Rattle.ob_desk.specs.Standing.{IsKept, fault_of};
 
 use crate::stream::{Served, serve_stream};
 use ob_base::Fault;
@@ -36,6 +40,8 @@ pub fn run_serve<S: Alter, T: Timeline, L: FaultLog>(
     ensures unopened { keeper.old.book ≡ None → keeper.new ≡ keeper.old }
     ensures dropped { IsSome keeper.old.book → (keeper.new.book ≡ None) ↔ (result ≡ Err Fault.Store) }
     ensures reopen { result ≡ Err Fault.Reopen → keeper.old.book ≡ None }
+    ensures left { HasCleanDisk (state S.Store keeper.new.conn) → (b : ActState) → Ties S.Store keeper.old b
+        → IsSome keeper.old.book → IsLeft S.Store keeper.new b (fault_of result) }
 {
     let most = if streams == 0 { u64::MAX } else { streams };
     for _ in 0..most {
@@ -58,10 +64,10 @@ fn serve_connection<S: Alter, T: Timeline>(
     stream: &TcpStream,
     keeper: &mut Keeper<S, T>,
 ) -> Result<Served, Fault>
-    ensures clean { HasCleanDisk (state S.Store keeper.new.conn) → HasCleanDisk (state S.Store keeper.old.conn) }
-    ensures unopened { keeper.old.book ≡ None → keeper.new ≡ keeper.old }
-    ensures dropped { IsSome keeper.old.book → (keeper.new.book ≡ None) ↔ (result ≡ Err Fault.Store) }
+    ensures kept { IsKept S.Store keeper.old keeper.new (fault_of result) }
     ensures reopen { result ≡ Err Fault.Reopen → keeper.old.book ≡ None }
+    ensures left { HasCleanDisk (state S.Store keeper.new.conn) → (b : ActState) → Ties S.Store keeper.old b
+        → IsSome keeper.old.book → IsLeft S.Store keeper.new b (fault_of result) }
 {
     let mut reader = Watched::new(stream);
     let mut writer = Watched::new(stream);
