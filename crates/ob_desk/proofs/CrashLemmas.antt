@@ -16,7 +16,7 @@ use Rattle.ob_store.specs.Acting.{under}
 use Rattle.ob_store.specs.Keeping.{KeeperValue, KeepsBook, KeepsEitherBook, Ties}
 use Rattle.ob_rows.specs.Rows.{Fields, rows_of}
 use Rattle.ob_import.specs.Imports.{Import, ImportsBody, after_header}
-use Rattle.ob_requests.specs.Message.{Message}
+use Rattle.ob_requests.specs.Message.{Message, path_of}
 use Rattle.ob_requests.specs.Stream.{ends}
 use Rattle.ob_requests.specs.declared.framing.Method.{Method}
 use Rattle.ob_requests.specs.declared.framing.Method.TheVariants as methods
@@ -40,26 +40,26 @@ answers-act : (b : ActState) (method : Method) (route : Option Route) (body : Li
     → (commands : List Referenced) × (c ≡ acts b commands)
 answers-act b method None body a c (is, same) = ([], same)
 answers-act b methods.Get (Some route) body a c (is, same) = ([], same)
-answers-act b methods.Post (Some routes.Commands) body a c (Ok said, says, is, same) = (under said.0 said.1 ∷ [], same)
-answers-act b methods.Post (Some routes.Commands) body a c (Err refusal, says, is, same) = ([], same)
+answers-act b methods.Post (Some routes.Commands) body a c (Ok said, says, (is, same)) = (under said.0 said.1 ∷ [], same)
+answers-act b methods.Post (Some routes.Commands) body a c (Err refusal, says, (is, same)) = ([], same)
 answers-act b methods.Post (Some routes.Import) body a c (i, imports, is, same) =
     let so = imports-act b (after_header (rows_of body)) i imports in (so.0, same ∙ so.1)
 answers-act b methods.Post (Some (routes.Command number)) body a c (is, same) = ([], same)
 answers-act b methods.Post (Some (routes.View view)) body a c (is, same) = ([], same)
 
 at-acts : (b c : ActState) (m : Message) (closes : Bool) (reply : List ℕ) → AnswersAt (Some b) m closes reply (Some c) → (commands : List Referenced) × (c ≡ acts b commands)
-at-acts b c m closes reply (a, answers, is) = answers-act b m.method _ m.body a c answers
+at-acts b c m closes reply (a, answers, is) = answers-act b m.method (route_of (path_of m.target)) m.body a c answers
 
 pub replies-act : (allowed : ℕ) (x y : Option ActState) (ms : List Message) (text : List ℕ) → Replies allowed x ms text y → IsActed x y
 replies-act allowed None y [] text (none, same) = ([], sym same)
 replies-act allowed (Some b) y [] text (none, same) = ([], sym same)
 replies-act allowed None y (m ∷ ms) text (reply, more, None, answers, is, rest) =
-    let so = replies-act _ None y ms more rest in ([], so.1)
+    let so = replies-act (allowed - 1) None y ms more rest in ([], so.1)
 replies-act allowed None y (m ∷ ms) text (reply, more, Some c, answers, is, rest) = absurd answers
 replies-act allowed (Some b) y (m ∷ ms) text (reply, more, None, answers, is, rest) = absurd answers
 replies-act allowed (Some b) y (m ∷ ms) text (reply, more, Some c, answers, is, rest) =
     let one = at-acts b c m _ reply answers in
-    let so = replies-act _ (Some c) y ms more rest in
+    let so = replies-act (allowed - 1) (Some c) y ms more rest in
     (one.0 ++ so.0, so.1 ∙ ap (λ d. Some (acts d so.0)) one.1 ∙ ap Some (sym (fold-append act b one.0 so.0)))
 
 -- ---- a crash
@@ -95,7 +95,7 @@ module _ {S : Type 0} (g : Ghosts S) where
       | inr (x, says, ties) ↦ (x ∷ [], ties)
     ]
   short-acts new b methods.Post (Some routes.Import) body h = elim h [
-      inl (added, again, (c, later, begins, ties, some)) ↦ (begins.2.commands, subst (Ties g new) begins.2.state ties)
+      inl (added, again, (c, later, begins, (ties, some))) ↦ (begins.2.commands, subst (Ties g new) begins.2.state ties)
       | inr (i, imports, ties) ↦ let so = imports-act b (after_header (rows_of body)) i imports in (so.0, subst (Ties g new) so.1 ties)
     ]
   short-acts new b methods.Post (Some (routes.Command number)) body h = absurd h
@@ -131,7 +131,7 @@ module _ {S : Type 0} (g : Ghosts S) where
   answer-outlasts : (allowed : ℕ) (rest : Option (List ℕ)) (part : List ℕ) (new : KeeperValue S) (x : Option ActState) (fault : Fault)
       → BreaksAnswer g allowed rest part new x fault → Outlasts g new x
   answer-outlasts allowed rest part new None fault h = tt
-  answer-outlasts allowed rest part new (Some b) fault h = route-outlasts new b h.message.method _ h.message.body (ends allowed h.message) fault h.leaves
+  answer-outlasts allowed rest part new (Some b) fault h = route-outlasts new b h.message.method (route_of (path_of h.message.target)) h.message.body (ends allowed h.message) fault h.leaves
 
   -- a reply could not be written whole: its commands have acted
   reply-acts : (allowed : ℕ) (rest : Option (List ℕ)) (part : List ℕ) (new : KeeperValue S) (b : ActState) → BreaksReply g allowed rest part new (Some b)
@@ -176,10 +176,10 @@ module _ {S : Type 0} (g : Ghosts S) where
       → Breaks g allowed rest part new (Some b) fault → IsLeft g new b (Some fault)
   breaks-left allowed rest part new b OutOfMemory h = elim h [
       inl reading ↦ ([], reading.1.0)
-      | inr answer ↦ answer-left new b answer.message.method _ answer.message.body (ends allowed answer.message) OutOfMemory answer.leaves
+      | inr answer ↦ answer-left new b answer.message.method (route_of (path_of answer.message.target)) answer.message.body (ends allowed answer.message) OutOfMemory answer.leaves
     ]
-  breaks-left allowed rest part new b Store h = answer-left new b h.message.method _ h.message.body (ends allowed h.message) Store h.leaves
-  breaks-left allowed rest part new b Reopen h = answer-left new b h.message.method _ h.message.body (ends allowed h.message) Reopen h.leaves
+  breaks-left allowed rest part new b Store h = answer-left new b h.message.method (route_of (path_of h.message.target)) h.message.body (ends allowed h.message) Store h.leaves
+  breaks-left allowed rest part new b Reopen h = answer-left new b h.message.method (route_of (path_of h.message.target)) h.message.body (ends allowed h.message) Reopen h.leaves
   breaks-left allowed rest part new b Input h = ([], h.1.0)
   breaks-left allowed rest part new b Output h = elim h [
       inl interim ↦ ([], interim.1.0)

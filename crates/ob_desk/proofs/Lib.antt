@@ -1,5 +1,6 @@
 pub mod AnswerLemmas
 pub mod CrashLemmas
+pub mod LawLemmas
 pub mod ReplyLemmas
 pub mod RequestLemmas
 pub mod RunLemmas

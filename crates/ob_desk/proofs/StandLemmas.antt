@@ -1,5 +1,5 @@
 -- How a keeper stands to a book, before a call and after it.
-use Rattle.std.proofs.Common.{◌≡◌, ℕ, List, [], ◌∷◌, Option, None, Some, ap, refl, ◌∙◌}
+use Rattle.std.proofs.Common.{◌≡◌, ℕ, ◌-◌, List, [], ◌∷◌, Option, None, Some, ap, refl, ◌∙◌}
 use Rattle.std.specs.Prelude.{◌↔◌, IsSome, Result, Ok, Err}
 use Rattle.sqlite_trees.specs.declared.store.Store.{Ghosts}
 use Rattle.sqlite.specs.Held.{state}
@@ -15,15 +15,15 @@ use Rattle.ob_desk.specs.Standing.{IsKept, Over, Stands, fault_of}
 -- requests bring no book
 stays-none : (allowed : ℕ) (ms : List Message) (text : List ℕ) (c : ActState) → Replies allowed None ms text (Some c) → ⊥
 stays-none allowed [] text c (none, same) = cc
-stays-none allowed (m ∷ ms) text c (reply, more, None, answers, is, rest) = stays-none _ ms more c rest
+stays-none allowed (m ∷ ms) text c (reply, more, None, answers, is, rest) = stays-none (allowed - 1) ms more c rest
 stays-none allowed (m ∷ ms) text c (reply, more, Some d, answers, is, rest) = absurd answers
 
 pub is-some : {A : Type 0} (o : Option A) → (o ≡ None → ⊥) → IsSome o
 is-some None h = absurd (h (λ i. None))
-is-some (Some a) h = tt
+is-some (Some a) h = refl
 
 not-none : {A : Type 0} (o : Option A) → IsSome o → o ≡ None → ⊥
-not-none None some e = absurd some
+not-none None some e = cc
 not-none (Some a) some e = cc
 
 -- the fault is that of the store exactly where the result says so
@@ -73,3 +73,33 @@ module _ {S : Type 0} (g : Ghosts S) where
   over-then old mid new x None allowed ms text replies over stands = stands
   over-then old mid new None (Some c) allowed ms text replies over stands = absurd (stays-none allowed ms text c replies)
   over-then old mid new (Some b) (Some c) allowed ms text replies (disk, ties, some) stands = (disk, stands.0, stands.1)
+
+  -- from the clauses of a call that ended so
+  pub kept-by : {A : Type 0} (old new : KeeperValue S) (r : Result A Fault) (P : Type 0) → (HasCleanDisk (state g new.conn) → HasCleanDisk (state g old.conn))
+      → (old.book ≡ None → (new ≡ old) × P) → (IsSome old.book → (new.book ≡ None) ↔ (r ≡ Err Store)) → IsKept g old new (fault_of r)
+  kept-by old new r P clean unopened dropped = record {
+    clean = clean;
+    unopened = λ none. (unopened none).0;
+    dropped = λ some. lost-by r (new.book ≡ None) (dropped some);
+  }
+
+  -- without a fault a book stays one
+  pub still-some : (old new : KeeperValue S) → IsKept g old new None → IsSome old.book → IsSome new.book
+  still-some old new kept some = is-some new.book (λ none. not-lost ((kept.dropped some).0 none))
+    where
+      not-lost : (let o : Option Fault = None in o) ≡ Some Store → ⊥
+      not-lost e = cc
+
+  -- a fault that isn't the store's, after no fault
+  pub kept-err : (old new : KeeperValue S) (fault : Fault) → (fault ≡ Store → ⊥) → IsKept g old new None → IsKept g old new (Some fault)
+  kept-err old new fault other kept = record {
+    clean = kept.clean;
+    unopened = kept.unopened;
+    dropped = λ some. ((λ none. absurd (not-lost ((kept.dropped some).0 none))), λ lost. absurd (other (same fault lost)));
+  }
+    where
+      not-lost : (let o : Option Fault = None in o) ≡ Some Store → ⊥
+      not-lost e = cc
+
+      same : (f : Fault) → Some f ≡ Some Store → f ≡ Store
+      same f e = cc

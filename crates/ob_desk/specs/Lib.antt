@@ -1,5 +1,6 @@
 pub mod Crashes
 pub mod Exchanges
+pub mod Laws
 pub mod Serving
 pub mod Standing
 pub mod Turns
