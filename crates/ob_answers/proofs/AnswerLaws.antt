@@ -1,16 +1,15 @@
 -- A request is answered one thing.
-use Rattle.std.proofs.Common.{◌≡◌, ◌∙◌, sym, ap, subst, refl, ℕ, Bool, List, Option, Some, None, Result, Ok, Err}
+use Rattle.std.proofs.Common.{◌≡◌, ◌∙◌, sym, ap, subst, refl, ℕ, List, Option, Some, None, Result, Ok, Err}
 use Rattle.ob_base.specs.declared.stop.Refusal.{Refusal}
 use Rattle.ob_command.specs.declared.command.Command.{Command}
-use Rattle.ob_book.specs.Acts.{ActState, act, answer}
-use Rattle.ob_store.specs.Acting.{under}
+use Rattle.ob_book.specs.Acts.{ActState}
 use Rattle.ob_rows.specs.Rows.{rows_of}
-use Rattle.ob_import.specs.Imports.{Import, Imports, ImportsMakeOneThing}
-use Rattle.ob_requests.specs.Message.{Message, path_of}
+use Rattle.ob_import.specs.Imports.{Import, ImportsMakeOneThing}
+use Rattle.ob_requests.specs.Message.{path_of}
 use Rattle.ob_requests.specs.declared.framing.Method.{Method}
 use Rattle.ob_requests.specs.declared.framing.Method.TheVariants as methods
-use Rattle.ob_replies.specs.JsonCommands.{IsJsonCommand, JsonCommandsSayOneThing}
-use Rattle.ob_answers.specs.Answers.{Answer, Answers, BooklessAnswersStay, CommandAnswers, ImportAnswers, PostAnswers, RequestsAreAnsweredOneThing, RouteAnswers, SaidAnswers, Stays, bookless_at, reported}
+use Rattle.ob_replies.specs.JsonCommands.{JsonCommandsSayOneThing}
+use Rattle.ob_answers.specs.Answers.{Answer, BooklessAnswersStay, CommandAnswers, ImportAnswers, PostAnswers, RequestsAreAnsweredOneThing, RouteAnswers, SaidAnswers, Stays, bookless_at, reported}
 use Rattle.ob_answers.specs.Routes.{route_of}
 use Rattle.ob_answers.specs.declared.routes.Route.{Route}
 use Rattle.ob_answers.specs.declared.routes.Route.TheVariants as routes

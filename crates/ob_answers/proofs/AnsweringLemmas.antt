@@ -1,24 +1,23 @@
 -- What the parts of an answer make of a keeper, put together by cases on the reply or the fault.
-use Rattle.std.proofs.Common.{◌≡◌, ◌⊎◌, ◌∙◌, sym, ap, subst, refl, ℕ, Bool, true, false, List, [], Option, Some, None, Result, Ok, Err, inl, inr, if◌then◌else◌, is_none}
+use Rattle.std.proofs.Common.{◌≡◌, ◌∙◌, sym, ap, subst, refl, ℕ, Bool, List, [], Option, Some, None, Result, Ok, Err, inl, inr, if◌then◌else◌, is_none}
 use Rattle.std.specs.Prelude.{◌&&◌, unwrap_or}
 use Rattle.sqlite_trees.specs.declared.store.Store.{Ghosts}
-use Rattle.sqlite.specs.Held.{state}
 use Rattle.ob_base.specs.declared.stop.Fault.{Fault}
 use Rattle.ob_base.specs.declared.stop.Fault.TheVariants.{OutOfMemory, Store, Reopen, Input, Output}
 use Rattle.ob_base.specs.declared.stop.Refusal.{Refusal}
 use Rattle.ob_command.specs.declared.command.Command.{Command}
 use Rattle.ob_state.specs.Refusals.{refusal}
-use Rattle.ob_book.specs.Acts.{ActState, Referenced, Reply, act, answer, answer_under, answer_new, number_of, take_on}
+use Rattle.ob_book.specs.Acts.{ActState, Referenced, Reply, act, answer, answer_under, number_of, take_on}
 use Rattle.ob_store.specs.Acting.{under}
-use Rattle.ob_store.specs.Keeping.{KeeperValue, KeepsEitherBook, Ties}
+use Rattle.ob_store.specs.Keeping.{KeeperValue, Ties}
 use Rattle.ob_rows.specs.Rows.{Fields, rows_of}
 use Rattle.ob_import.specs.Imports.{ImportsBody, after_header}
 use Rattle.ob_import.specs.Reports.{Breaks, HasCause, Imported, import_as}
 use Rattle.ob_import.specs.declared.report.ImportReport.{ImportReport}
 use Rattle.ob_requests.specs.declared.framing.Method.TheVariants as methods
 use Rattle.ob_replies.specs.JsonCommands.{IsJsonCommand}
-use Rattle.ob_answers.specs.Answers.{Answer, SaysCommand, answer_text, got, outcome, refused, report_answer, reported}
-use Rattle.ob_answers.specs.Answering.{ActGives, Gives, Makes, RouteAnswered, text_bytes}
+use Rattle.ob_answers.specs.Answers.{Answer, answer_text, got, outcome, refused, report_answer, reported}
+use Rattle.ob_answers.specs.Answering.{ActGives, Gives, Makes, RouteAnswered}
 use Rattle.ob_answers.specs.declared.reply.ReplyText.{ReplyText}
 use Rattle.ob_answers.specs.declared.routes.Route.{Route}
 use Rattle.ob_answers.specs.declared.routes.Route.TheVariants as routes

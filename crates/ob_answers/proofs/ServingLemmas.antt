@@ -1,10 +1,9 @@
 -- What the parts of the desk make of a keeper, with a book and without one, by cases on what the calls below answered.
-use Rattle.std.proofs.Common.{◌≡◌, ◌↔◌, ◌⊎◌, ◌∙◌, sym, ap, subst, refl, ℕ, Bool, true, false, true≢false, List, [], Option, Some, None, Result, Ok, Err, inl, inr, is_some, is_ok}
+use Rattle.std.proofs.Common.{◌≡◌, ◌↔◌, ◌∙◌, sym, ap, subst, refl, ℕ, Bool, true≢false, List, Option, Some, None, Result, Ok, Err, inl, inr, is_some, is_ok}
 use Rattle.std.specs.Prelude.{IsSome, IfErr, option_map}
 use Rattle.sqlite_trees.specs.declared.store.Store.{Ghosts}
 use Rattle.sqlite.specs.Held.{state}
 use Rattle.sqlite.specs.State.{HasCleanDisk}
-use Rattle.ob_base.specs.Stop.{out_of_memory}
 use Rattle.ob_base.specs.declared.stop.Fault.{Fault}
 use Rattle.ob_base.specs.declared.stop.Fault.TheVariants.{OutOfMemory, Store, Reopen, Input, Output}
 use Rattle.ob_base.specs.declared.stop.Refusal.{Refusal}
@@ -12,19 +11,19 @@ use Rattle.ob_base.specs.declared.stop.Stop.{Stop}
 use Rattle.ob_base.specs.declared.stop.Stop.TheVariants as stops
 use Rattle.ob_state.specs.State.{BookState}
 use Rattle.ob_tables.specs.Steps.{IsStoreFault}
-use Rattle.ob_book.specs.Acts.{ActState, Referenced, Reply, act, answer}
-use Rattle.ob_store.specs.Acting.{Acted, IsActStop, reply_as, under}
+use Rattle.ob_book.specs.Acts.{ActState, Referenced, Reply}
+use Rattle.ob_store.specs.Acting.{Acted, IsActStop, reply_as}
 use Rattle.ob_store.specs.Keeping.{KeeperValue, Ties}
 use Rattle.ob_store.specs.Replying.{Replied}
 use Rattle.ob_store.specs.declared.reply.Reply.{Reply as GivenReply}
 use Rattle.ob_rows.specs.Rows.{rows_of}
-use Rattle.ob_import.specs.Reports.{HasCause, Imported, IsStoreFault as IsImportStoreFault, no_book}
+use Rattle.ob_import.specs.Reports.{HasCause, Imported, IsStoreFault as IsImportStoreFault}
 use Rattle.ob_import.specs.declared.report.ImportFault.{ImportFault}
 use Rattle.ob_import.specs.declared.report.ImportReport.{ImportReport}
 use Rattle.ob_requests.specs.declared.framing.Method.TheVariants as methods
 use Rattle.ob_replies.specs.declared.reply.MediaType.TheVariants as types
 use Rattle.ob_answers.specs.Answers.{Answer, answer_text, found, got, media_of, outcome, refused, reply_body, report_answer, view_text}
-use Rattle.ob_answers.specs.Answering.{ActGives, Gives, IsAnswerFault, IsReplyOf, Makes, RouteAnswered, Serves, Unopened, text_bytes}
+use Rattle.ob_answers.specs.Answering.{ActGives, Gives, IsAnswerFault, Makes, RouteAnswered, Serves, text_bytes}
 use Rattle.ob_answers.specs.declared.reply.ReplyText.{ReplyText}
 use Rattle.ob_answers.specs.declared.routes.Route.TheVariants as routes
 use Rattle.ob_answers.specs.declared.routes.View.{View}

@@ -1,5 +1,5 @@
 -- The routes of the desk: what a path stands for.
-use Rattle.std.specs.Prelude.{ℕ, List, [], ◌∷◌, ◌++◌, ◌+◌, Option, Some, None, option_map, codes, drop, MatchOption}
+use Rattle.std.specs.Prelude.{ℕ, List, [], ◌∷◌, ◌++◌, ◌+◌, Option, Some, None, option_map, codes, drop}
 use Rattle.matchit.specs.Rows.{RowsOf, param_token}
 use Rattle.matchit.specs.Router.{RouteOf}
 use Rattle.matchit.specs.Seek.{first}
@@ -8,7 +8,6 @@ use Rattle.ob_answers.specs.declared.routes.Place.{Place}
 use Rattle.ob_answers.specs.declared.routes.Place.TheVariants as places
 use Rattle.ob_answers.specs.declared.routes.Route.{Route}
 use Rattle.ob_answers.specs.declared.routes.Route.TheVariants as routes
-use Rattle.ob_answers.specs.declared.routes.View.{View}
 use Rattle.ob_answers.specs.declared.routes.View.TheVariants as views
 
 -- a route of this text alone

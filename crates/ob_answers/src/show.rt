@@ -109,8 +109,8 @@ pub(crate) fn show_command<S: Alter, T: Timeline>(
     match keeper.reply_of(no) {
         Ok(Some(reply)) => accepted(alloc, &reply, closes),
         Ok(None) => Ok(nothing(Status::NotFound, closes)),
-        Err(Stop::Fault(fault)) => Err(fault),
         Err(Stop::Refused(_)) => Err(Fault::OutOfMemory),
+        Err(Stop::Fault(fault)) => Err(fault),
     }
 }
 

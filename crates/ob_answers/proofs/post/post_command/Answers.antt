@@ -1,11 +1,14 @@
-use Rattle.std.proofs.Common.{inl}
+use Rattle.std.proofs.Common.{◌≡◌, None, inl, rules}
+use Rattle.std.specs.Prelude.{IsSome}
 use Rattle.ob_answers.specs.Answers.{refused}
 use Rattle.ob_answers.proofs.AnsweringLemmas.{answered_said, answered_unsaid}
 use Rattle.ob_answers.proofs.ServingLemmas.{serves_as, serves_made, serves_short, serves_unopened}
 use Rattle.ob_answers.proofs.post.post_command.Goals as goal
 
 pub returns-then-is_none : goal.returns-then-is_none
-returns-then-is_none g c = serves_unopened g.S.Store c.args.keeper.now _ c.args.closes ?
+returns-then-is_none g c =
+    let none : c.args.keeper.now.book ≡ None = search rules in
+    serves_unopened g.S.Store c.args.keeper.now _ c.args.closes none
 
 pub returns-in-Ok : goal.returns-in-Ok
 returns-in-Ok g c =
@@ -14,9 +17,12 @@ returns-in-Ok g c =
 
 pub returns-in-Err-Refused : goal.returns-in-Err-Refused
 returns-in-Err-Refused g c =
+    let there : IsSome c.args.keeper.now.book = search rules in
     let says = rw c.in-Err-Refused.field-0-is at c.in-Err-Refused.ensures in
-    serves_made g.S.Store c.args.keeper.now _ (refused c.in-Err-Refused.refusal) c.args.closes c.refused.result ? c.refused.ensures
+    serves_made g.S.Store c.args.keeper.now _ (refused c.in-Err-Refused.refusal) c.args.closes c.refused.result there c.refused.ensures
     (λ b ties. answered_unsaid g.S.Store c.args.keeper.now b c.in-Err-Refused.refusal c.args.body.now c.args.closes c.refused.result says c.refused.ensures ties)
 
 pub returns-in-Err-Fault : goal.returns-in-Err-Fault
-returns-in-Err-Fault g c = serves_short g.S.Store c.args.keeper.now _ c.args.closes ? (λ b ties. inl ties)
+returns-in-Err-Fault g c =
+    let there : IsSome c.args.keeper.now.book = search rules in
+    serves_short g.S.Store c.args.keeper.now _ c.args.closes there (λ b ties. inl ties)

@@ -18,7 +18,7 @@ returns-in-Ok-None g c =
 pub returns-in-Err-Fault : goal.returns-in-Err-Fault
 returns-in-Err-Fault g c =
     let e = c.in-Err-Fault.ensures in
-    serves_found g.S.Store c.args.keeper.now c.reply_of.new.self c.args.«no» (Err c.in-Err-Fault.field-0) c.args.closes (Err c.in-Err-Fault.fault) e.reopen e.unopened e.faults e.dropped e.clean e.replied
+    serves_found g.S.Store c.args.keeper.now c.reply_of.new.self c.args.«no» (Err c.in-Err-Fault.field-0) c.args.closes _ e.reopen e.unopened e.faults e.dropped e.clean e.replied
     (rw c.in-Err-Fault.field-0-is refl)
 
 pub returns-in-Err-Refused : goal.returns-in-Err-Refused
