@@ -1,6 +1,7 @@
 pub mod AnswerLemmas
 pub mod CrashLemmas
 pub mod LawLemmas
+pub mod ListenLemmas
 pub mod ReplyLemmas
 pub mod RequestLemmas
 pub mod RunLemmas

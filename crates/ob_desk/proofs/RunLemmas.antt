@@ -19,14 +19,14 @@ use Rattle.ob_requests.specs.declared.framing.HeadRefusal.{HeadRefusal}
 use Rattle.ob_desk.specs.Crashes.{IsActed}
 use Rattle.ob_desk.specs.Exchanges.{AnswersAt, Replies, refusal_text}
 use Rattle.ob_desk.specs.Serving.{Breaks, Fails, HasCause, Serves}
-use Rattle.ob_desk.specs.Standing.{Over, Stands}
+use Rattle.ob_desk.specs.Standing.{IsKept, Over, Stands}
 use Rattle.ob_desk.specs.Turns.{TurnAnswers, TurnFails, TurnIs}
 use Rattle.ob_desk.specs.declared.turn.Turn.{Turn}
 use Rattle.ob_desk.specs.declared.turn.Turn.TheVariants as turns
 use Rattle.ob_desk.proofs.RequestLemmas.{known-start, known-then, known-last, known-end}
 use Rattle.ob_desk.proofs.CrashLemmas.{breaks-outlast, replies-act}
 use Rattle.ob_desk.proofs.ReplyLemmas.{replies-then}
-use Rattle.ob_desk.proofs.StandLemmas.{over-before, over-stands, over-then}
+use Rattle.ob_desk.proofs.StandLemmas.{none-before, over-before, over-stands, over-then}
 use Rattle.ob_desk.proofs.WriteLemmas.{Appends-then, Appends-nothing, Keeps-same}
 
 -- where the connection goes on, one request more is allowed
@@ -140,17 +140,44 @@ module _ {S : Type 0} (g : Ghosts S) where
     answered = ends-so stream now had mid has old at new allowed (Some refusal) (refusal_text refusal) same run more;
   }
 
+  -- there was no book at the beginning where there is none now
+  cause-before : {R W : Type 0} (rest : Option (List ℕ)) (reader : Watched R) (writer : Watched W) (old at : KeeperValue S) (fault : Fault) → IsKept g old at None
+      → HasCause g rest reader writer at fault → HasCause g rest reader writer old fault
+  cause-before rest reader writer old at OutOfMemory kept h = tt
+  cause-before rest reader writer old at Store kept h = tt
+  cause-before rest reader writer old at Reopen kept h = none-before g old at kept h
+  cause-before rest reader writer old at Input kept h = h
+  cause-before rest reader writer old at Output kept h = h
+
+  -- memory was refused before the first request
+  pub fails-first : {R W : Type 0} (stream had : Option (List ℕ)) (reader : Watched R) (writer : Watched W) (k : KeeperValue S) → Fails g stream had had reader writer k k OutOfMemory
+  fails-first stream had reader writer k = record {
+    requests = [];
+    rest = stream;
+    read = known-none stream;
+    few = omega arith;
+    cause = tt;
+    answered = λ x over.
+        let stands = over-stands g k k x over in
+        ([], [], x, (refl, refl), Appends-nothing had had (Keeps-same had), inl (inl refl, stands), replies-act 1000 x x [] [] (refl, refl),
+            breaks-outlast g 1000 stream [] k x OutOfMemory (inl (inl refl, stands)));
+  }
+    where
+      known-none : (stream : Option (List ℕ)) → AfterKnown 1000 stream [] stream
+      known-none None = tt
+      known-none (Some bytes) = refl
+
   -- a fault ends the stream
   pub run-fails : {R W : Type 0} (stream now had mid has : Option (List ℕ)) (reader : Watched R) (writer : Watched W) (old at new : KeeperValue S) (allowed : ℕ) (fault : Fault)
-      → (HasCleanDisk (state g new.conn) → HasCleanDisk (state g at.conn)) → (HasCause g now reader writer at fault → HasCause g now reader writer old fault)
+      → (HasCleanDisk (state g new.conn) → HasCleanDisk (state g at.conn)) → IsKept g old at None
       → SoFar stream now had mid old at allowed → TurnFails g allowed now mid has reader writer at new fault
       → Fails g stream had has reader writer old new fault
-  run-fails stream now had mid has reader writer old at new allowed fault clean cause run turn = record {
+  run-fails stream now had mid has reader writer old at new allowed fault clean kept run turn = record {
     requests = run.requests;
     rest = now;
     read = run.read;
     few = omega (arith, run.count, run.some);
-    cause = cause turn.cause;
+    cause = cause-before now reader writer old at fault kept turn.cause;
     answered = λ x over.
         let so = run.answered x (over-before g old at new x clean over) in
         let broken = turn.broken so.1 (over-then g old at new x so.1 1000 run.requests so.0 so.2 over so.4) in

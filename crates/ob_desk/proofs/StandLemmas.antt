@@ -1,11 +1,12 @@
 -- How a keeper stands to a book, before a call and after it.
-use Rattle.std.proofs.Common.{◌≡◌, ℕ, ◌-◌, List, [], ◌∷◌, Option, None, Some, ap, refl, ◌∙◌}
+use Rattle.std.proofs.Common.{◌≡◌, ℕ, ◌-◌, List, [], ◌∷◌, Option, None, Some, ap, refl, subst, sym, ◌∙◌}
 use Rattle.std.specs.Prelude.{◌↔◌, IsSome, Result, Ok, Err}
 use Rattle.sqlite_trees.specs.declared.store.Store.{Ghosts}
 use Rattle.sqlite.specs.Held.{state}
 use Rattle.sqlite.specs.State.{HasCleanDisk}
 use Rattle.ob_base.specs.declared.stop.Fault.{Fault}
 use Rattle.ob_base.specs.declared.stop.Fault.TheVariants.{Store}
+use Rattle.ob_state.specs.State.{BookState}
 use Rattle.ob_book.specs.Acts.{ActState}
 use Rattle.ob_store.specs.Keeping.{KeeperValue}
 use Rattle.ob_requests.specs.Message.{Message}
@@ -103,3 +104,17 @@ module _ {S : Type 0} (g : Ghosts S) where
 
       same : (f : Fault) → Some f ≡ Some Store → f ≡ Store
       same f e = cc
+
+  pub kept-none : (k : KeeperValue S) → IsKept g k k None
+  kept-none k = kept-same k None not-lost
+    where
+      not-lost : (let o : Option Fault = None in o) ≡ Some Store → ⊥
+      not-lost e = cc
+
+  -- where there is no book now there was none before
+  pub none-before : (old new : KeeperValue S) → IsKept g old new None → new.book ≡ None → old.book ≡ None
+  none-before old new kept none = by-book old.book refl
+    where
+      by-book : (o : Option BookState) → old.book ≡ o → old.book ≡ None
+      by-book None is = is
+      by-book (Some b) is = absurd (not-none new.book (still-some old new kept (subst (λ o. IsSome o) (sym is) refl)) none)

@@ -5,10 +5,12 @@
 //! written and what stands where a fault ends the stream. Above it stands the program.
 #![tactic(auto)]
 
+mod laws;
 mod listen;
 mod reply;
 mod stream;
 mod turn;
 
+pub use laws::replies_law;
 pub use listen::{FaultLog, run_serve};
 pub use stream::{Served, serve_stream};

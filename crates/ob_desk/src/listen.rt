@@ -5,6 +5,7 @@ ghost use Rattle.sqlite.specs.State.{HasCleanDisk};
 ghost use Rattle.ob_book.specs.Acts.{ActState};
 ghost use Rattle.ob_store.specs.Keeping.{Ties};
 ghost use Rattle.ob_desk.specs.Crashes.{IsLeft};
+ghost use Rattle.ob_desk.specs.Listening.{ends_desk};
 ghost use Rattle.ob_desk.specs.Standing.{IsKept, fault_of};
 
 use crate::stream::{Served, serve_stream};
@@ -44,18 +45,31 @@ pub fn run_serve<S: Alter, T: Timeline, L: FaultLog>(
         → IsSome keeper.old.book → IsLeft S.Store keeper.new b (fault_of result) }
 {
     let most = if streams == 0 { u64::MAX } else { streams };
-    for _ in 0..most {
+    'streams: for _ in 0..most {
         let Ok((stream, _)) = listener.accept() else {
             return Err(Fault::Input);
         };
         match serve_connection(alloc, &stream, keeper) {
             Ok(_) => {}
-            Err(Fault::Store) => return Err(Fault::Store),
-            Err(Fault::Reopen) => return Err(Fault::Reopen),
-            Err(fault) => log.tell(fault),
+            Err(fault) => {
+                if ends_desk(fault) {
+                    return Err(fault);
+                }
+                log.tell(fault);
+            }
         }
     }
     Ok(())
+}
+
+/// Whether a stream's fault ends the desk: there is no book, or none any more.
+fn ends_desk(fault: Fault) -> bool
+    ensures { result ≡ ends_desk fault }
+{
+    match fault {
+        Fault::Store | Fault::Reopen => true,
+        Fault::OutOfMemory | Fault::Input | Fault::Output => false,
+    }
 }
 
 /// Serves one stream of a listener, which tells none of its bytes to contracts.
