@@ -66,9 +66,9 @@ replies-act allowed (Some b) y (m ∷ ms) text (reply, more, Some c, answers, is
 
 from-either : (s : State) (b c d : ActState) (work : List Referenced) (i j : ℕ) → KeepsEitherBook s c d → c ≡ acts b (take i work) → d ≡ acts b (take j work) → LeavesFirst s b work
 from-either s b c d work i j keeps first second disk trees may = elim (keeps.kept.left disk trees may) [
-    inl one ↦ (i, rw (← first) one)
-    | inr other ↦ (j, rw (← second) other)
-  ]
+  | inl one ↦ (i, rw (← first) one)
+  | inr other ↦ (j, rw (← second) other)
+]
 
 from-book : (s : State) (b c : ActState) (work : List Referenced) (i : ℕ) → KeepsBook s c → c ≡ acts b (take i work) → LeavesFirst s b work
 from-book s b c work i keeps is disk trees may = (i, rw (← is) (keeps.kept.left disk trees may))
@@ -91,13 +91,13 @@ module _ {S : Type 0} (g : Ghosts S) where
   short-acts new b method None body h = absurd h
   short-acts new b methods.Get (Some route) body ties = ([], ties)
   short-acts new b methods.Post (Some routes.Commands) body h = elim h [
-      inl ties ↦ ([], ties)
-      | inr (x, says, ties) ↦ (x ∷ [], ties)
-    ]
+    | inl ties ↦ ([], ties)
+    | inr (x, says, ties) ↦ (x ∷ [], ties)
+  ]
   short-acts new b methods.Post (Some routes.Import) body h = elim h [
-      inl (added, again, (c, later, begins, (ties, some))) ↦ (begins.2.commands, subst (Ties g new) begins.2.state ties)
-      | inr (i, imports, ties) ↦ let so = imports-act b (after_header (rows_of body)) i imports in (so.0, subst (Ties g new) so.1 ties)
-    ]
+    | inl (added, again, (c, later, begins, (ties, some))) ↦ (begins.2.commands, subst (Ties g new) begins.2.state ties)
+    | inr (i, imports, ties) ↦ let so = imports-act b (after_header (rows_of body)) i imports in (so.0, subst (Ties g new) so.1 ties)
+  ]
   short-acts new b methods.Post (Some (routes.Command number)) body h = absurd h
   short-acts new b methods.Post (Some (routes.View view)) body h = absurd h
 
@@ -106,10 +106,12 @@ module _ {S : Type 0} (g : Ghosts S) where
 
   -- all of the commands, or one more
   one-more : (new : KeeperValue S) (b c : ActState) (commands : List Referenced) (x : Referenced) → KeepsEitherBook (state g new.conn) c (act c x) → c ≡ acts b commands → Outlasts g new (Some b)
-  one-more new b c commands x keeps is =
-      (commands ++ x ∷ [], from-either (state g new.conn) b c (act c x) (commands ++ x ∷ []) (length commands) (length (commands ++ x ∷ [])) keeps
-          (is ∙ ap (acts b) (sym (take_at commands (x ∷ []) (length commands) refl)))
-          (all-of b (act c x) (commands ++ x ∷ []) (ap (λ d. act d x) is ∙ sym (fold-append act b commands (x ∷ [])))))
+  one-more new b c commands x keeps is = (
+    commands ++ x ∷ [],
+    from-either (state g new.conn) b c (act c x) (commands ++ x ∷ []) (length commands) (length (commands ++ x ∷ [])) keeps
+        (is ∙ ap (acts b) (sym (take_at commands (x ∷ []) (length commands) refl)))
+        (all-of b (act c x) (commands ++ x ∷ []) (ap (λ d. act d x) is ∙ sym (fold-append act b commands (x ∷ [])))),
+  )
 
   lost-outlasts : (new : KeeperValue S) (b : ActState) (method : Method) (route : Option Route) (body : List ℕ) → StandsLost g new b method route body → Outlasts g new (Some b)
   lost-outlasts new b method None body h = absurd h
@@ -148,19 +150,19 @@ module _ {S : Type 0} (g : Ghosts S) where
 
   pub breaks-outlast : (allowed : ℕ) (rest : Option (List ℕ)) (part : List ℕ) (new : KeeperValue S) (x : Option ActState) (fault : Fault) → Breaks g allowed rest part new x fault → Outlasts g new x
   breaks-outlast allowed rest part new x OutOfMemory h = elim h [
-      inl reading ↦ stands-outlasts new x reading.1
-      | inr answer ↦ answer-outlasts allowed rest part new x OutOfMemory answer
-    ]
+    | inl reading ↦ stands-outlasts new x reading.1
+    | inr answer ↦ answer-outlasts allowed rest part new x OutOfMemory answer
+  ]
   breaks-outlast allowed rest part new x Store h = answer-outlasts allowed rest part new x Store h
   breaks-outlast allowed rest part new x Reopen h = answer-outlasts allowed rest part new x Reopen h
   breaks-outlast allowed rest part new x Input h = stands-outlasts new x h.1
   breaks-outlast allowed rest part new x Output h = elim h [
-      inl interim ↦ stands-outlasts new x interim.1
-      | inr other ↦ elim other [
-        inl (refusal, refused, front, stands) ↦ stands-outlasts new x stands
-        | inr reply ↦ reply-outlasts allowed rest part new x reply
-      ]
+    | inl interim ↦ stands-outlasts new x interim.1
+    | inr other ↦ elim other [
+      | inl (refusal, refused, front, stands) ↦ stands-outlasts new x stands
+      | inr reply ↦ reply-outlasts allowed rest part new x reply
     ]
+  ]
 
   -- ---- what streams leave of a book, one after the other
 
@@ -175,19 +177,19 @@ module _ {S : Type 0} (g : Ghosts S) where
   breaks-left : (allowed : ℕ) (rest : Option (List ℕ)) (part : List ℕ) (new : KeeperValue S) (b : ActState) (fault : Fault)
       → Breaks g allowed rest part new (Some b) fault → IsLeft g new b (Some fault)
   breaks-left allowed rest part new b OutOfMemory h = elim h [
-      inl reading ↦ ([], reading.1.0)
-      | inr answer ↦ answer-left new b answer.message.method (route_of (path_of answer.message.target)) answer.message.body (ends allowed answer.message) OutOfMemory answer.leaves
-    ]
+    | inl reading ↦ ([], reading.1.0)
+    | inr answer ↦ answer-left new b answer.message.method (route_of (path_of answer.message.target)) answer.message.body (ends allowed answer.message) OutOfMemory answer.leaves
+  ]
   breaks-left allowed rest part new b Store h = answer-left new b h.message.method (route_of (path_of h.message.target)) h.message.body (ends allowed h.message) Store h.leaves
   breaks-left allowed rest part new b Reopen h = answer-left new b h.message.method (route_of (path_of h.message.target)) h.message.body (ends allowed h.message) Reopen h.leaves
   breaks-left allowed rest part new b Input h = ([], h.1.0)
   breaks-left allowed rest part new b Output h = elim h [
-      inl interim ↦ ([], interim.1.0)
-      | inr other ↦ elim other [
-        inl (refusal, refused, front, stands) ↦ ([], stands.0)
-        | inr reply ↦ reply-acts allowed rest part new b reply
-      ]
+    | inl interim ↦ ([], interim.1.0)
+    | inr other ↦ elim other [
+      | inl (refusal, refused, front, stands) ↦ ([], stands.0)
+      | inr reply ↦ reply-acts allowed rest part new b reply
     ]
+  ]
 
   pub left-then : (new : KeeperValue S) (b : ActState) (done : List Referenced) (fault : Option Fault) → IsLeft g new (acts b done) fault → IsLeft g new b fault
   left-then new b done None (more, ties) = (done ++ more, subst (Ties g new) (sym (fold-append act b done more)) ties)
@@ -206,4 +208,4 @@ module _ {S : Type 0} (g : Ghosts S) where
   fails-left stream had has reader writer old new fault b run over =
       let so = run.answered (Some b) over in
       left-then new b so.6.0 (Some fault)
-          (breaks-left (1000 - length run.requests) run.rest so.1 new (acts b so.6.0) fault (subst (λ y. Breaks g (1000 - length run.requests) run.rest so.1 new y fault) so.6.1 so.5))
+      (breaks-left (1000 - length run.requests) run.rest so.1 new (acts b so.6.0) fault (subst (λ y. Breaks g (1000 - length run.requests) run.rest so.1 new y fault) so.6.1 so.5))

@@ -1,5 +1,5 @@
 -- Requests are answered by one text.
-use Rattle.std.proofs.Common.{◌≡◌, ℕ, Bool, List, [], ◌∷◌, ◌++◌, Option, None, Some, sym, ap, subst, ◌∙◌}
+use Rattle.std.proofs.Common.{◌≡◌, ℕ, ◌-◌, Bool, List, [], ◌∷◌, ◌++◌, Option, None, Some, sym, ap, subst, ◌∙◌}
 use Rattle.ob_book.specs.Acts.{ActState}
 use Rattle.ob_requests.specs.Continue.{interim_text}
 use Rattle.ob_requests.specs.Message.{Message}
@@ -27,5 +27,5 @@ pub one-text : RequestsAreAnsweredOneThing → RepliesAreOneThing
 one-text law allowed x y z [] text other (none, same) (none', same') = (none ∙ sym none', sym same ∙ same')
 one-text law allowed x y z (m ∷ ms) text other (reply, more, next, answers, is, rest) (reply', more', next', answers', is', rest') =
     let first = one-answer law x next next' m (ends allowed m) reply reply' answers answers' in
-    let others = one-text law _ next y z ms more more' rest (subst (λ n. Replies _ n ms more' z) (sym first.1) rest') in
+    let others = one-text law (allowed - 1) next y z ms more more' rest (subst (λ n. Replies (allowed - 1) n ms more' z) (sym first.1) rest') in
     (is ∙ ap (λ t. interim_text m.waits ++ (t ++ more)) first.0 ∙ ap (λ t. interim_text m.waits ++ (reply' ++ t)) others.0 ∙ sym is', others.1)

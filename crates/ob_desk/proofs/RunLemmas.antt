@@ -41,7 +41,6 @@ goes-on allowed m some e = not-last allowed some (or-false m.closes (allowed == 
     not-last n some e = grind (arith, nat_tests)
 
 module _ {S : Type 0} (g : Ghosts S) where
-
   -- the requests so far were read and answered, and after none of them the connection ends
   pub record SoFar (stream now had has : Option (List ℕ)) (old new : KeeperValue S) (allowed : ℕ) : Type 0 where
     pub requests : List Message
@@ -158,9 +157,16 @@ module _ {S : Type 0} (g : Ghosts S) where
     few = omega arith;
     cause = tt;
     answered = λ x over.
-        let stands = over-stands g k k x over in
-        ([], [], x, (refl, refl), Appends-nothing had had (Keeps-same had), inl (inl refl, stands), replies-act 1000 x x [] [] (refl, refl),
-            breaks-outlast g 1000 stream [] k x OutOfMemory (inl (inl refl, stands)));
+        let stands = over-stands g k k x over in (
+          [],
+          [],
+          x,
+          (refl, refl),
+          Appends-nothing had had (Keeps-same had),
+          inl (inl refl, stands),
+          replies-act 1000 x x [] [] (refl, refl),
+          breaks-outlast g 1000 stream [] k x OutOfMemory (inl (inl refl, stands)),
+        );
   }
     where
       known-none : (stream : Option (List ℕ)) → AfterKnown 1000 stream [] stream
@@ -180,8 +186,14 @@ module _ {S : Type 0} (g : Ghosts S) where
     cause = cause-before now reader writer old at fault kept turn.cause;
     answered = λ x over.
         let so = run.answered x (over-before g old at new x clean over) in
-        let broken = turn.broken so.1 (over-then g old at new x so.1 1000 run.requests so.0 so.2 over so.4) in
-        (so.0, broken.0, so.1, so.2, Appends-then had mid has so.0 broken.0 so.3 broken.1,
-            subst (λ n. Breaks g n now broken.0 new so.1 fault) (sym (same-allowed allowed run.requests run.count)) broken.2,
-            replies-act 1000 x so.1 run.requests so.0 so.2, breaks-outlast g allowed now broken.0 new so.1 fault broken.2);
+        let broken = turn.broken so.1 (over-then g old at new x so.1 1000 run.requests so.0 so.2 over so.4) in (
+          so.0,
+          broken.0,
+          so.1,
+          so.2,
+          Appends-then had mid has so.0 broken.0 so.3 broken.1,
+          subst (λ n. Breaks g n now broken.0 new so.1 fault) (sym (same-allowed allowed run.requests run.count)) broken.2,
+          replies-act 1000 x so.1 run.requests so.0 so.2,
+          breaks-outlast g allowed now broken.0 new so.1 fault broken.2,
+        );
   }

@@ -36,11 +36,10 @@ cut-head None framing P cut p = (framing, [], None, tt, p)
 cut-head (Some bytes) framing P cut p = (framing, cut.target, Some cut.after, cut.starts, p)
 
 module _ {S : Type 0} (g : Ghosts S) where
-
   breaks-reading : (unread had has : Option (List ℕ)) (k : KeeperValue S) (x : Option ActState) → WritesInterim unread had has → Stands g k x
       → (part : List ℕ) × Appends had has part × BreaksReading g unread part k x
   breaks-reading unread had has k x written stands = elim written [
-      inl kept ↦ ([], Appends-nothing had has kept, (inl refl, stands))
+    | inl kept ↦ ([], Appends-nothing had has kept, (inl refl, stands))
     | inr (framing, target, left, starts, interim) ↦ (interim_text framing.waits, interim, (inr (framing, target, left, starts, refl), stands))
   ]
 
@@ -59,15 +58,18 @@ module _ {S : Type 0} (g : Ghosts S) where
   }
   turn-stops allowed unread had has reader writer k Output (failed, (framing, target, left, starts, front)) = record {
     cause = failed;
-    broken = λ x over. (take front.count (interim_text framing.waits), front.appends,
-        inl ((framing, target, left, starts, (front.count, front.fewer, refl)), over-stands g k k x over));
+    broken = λ x over. (
+      take front.count (interim_text framing.waits),
+      front.appends,
+      inl ((framing, target, left, starts, (front.count, front.fewer, refl)), over-stands g k k x over),
+    );
   }
 
   -- the stream ends inside a request
   pub turn-cut : {R W : Type 0} (allowed : ℕ) (unread left had has : Option (List ℕ)) (reader : Watched R) (writer : Watched W) (k : KeeperValue S)
       → Reads unread left had has nexts.Cut → TurnFails g allowed unread had has reader writer k k Input
   turn-cut allowed unread left had has reader writer k reads = elim reads [
-      inl (cut, kept) ↦ record {
+    | inl (cut, kept) ↦ record {
       cause = inr (IfSome-map unread IsCutHead IsCut (λ bytes h. inl h) cut);
       broken = λ x over. breaks-reading unread had has k x (inl kept) (over-stands g k k x over);
     }
@@ -83,8 +85,11 @@ module _ {S : Type 0} (g : Ghosts S) where
       → TurnFails g allowed unread had has reader writer k k Output
   turn-unrefused allowed unread had mid has reader writer k refusal refused kept front failed = record {
     cause = failed;
-    broken = λ x over. (take front.count (refusal_text refusal), Appends-then had mid has [] _ (Appends-nothing had mid kept) front.appends,
-        inr (inl (refusal, refused, (front.count, front.fewer, refl), over-stands g k k x over)));
+    broken = λ x over. (
+      take front.count (refusal_text refusal),
+      Appends-then had mid has [] _ (Appends-nothing had mid kept) front.appends,
+      inr (inl (refusal, refused, (front.count, front.fewer, refl), over-stands g k k x over)),
+    );
   }
 
   -- bytes are refused

@@ -52,7 +52,11 @@ pub(crate) fn reply_to<W: Write, S: Alter, T: Timeline>(
         Ok(text) => write_text(writer, retries, text.bytes()),
         Err(fault) => {
             // The stream ends by this fault, whether or not the client hears of it.
-            let _ = write_text(writer, retries, empty_reply(Status::ServiceUnavailable, true));
+            let _ = write_text(
+                writer,
+                retries,
+                empty_reply(Status::ServiceUnavailable, true),
+            );
             Err(fault)
         }
     }

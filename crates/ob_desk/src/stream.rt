@@ -80,7 +80,16 @@ fn serve_requests<R: Read, W: Write, S: Alter, T: Timeline>(
     let mut retries = Retries::new();
     let mut allowed = MOST_REQUESTS;
     'requests: loop {
-        match serve_turn(alloc, routes, reader, writer, keeper, &mut retries, ahead, allowed)? {
+        match serve_turn(
+            alloc,
+            routes,
+            reader,
+            writer,
+            keeper,
+            &mut retries,
+            ahead,
+            allowed,
+        )? {
             Turn::Closed => {
                 return Ok(Served {
                     requests: MOST_REQUESTS - allowed,

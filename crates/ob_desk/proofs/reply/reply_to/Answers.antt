@@ -10,14 +10,14 @@ returns-in-Ok-clause-answered g c =
     let called = c.in-Ok.ensures in
     let still = still-some g.S.Store c.args.keeper.now c.answer.new.keeper (kept-by g.S.Store c.args.keeper.now c.answer.new.keeper (Ok c.in-Ok.text) _ called.clean called.unopened called.dropped) in
     written-answered g.S.Store c.write_text.result _ _ c.args.keeper.now c.answer.new.keeper (message_of c.args.request.now) c.args.ends c.in-Ok.text
-        called.unopened still called.answered (rw c.bytes.ensures at c.write_text.ensures.whole)
+    called.unopened still called.answered (rw c.bytes.ensures at c.write_text.ensures.whole)
 
 pub returns-in-Ok-clause-unanswered : goal.returns-in-Ok-clause-unanswered
 returns-in-Ok-clause-unanswered g c =
     let called = c.in-Ok.ensures in
     let still = still-some g.S.Store c.args.keeper.now c.answer.new.keeper (kept-by g.S.Store c.args.keeper.now c.answer.new.keeper (Ok c.in-Ok.text) _ called.clean called.unopened called.dropped) in
     written-less g.S.Store c.write_text.result c.write_text.new.writer _ _ c.args.keeper.now c.answer.new.keeper (message_of c.args.request.now) c.args.ends c.in-Ok.text
-        called.unopened still called.answered (rw c.bytes.ensures at c.write_text.ensures.front) c.write_text.ensures.fault
+    called.unopened still called.answered (rw c.bytes.ensures at c.write_text.ensures.front) c.write_text.ensures.fault
 
 pub returns-in-Ok-clause-cause : goal.returns-in-Ok-clause-cause
 returns-in-Ok-clause-cause g c = written-cause g.S.Store c.write_text.result c.write_text.new.writer c.args.keeper.now c.write_text.ensures.fault
@@ -26,7 +26,7 @@ pub returns-in-Err-clause-unanswered : goal.returns-in-Err-clause-unanswered
 returns-in-Err-clause-unanswered g c =
     let called = c.in-Err.ensures in
     unanswered g.S.Store _ _ c.args.keeper.now c.answer.new.keeper (message_of c.args.request.now) c.args.ends c.in-Err.fault
-        called.unopened called.faults called.answered (any-written c.write_text-in-Err.result _ _ _ (rw (c.empty_reply.ensures Json) at c.write_text-in-Err.ensures.whole) (rw (c.empty_reply.ensures Json) at c.write_text-in-Err.ensures.front))
+    called.unopened called.faults called.answered (any-written c.write_text-in-Err.result _ _ _ (rw (c.empty_reply.ensures Json) at c.write_text-in-Err.ensures.whole) (rw (c.empty_reply.ensures Json) at c.write_text-in-Err.ensures.front))
 
 pub returns-in-Err-clause-cause : goal.returns-in-Err-clause-cause
 returns-in-Err-clause-cause g c =

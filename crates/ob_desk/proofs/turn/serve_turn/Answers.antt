@@ -18,7 +18,7 @@ returns-in_err-write_text-in-Refused-clause-fails g c =
     let front = rw (c.empty_reply.ensures Json, c.head_status.ensures) at c.in_err-write_text-in-Refused.ensures.front in
     rw (p.1, p.2, c.in_err-write_text-in-Refused.ensures.fault.0)
     (turn-unrefused g.S.Store c.args.allowed _ _ _ _ c.read_request.new.reader c.write_text.new.writer c.args.keeper.now c.in-Refused.refusal reads.0 reads.1 front
-        c.in_err-write_text-in-Refused.ensures.fault.1)
+    c.in_err-write_text-in-Refused.ensures.fault.1)
 
 pub returns-in_err-reply_to-in-Request-clause-fails : goal.returns-in_err-reply_to-in-Request-clause-fails
 returns-in_err-reply_to-in-Request-clause-fails g c =
@@ -26,8 +26,8 @@ returns-in_err-reply_to-in-Request-clause-fails g c =
     let reads = rw c.in-Request.is at c.in_ok-read_request.ensures.next in
     rw (p.1, p.2)
     (turn-unanswered g.S.Store c.args.allowed _ _ _ _ _ c.read_request.new.reader c.reply_to.new.writer c.args.keeper.now c.reply_to.new.keeper (message_of c.in-Request.request)
-        c.ends_stream-ends.result c.in_err-reply_to-in-Request.field-0.0 reads.0 reads.1 c.ends_stream-ends.ensures
-        c.in_err-reply_to-in-Request.ensures.unanswered c.in_err-reply_to-in-Request.ensures.cause)
+    c.ends_stream-ends.result c.in_err-reply_to-in-Request.field-0.0 reads.0 reads.1 c.ends_stream-ends.ensures
+    c.in_err-reply_to-in-Request.ensures.unanswered c.in_err-reply_to-in-Request.ensures.cause)
 
 pub returns-in-Cut-clause-fails : goal.returns-in-Cut-clause-fails
 returns-in-Cut-clause-fails g c =
@@ -37,4 +37,4 @@ pub returns-in_ok-reply_to-in-Request-clause-turn : goal.returns-in_ok-reply_to-
 returns-in_ok-reply_to-in-Request-clause-turn g c =
     let reads = rw c.in-Request.is at c.in_ok-read_request.ensures.next in
     turn-answered g.S.Store c.args.allowed _ _ _ _ _ c.args.keeper.now c.reply_to.new.keeper (message_of c.in-Request.request) c.ends_stream-ends.result
-        reads.0 reads.1 c.ends_stream-ends.ensures c.in_ok-reply_to-in-Request.ensures.answered
+    reads.0 reads.1 c.ends_stream-ends.ensures c.in_ok-reply_to-in-Request.ensures.answered
