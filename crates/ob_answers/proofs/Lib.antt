@@ -1,0 +1,4 @@
+pub mod AnsweringLemmas
+pub mod Found
+pub mod ServingLemmas
+pub mod AnswerLaws

@@ -43,7 +43,3 @@ connection true = codes "Connection: close" ++ crlf
 abbrev pub reply_text : Status → MediaType → List ℕ → Bool → List ℕ
 reply_text status media body closes =
     status_line status ++ content_type media body ++ content_length body ++ allow status ++ connection closes ++ crlf ++ body
-
--- the interim reply that a client may wait for before it sends a body, RFC 9110, section 15.2.1
-abbrev pub continue_text : List ℕ
-continue_text = codes "HTTP/1.1 " ++ (status_text 100 ++ (crlf ++ crlf))

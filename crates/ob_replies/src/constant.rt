@@ -1,17 +1,9 @@
 //! The replies without a body, which take no memory.
 ghost use Rattle.std.specs.Prelude.{◌≡◌, [], true, false};
-ghost use Rattle.ob_replies.specs.Reply.{continue_text, reply_text};
+ghost use Rattle.ob_replies.specs.Reply.{reply_text};
 ghost use Rattle.ob_replies.specs.declared.reply.MediaType.{MediaType};
 
 use crate::{Allow, Status};
-
-/// The bytes of `100 Continue`, which tells a client to send the body, RFC 9110, section 15.2.1.
-#[tactic(auto, unfolding(crate::proofs::OnLiterals::replies_on_literals))]
-pub fn continue_reply() -> &'static [u8]
-    ensures { result.now ≡ continue_text }
-{
-    b"HTTP/1.1 100 Continue\r\n\r\n"
-}
 
 /// The bytes of a reply with an empty body, which has no type: those of `reply_text`.
 pub fn empty_reply(status: Status, closes: bool) -> &'static [u8]

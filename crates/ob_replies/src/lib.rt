@@ -13,6 +13,6 @@ mod status;
 
 pub use body::{accepted_text, entry_text, refused_text, report_text};
 pub use command::{json_commands_law, read_command};
-pub use constant::{continue_reply, empty_reply};
+pub use constant::empty_reply;
 pub use reply::{MediaType, reply_text};
 pub use status::{Allow, Status, refusal_status, report_status};
