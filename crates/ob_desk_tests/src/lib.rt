@@ -17,6 +17,8 @@ mod imports;
 #[cfg(test)]
 mod loopback;
 #[cfg(test)]
+mod memory;
+#[cfg(test)]
 mod office;
 #[cfg(test)]
 mod streams;
