@@ -79,10 +79,18 @@ SUSTAINED unmarked 5
 MOMENTARY unmarked 0
 ";
 
+// GETs of these paths show these bodies.
+fn are_shown(rt: &impl Abort, office: &mut Office, views: &[(&str, &str)]) -> Result<(), Fail> {
+    for (path, body) in views {
+        assert!(rt; office.shows(path, body)?, "{path}");
+    }
+    Ok(())
+}
+
 #[test]
 fn views_of_the_outage(rt: HostRuntime) -> Result<(), Fail> {
     let mut office = Office::of_outage(&rt, rt.alloc())?;
-    let views = &[
+    let views: &[(&str, &str)] = &[
         ("/totals", TOTALS),
         ("/totals?", TOTALS),
         ("/totals?day=1&x=%20", TOTALS),
@@ -93,10 +101,7 @@ fn views_of_the_outage(rt: HostRuntime) -> Result<(), Fail> {
         ("/commands/0024?x", SEPARATED),
         ("/commands/1", "{\"moved\":[],\"no\":1}"),
     ];
-    for (path, body) in views {
-        assert!(rt; office.shows(path, body)?, "{path}");
-    }
-    Ok(())
+    are_shown(&rt, &mut office, views)
 }
 
 #[test]
@@ -158,10 +163,15 @@ const NO_ROUTES: &[&str] = &[
 ];
 
 #[test]
-fn no_routes_and_other_methods(rt: HostRuntime) -> Result<(), Fail> {
+fn no_routes(rt: HostRuntime) -> Result<(), Fail> {
     let mut office = Office::of_outage(&rt, rt.alloc())?;
     are_answered(&rt, &mut office, NO_ROUTES, NOT_FOUND)?;
-    are_answered_as_posts(&rt, &mut office, NO_ROUTES, NOT_FOUND)?;
+    are_answered_as_posts(&rt, &mut office, NO_ROUTES, NOT_FOUND)
+}
+
+#[test]
+fn other_methods(rt: HostRuntime) -> Result<(), Fail> {
+    let mut office = Office::of_outage(&rt, rt.alloc())?;
     are_answered(
         &rt,
         &mut office,
@@ -207,22 +217,24 @@ fn need_a_book(rt: &impl Abort, office: &mut Office, requests: &[&str]) -> Resul
     Ok(())
 }
 
+// Requests that need a book.
+const NEEDY: &[&str] = &[
+    "GET /totals HTTP/1.1\r\nHost: a\r\n\r\n",
+    "GET /indices HTTP/1.1\r\nHost: a\r\n\r\n",
+    "GET /table HTTP/1.1\r\nHost: a\r\n\r\n",
+    "GET /entries/1 HTTP/1.1\r\nHost: a\r\n\r\n",
+    "GET /commands/1 HTTP/1.1\r\nHost: a\r\n\r\n",
+    "POST /commands HTTP/1.1\r\nHost: a\r\nContent-Length: 1\r\n\r\n[",
+    "POST /import HTTP/1.1\r\nHost: a\r\nContent-Length: 0\r\n\r\n",
+];
+
 #[test]
 fn without_a_book(rt: HostRuntime) -> Result<(), Fail> {
     let mut office = Office::without_book(&rt, rt.alloc())?;
     are_answered(&rt, &mut office, NO_ROUTES, NOT_FOUND)?;
     are_answered(&rt, &mut office, &["/commands", "/import"], POST_ALONE)?;
     are_answered_as_posts(&rt, &mut office, &["/totals", "/entries/1"], GET_ALONE)?;
-    let requests = &[
-        "GET /totals HTTP/1.1\r\nHost: a\r\n\r\n",
-        "GET /indices HTTP/1.1\r\nHost: a\r\n\r\n",
-        "GET /table HTTP/1.1\r\nHost: a\r\n\r\n",
-        "GET /entries/1 HTTP/1.1\r\nHost: a\r\n\r\n",
-        "GET /commands/1 HTTP/1.1\r\nHost: a\r\n\r\n",
-        "POST /commands HTTP/1.1\r\nHost: a\r\nContent-Length: 1\r\n\r\n[",
-        "POST /import HTTP/1.1\r\nHost: a\r\nContent-Length: 0\r\n\r\n",
-    ];
-    need_a_book(&rt, &mut office, requests)?;
+    need_a_book(&rt, &mut office, NEEDY)?;
     assert!(rt; office.commands().is_none());
     Ok(())
 }

@@ -2,6 +2,7 @@
 use crate::office::Office;
 use crate::streams::Source;
 use crate::texts::{json, post, times};
+use std::alloc::{AllocError, Global};
 use std::process::Abort;
 use std::test::Fail;
 
@@ -56,9 +57,7 @@ fn a_correction(rt: HostRuntime) -> Result<(), Fail> {
     ];
     are_taken(&rt, &mut office, table)?;
     assert!(rt; office.shows("/commands/26", CORRECTED)?);
-    assert!(rt; office.commands() == Some(26));
-    assert!(rt; office.is_sound()?);
-    Ok(())
+    office.stands_with(&rt, 26)
 }
 
 // Refused commands, all under one reference, which stays free.
@@ -134,9 +133,7 @@ const REFUSALS: &[(&str, &str, &str)] = &[
 fn refused_commands(rt: HostRuntime) -> Result<(), Fail> {
     let mut office = Office::of_outage(&rt, rt.alloc())?;
     are_taken(&rt, &mut office, REFUSALS)?;
-    assert!(rt; office.commands() == Some(27));
-    assert!(rt; office.is_sound()?);
-    Ok(())
+    office.stands_with(&rt, 27)
 }
 
 const WHOLE: &'static str = "{\"detail\":0,\"name\":\"BadField\",\"refused\":1}";
@@ -180,39 +177,42 @@ const BAD_BODIES: &[(&str, &str)] = &[
     ("{\"kind\":\"cause\",\"ref\":\"R1\",\"f1\":\"3\"}", F2),
 ];
 
-#[test]
-fn bodies_that_are_no_command(rt: HostRuntime) -> Result<(), Fail> {
-    let mut office = Office::new(&rt, rt.alloc())?;
-    for (body, wanted) in BAD_BODIES {
+// These bodies are bad at these columns.
+fn are_bad(rt: &impl Abort, office: &mut Office, table: &[(&str, &str)]) -> Result<(), Fail> {
+    for (body, wanted) in table {
         assert!(rt;
             office.takes("/commands", body, "422 Unprocessable Entity", wanted)?,
             "{body}"
         );
     }
-    assert!(rt; is_bad(&mut office, &times(rt.alloc(), "[", 200)?)?);
-    assert!(rt; office.commands() == Some(0));
     Ok(())
 }
 
-// Whether a body as a whole is refused.
-fn is_bad(office: &mut Office, body: &str) -> Result<bool, Fail> {
-    office.takes("/commands", body, "422 Unprocessable Entity", WHOLE)
+#[test]
+fn bodies_that_are_no_command(rt: HostRuntime) -> Result<(), Fail> {
+    let mut office = Office::new(&rt, rt.alloc())?;
+    are_bad(&rt, &mut office, BAD_BODIES)?;
+    let brackets = times(rt.alloc(), "[", 200)?;
+    are_bad(&rt, &mut office, &[(&brackets, WHOLE)])?;
+    office.stands_with(&rt, 0)
 }
 
-#[test]
-fn a_body_that_is_no_text(rt: HostRuntime) -> Result<(), Fail> {
-    let mut office = Office::new(&rt, rt.alloc())?;
-    let mut text = post(rt.alloc(), "/commands", "{\"kind\":\"?\"}")?.into_bytes();
+// A request whose body has a byte that no text has.
+fn no_text(alloc: Global) -> Result<Vec<u8>, AllocError> {
+    let mut text = post(alloc, "/commands", "{\"kind\":\"?\"}")?.into_bytes();
     for byte in &mut text {
         if *byte == b'?' {
             *byte = 0xFF;
         }
     }
+    Ok(text)
+}
+
+#[test]
+fn a_body_that_is_no_text(rt: HostRuntime) -> Result<(), Fail> {
+    let mut office = Office::new(&rt, rt.alloc())?;
+    let heard = office.hears(Source::whole(&no_text(rt.alloc())?));
     let wanted = json(rt.alloc(), "422 Unprocessable Entity", WHOLE)?;
-    assert!(rt;
-        office
-            .hears(Source::whole(&text))
-            .is(Ok(1), wanted.as_bytes())
-    );
+    assert!(rt; heard.is(Ok(1), wanted.as_bytes()));
     Ok(())
 }

@@ -3,6 +3,7 @@ use crate::office::Office;
 use crate::texts::{FIRST, GET_ALONE, NOT_FOUND, NOTHING, STORM, get, joined, json, times};
 use ob_base::Fault;
 use std::alloc::{AllocError, Global};
+use std::process::Abort;
 use std::test::Fail;
 
 const BAD_REQUEST: &'static str =
@@ -66,15 +67,24 @@ const REFUSED: &[(&str, &str)] = &[
     ("DELETE /totals HTTP/1.1\r\n\r\n", BAD_REQUEST),
 ];
 
+// Each of these requests, with another behind it, is answered so and ends the stream.
+fn end_the_stream(
+    rt: &impl Abort,
+    office: &mut Office,
+    table: &[(&str, &str)],
+) -> Result<(), Fail> {
+    for (request, wanted) in table {
+        let text = joined(office.alloc, request, STORM)?;
+        assert!(rt; office.answers(&text, 1, wanted), "{request}");
+    }
+    Ok(())
+}
+
 #[test]
 fn heads_that_are_refused(rt: HostRuntime) -> Result<(), Fail> {
     let mut office = Office::new(&rt, rt.alloc())?;
-    for (request, wanted) in REFUSED {
-        let text = joined(rt.alloc(), request, STORM)?;
-        assert!(rt; office.answers(&text, 1, wanted), "{request}");
-    }
-    assert!(rt; office.commands() == Some(0));
-    Ok(())
+    end_the_stream(&rt, &mut office, REFUSED)?;
+    office.stands_with(&rt, 0)
 }
 
 // A request with so many field lines beside Host.
@@ -85,55 +95,70 @@ fn with_fields(alloc: Global, count: u32) -> Result<String, AllocError> {
     Ok(text)
 }
 
+// A GET of a target of so many bytes, without its end.
+fn long_target(alloc: Global, count: u32) -> Result<String, AllocError> {
+    joined(alloc, "GET /", &times(alloc, "a", count)?)
+}
+
 #[test]
-fn heads_that_are_too_large(rt: HostRuntime) -> Result<(), Fail> {
+fn targets_that_are_too_long(rt: HostRuntime) -> Result<(), Fail> {
     let mut office = Office::new(&rt, rt.alloc())?;
-    let target = joined(rt.alloc(), "GET /", &times(rt.alloc(), "a", 16_379)?)?;
-    assert!(rt; office.answers(&target, 1, FIELDS_TOO_LARGE));
-    let cut = joined(rt.alloc(), "GET /", &times(rt.alloc(), "a", 16_378)?)?;
+    assert!(rt; office.answers(&long_target(rt.alloc(), 16_379)?, 1, FIELDS_TOO_LARGE));
+    let cut = long_target(rt.alloc(), 16_378)?;
     assert!(rt; office.told(&cut).is(Err(Fault::Input), b""));
+    Ok(())
+}
+
+#[test]
+fn heads_of_too_many_lines(rt: HostRuntime) -> Result<(), Fail> {
+    let mut office = Office::new(&rt, rt.alloc())?;
     assert!(rt; office.answers(&with_fields(rt.alloc(), 63)?, 1, NOT_FOUND));
     assert!(rt; office.answers(&with_fields(rt.alloc(), 64)?, 1, FIELDS_TOO_LARGE));
     Ok(())
 }
 
+// A thousand replies that show a book without an outage, the last of a stream behind the others.
+fn thousand_totals(alloc: Global) -> Result<String, AllocError> {
+    let front = times(alloc, &json(alloc, "200 OK", NOTHING)?, 999)?;
+    joined(alloc, &front, LAST_TOTALS)
+}
+
 #[test]
 fn a_thousand_requests(rt: HostRuntime) -> Result<(), Fail> {
-    let alloc = rt.alloc();
-    let mut office = Office::new(&rt, alloc)?;
-    let text = times(alloc, &get(alloc, "/totals")?, 1_001)?;
-    let front = times(alloc, &json(alloc, "200 OK", NOTHING)?, 999)?;
-    let wanted = joined(alloc, &front, &last_totals(alloc)?)?;
+    let mut office = Office::new(&rt, rt.alloc())?;
+    let text = times(rt.alloc(), &get(rt.alloc(), "/totals")?, 1_001)?;
+    let wanted = thousand_totals(rt.alloc())?;
     assert!(rt; office.answers(&text, 1_000, &wanted));
     Ok(())
 }
 
 // The totals of a book without an outage, in the last reply of a stream.
-fn last_totals(alloc: Global) -> Result<String, AllocError> {
-    let length = NOTHING.len();
-    format!(in alloc;
-        "HTTP/1.1 200 OK\r\nContent-Type: application/json\r\nContent-Length: {length}\r\nConnection: close\r\n\r\n{NOTHING}"
-    )
-}
+const LAST_TOTALS: &'static str = "\
+HTTP/1.1 200 OK\r\nContent-Type: application/json\r\nContent-Length: 43\r\nConnection: close\r\n\r\n\
+{\"cause\":[],\"day\":[],\"feeder\":[],\"total\":0}";
 
 // Requests after which the stream ends.
-const LAST: &[&str] = &[
-    "GET /totals HTTP/1.1\r\nHost: a\r\nConnection: close\r\n\r\n",
-    "GET /totals HTTP/1.1\r\nHost: a\r\nconnection: keep-alive, CLOSE\r\n\r\n",
-    "GET /totals HTTP/1.0\r\n\r\n",
-    "GET /totals HTTP/1.0\r\nHost: a\r\nConnection: keep-alive\r\n\r\n",
+const LAST: &[(&str, &str)] = &[
+    (
+        "GET /totals HTTP/1.1\r\nHost: a\r\nConnection: close\r\n\r\n",
+        LAST_TOTALS,
+    ),
+    (
+        "GET /totals HTTP/1.1\r\nHost: a\r\nconnection: keep-alive, CLOSE\r\n\r\n",
+        LAST_TOTALS,
+    ),
+    ("GET /totals HTTP/1.0\r\n\r\n", LAST_TOTALS),
+    (
+        "GET /totals HTTP/1.0\r\nHost: a\r\nConnection: keep-alive\r\n\r\n",
+        LAST_TOTALS,
+    ),
 ];
 
 #[test]
 fn requests_that_end_the_stream(rt: HostRuntime) -> Result<(), Fail> {
     let mut office = Office::new(&rt, rt.alloc())?;
-    let wanted = last_totals(rt.alloc())?;
-    for request in LAST {
-        let text = joined(rt.alloc(), request, STORM)?;
-        assert!(rt; office.answers(&text, 1, &wanted), "{request}");
-    }
-    assert!(rt; office.commands() == Some(0));
-    Ok(())
+    end_the_stream(&rt, &mut office, LAST)?;
+    office.stands_with(&rt, 0)
 }
 
 const WAITING: &'static str = "\
@@ -142,29 +167,34 @@ POST /commands HTTP/1.1\r\nHost: localhost\r\nContent-Length: 49\r\nExpect: 100-
 
 const CONTINUE: &'static str = "HTTP/1.1 100 Continue\r\n\r\n";
 
-#[test]
-fn the_interim_reply(rt: HostRuntime) -> Result<(), Fail> {
-    let mut office = Office::new(&rt, rt.alloc())?;
-    let wanted = joined(rt.alloc(), CONTINUE, FIRST)?;
+// A client waits for the interim reply, and is cut off or sends its body whole.
+fn waits(rt: &impl Abort, office: &mut Office) -> Result<(), Fail> {
+    let wanted = joined(office.alloc, CONTINUE, FIRST)?;
     let (cut, _) = WAITING.split_at(WAITING.len() - 1);
     assert!(rt; office.told(cut).is(Err(Fault::Input), CONTINUE.as_bytes()));
     assert!(rt; office.commands() == Some(0));
     assert!(rt; office.answers(WAITING, 1, &wanted));
-    assert!(rt; office.commands() == Some(1));
     Ok(())
 }
 
 #[test]
+fn the_interim_reply(rt: HostRuntime) -> Result<(), Fail> {
+    let mut office = Office::new(&rt, rt.alloc())?;
+    waits(&rt, &mut office)?;
+    office.stands_with(&rt, 1)
+}
+
+// Two requests that can't be answered with 200.
+const TWO: &'static str = "\
+POST /totals HTTP/1.1\r\nHost: a\r\nContent-Length: 0\r\n\r\n\
+GET /nothing HTTP/1.1\r\nHost: a\r\n\r\n";
+
+#[test]
 fn a_stream_goes_on(rt: HostRuntime) -> Result<(), Fail> {
-    let alloc = rt.alloc();
-    let mut office = Office::new(&rt, alloc)?;
-    let wrong = "POST /totals HTTP/1.1\r\nHost: a\r\nContent-Length: 0\r\n\r\n";
-    let text = joined(
-        alloc,
-        wrong,
-        &joined(alloc, &get(alloc, "/nothing")?, STORM)?,
-    )?;
-    let wanted = joined(alloc, GET_ALONE, &joined(alloc, NOT_FOUND, FIRST)?)?;
+    let mut office = Office::new(&rt, rt.alloc())?;
+    let text = joined(rt.alloc(), TWO, STORM)?;
+    let front = joined(rt.alloc(), GET_ALONE, NOT_FOUND)?;
+    let wanted = joined(rt.alloc(), &front, FIRST)?;
     assert!(rt; office.answers(&text, 3, &wanted));
     Ok(())
 }

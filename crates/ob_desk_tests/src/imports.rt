@@ -1,5 +1,6 @@
 //! Imports by POST, and the texts that they take.
 use crate::office::Office;
+use std::process::Abort;
 use std::test::Fail;
 
 const NAME_TAKEN: &'static str =
@@ -8,27 +9,51 @@ const NAME_TAKEN: &'static str =
 const NO_HEADER: &'static str =
     "{\"added\":0,\"again\":0,\"stopped\":{\"detail\":0,\"name\":\"BadField\",\"refused\":1,\"row\":0}}";
 
+// Imports of these texts are answered with these statuses and these reports.
+fn are_reported(
+    rt: &impl Abort,
+    office: &mut Office,
+    table: &[(&str, &str, &str)],
+) -> Result<(), Fail> {
+    for (text, status, report) in table {
+        assert!(rt; office.takes("/import", text, status, report)?);
+    }
+    Ok(())
+}
+
 #[test]
 fn a_row_stops_and_is_changed(rt: HostRuntime) -> Result<(), Fail> {
     let mut office = Office::new(&rt, rt.alloc())?;
-    let refused = "422 Unprocessable Entity";
-    assert!(rt; office.takes("/import", ONE_NAME_TWICE, refused, NAME_TAKEN)?);
-    assert!(rt; office.commands() == Some(3));
-    let report = "{\"added\":1,\"again\":3,\"stopped\":null}";
-    assert!(rt; office.takes("/import", TWO_NAMES, "200 OK", report)?);
-    assert!(rt; office.commands() == Some(4));
-    assert!(rt; office.is_sound()?);
-    Ok(())
+    let table = &[
+        (ONE_NAME_TWICE, "422 Unprocessable Entity", NAME_TAKEN),
+        (
+            TWO_NAMES,
+            "200 OK",
+            "{\"added\":1,\"again\":3,\"stopped\":null}",
+        ),
+        (
+            TWO_NAMES,
+            "200 OK",
+            "{\"added\":0,\"again\":4,\"stopped\":null}",
+        ),
+    ];
+    are_reported(&rt, &mut office, table)?;
+    office.stands_with(&rt, 4)
 }
 
 #[test]
 fn texts_without_rows(rt: HostRuntime) -> Result<(), Fail> {
     let mut office = Office::new(&rt, rt.alloc())?;
-    let none = "{\"added\":0,\"again\":0,\"stopped\":null}";
-    assert!(rt; office.takes("/import", "", "422 Unprocessable Entity", NO_HEADER)?);
-    assert!(rt; office.takes("/import", "kind,ref,f1,f2,f3,f4,f5,f6\n", "200 OK", none)?);
-    assert!(rt; office.commands() == Some(0));
-    Ok(())
+    let table = &[
+        ("", "422 Unprocessable Entity", NO_HEADER),
+        (
+            "kind,ref,f1,f2,f3,f4,f5,f6\n",
+            "200 OK",
+            "{\"added\":0,\"again\":0,\"stopped\":null}",
+        ),
+    ];
+    are_reported(&rt, &mut office, table)?;
+    office.stands_with(&rt, 0)
 }
 
 /// A cause, a bus, and two sections of one name.

@@ -1,6 +1,6 @@
 //! A keeper over a store in memory, and what streams are answered over it.
 use crate::streams::{Sink, Source};
-use crate::texts::{NOTHING, get, json, post};
+use crate::texts::{get, json, post};
 use ob_base::Fault;
 use ob_desk::serve_stream;
 use ob_store::Keeper;
@@ -115,13 +115,10 @@ impl Office {
         }
     }
 
-    /// Whether the totals are those of a book without an outage.
-    pub fn has_no_outage(&mut self) -> Result<bool, Fail> {
-        self.shows("/totals", NOTHING)
-    }
-
-    /// Whether no table differs from what the accepted commands give.
-    pub fn is_sound(&mut self) -> Result<bool, Fail> {
-        Ok(self.keeper.audit()?.is_none())
+    /// The book has so many commands, and no table differs from what they give.
+    pub fn stands_with(&mut self, rt: &impl Abort, commands: u32) -> Result<(), Fail> {
+        assert!(rt; self.commands() == Some(commands));
+        assert!(rt; self.keeper.audit()?.is_none());
+        Ok(())
     }
 }
