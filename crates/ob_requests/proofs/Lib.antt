@@ -2,7 +2,6 @@ pub mod Examples
 pub mod HeadLemmas
 pub mod ListLemmas
 pub mod MessageLemmas
-pub mod RunLemmas
 pub mod StartLemmas
 pub mod StreamLemmas
 pub mod UnreadLemmas

@@ -69,6 +69,21 @@ fn name_audit(alloc: Global, words: &[&str], file: &str) -> bool {
     }
 }
 
+// Whether words name the job `serve` of this book, at this port, for so many streams.
+fn name_serve(alloc: Global, words: &[&str], file: &str, number: u16, count: u64) -> bool {
+    match read_words(alloc, words) {
+        Ok(
+            Job::Serve {
+                book,
+                port,
+                streams,
+            },
+        ) => book.as_str() == file && port == number && streams == count,
+        Ok(_job) => false,
+        Err(_wrong) => false,
+    }
+}
+
 #[test]
 fn reads_total(rt: HostRuntime) {
     assert!(rt; name_total(rt.alloc(), &["outagebook", "total"]));
@@ -112,6 +127,77 @@ fn reads_table_and_audit(rt: HostRuntime) {
     );
     assert!(rt; name_audit(alloc, &["outagebook", "audit"], "book.db"));
     assert!(rt; name_audit(alloc, &["outagebook", "audit", "--book=büch.db"], "büch.db"));
+}
+
+#[test]
+fn reads_serve(rt: HostRuntime) {
+    let alloc = rt.alloc();
+    let last = &[
+        "outagebook",
+        "serve",
+        "--streams=18446744073709551615",
+        "--port",
+        "65535",
+        "--book",
+        "a.db",
+    ];
+    assert!(rt;
+        name_serve(
+            alloc,
+            &["outagebook", "serve", "--port=8080"],
+            "book.db",
+            8080,
+            0
+        )
+    );
+    assert!(rt;
+        name_serve(
+            alloc,
+            &["outagebook", "serve", "--port", "0", "--streams", "1"],
+            "book.db",
+            0,
+            1
+        )
+    );
+    assert!(rt; name_serve(alloc, last, "a.db", 65_535, u64::MAX));
+}
+
+// Words of `serve` that are refused, and what is told of them.
+const WRONG_SERVES: &[(&[&str], &str)] = &[
+    (&["outagebook", "serve"], "--port <N>"),
+    (&["outagebook", "serve", "--port"], "--port <N>"),
+    (
+        &["outagebook", "serve", "--port=65536"],
+        "65536 is not in 0..=65535",
+    ),
+    (
+        &["outagebook", "serve", "--port=http"],
+        "invalid value 'http' for '--port <N>'",
+    ),
+    (
+        &["outagebook", "serve", "--port=1", "--streams=x"],
+        "invalid value 'x' for '--streams <K>'",
+    ),
+    (
+        &[
+            "outagebook",
+            "serve",
+            "--port=1",
+            "--streams=18446744073709551616",
+        ],
+        "--streams <K>",
+    ),
+    (
+        &["outagebook", "serve", "--port=1", "book.db"],
+        "Usage: outagebook",
+    ),
+];
+
+#[test]
+fn refuses_words_of_serve(rt: HostRuntime) {
+    for (words, told) in WRONG_SERVES {
+        assert!(rt; are_refused(rt.alloc(), words, told));
+    }
 }
 
 #[test]
@@ -197,4 +283,5 @@ fn shows_help(rt: HostRuntime) {
         )
     );
     assert!(rt; show(alloc, &["outagebook", "audit", "-h"], "--book <FILE>"));
+    assert!(rt; show(alloc, &["outagebook", "serve", "-h"], "--streams <K>"));
 }

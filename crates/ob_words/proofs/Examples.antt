@@ -5,7 +5,7 @@ use Rattle.clap.specs.Walk.{walked}
 use Rattle.clap.specs.Words.{Text}
 use Rattle.clap.specs.declared.error.kind.ErrorKind.TheVariants as kind
 use Rattle.ob_words.specs.Jobs.{errors_of, job_of}
-use Rattle.ob_words.specs.declared.job.Job.TheVariants.{Total, Init, Import, Export, Table, Audit}
+use Rattle.ob_words.specs.declared.job.Job.TheVariants.{Total, Init, Import, Export, Table, Audit, Serve}
 
 total_is_a_job : job_of (codes "outagebook" ∷ codes "total" ∷ []) ≡ Some Total
 unfolding defaults_fault walk_fault walked
@@ -59,3 +59,24 @@ import_of_a_file = refl
 export_wants_a_file : errors_of (codes "outagebook" ∷ codes "export" ∷ []) ≡ kind.MissingRequiredArgument ∷ []
 unfolding defaults_fault walk_fault walked
 export_wants_a_file = refl
+
+-- `serve` with these words
+abbrev serve_words : List Text → List Text
+serve_words rest = codes "outagebook" ∷ codes "serve" ∷ rest
+
+serve_without_end : job_of (serve_words (codes "--port=8080" ∷ [])) ≡ Some (Serve (codes "book.db") 8080 0)
+unfolding defaults_fault walk_fault walked
+serve_without_end = refl
+
+serve_of_three_streams : job_of (serve_words (codes "--streams=3" ∷ codes "--book=a.db" ∷ codes "--port" ∷ codes "0" ∷ []))
+    ≡ Some (Serve (codes "a.db") 0 3)
+unfolding defaults_fault walk_fault walked
+serve_of_three_streams = refl
+
+serve_wants_a_port : errors_of (serve_words []) ≡ kind.MissingRequiredArgument ∷ []
+unfolding defaults_fault walk_fault walked
+serve_wants_a_port = refl
+
+serve_has_ports_up_to_65535 : errors_of (serve_words (codes "--port=65536" ∷ [])) ≡ kind.ValueValidation ∷ []
+unfolding defaults_fault walk_fault walked
+serve_has_ports_up_to_65535 = refl

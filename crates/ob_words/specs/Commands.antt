@@ -15,6 +15,11 @@ required_rule name = record (option_rule name) { required = true }
 abbrev pub number_rule : Text → Rule
 number_rule name = record (required_rule name) { parser = Some (parser.Signed (pos 0) (pos 65535)) }
 
+-- one with a default, whose value is a number of 64 bits
+abbrev pub count_rule : Text → Text → Rule
+count_rule name usual =
+    record (option_rule name) { defaults = usual ∷ []; parser = Some (parser.Unsigned 0 18446744073709551615) }
+
 -- a word that must stand by itself
 abbrev pub word_rule : Text → Rule
 word_rule name = record (new_rule name) { required = true }
@@ -61,6 +66,14 @@ import_app = with_rule (over_book (codes "import")) (word_rule (codes "INPUT"))
 abbrev pub export_app : App
 export_app = with_rule (over_book (codes "export")) (word_rule (codes "OUTPUT"))
 
+-- how many streams are served where the words name no number: none is no bound
+abbrev pub default_streams : Text
+default_streams = codes "0"
+
+-- `serve --book FILE --port N --streams K`
+abbrev pub serve_app : App
+serve_app = with_rules (over_book (codes "serve")) (number_rule (codes "port") ∷ count_rule (codes "streams") default_streams ∷ [])
+
 -- the program's own command, which needs a subcommand
 abbrev pub bare_app : App
 bare_app =
@@ -74,4 +87,4 @@ with_subcommands a (s ∷ rest) = with_subcommands (with_subcommand a s.top) res
 -- the command line of the program
 abbrev pub outagebook_app : App
 outagebook_app = with_subcommands bare_app
-    (total_app ∷ init_app ∷ import_app ∷ export_app ∷ table_app ∷ audit_app ∷ [])
+    (total_app ∷ init_app ∷ import_app ∷ export_app ∷ table_app ∷ audit_app ∷ serve_app ∷ [])

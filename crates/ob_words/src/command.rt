@@ -1,9 +1,10 @@
 //! The command that the words are matched with.
-ghost use Rattle.std.specs.Prelude.{◌≡◌, IfOk, false};
+ghost use Rattle.std.specs.Prelude.{◌≡◌, IfOk, codes, false};
 ghost use Rattle.clap.specs.Words.{app_of, rule_of};
 ghost use Rattle.clap.specs.declared.builder.command.Command.TheViews.{out-Command};
-ghost use Rattle.ob_words.specs.Commands.{audit_app, bare_app, book_rule, export_app, import_app, init_app, number_rule};
-ghost use Rattle.ob_words.specs.Commands.{outagebook_app, over_book, required_rule, table_app, total_app, word_rule};
+ghost use Rattle.ob_words.specs.Commands.{audit_app, bare_app, book_rule, count_rule, default_streams, export_app};
+ghost use Rattle.ob_words.specs.Commands.{import_app, init_app, number_rule, outagebook_app, over_book, required_rule};
+ghost use Rattle.ob_words.specs.Commands.{serve_app, table_app, total_app, word_rule};
 
 use clap::{Arg, Command, value_parser};
 use std::alloc::{AllocError, Global};
@@ -35,6 +36,18 @@ fn number_option<'a>(alloc: Global, name: &'a str, help: &'a str) -> Arg<'a>
     ensures local { result.global ≡ false }
 {
     required_option(alloc, name, "N", help).value_parser(value_parser!(u16))
+}
+
+fn streams_option<'a>(alloc: Global) -> Arg<'a>
+    ensures rule { rule_of result ≡ count_rule (codes "streams") default_streams }
+    ensures local { result.global ≡ false }
+{
+    Arg::new(alloc, "streams")
+        .long("streams")
+        .value_name("K")
+        .default_value("0")
+        .value_parser(value_parser!(u64))
+        .help("How many streams to serve before it ends; 0 for no bound")
 }
 
 /// A word of its own that names a file.
@@ -118,6 +131,23 @@ fn audit_command<'a>(alloc: Global) -> Result<Command<'a>, AllocError>
     )
 }
 
+fn serve_command<'a>(alloc: Global) -> Result<Command<'a>, AllocError>
+    ensures app { IfOk result (λ c. app_of c ≡ serve_app) }
+    ensures local { IfOk result (λ c. (out-Command c).has_globals ≡ false) }
+{
+    book_command(
+        alloc,
+        "serve",
+        "Serves a book over HTTP on 127.0.0.1, one stream after another",
+    )?
+    .arg(number_option(
+        alloc,
+        "port",
+        "The port to listen at; 0 for one that is free",
+    ))?
+    .arg(streams_option(alloc))
+}
+
 fn bare_command<'a>(alloc: Global) -> Command<'a>
     ensures app { app_of result ≡ bare_app }
 {
@@ -136,5 +166,6 @@ pub(crate) fn outagebook_command<'a>(alloc: Global) -> Result<Command<'a>, Alloc
         .subcommand(import_command(alloc)?)?
         .subcommand(export_command(alloc)?)?
         .subcommand(table_command(alloc)?)?
-        .subcommand(audit_command(alloc)?)
+        .subcommand(audit_command(alloc)?)?
+        .subcommand(serve_command(alloc)?)
 }

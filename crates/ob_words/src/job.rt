@@ -72,4 +72,13 @@ pub enum Job {
         /// The book's file.
         book: Word,
     },
+    /// Serve a book over HTTP on 127.0.0.1.
+    Serve {
+        /// The book's file.
+        book: Word,
+        /// The port; 0 for one that is free.
+        port: u16,
+        /// How many streams are served; 0 for 2^64 - 1.
+        streams: u64,
+    },
 }

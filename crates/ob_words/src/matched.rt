@@ -1,8 +1,8 @@
 //! The job that a subcommand's matches give.
 ghost use Rattle.std.specs.Prelude.{◌≡◌, IfOk, option_and_then};
 ghost use Rattle.clap.specs.Words.{first_of, found_of, rows_of, subcommand_rows_of};
-ghost use Rattle.ob_words.specs.Jobs.{audit_job, export_job, import_job, init_job, job_named, table_job};
-ghost use Rattle.ob_words.specs.Values.{number_given};
+ghost use Rattle.ob_words.specs.Jobs.{audit_job, export_job, import_job, init_job, job_named, serve_job, table_job};
+ghost use Rattle.ob_words.specs.Values.{count_given, number_given};
 
 use crate::job::{Job, Word};
 use clap::ArgMatches;
@@ -21,6 +21,13 @@ fn number_of(matches: &ArgMatches<'_>, name: &str) -> Option<u16>
     ensures { result ≡ number_given name.now (rows_of (found_of matches.now)) }
 {
     matches.get_one::<u16>(name)
+}
+
+/// The number of 64 bits given for an option.
+fn count_of(matches: &ArgMatches<'_>, name: &str) -> Option<u64>
+    ensures { result ≡ count_given name.now (rows_of (found_of matches.now)) }
+{
+    matches.get_one::<u64>(name)
 }
 
 fn init_from(alloc: Global, matches: &ArgMatches<'_>) -> Result<Option<Job>, AllocError>
@@ -81,6 +88,22 @@ fn audit_from(alloc: Global, matches: &ArgMatches<'_>) -> Result<Option<Job>, Al
     }
 }
 
+fn serve_from(alloc: Global, matches: &ArgMatches<'_>) -> Result<Option<Job>, AllocError>
+    ensures { IfOk result (λ r. r ≡ serve_job (rows_of (found_of matches.now))) }
+{
+    let book = word_of(alloc, matches, "book")?;
+    let port = number_of(matches, "port");
+    let streams = count_of(matches, "streams");
+    match (book, port, streams) {
+        (Some(book), Some(port), Some(streams)) => Ok(Some(Job::Serve {
+            book,
+            port,
+            streams,
+        })),
+        _ => Ok(None),
+    }
+}
+
 fn job_from(alloc: Global, name: &str, matches: &ArgMatches<'_>) -> Result<Option<Job>, AllocError>
     ensures { IfOk result (λ r. r ≡ job_named (name.now, rows_of (found_of matches.now))) }
 {
@@ -91,6 +114,7 @@ fn job_from(alloc: Global, name: &str, matches: &ArgMatches<'_>) -> Result<Optio
         "export" => export_from(alloc, matches),
         "table" => table_from(alloc, matches),
         "audit" => audit_from(alloc, matches),
+        "serve" => serve_from(alloc, matches),
         _ => Ok(None),
     }
 }

@@ -11,7 +11,7 @@ use std::fs::File;
 use std::io;
 
 /// A keeper of the book in a file.
-type FileKeeper = Keeper<FileStore<FileFrom<Wary>>, Windowed>;
+pub(crate) type FileKeeper = Keeper<FileStore<FileFrom<Wary>>, Windowed>;
 
 /// Makes the book of a period. A period that can't be is refused before there is a file.
 pub(crate) fn init(
@@ -83,7 +83,7 @@ pub(crate) fn audit(rt: &HostRuntime, book: &Word) -> Result<Option<Table>, Stop
 }
 
 /// Opens the file of a book, which is made where there is none.
-fn keeper_of(rt: &HostRuntime, book: &Word) -> Result<FileKeeper, Stop> {
+pub(crate) fn keeper_of(rt: &HostRuntime, book: &Word) -> Result<FileKeeper, Stop> {
     match Connection::open_from(rt, book.as_str(), false, Wary) {
         Ok(conn) => Ok(Keeper::adopt_connection(rt.alloc(), conn)),
         Err((Error::SqliteFailure(ErrorCode::OutOfMemory), _)) => {
@@ -94,6 +94,6 @@ fn keeper_of(rt: &HostRuntime, book: &Word) -> Result<FileKeeper, Stop> {
 }
 
 /// Copies what was committed from the log beside the file into the file. Where that fails, the log keeps it.
-fn fold(keeper: FileKeeper) {
+pub(crate) fn fold(keeper: FileKeeper) {
     let _ = keeper.into_connection().close();
 }

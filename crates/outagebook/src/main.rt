@@ -6,6 +6,7 @@
 #![tactic(auto)]
 
 mod books;
+mod desk;
 
 use ob_net::{Fault, Refusal, Stop, Watched};
 use ob_tables::Table;
@@ -49,6 +50,11 @@ fn run_job(rt: &HostRuntime, job: Job) -> Result<(), Unfinished> {
         Job::Export { book, output } => ended(books::export(rt, &book, &output)),
         Job::Table { book } => ended(books::table(rt, &book)),
         Job::Audit { book } => audited(books::audit(rt, &book)),
+        Job::Serve {
+            book,
+            port,
+            streams,
+        } => ended(desk::serve(rt, &book, port, streams)),
     }
 }
 
@@ -110,7 +116,7 @@ fn told<R: Print + Eprint + AllocGlobal>(
 }
 
 /// Tells why a job stopped.
-fn tell_stop<R: Eprint + AllocGlobal>(rt: &R, stop: &Stop, row: Option<u32>) {
+pub(crate) fn tell_stop<R: Eprint + AllocGlobal>(rt: &R, stop: &Stop, row: Option<u32>) {
     if let Ok(line) = complaint_of(rt.alloc(), stop, row) {
         let _ = eprintln!(rt; "{line}");
     }

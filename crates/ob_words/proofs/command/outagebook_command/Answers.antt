@@ -19,6 +19,8 @@ returns c =
     ∙ ap₂ with_subcommand three (ap top c.in_ok-export_command.ensures.app) in
     let five = c.in_ok-subcommand-5.ensures.shape c.in_ok-table_command.ensures.local
     ∙ ap₂ with_subcommand four (ap top c.in_ok-table_command.ensures.app) in
-    IfOk-weaker c.subcommand-6.result _ _
-    (λ r h. h.shape c.in_ok-audit_command.ensures.local
-    ∙ ap₂ with_subcommand five (ap top c.in_ok-audit_command.ensures.app)) c.subcommand-6.ensures
+    let six = c.in_ok-subcommand-6.ensures.shape c.in_ok-audit_command.ensures.local
+    ∙ ap₂ with_subcommand five (ap top c.in_ok-audit_command.ensures.app) in
+    IfOk-weaker c.subcommand-7.result _ _
+    (λ r h. h.shape c.in_ok-serve_command.ensures.local
+    ∙ ap₂ with_subcommand six (ap top c.in_ok-serve_command.ensures.app)) c.subcommand-7.ensures

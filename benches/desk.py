@@ -1,0 +1,209 @@
+"""Requests a second: `outagebook serve` beside a plain desk in Python (plain_desk.py), with equal requests.
+
+    python3 benches/desk.py [--views N] [--commands N] [--rounds N] [--program FILE] [--folder FOLDER]
+
+Both begin with the book of a small feeder, and serve it at the same time. One client asks each in turn, round by round,
+over one kept connection that it makes anew where a reply says `Connection: close`: GET /totals, each after the reply to
+the one before, and twenty at once, by which the client's own time counts less; then POST /commands with openings and
+closings of a breaker, each a transaction of its own, and the same again under the same references. The books lie in bench-data/, where a commit
+waits for the disk, and then in memory, in /dev/shm. The bodies of both have to be equal, reply for reply. It prints the
+median rates of the rounds and their ratio; with --plain the plain desk stands in the program's place, which shows what
+the measure itself is worth.
+"""
+
+import argparse
+import json
+import re
+import socket
+import subprocess
+import sys
+import time
+from pathlib import Path
+from statistics import median
+
+from compare import PROGRAM
+from import_year import clear
+
+BENCHES = Path(__file__).resolve().parent
+FIRST = 1_704_067_200
+PERIOD = ["--first", "2024-01-01", "--days", "1", "--zone", "UTC0"]
+AT_ONCE = 20  # divides the 1,000 requests of a stream
+HEAD_END = b"\r\n\r\n"
+LENGTH = re.compile(rb"\r\ncontent-length: *([0-9]+)", re.IGNORECASE)
+CLOSE = re.compile(rb"\r\nconnection: *close", re.IGNORECASE)
+
+FEEDER = """kind,ref,f1,f2,f3,f4,f5,f6
+cause,N1,3,STORM,,,,
+cause,N2,4,PLANNED,,,,
+bus,N3,BUS-A,,,,,
+section,N4,S1,1,,,,
+section,N5,S2,1,,,,
+section,N6,S3,2,,,,
+device,N7,I1,GRID,BUS-A,closed,,
+device,N8,B1,BUS-A,S1,closed,,
+device,N9,W1,S1,S2,closed,,
+device,N10,B2,BUS-A,S3,closed,,
+device,N11,T1,S2,S3,open,,
+"""
+CUSTOMERS = "".join(
+    f"connect,C{number},{number},{section},{FIRST},,,\n"
+    for number, section in enumerate(["S1"] * 2 + ["S2"] * 3 + ["S3"] * 5, 1)
+)
+
+
+class Client:
+    """One connection that is kept, and made anew where the server ends it."""
+
+    def __init__(self, port):
+        self.port = port
+        self.socket = None
+        self.data = b""
+
+    def connect(self):
+        self.socket = socket.create_connection(("127.0.0.1", self.port))
+        self.socket.setsockopt(socket.IPPROTO_TCP, socket.TCP_NODELAY, 1)
+
+    def receive(self):
+        data = self.socket.recv(65_536)
+        if not data:
+            raise EOFError("the server hung up inside a reply")
+        self.data += data
+
+    def reply(self):
+        """The status line and the body of the next reply."""
+        while HEAD_END not in self.data:
+            self.receive()
+        head, _, self.data = self.data.partition(HEAD_END)
+        length = int(LENGTH.search(head)[1])
+        while len(self.data) < length:
+            self.receive()
+        body, self.data = self.data[:length], self.data[length:]
+        if CLOSE.search(head):
+            self.socket.close()
+            self.socket = None
+        return head.partition(b"\r\n")[0], body
+
+    def ask(self, requests):
+        """The replies to requests that are sent at once. A server may end the connection after the last of them alone."""
+        if self.socket is None:
+            self.connect()
+        self.socket.sendall(b"".join(requests))
+        return [self.reply() for _ in requests]
+
+
+class Server:
+    """A server in a process of its own."""
+
+    def __init__(self, words):
+        self.process = subprocess.Popen(list(map(str, words)), stdout=subprocess.PIPE, text=True)
+        line = self.process.stdout.readline()
+        if not line.startswith("listening 127.0.0.1:"):
+            sys.exit(f"{words[0]}: {line}")
+        self.client = Client(int(line.rpartition(":")[2]))
+        self.seconds = []
+
+    def ask_all(self, groups):
+        """The replies to groups of requests; the seconds that they took are kept."""
+        begin = time.perf_counter()
+        replies = [self.client.ask(requests) for requests in groups]
+        self.seconds.append(time.perf_counter() - begin)
+        return [reply for group in replies for reply in group]
+
+    def rate(self, count):
+        """Requests a second, the median of the rounds, which are forgotten."""
+        seconds, self.seconds = median(self.seconds), []
+        return count / seconds
+
+    def end(self):
+        self.process.terminate()
+        self.process.wait()
+        self.process.stdout.close()
+
+
+def view(path):
+    return f"GET {path} HTTP/1.1\r\nHost: localhost\r\n\r\n".encode()
+
+
+def command(number):
+    """The opening or closing of a breaker, ten seconds after the one before."""
+    said = {
+        "kind": "switch",
+        "ref": f"OUT-{number}",
+        "f1": "B1",
+        "f2": "close" if number % 2 else "open",
+        "f3": str(FIRST + 10 * number),
+        "f4": "3",
+        "f5": "CREW-1",
+    }
+    body = json.dumps(said, separators=(",", ":"))
+    head = f"POST /commands HTTP/1.1\r\nHost: localhost\r\nContent-Length: {len(body)}\r\n\r\n"
+    return (head + body).encode()
+
+
+def compare(name, servers, rounds, at_once=1):
+    """Asks both servers the same, round by round, and prints their rates; the replies have to be equal."""
+    for requests in rounds:
+        groups = [requests[begin : begin + at_once] for begin in range(0, len(requests), at_once)]
+        replies = [server.ask_all(groups) for server in servers]
+        if replies[0] != replies[1]:
+            differing = next(pair for pair in zip(*replies) if pair[0] != pair[1])
+            sys.exit(f"{name}: {differing[0]} and {differing[1]}")
+    count = len(rounds[0])
+    rates = [server.rate(count) for server in servers]
+    figures = f"{rates[0]:,.0f} | {rates[1]:,.0f} | {rates[0] / rates[1]:.1f}"
+    print(f"| {name} | {len(rounds)} x {count:,} | {figures} |", flush=True)
+
+
+def serve_both(folder, text, words):
+    """Both servers, each over a book of its own in the folder."""
+    book, plain, other = (folder / f"{name}.db" for name in ["desk", "desk-plain", "desk-other"])
+    clear(book, plain, other)
+    plain_words = [sys.executable, BENCHES / "plain_desk.py", text, *PERIOD]
+    if words.plain:
+        return [Server([*plain_words, "--book", path]) for path in [other, plain]]
+    for job in [["init", *PERIOD], ["import", text]]:
+        subprocess.run([words.program, job[0], "--book", book, *job[1:]], stdout=subprocess.DEVNULL, check=True)
+    program = [words.program, "serve", "--book", book, "--port", "0"]
+    return [Server(program), Server([*plain_words, "--book", plain])]
+
+
+def rounds_of(requests, rounds):
+    size = len(requests) // rounds
+    return [requests[size * number : size * (number + 1)] for number in range(rounds)]
+
+
+def measure(name, folder, text, words):
+    servers = serve_both(folder, text, words)
+    try:
+        views = [[view("/totals")] * words.views] * words.rounds
+        compare(f"GET /totals, {name}", servers, views)
+        compare(f"GET /totals, {AT_ONCE} at once, {name}", servers, views, AT_ONCE)
+        commands = [command(number) for number in range(words.commands * words.rounds)]
+        compare(f"POST /commands, {name}", servers, rounds_of(commands, words.rounds))
+        compare(f"POST /commands again, {name}", servers, rounds_of(commands, words.rounds))
+    finally:
+        for server in servers:
+            server.end()
+
+
+def main():
+    words = argparse.ArgumentParser(description="Times requests to the program and to a plain desk in Python.")
+    words.add_argument("--views", type=int, default=2_000, help="how many GETs a round, a multiple of 1,000")
+    words.add_argument("--commands", type=int, default=400, help="how many POSTs a round")
+    words.add_argument("--rounds", type=int, default=5)
+    words.add_argument("--program", default=PROGRAM, help="the program (that of crates/outagebook)")
+    words.add_argument("--folder", type=Path, default=BENCHES.parent / "bench-data", help="where books on disk are made")
+    words.add_argument("--memory", type=Path, default=Path("/dev/shm"), help="where books in memory are made")
+    words.add_argument("--plain", action="store_true", help="the plain desk in place of the program")
+    words = words.parse_args()
+    words.folder.mkdir(exist_ok=True)
+    text = words.folder / "desk.csv"
+    text.write_text(FEEDER + CUSTOMERS, encoding="ascii")
+    print("| Requests over one kept connection | rounds | program, a second | http.server and sqlite3, a second | ratio |")
+    print("|---|---|---|---|---|")
+    measure("on disk", words.folder, text, words)
+    measure("in memory", words.memory, text, words)
+
+
+if __name__ == "__main__":
+    main()

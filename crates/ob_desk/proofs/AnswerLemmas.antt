@@ -1,0 +1,154 @@
+-- One answer, from what was made of it and what was written.
+use Rattle.std.proofs.Common.{◌≡◌, ℕ, Bool, List, ◌++◌, length, take, Option, None, Some, refl, sym, ap, subst, ◌∙◌, arith}
+use Rattle.std.specs.Prelude.{IsSome, Result, Ok, Err, IfErr, OnOk}
+use Rattle.std.specs.Io.KnownBytes.{Appends}
+use Rattle.std.proofs.lemmas.List.{take_all}
+use Rattle.sqlite_trees.specs.declared.store.Store.{Ghosts}
+use Rattle.sqlite.specs.Held.{state}
+use Rattle.sqlite.specs.State.{HasCleanDisk}
+use Rattle.ob_base.specs.declared.stop.Fault.{Fault}
+use Rattle.ob_base.specs.declared.stop.Fault.TheVariants.{OutOfMemory, Store, Reopen, Input, Output}
+use Rattle.ob_stream.specs.Streams.{AppendsFront}
+use Rattle.ob_stream.specs.Watching.{HasJustFailed}
+use Rattle.ob_stream.specs.declared.watched.Watched.{Watched}
+use Rattle.ob_state.specs.State.{BookState}
+use Rattle.ob_book.specs.Acts.{ActState}
+use Rattle.ob_store.specs.Keeping.{KeeperValue, Ties}
+use Rattle.ob_requests.specs.Message.{Message}
+use Rattle.ob_answers.specs.Answers.{Answer, answer_text, bookless}
+use Rattle.ob_answers.specs.Answering.{Answered, IsAnswerFault, Unopened, text_bytes}
+use Rattle.ob_answers.specs.declared.reply.ReplyText.{ReplyText}
+use Rattle.ob_desk.specs.Exchanges.{AnswersAt, unavailable_text}
+use Rattle.ob_desk.specs.Serving.{IsStart}
+use Rattle.ob_desk.specs.Standing.{IsKept, LeftBy, Over, Stands, fault_of}
+use Rattle.ob_desk.specs.Turns.{HasAnswerCause, IsAnswered, IsUnanswered}
+use Rattle.ob_desk.proofs.StandLemmas.{kept-err}
+
+-- without a book: what an answer is, and what a fault
+unopened-ok : (o : Option Answer) (closes : Bool) (text : ReplyText) → Unopened o closes (Ok text) → (a : Answer) × (o ≡ Some a) × (text_bytes text ≡ answer_text a closes)
+unopened-ok None closes text h = absurd (not-err text h)
+  where
+    not-err : (t : ReplyText) → (let r : Result ReplyText Fault = Ok t in r) ≡ Err Reopen → ⊥
+    not-err t e = cc
+unopened-ok (Some a) closes text h = (a, refl, h)
+
+unopened-err : (o : Option Answer) (closes : Bool) (fault : Fault) → Unopened o closes (Err fault) → (fault ≡ Reopen) × (o ≡ None)
+unopened-err None closes fault h = (same fault h, refl)
+  where
+    same : (f : Fault) → (let r : Result ReplyText Fault = Err f in r) ≡ Err Reopen → f ≡ Reopen
+    same f e = cc
+unopened-err (Some a) closes fault h = absurd h
+
+-- a text of which all was written, or some front
+pub all-written : (had has : Option (List ℕ)) (text : List ℕ) → Appends had has text → (front : List ℕ) × IsStart front text × Appends had has front
+all-written had has text h = (text, (length text, sym (take_all (length text) text (omega arith))), h)
+
+pub some-written : (had has : Option (List ℕ)) (text : List ℕ) → AppendsFront had has text → (front : List ℕ) × IsStart front text × Appends had has front
+some-written had has text h = (take h.count text, (h.count, refl), h.appends)
+
+module _ {S : Type 0} (g : Ghosts S) where
+  -- an answer that was made stands, and less or all of it is written
+  made : (old new : KeeperValue S) (m : Message) (ends : Bool) (text : ReplyText)
+      → (old.book ≡ None → (new ≡ old) × Unopened (bookless m) ends (Ok text)) → (IsSome old.book → IsSome new.book)
+      → (HasCleanDisk (state g new.conn) → (b : ActState) → Ties g old b → IsSome old.book → Answered g new b m ends (Ok text))
+      → (x : Option ActState) → Over g old new x → (y : Option ActState) × AnswersAt x m ends (text_bytes text) y × Stands g new y
+  made old new m ends text unopened kept answered None none =
+      let so = unopened-ok (bookless m) ends text (unopened none).1 in
+      (None, so, ap (λ k. k.book) (unopened none).0 ∙ none)
+  made old new m ends text unopened kept answered (Some b) (disk, ties, some) =
+      let so = answered disk b ties some in
+      (Some so.1, (so.0, so.2, so.3), (so.4, kept some))
+
+  pub answered-whole : (had has : Option (List ℕ)) (old new : KeeperValue S) (m : Message) (ends : Bool) (text : ReplyText)
+      → (old.book ≡ None → (new ≡ old) × Unopened (bookless m) ends (Ok text)) → (IsSome old.book → IsSome new.book)
+      → (HasCleanDisk (state g new.conn) → (b : ActState) → Ties g old b → IsSome old.book → Answered g new b m ends (Ok text))
+      → Appends had has (text_bytes text) → IsAnswered g had has old new m ends
+  answered-whole had has old new m ends text unopened kept answered written x over =
+      let so = made old new m ends text unopened kept answered x over in (text_bytes text, so.0, so.1, written, so.2)
+
+  pub answered-less : (had has : Option (List ℕ)) (old new : KeeperValue S) (m : Message) (ends : Bool) (text : ReplyText)
+      → (old.book ≡ None → (new ≡ old) × Unopened (bookless m) ends (Ok text)) → (IsSome old.book → IsSome new.book)
+      → (HasCleanDisk (state g new.conn) → (b : ActState) → Ties g old b → IsSome old.book → Answered g new b m ends (Ok text))
+      → AppendsFront had has (text_bytes text) → IsUnanswered g had has old new m ends Output
+  answered-less had has old new m ends text unopened kept answered written x over =
+      let so = made old new m ends text unopened kept answered x over in (text_bytes text, so.0, so.1, written, so.2)
+
+  -- what a fault in place of an answer leaves
+  left-by : (old new : KeeperValue S) (m : Message) (ends : Bool) (fault : Fault)
+      → (old.book ≡ None → (new ≡ old) × Unopened (bookless m) ends (Err fault))
+      → (HasCleanDisk (state g new.conn) → (b : ActState) → Ties g old b → IsSome old.book → Answered g new b m ends (Err fault))
+      → (x : Option ActState) → Over g old new x → LeftBy g new x m ends fault
+  left-by old new m ends fault unopened answered None none =
+      let so = unopened-err (bookless m) ends fault (unopened none).1 in (so.0, so.1, ap (λ k. k.book) (unopened none).0 ∙ none)
+  left-by old new m ends fault unopened answered (Some b) (disk, ties, some) = answered disk b ties some
+
+  pub unanswered : (had has : Option (List ℕ)) (old new : KeeperValue S) (m : Message) (ends : Bool) (fault : Fault)
+      → (old.book ≡ None → (new ≡ old) × Unopened (bookless m) ends (Err fault)) → (IsSome old.book → IsAnswerFault fault)
+      → (HasCleanDisk (state g new.conn) → (b : ActState) → Ties g old b → IsSome old.book → Answered g new b m ends (Err fault))
+      → (front : List ℕ) × IsStart front unavailable_text × Appends had has front → IsUnanswered g had has old new m ends fault
+  unanswered had has old new m ends OutOfMemory unopened faults answered (front, start, written) =
+      λ x over. (front, start, written, left-by old new m ends OutOfMemory unopened answered x over)
+  unanswered had has old new m ends Store unopened faults answered (front, start, written) =
+      λ x over. (front, start, written, left-by old new m ends Store unopened answered x over)
+  unanswered had has old new m ends Reopen unopened faults answered (front, start, written) =
+      λ x over. (front, start, written, left-by old new m ends Reopen unopened answered x over)
+  unanswered had has old new m ends Input unopened faults answered (front, start, written) =
+      λ x over. (front, start, written, left-by old new m ends Input unopened answered x over)
+  unanswered had has old new m ends Output unopened faults answered written = λ x over. absurd (none-so x over)
+    where
+      not-output : (let f : Fault = Output in f) ≡ Reopen → ⊥
+      not-output e = cc
+
+      none-so : (x : Option ActState) → Over g old new x → ⊥
+      none-so None none = not-output (unopened-err (bookless m) ends Output (unopened none).1).0
+      none-so (Some b) (disk, ties, some) = faults some
+
+  -- ---- by what was written
+
+  pub written-answered : {A : Type 0} (r : Result A Fault) (had has : Option (List ℕ)) (old new : KeeperValue S) (m : Message) (ends : Bool) (text : ReplyText)
+      → (old.book ≡ None → (new ≡ old) × Unopened (bookless m) ends (Ok text)) → (IsSome old.book → IsSome new.book)
+      → (HasCleanDisk (state g new.conn) → (b : ActState) → Ties g old b → IsSome old.book → Answered g new b m ends (Ok text))
+      → OnOk r (Appends had has (text_bytes text)) → OnOk r (IsAnswered g had has old new m ends)
+  written-answered (Ok x) had has old new m ends text unopened kept answered written = answered-whole had has old new m ends text unopened kept answered written
+  written-answered (Err f) had has old new m ends text unopened kept answered written = tt
+
+  pub written-less : {A W : Type 0} (r : Result A Fault) (writer : Watched W) (had has : Option (List ℕ)) (old new : KeeperValue S) (m : Message) (ends : Bool) (text : ReplyText)
+      → (old.book ≡ None → (new ≡ old) × Unopened (bookless m) ends (Ok text)) → (IsSome old.book → IsSome new.book)
+      → (HasCleanDisk (state g new.conn) → (b : ActState) → Ties g old b → IsSome old.book → Answered g new b m ends (Ok text))
+      → IfErr r (λ _. AppendsFront had has (text_bytes text)) → IfErr r (λ f. (f ≡ Output) × HasJustFailed writer) → IfErr r (IsUnanswered g had has old new m ends)
+  written-less (Ok x) writer had has old new m ends text unopened kept answered written failed = tt
+  written-less (Err f) writer had has old new m ends text unopened kept answered written failed =
+      subst (IsUnanswered g had has old new m ends) (sym failed.0) (answered-less had has old new m ends text unopened kept answered written)
+
+  pub written-cause : {A W : Type 0} (r : Result A Fault) (writer : Watched W) (old : KeeperValue S) → IfErr r (λ f. (f ≡ Output) × HasJustFailed writer) → IfErr r (HasAnswerCause g writer old)
+  written-cause (Ok x) writer old failed = tt
+  written-cause (Err f) writer old failed = subst (HasAnswerCause g writer old) (sym failed.0) failed.1
+
+  pub written-kept : {A W : Type 0} (r : Result A Fault) (writer : Watched W) (old new : KeeperValue S) → IfErr r (λ f. (f ≡ Output) × HasJustFailed writer) → IsKept g old new None → IsKept g old new (fault_of r)
+  written-kept (Ok x) writer old new failed kept = kept
+  written-kept (Err f) writer old new failed kept = kept-err g old new f (λ e. not-store (sym failed.0 ∙ e)) kept
+    where
+      not-store : (let f : Fault = Output in f) ≡ Store → ⊥
+      not-store e = cc
+
+  -- why a request isn't answered
+  pub answer-cause : {W : Type 0} (writer : Watched W) (old new : KeeperValue S) (m : Message) (ends : Bool) (fault : Fault)
+      → (old.book ≡ None → (new ≡ old) × Unopened (bookless m) ends (Err fault)) → (IsSome old.book → IsAnswerFault fault) → HasAnswerCause g writer old fault
+  answer-cause writer old new m ends fault unopened faults = by-book old.book refl
+    where
+      of-book : (f : Fault) → IsAnswerFault f → HasAnswerCause g writer old f
+      of-book OutOfMemory h = tt
+      of-book Store h = tt
+      of-book Reopen h = absurd h
+      of-book Input h = absurd h
+      of-book Output h = absurd h
+
+      by-book : (o : Option BookState) → old.book ≡ o → HasAnswerCause g writer old fault
+      by-book None none = subst (HasAnswerCause g writer old) (sym (unopened-err (bookless m) ends fault (unopened none).1).0) none
+      by-book (Some book) is = of-book fault (faults (subst (λ o. IsSome o) (sym is) refl))
+
+-- a constant was written, or some first part of it
+pub any-written : {A : Type 0} (r : Result A Fault) (had has : Option (List ℕ)) (text : List ℕ) → OnOk r (Appends had has text) → IfErr r (λ _. AppendsFront had has text)
+    → (front : List ℕ) × IsStart front text × Appends had has front
+any-written (Ok x) had has text whole front = all-written had has text whole
+any-written (Err f) had has text whole front = some-written had has text front

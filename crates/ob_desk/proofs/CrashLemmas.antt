@@ -1,0 +1,211 @@
+-- What requests make of a book is what commands make of it, and a crash leaves the first of them.
+use Rattle.std.proofs.Common.{◌≡◌, ℕ, Bool, List, [], ◌∷◌, ◌++◌, ◌-◌, length, take, Option, None, Some, refl, sym, ap, subst, ◌∙◌, inl, inr, arith, take_at}
+use Rattle.std.specs.Prelude.{◌⊎◌, ⊤, option_map, Ok, Err}
+use Rattle.std.proofs.lemmas.List.{take_all}
+use Rattle.std.proofs.lemmas.List.Sums.{fold-append}
+use Rattle.sqlite_trees.specs.declared.store.Store.{Ghosts}
+use Rattle.sqlite.specs.Held.{state}
+use Rattle.sqlite.specs.State.{State}
+use Rattle.ob_base.specs.declared.stop.Fault.{Fault}
+use Rattle.ob_base.specs.declared.stop.Fault.TheVariants.{OutOfMemory, Store, Reopen, Input, Output}
+use Rattle.ob_base.specs.declared.stop.Refusal.{Refusal}
+use Rattle.ob_stream.specs.declared.watched.Watched.{Watched}
+use Rattle.ob_command.specs.declared.command.Command.{Command}
+use Rattle.ob_book.specs.Acts.{ActState, Referenced, act, acts}
+use Rattle.ob_store.specs.Acting.{under}
+use Rattle.ob_store.specs.Keeping.{KeeperValue, KeepsBook, KeepsEitherBook, Ties}
+use Rattle.ob_rows.specs.Rows.{Fields, rows_of}
+use Rattle.ob_import.specs.Imports.{Import, ImportsBody, after_header}
+use Rattle.ob_requests.specs.Message.{Message, path_of}
+use Rattle.ob_requests.specs.Stream.{ends}
+use Rattle.ob_requests.specs.declared.framing.Method.{Method}
+use Rattle.ob_requests.specs.declared.framing.Method.TheVariants as methods
+use Rattle.ob_answers.specs.Answers.{Answer, RouteAnswers}
+use Rattle.ob_answers.specs.Answering.{RouteAnswered, StandsLost, StandsShort}
+use Rattle.ob_answers.specs.Routes.{route_of}
+use Rattle.ob_answers.specs.declared.routes.Route.{Route}
+use Rattle.ob_answers.specs.declared.routes.Route.TheVariants as routes
+use Rattle.ob_desk.specs.Crashes.{IsActed, IsLeft, LeavesFirst, Outlasts}
+use Rattle.ob_desk.specs.Exchanges.{AnswersAt, Replies}
+use Rattle.ob_desk.specs.Serving.{Breaks, BreaksAnswer, BreaksReply, Fails, Serves}
+use Rattle.ob_desk.specs.Standing.{Over, Stands}
+
+-- ---- answers act commands
+
+imports-act : (b : ActState) (body : Option (List Fields)) (i : Import) → ImportsBody b body i → (commands : List Referenced) × (i.state ≡ acts b commands)
+imports-act b None i is = ([], ap (λ j. j.state) is)
+imports-act b (Some rows) i (later, begins, stopped) = (begins.2.commands, begins.2.state)
+
+answers-act : (b : ActState) (method : Method) (route : Option Route) (body : List ℕ) (a : Answer) (c : ActState) → RouteAnswers b method route body a c
+    → (commands : List Referenced) × (c ≡ acts b commands)
+answers-act b method None body a c (is, same) = ([], same)
+answers-act b methods.Get (Some route) body a c (is, same) = ([], same)
+answers-act b methods.Post (Some routes.Commands) body a c (Ok said, says, (is, same)) = (under said.0 said.1 ∷ [], same)
+answers-act b methods.Post (Some routes.Commands) body a c (Err refusal, says, (is, same)) = ([], same)
+answers-act b methods.Post (Some routes.Import) body a c (i, imports, is, same) =
+    let so = imports-act b (after_header (rows_of body)) i imports in (so.0, same ∙ so.1)
+answers-act b methods.Post (Some (routes.Command number)) body a c (is, same) = ([], same)
+answers-act b methods.Post (Some (routes.View view)) body a c (is, same) = ([], same)
+
+at-acts : (b c : ActState) (m : Message) (closes : Bool) (reply : List ℕ) → AnswersAt (Some b) m closes reply (Some c) → (commands : List Referenced) × (c ≡ acts b commands)
+at-acts b c m closes reply (a, answers, is) = answers-act b m.method (route_of (path_of m.target)) m.body a c answers
+
+pub replies-act : (allowed : ℕ) (x y : Option ActState) (ms : List Message) (text : List ℕ) → Replies allowed x ms text y → IsActed x y
+replies-act allowed None y [] text (none, same) = ([], sym same)
+replies-act allowed (Some b) y [] text (none, same) = ([], sym same)
+replies-act allowed None y (m ∷ ms) text (reply, more, None, answers, is, rest) =
+    let so = replies-act (allowed - 1) None y ms more rest in ([], so.1)
+replies-act allowed None y (m ∷ ms) text (reply, more, Some c, answers, is, rest) = absurd answers
+replies-act allowed (Some b) y (m ∷ ms) text (reply, more, None, answers, is, rest) = absurd answers
+replies-act allowed (Some b) y (m ∷ ms) text (reply, more, Some c, answers, is, rest) =
+    let one = at-acts b c m _ reply answers in
+    let so = replies-act (allowed - 1) (Some c) y ms more rest in
+    (one.0 ++ so.0, so.1 ∙ ap (λ d. Some (acts d so.0)) one.1 ∙ ap Some (sym (fold-append act b one.0 so.0)))
+
+-- ---- a crash
+
+from-either : (s : State) (b c d : ActState) (work : List Referenced) (i j : ℕ) → KeepsEitherBook s c d → c ≡ acts b (take i work) → d ≡ acts b (take j work) → LeavesFirst s b work
+from-either s b c d work i j keeps first second disk trees may = elim (keeps.kept.left disk trees may) [
+  | inl one ↦ (i, rw (← first) one)
+  | inr other ↦ (j, rw (← second) other)
+]
+
+from-book : (s : State) (b c : ActState) (work : List Referenced) (i : ℕ) → KeepsBook s c → c ≡ acts b (take i work) → LeavesFirst s b work
+from-book s b c work i keeps is disk trees may = (i, rw (← is) (keeps.kept.left disk trees may))
+
+-- all of the commands
+all-of : (b c : ActState) (commands : List Referenced) → c ≡ acts b commands → c ≡ acts b (take (length commands) commands)
+all-of b c commands is = is ∙ ap (acts b) (sym (take_all (length commands) commands (omega arith)))
+
+module _ {S : Type 0} (g : Ghosts S) where
+  tied : (new : KeeperValue S) (b c : ActState) (commands : List Referenced) → Ties g new c → c ≡ acts b commands → Outlasts g new (Some b)
+  tied new b c commands ties is = (commands, from-book (state g new.conn) b c commands (length commands) ties.kept (all-of b c commands is))
+
+  stands-outlasts : (new : KeeperValue S) (x : Option ActState) → Stands g new x → Outlasts g new x
+  stands-outlasts new None h = tt
+  stands-outlasts new (Some b) (ties, some) = tied new b b [] ties refl
+
+  -- memory was refused in place of an answer: some commands have acted
+  short-acts : (new : KeeperValue S) (b : ActState) (method : Method) (route : Option Route) (body : List ℕ) → StandsShort g new b method route body
+      → (commands : List Referenced) × Ties g new (acts b commands)
+  short-acts new b method None body h = absurd h
+  short-acts new b methods.Get (Some route) body ties = ([], ties)
+  short-acts new b methods.Post (Some routes.Commands) body h = elim h [
+    | inl ties ↦ ([], ties)
+    | inr (x, says, ties) ↦ (x ∷ [], ties)
+  ]
+  short-acts new b methods.Post (Some routes.Import) body h = elim h [
+    | inl (added, again, (c, later, begins, (ties, some))) ↦ (begins.2.commands, subst (Ties g new) begins.2.state ties)
+    | inr (i, imports, ties) ↦ let so = imports-act b (after_header (rows_of body)) i imports in (so.0, subst (Ties g new) so.1 ties)
+  ]
+  short-acts new b methods.Post (Some (routes.Command number)) body h = absurd h
+  short-acts new b methods.Post (Some (routes.View view)) body h = absurd h
+
+  short-outlasts : (new : KeeperValue S) (b : ActState) (method : Method) (route : Option Route) (body : List ℕ) → StandsShort g new b method route body → Outlasts g new (Some b)
+  short-outlasts new b method route body h = let so = short-acts new b method route body h in tied new b (acts b so.0) so.0 so.1 refl
+
+  -- all of the commands, or one more
+  one-more : (new : KeeperValue S) (b c : ActState) (commands : List Referenced) (x : Referenced) → KeepsEitherBook (state g new.conn) c (act c x) → c ≡ acts b commands → Outlasts g new (Some b)
+  one-more new b c commands x keeps is = (
+    commands ++ x ∷ [],
+    from-either (state g new.conn) b c (act c x) (commands ++ x ∷ []) (length commands) (length (commands ++ x ∷ [])) keeps
+        (is ∙ ap (acts b) (sym (take_at commands (x ∷ []) (length commands) refl)))
+        (all-of b (act c x) (commands ++ x ∷ []) (ap (λ d. act d x) is ∙ sym (fold-append act b commands (x ∷ [])))),
+  )
+
+  lost-outlasts : (new : KeeperValue S) (b : ActState) (method : Method) (route : Option Route) (body : List ℕ) → StandsLost g new b method route body → Outlasts g new (Some b)
+  lost-outlasts new b method None body h = absurd h
+  lost-outlasts new b methods.Get (Some route) body (keeps, none) = ([], from-book (state g new.conn) b b [] 0 keeps refl)
+  lost-outlasts new b methods.Post (Some routes.Commands) body (x, says, keeps, none) = one-more new b b [] x keeps refl
+  lost-outlasts new b methods.Post (Some routes.Import) body (added, again, (c, later, a, begins, next, keeps, none)) =
+      one-more new b c begins.2.commands a keeps begins.2.state
+  lost-outlasts new b methods.Post (Some (routes.Command number)) body h = absurd h
+  lost-outlasts new b methods.Post (Some (routes.View view)) body h = absurd h
+
+  route-outlasts : (new : KeeperValue S) (b : ActState) (method : Method) (route : Option Route) (body : List ℕ) (closes : Bool) (fault : Fault)
+      → RouteAnswered g new b method route body closes (Err fault) → Outlasts g new (Some b)
+  route-outlasts new b method route body closes OutOfMemory h = short-outlasts new b method route body h
+  route-outlasts new b method route body closes Store h = lost-outlasts new b method route body h
+  route-outlasts new b method route body closes Reopen h = absurd h
+  route-outlasts new b method route body closes Input h = absurd h
+  route-outlasts new b method route body closes Output h = absurd h
+
+  answer-outlasts : (allowed : ℕ) (rest : Option (List ℕ)) (part : List ℕ) (new : KeeperValue S) (x : Option ActState) (fault : Fault)
+      → BreaksAnswer g allowed rest part new x fault → Outlasts g new x
+  answer-outlasts allowed rest part new None fault h = tt
+  answer-outlasts allowed rest part new (Some b) fault h = route-outlasts new b h.message.method (route_of (path_of h.message.target)) h.message.body (ends allowed h.message) fault h.leaves
+
+  -- a reply could not be written whole: its commands have acted
+  reply-acts : (allowed : ℕ) (rest : Option (List ℕ)) (part : List ℕ) (new : KeeperValue S) (b : ActState) → BreaksReply g allowed rest part new (Some b)
+      → (commands : List Referenced) × Ties g new (acts b commands)
+  reply-acts allowed rest part new b h = by-next h.next h.answers h.stands
+    where
+      by-next : (y : Option ActState) → AnswersAt (Some b) h.message (ends allowed h.message) h.reply y → Stands g new y → (commands : List Referenced) × Ties g new (acts b commands)
+      by-next None answers stands = absurd answers
+      by-next (Some c) answers (ties, some) = let so = at-acts b c h.message (ends allowed h.message) h.reply answers in (so.0, subst (Ties g new) so.1 ties)
+
+  reply-outlasts : (allowed : ℕ) (rest : Option (List ℕ)) (part : List ℕ) (new : KeeperValue S) (x : Option ActState) → BreaksReply g allowed rest part new x → Outlasts g new x
+  reply-outlasts allowed rest part new None h = tt
+  reply-outlasts allowed rest part new (Some b) h = let so = reply-acts allowed rest part new b h in tied new b (acts b so.0) so.0 so.1 refl
+
+  pub breaks-outlast : (allowed : ℕ) (rest : Option (List ℕ)) (part : List ℕ) (new : KeeperValue S) (x : Option ActState) (fault : Fault) → Breaks g allowed rest part new x fault → Outlasts g new x
+  breaks-outlast allowed rest part new x OutOfMemory h = elim h [
+    | inl reading ↦ stands-outlasts new x reading.1
+    | inr answer ↦ answer-outlasts allowed rest part new x OutOfMemory answer
+  ]
+  breaks-outlast allowed rest part new x Store h = answer-outlasts allowed rest part new x Store h
+  breaks-outlast allowed rest part new x Reopen h = answer-outlasts allowed rest part new x Reopen h
+  breaks-outlast allowed rest part new x Input h = stands-outlasts new x h.1
+  breaks-outlast allowed rest part new x Output h = elim h [
+    | inl interim ↦ stands-outlasts new x interim.1
+    | inr other ↦ elim other [
+      | inl (refusal, refused, front, stands) ↦ stands-outlasts new x stands
+      | inr reply ↦ reply-outlasts allowed rest part new x reply
+    ]
+  ]
+
+  -- ---- what streams leave of a book, one after the other
+
+  answer-left : (new : KeeperValue S) (b : ActState) (method : Method) (route : Option Route) (body : List ℕ) (closes : Bool) (fault : Fault)
+      → RouteAnswered g new b method route body closes (Err fault) → IsLeft g new b (Some fault)
+  answer-left new b method route body closes OutOfMemory h = short-acts new b method route body h
+  answer-left new b method route body closes Store h = ([], lost-outlasts new b method route body h)
+  answer-left new b method route body closes Reopen h = absurd h
+  answer-left new b method route body closes Input h = absurd h
+  answer-left new b method route body closes Output h = absurd h
+
+  breaks-left : (allowed : ℕ) (rest : Option (List ℕ)) (part : List ℕ) (new : KeeperValue S) (b : ActState) (fault : Fault)
+      → Breaks g allowed rest part new (Some b) fault → IsLeft g new b (Some fault)
+  breaks-left allowed rest part new b OutOfMemory h = elim h [
+    | inl reading ↦ ([], reading.1.0)
+    | inr answer ↦ answer-left new b answer.message.method (route_of (path_of answer.message.target)) answer.message.body (ends allowed answer.message) OutOfMemory answer.leaves
+  ]
+  breaks-left allowed rest part new b Store h = answer-left new b h.message.method (route_of (path_of h.message.target)) h.message.body (ends allowed h.message) Store h.leaves
+  breaks-left allowed rest part new b Reopen h = answer-left new b h.message.method (route_of (path_of h.message.target)) h.message.body (ends allowed h.message) Reopen h.leaves
+  breaks-left allowed rest part new b Input h = ([], h.1.0)
+  breaks-left allowed rest part new b Output h = elim h [
+    | inl interim ↦ ([], interim.1.0)
+    | inr other ↦ elim other [
+      | inl (refusal, refused, front, stands) ↦ ([], stands.0)
+      | inr reply ↦ reply-acts allowed rest part new b reply
+    ]
+  ]
+
+  pub left-then : (new : KeeperValue S) (b : ActState) (done : List Referenced) (fault : Option Fault) → IsLeft g new (acts b done) fault → IsLeft g new b fault
+  left-then new b done None (more, ties) = (done ++ more, subst (Ties g new) (sym (fold-append act b done more)) ties)
+  left-then new b done (Some OutOfMemory) (more, ties) = (done ++ more, subst (Ties g new) (sym (fold-append act b done more)) ties)
+  left-then new b done (Some Store) (more, outlasts) = (done ++ more, subst (λ c. Outlasts g new (Some c)) (sym (fold-append act b done more)) outlasts)
+  left-then new b done (Some Reopen) (more, ties) = (done ++ more, subst (Ties g new) (sym (fold-append act b done more)) ties)
+  left-then new b done (Some Input) (more, ties) = (done ++ more, subst (Ties g new) (sym (fold-append act b done more)) ties)
+  left-then new b done (Some Output) (more, ties) = (done ++ more, subst (Ties g new) (sym (fold-append act b done more)) ties)
+
+  pub serves-left : (stream had has : Option (List ℕ)) (old new : KeeperValue S) (replies : ℕ) (b : ActState) → Serves g stream had has old new replies → Over g old new (Some b) → IsLeft g new b None
+  serves-left stream had has old new replies b run over =
+      let so = run.answered (Some b) over in (so.5.0, (subst (Stands g new) so.5.1 so.4).0)
+
+  pub fails-left : {R W : Type 0} (stream had has : Option (List ℕ)) (reader : Watched R) (writer : Watched W) (old new : KeeperValue S) (fault : Fault) (b : ActState)
+      → Fails g stream had has reader writer old new fault → Over g old new (Some b) → IsLeft g new b (Some fault)
+  fails-left stream had has reader writer old new fault b run over =
+      let so = run.answered (Some b) over in
+      left-then new b so.6.0 (Some fault)
+      (breaks-left (1000 - length run.requests) run.rest so.1 new (acts b so.6.0) fault (subst (λ y. Breaks g (1000 - length run.requests) run.rest so.1 new y fault) so.6.1 so.5))

@@ -1,0 +1,10 @@
+pub mod AnswerLemmas
+pub mod CrashLemmas
+pub mod LawLemmas
+pub mod ListenLemmas
+pub mod ReplyLemmas
+pub mod RequestLemmas
+pub mod RunLemmas
+pub mod StandLemmas
+pub mod TurnLemmas
+pub mod WriteLemmas

@@ -1,0 +1,45 @@
+use Rattle.std.proofs.Common.{None, arith}
+use Rattle.std.proofs.lemmas.Result.{err_from_is_err_and}
+use Rattle.ob_desk.proofs.RunLemmas.{run-closed, run-ended, run-fails, run-goes, run-refused, run-starts}
+use Rattle.ob_desk.proofs.StandLemmas.{kept-none, kept-then}
+use Rattle.ob_desk.proofs.stream.serve_requests.Goals as goal
+
+pub requests-init : goal.requests-init
+requests-init g c = record {
+  run = rw c.requires (run-starts g.S.Store _ _ c.args.keeper.now);
+  kept = kept-none g.S.Store c.args.keeper.now;
+  some = omega arith;
+  most = omega arith;
+}
+
+pub returns-in_err-serve_turn-clause-fails : goal.returns-in_err-serve_turn-clause-fails
+returns-in_err-serve_turn-clause-fails g c =
+    let p = err_from_is_err_and c.from_residual.result c.from_residual.ensures.1 in
+    rw (p.1, p.2)
+    (run-fails g.S.Store _ _ _ _ _ c.serve_turn.new.reader c.serve_turn.new.writer c.args.keeper.now c.requests.keeper c.serve_turn.new.keeper c.requests.allowed c.in_err-serve_turn.field-0.0
+    c.in_err-serve_turn.ensures.kept.clean c.requests.invariant.kept c.requests.invariant.run c.in_err-serve_turn.ensures.fails)
+
+pub returns-in-Closed-clause-serves : goal.returns-in-Closed-clause-serves
+returns-in-Closed-clause-serves g c =
+    run-closed g.S.Store _ _ None _ _ _ c.args.keeper.now c.requests.keeper c.serve_turn.new.keeper c.requests.allowed c.requests.invariant.run
+    (rw c.in-Closed.is at c.in_ok-serve_turn.ensures.turn)
+
+pub returns-in-Refused-clause-serves : goal.returns-in-Refused-clause-serves
+returns-in-Refused-clause-serves g c =
+    run-refused g.S.Store _ _ None _ _ _ c.args.keeper.now c.requests.keeper c.serve_turn.new.keeper c.requests.allowed c.requests.invariant.run
+    (rw c.in-Refused.is at c.in_ok-serve_turn.ensures.turn)
+
+pub returns-then-ends-clause-serves : goal.returns-then-ends-clause-serves
+returns-then-ends-clause-serves g c =
+    run-ended g.S.Store _ _ _ _ _ _ c.args.keeper.now c.requests.keeper c.serve_turn.new.keeper c.requests.allowed c.in-Answered.ends c.in_ok-serve_turn.ensures.kept.clean c.if-ends.true
+    c.requests.invariant.run (rw c.in-Answered.is at c.in_ok-serve_turn.ensures.turn)
+
+pub requests-preserved : goal.requests-preserved
+requests-preserved g c =
+    let run = run-goes g.S.Store _ _ _ _ _ _ c.args.keeper.now c.requests.keeper c.serve_turn.new.keeper c.requests.allowed c.in-Answered.ends c.in_ok-serve_turn.ensures.kept.clean c.if-ends.false
+    c.requests.invariant.run (rw c.in-Answered.is at c.in_ok-serve_turn.ensures.turn) in record {
+      run = run;
+      kept = kept-then g.S.Store c.args.keeper.now c.requests.keeper c.serve_turn.new.keeper None c.requests.invariant.kept c.in_ok-serve_turn.ensures.kept;
+      some = run.some;
+      most = omega (arith, c.requests.invariant.most);
+    }

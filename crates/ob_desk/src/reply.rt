@@ -1,0 +1,63 @@
+//! The reply to one request, or to bytes that are none.
+ghost use Rattle.std.specs.Prelude.{◌≡◌, IfErr, OnOk};
+ghost use Rattle.ob_stream.specs.Watching.{watched_bytes};
+ghost use Rattle.ob_requests.specs.Reading.{message_of};
+ghost use Rattle.ob_desk.specs.Exchanges.{head_status};
+ghost use Rattle.ob_desk.specs.Standing.{IsKept, fault_of};
+ghost use Rattle.ob_desk.specs.Turns.{HasAnswerCause, IsAnswered, IsUnanswered};
+
+use ob_answers::{Routes, answer};
+use ob_base::Fault;
+use ob_replies::{Status, empty_reply};
+use ob_requests::{HeadRefusal, Request};
+use ob_store::Keeper;
+use ob_stream::{Retries, Watched, write_text};
+use ob_sweep::Timeline;
+use sqlite::Alter;
+use std::alloc::Global;
+use std::io::Write;
+
+/// The status that answers a head which is refused.
+pub(crate) fn head_status(refusal: HeadRefusal) -> Status
+    ensures { result ≡ head_status refusal }
+{
+    match refusal {
+        HeadRefusal::BadRequest => Status::BadRequest,
+        HeadRefusal::NotImplemented => Status::NotImplemented,
+        HeadRefusal::LengthRequired => Status::LengthRequired,
+        HeadRefusal::PayloadTooLarge => Status::PayloadTooLarge,
+        HeadRefusal::FieldsTooLarge => Status::RequestHeaderFieldsTooLarge,
+    }
+}
+
+/// Answers a request and writes its reply, which tells whether the stream ends. Where it can't be answered, 503 is
+/// written as far as it can be, which takes no memory.
+pub(crate) fn reply_to<W: Write, S: Alter, T: Timeline>(
+    alloc: Global,
+    routes: &Routes,
+    writer: &mut Watched<W>,
+    retries: &mut Retries,
+    keeper: &mut Keeper<S, T>,
+    request: &Request,
+    ends: bool,
+) -> Result<(), Fault>
+    ensures answered { OnOk result (IsAnswered S.Store (watched_bytes W.contents writer.old) (watched_bytes W.contents writer.new)
+        keeper.old keeper.new (message_of request.now) ends) }
+    ensures unanswered { IfErr result (IsUnanswered S.Store (watched_bytes W.contents writer.old) (watched_bytes W.contents writer.new)
+        keeper.old keeper.new (message_of request.now) ends) }
+    ensures cause { IfErr result (HasAnswerCause S.Store writer.new keeper.old) }
+    ensures kept { IsKept S.Store keeper.old keeper.new (fault_of result) }
+{
+    match answer(alloc, routes, keeper, request, ends) {
+        Ok(text) => write_text(writer, retries, text.bytes()),
+        Err(fault) => {
+            // The stream ends by this fault, whether or not the client hears of it.
+            let _ = write_text(
+                writer,
+                retries,
+                empty_reply(Status::ServiceUnavailable, true),
+            );
+            Err(fault)
+        }
+    }
+}

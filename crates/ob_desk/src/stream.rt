@@ -1,0 +1,113 @@
+//! The run of one stream.
+ghost use Rattle.std.specs.Prelude.{◌≡◌, ◌↔◌, [], None, Err, IsSome, IfErr, IfOk};
+ghost use Rattle.sqlite.specs.Held.{state};
+ghost use Rattle.sqlite.specs.State.{HasCleanDisk};
+ghost use Rattle.ob_stream.specs.Watching.{watched_bytes};
+ghost use Rattle.ob_requests.specs.Unread.{unread};
+ghost use Rattle.ob_desk.specs.Serving.{Fails, Serves};
+ghost use Rattle.ob_desk.specs.Standing.{IsKept, fault_of};
+
+use crate::turn::{Turn, serve_turn};
+use ob_answers::Routes;
+use ob_base::Fault;
+use ob_requests::Ahead;
+use ob_store::Keeper;
+use ob_stream::{Retries, Watched};
+use ob_sweep::Timeline;
+use sqlite::Alter;
+use std::alloc::Global;
+use std::io::{Read, Write};
+
+/// The most requests of one stream.
+const MOST_REQUESTS: u32 = 1_000;
+
+/// What was served of a stream.
+#[derive(Clone, Copy, Debug, PartialEq, Eq)]
+pub struct Served {
+    /// The replies, without the interim ones. Bytes that are refused get one too.
+    pub requests: u32,
+}
+
+/// Serves the requests of a stream by the book of a keeper: it reads one after the other, answers each, and writes its
+/// reply only after its commit. The stream ends after the reply to a request that closes the connection, to the
+/// 1,000th or to bytes that are refused, and where there is no byte more. Interrupted reads and writes are tried again,
+/// 65,536 times in all.
+///
+/// # Errors
+///
+/// `Fault::Input` where the reader fails or the stream ends inside a request, `Fault::Output` where the writer fails:
+/// the requests before it are answered, and of the one in work a part of its reply may be written.
+/// `Fault::OutOfMemory`, `Fault::Store`, and `Fault::Reopen` where a request needs the book and there is none: where
+/// that came in place of an answer, 503 is written as far as it can be. A command, or the rows of an import, may then
+/// stand without a reply.
+pub fn serve_stream<R: Read, W: Write, S: Alter, T: Timeline>(
+    alloc: Global,
+    reader: &mut Watched<R>,
+    writer: &mut Watched<W>,
+    keeper: &mut Keeper<S, T>,
+) -> Result<Served, Fault>
+    ensures serves { IfOk result (λ served. Serves S.Store (watched_bytes R.remaining reader.old)
+        (watched_bytes W.contents writer.old) (watched_bytes W.contents writer.new) keeper.old keeper.new served.requests) }
+    ensures fails { IfErr result (Fails S.Store (watched_bytes R.remaining reader.old)
+        (watched_bytes W.contents writer.old) (watched_bytes W.contents writer.new) reader.new writer.new keeper.old keeper.new) }
+    ensures clean { HasCleanDisk (state S.Store keeper.new.conn) → HasCleanDisk (state S.Store keeper.old.conn) }
+    ensures unopened { keeper.old.book ≡ None → keeper.new ≡ keeper.old }
+    ensures dropped { IsSome keeper.old.book → (keeper.new.book ≡ None) ↔ (result ≡ Err Fault.Store) }
+{
+    let Ok(routes) = Routes::new(alloc) else {
+        return Err(Fault::OutOfMemory);
+    };
+    let mut ahead = Ahead::new(alloc)?;
+    serve_requests(alloc, &routes, reader, writer, keeper, &mut ahead)
+}
+
+/// Serves the requests of a stream of which nothing was read ahead.
+fn serve_requests<R: Read, W: Write, S: Alter, T: Timeline>(
+    alloc: Global,
+    routes: &Routes,
+    reader: &mut Watched<R>,
+    writer: &mut Watched<W>,
+    keeper: &mut Keeper<S, T>,
+    ahead: &mut Ahead,
+) -> Result<Served, Fault>
+    requires { ahead.old ≡ [] }
+    ensures serves { IfOk result (λ served. Serves S.Store (watched_bytes R.remaining reader.old)
+        (watched_bytes W.contents writer.old) (watched_bytes W.contents writer.new) keeper.old keeper.new served.requests) }
+    ensures fails { IfErr result (Fails S.Store (watched_bytes R.remaining reader.old)
+        (watched_bytes W.contents writer.old) (watched_bytes W.contents writer.new) reader.new writer.new keeper.old keeper.new) }
+    ensures kept { IsKept S.Store keeper.old keeper.new (fault_of result) }
+{
+    let mut retries = Retries::new();
+    let mut allowed = MOST_REQUESTS;
+    'requests: loop {
+        match serve_turn(
+            alloc,
+            routes,
+            reader,
+            writer,
+            keeper,
+            &mut retries,
+            ahead,
+            allowed,
+        )? {
+            Turn::Closed => {
+                return Ok(Served {
+                    requests: MOST_REQUESTS - allowed,
+                });
+            }
+            Turn::Refused => {
+                return Ok(Served {
+                    requests: MOST_REQUESTS - allowed + 1,
+                });
+            }
+            Turn::Answered(ends) => {
+                if ends {
+                    return Ok(Served {
+                        requests: MOST_REQUESTS - allowed + 1,
+                    });
+                }
+                allowed -= 1;
+            }
+        }
+    }
+}

@@ -1,0 +1,54 @@
+//! The job that serves a book over HTTP.
+use crate::books::{fold, keeper_of};
+use crate::tell_stop;
+use ob_desk::{FaultLog, run_serve};
+use ob_net::{Fault, Stop};
+use ob_words::Word;
+use std::net::{Ipv4Addr, TcpListener};
+
+/// Tells on standard error the faults that ended streams.
+#[derive(Drop)]
+struct Complaints<'r> {
+    rt: &'r HostRuntime,
+}
+
+impl FaultLog for Complaints<'_> {
+    fn tell(&mut self, fault: Fault) {
+        tell_stop(self.rt, &Stop::Fault(fault), None);
+    }
+}
+
+/// Serves a book over HTTP at a port of 127.0.0.1, so many streams one after another, and tells at which port: with 0 it is one
+/// that was free.
+pub(crate) fn serve(rt: &HostRuntime, book: &Word, port: u16, streams: u64) -> Result<(), Stop> {
+    let mut keeper = keeper_of(rt, book)?;
+    keeper.load()?;
+    let listener = listen(rt, port)?;
+    let served = run_serve(
+        rt.alloc(),
+        &listener,
+        streams,
+        &mut keeper,
+        &mut Complaints { rt },
+    );
+    fold(keeper);
+    match served {
+        Ok(()) => Ok(()),
+        Err(fault) => Err(Stop::Fault(fault)),
+    }
+}
+
+/// Binds a port of this machine alone, and tells it.
+fn listen(rt: &HostRuntime, port: u16) -> Result<TcpListener, Stop> {
+    let Ok(listener) = TcpListener::bind(rt, (Ipv4Addr::LOCALHOST, port)) else {
+        return Err(Stop::Fault(Fault::Input));
+    };
+    let Ok(address) = listener.local_addr() else {
+        return Err(Stop::Fault(Fault::Input));
+    };
+    let bound = address.port();
+    match println!(rt; "listening 127.0.0.1:{bound}") {
+        Ok(()) => Ok(listener),
+        Err(_) => Err(Stop::Fault(Fault::Output)),
+    }
+}
