@@ -1,6 +1,6 @@
 -- What requests make of a book is what commands make of it, and a crash leaves the first of them.
 use Rattle.std.proofs.Common.{◌≡◌, ℕ, Bool, List, [], ◌∷◌, ◌++◌, ◌-◌, length, take, Option, None, Some, refl, sym, ap, subst, ◌∙◌, inl, inr, arith, take_at}
-use Rattle.std.specs.Prelude.{◌⊎◌, ⊤, option_map, Ok, Err}
+use Rattle.std.specs.Prelude.{Ok, Err}
 use Rattle.std.proofs.lemmas.List.{take_all}
 use Rattle.std.proofs.lemmas.List.Sums.{fold-append}
 use Rattle.sqlite_trees.specs.declared.store.Store.{Ghosts}
@@ -8,9 +8,7 @@ use Rattle.sqlite.specs.Held.{state}
 use Rattle.sqlite.specs.State.{State}
 use Rattle.ob_base.specs.declared.stop.Fault.{Fault}
 use Rattle.ob_base.specs.declared.stop.Fault.TheVariants.{OutOfMemory, Store, Reopen, Input, Output}
-use Rattle.ob_base.specs.declared.stop.Refusal.{Refusal}
 use Rattle.ob_stream.specs.declared.watched.Watched.{Watched}
-use Rattle.ob_command.specs.declared.command.Command.{Command}
 use Rattle.ob_book.specs.Acts.{ActState, Referenced, act, acts}
 use Rattle.ob_store.specs.Acting.{under}
 use Rattle.ob_store.specs.Keeping.{KeeperValue, KeepsBook, KeepsEitherBook, Ties}

@@ -1,5 +1,5 @@
 -- The replies to requests, one reply more.
-use Rattle.std.proofs.Common.{◌≡◌, ℕ, ◌-◌, Bool, List, [], ◌∷◌, ◌++◌, length, Option, refl, sym, ap, subst, ◌∙◌, append_assoc, append-nil, arith}
+use Rattle.std.proofs.Common.{◌≡◌, ℕ, ◌-◌, List, [], ◌∷◌, ◌++◌, length, Option, refl, sym, ap, subst, ◌∙◌, append_assoc, append-nil, arith}
 use Rattle.ob_book.specs.Acts.{ActState}
 use Rattle.ob_requests.specs.Continue.{interim_text}
 use Rattle.ob_requests.specs.Message.{Message}

@@ -1,8 +1,8 @@
 -- A run, one turn more.
-use Rattle.std.proofs.Common.{◌≡◌, ℕ, ◌+◌, ◌-◌, ◌≤◌, ◌<◌, Bool, true, false, List, [], ◌∷◌, ◌++◌, length, Option, None, Some, IfSome, refl, sym, ap, subst, ◌∙◌, append-nil, arith, length-append, inl, inr}
-use Rattle.std.specs.Prelude.{◌==◌, ◌||◌, ◌⊎◌}
+use Rattle.std.proofs.Common.{◌≡◌, ℕ, ◌+◌, ◌-◌, ◌≤◌, Bool, true, false, List, [], ◌∷◌, ◌++◌, length, Option, None, Some, refl, sym, ap, subst, ◌∙◌, append-nil, arith, length-append, inl}
+use Rattle.std.specs.Prelude.{◌==◌, ◌||◌}
 use Rattle.std.proofs.lemmas.Bool.Decides.{nat_tests}
-use Rattle.std.specs.Io.KnownBytes.{Appends, Keeps}
+use Rattle.std.specs.Io.KnownBytes.{Appends}
 use Rattle.ob_base.specs.declared.stop.Fault.{Fault}
 use Rattle.ob_base.specs.declared.stop.Fault.TheVariants.{OutOfMemory, Store, Reopen, Input, Output}
 use Rattle.ob_stream.specs.declared.watched.Watched.{Watched}
@@ -21,7 +21,6 @@ use Rattle.ob_desk.specs.Exchanges.{AnswersAt, Replies, refusal_text}
 use Rattle.ob_desk.specs.Serving.{Breaks, Fails, HasCause, Serves}
 use Rattle.ob_desk.specs.Standing.{IsKept, Over, Stands}
 use Rattle.ob_desk.specs.Turns.{TurnAnswers, TurnFails, TurnIs}
-use Rattle.ob_desk.specs.declared.turn.Turn.{Turn}
 use Rattle.ob_desk.specs.declared.turn.Turn.TheVariants as turns
 use Rattle.ob_desk.proofs.RequestLemmas.{known-start, known-then, known-last, known-end}
 use Rattle.ob_desk.proofs.CrashLemmas.{breaks-outlast, replies-act}

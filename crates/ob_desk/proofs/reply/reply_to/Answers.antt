@@ -1,4 +1,4 @@
-use Rattle.std.proofs.Common.{Ok, Err}
+use Rattle.std.proofs.Common.{Ok}
 use Rattle.ob_requests.specs.Reading.{message_of}
 use Rattle.ob_replies.specs.declared.reply.MediaType.TheVariants.{Json}
 use Rattle.ob_desk.proofs.AnswerLemmas.{answer-cause, any-written, unanswered, written-answered, written-cause, written-less}

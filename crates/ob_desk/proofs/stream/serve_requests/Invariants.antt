@@ -1,5 +1,5 @@
 -- The requests so far were answered, and after none of them the stream ends.
-use Rattle.std.proofs.Common.{ℕ, ◌≤◌, None}
+use Rattle.std.proofs.Common.{◌≤◌, None}
 use Rattle.ob_stream.specs.Watching.{watched_bytes}
 use Rattle.ob_requests.specs.Unread.{unread}
 use Rattle.ob_desk.specs.Standing.{IsKept}
