@@ -1,5 +1,6 @@
 //! Heads that are refused, streams that end, and the interim reply.
 use crate::office::Office;
+use crate::streams::Source;
 use crate::texts::{FIRST, GET_ALONE, NOT_FOUND, NOTHING, STORM, get, joined, json, times};
 use ob_base::Fault;
 use std::alloc::{AllocError, Global};
@@ -170,8 +171,8 @@ const CONTINUE: &'static str = "HTTP/1.1 100 Continue\r\n\r\n";
 // A client waits for the interim reply, and is cut off or sends its body whole.
 fn waits(rt: &impl Abort, office: &mut Office) -> Result<(), Fail> {
     let wanted = joined(office.alloc, CONTINUE, FIRST)?;
-    let (cut, _) = WAITING.split_at(WAITING.len() - 1);
-    assert!(rt; office.told(cut).is(Err(Fault::Input), CONTINUE.as_bytes()));
+    let cut = Source::whole(&WAITING.as_bytes()[..WAITING.len() - 1]);
+    assert!(rt; office.hears(cut).is(Err(Fault::Input), CONTINUE.as_bytes()));
     assert!(rt; office.commands() == Some(0));
     assert!(rt; office.answers(WAITING, 1, &wanted));
     Ok(())
