@@ -125,7 +125,7 @@ fn accepted(alloc: Global, no: u32) -> Result<String, AllocError> {
     json(alloc, "200 OK", &body)
 }
 
-// A writer that fails behind each number of bytes, and two that take none any more.
+// A writer that fails behind each number of bytes of a reply of 90, and two that take none any more.
 fn break_off(rt: &impl Abort, office: &mut Office) -> Result<(), Fail> {
     for room in 0..FIRST.len() {
         breaks_off(rt, office, room, false)?;
@@ -138,7 +138,7 @@ fn break_off(rt: &impl Abort, office: &mut Office) -> Result<(), Fail> {
 fn writers_that_fail(rt: HostRuntime) -> Result<(), Fail> {
     let mut office = Office::new(&rt, rt.alloc())?;
     break_off(&rt, &mut office)?;
-    office.stands_with(&rt, 101)
+    office.stands_with(&rt, 92)
 }
 
 // How many of two requests are whole in so many bytes.
