@@ -295,13 +295,6 @@ class Examples(unittest.TestCase):
                 self.assertEqual({key: amount for key, amount in book.amounts().items() if key[0] == 1}, BY_HAND)
                 self.assertEqual([counts["MOMENTARY"] for _, counts in map(book.indices, [False, True])], [16, 16])
 
-    def test_texts_of_the_tests(self):
-        """The crates' tests have the texts of the sample fortnight as they stand in `examples/`."""
-        root = Path(__file__).resolve().parent.parent
-        source = (root / "crates/ob_import_tests/src/fortnight.rt").read_text()
-        for file in ["fortnight.csv", "corrections.csv", "fortnight.table.txt", "corrections.table.txt"]:
-            self.assertIn(f'"\\\n{(root / "examples" / file).read_text()}";', source)
-
 
 class Fields(unittest.TestCase):
     def bad_column(self, row):

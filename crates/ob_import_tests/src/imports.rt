@@ -1,5 +1,4 @@
 //! Imports into new books, and texts that come twice.
-use crate::fortnight::{CORRECTED_TABLE, CORRECTIONS, FORTNIGHT, TABLE};
 use crate::office::{Office, Report, broken, stopped, took};
 use crate::texts::{ONE_NAME_TWICE, OUTAGE, TWO_NAMES};
 use ob_net::{Fault, Refusal, Watched};
@@ -97,18 +96,6 @@ fn is_loaded(rt: &impl Abort, office: Office) -> Result<(), Fail> {
     assert!(rt; loaded.totals()?.as_slice() == TOTALS);
     assert!(rt; loaded.table()?.as_slice() == table.as_slice());
     assert!(rt; loaded.takes(OUTAGE.as_bytes()) == took(0, 25));
-    Ok(())
-}
-
-// The annual table of the sample fortnight, and the one after its corrections, are those that stand beside it.
-#[test]
-fn the_sample_fortnight(rt: HostRuntime) -> Result<(), Fail> {
-    let zone = b"CET-1CEST,M3.5.0,M10.5.0/3";
-    let mut office = Office::of(&rt, rt.alloc(), b"2025-03-24", 14, zone)?;
-    assert!(rt; office.takes(FORTNIGHT.as_bytes()) == took(97, 0));
-    assert!(rt; office.table()?.as_slice() == TABLE.as_bytes());
-    assert!(rt; office.takes(CORRECTIONS.as_bytes()) == took(3, 0));
-    assert!(rt; office.table()?.as_slice() == CORRECTED_TABLE.as_bytes());
     Ok(())
 }
 

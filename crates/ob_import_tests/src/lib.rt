@@ -7,8 +7,6 @@
 #[cfg(test)]
 mod exports;
 #[cfg(test)]
-mod fortnight;
-#[cfg(test)]
 mod imports;
 #[cfg(test)]
 mod office;

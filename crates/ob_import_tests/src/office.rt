@@ -66,19 +66,8 @@ impl Office {
 
     /// A new book of 2024-01-01 in UTC.
     pub fn new(rt: &impl Abort, alloc: Global) -> Result<Office, Fail> {
-        Office::of(rt, alloc, b"2024-01-01", 1, b"UTC0")
-    }
-
-    /// A new book of so many days in a zone.
-    pub fn of(
-        rt: &impl Abort,
-        alloc: Global,
-        first: &[u8],
-        days: u16,
-        zone: &[u8],
-    ) -> Result<Office, Fail> {
         let mut office = Office::without_book(rt, alloc)?;
-        assert!(rt; office.keeper.create(first, days, zone).is_ok());
+        assert!(rt; office.keeper.create(b"2024-01-01", 1, b"UTC0").is_ok());
         Ok(office)
     }
 
