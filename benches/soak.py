@@ -137,22 +137,33 @@ def soak(program, folder, kills, seed):
     return books, left
 
 
-def main():
-    words = argparse.ArgumentParser(description="Kills imports of the sample fortnight at random moments.")
+def words_of(description):
+    """The words of the command line, with the number of kills and the folder as they count."""
+    words = argparse.ArgumentParser(description=description)
     words.add_argument("--kills", type=int, default=1000)
     words.add_argument("--quick", action="store_true", help="50 kills")
     words.add_argument("--seed", type=int, default=1)
     words.add_argument("--program", default=PROGRAM, help="the program (that of crates/outagebook)")
     words.add_argument("--folder", type=Path, help="where books are made (a temporary folder)")
     words = words.parse_args()
-    folder = Path(words.folder or tempfile.mkdtemp(prefix="soak-"))
-    folder.mkdir(exist_ok=True)
-    try:
-        books, left = soak(words.program, folder, 50 if words.quick else words.kills, words.seed)
-    except Wrong as wrong:
-        print(f"{wrong}\nthe books are in {folder}")
-        return 1
+    words.kills = 50 if words.quick else words.kills
+    words.folder = Path(words.folder or tempfile.mkdtemp(prefix="soak-"))
+    words.folder.mkdir(exist_ok=True)
+    return words
+
+
+def show(books, left):
     print(f"{left.total()} kills over {books} books; {len(left)} different numbers of commands were left, {min(left)} to {max(left)}")
+
+
+def main():
+    words = words_of("Kills imports of the sample fortnight at random moments.")
+    try:
+        books, left = soak(words.program, words.folder, words.kills, words.seed)
+    except Wrong as wrong:
+        print(f"{wrong}\nthe books are in {words.folder}")
+        return 1
+    show(books, left)
     print("nothing was lost")
     return 0
 

@@ -83,6 +83,8 @@ fn serve_connection<S: Alter, T: Timeline>(
     ensures left { HasCleanDisk (state S.Store keeper.new.conn) → (b : ActState) → Ties S.Store keeper.old b
         → IsSome keeper.old.book → IsLeft S.Store keeper.new b (fault_of result) }
 {
+    // A reply doesn't wait for the client to acknowledge the one before it. Where the system refuses that, it only comes later.
+    let _ = stream.set_nodelay(true);
     let mut reader = Watched::new(stream);
     let mut writer = Watched::new(stream);
     serve_stream(alloc, &mut reader, &mut writer, keeper)

@@ -5,6 +5,7 @@
 //! Above it stand the switching sheet, the roll of customers and the book.
 #![tactic(auto)]
 
+mod names;
 mod net;
 mod search;
 

@@ -1,9 +1,8 @@
 ghost use Rattle.std.specs.Prelude.{◌≡◌, codes};
-ghost use Rattle.std.specs.List.{position};
-ghost use Rattle.std.specs.Str.{bytes_eq};
 
+use crate::names::{number_of, put_in, take_out};
 use crate::search::connected;
-use crate::{MOST_DEVICES, MOST_NODES};
+use crate::{GRID, MOST_DEVICES, MOST_NODES};
 use ob_base::{Name, Pos, Refusal, Stop};
 use std::alloc::{AllocError, Global};
 use std::marker::Model;
@@ -29,13 +28,16 @@ pub struct Device {
 pub struct Net {
     nodes: Vec<Node>,
     devices: Vec<Device>,
+    node_names: Vec<(Name, u16)>,
+    device_names: Vec<(Name, u16)>,
     searches: u128,
     parents: Vec<u16>,
 }
 
 impl Model for Net {
-    ghost use Rattle.ob_net.specs.Network.{NetState, IsNetwork};
-    ghost use Rattle.std.specs.Prelude.{◌-◌, vec_len};
+    ghost use Rattle.ob_net.specs.Network.{NetState};
+    ghost use Rattle.ob_net.specs.Names.{IsNamed};
+    ghost use Rattle.std.specs.Prelude.{◌-◌, min, vec_len};
     ghost use Rattle.std.specs.Vec.{vec_capacity};
 
     ghost Value = { NetState };
@@ -43,11 +45,11 @@ impl Model for Net {
     ghost view = { λ n. record {
       network = record { nodes = n.nodes.items; devices = n.devices.items };
       searches = n.searches;
-      node_room = vec_capacity n.nodes - vec_len n.nodes;
-      device_room = vec_capacity n.devices - vec_len n.devices;
+      node_room = min (vec_capacity n.nodes - vec_len n.nodes) (vec_capacity n.node_names - vec_len n.node_names);
+      device_room = min (vec_capacity n.devices - vec_len n.devices) (vec_capacity n.device_names - vec_len n.device_names);
     } };
 
-    ghost invariant = { λ n. IsNetwork (record { nodes = n.nodes.items; devices = n.devices.items }) };
+    ghost invariant = { λ n. IsNamed (record { nodes = n.nodes.items; devices = n.devices.items }) n.node_names.items n.device_names.items };
 }
 
 impl Net {
@@ -72,9 +74,15 @@ impl Net {
                 feeder: None,
             })
             .map_err(AllocError::from)?;
+        let mut node_names = Vec::new(alloc);
+        node_names
+            .push((grid_name(), GRID))
+            .map_err(AllocError::from)?;
         Ok(Net {
             nodes,
             devices: Vec::new(alloc),
+            node_names,
+            device_names: Vec::new(alloc),
             searches: 0,
             parents: Vec::new(alloc),
         })
@@ -89,7 +97,9 @@ impl Net {
         ensures searches { self.new.searches ≡ self.old.searches }
     {
         self.nodes.reserve(1)?;
+        self.node_names.reserve(1)?;
         self.devices.reserve(1)?;
+        self.device_names.reserve(1)?;
         Ok(())
     }
 
@@ -124,10 +134,7 @@ impl Net {
         ensures node { result ≡ node_of self.now.network name.now }
         ensures exists { IfSome result (λ v. v < length self.now.network.nodes) }
     {
-        match place_of_node(&self.nodes, name) {
-            Some(place) => Some(place as u16),
-            None => None,
-        }
+        number_of(&self.node_names, name)
     }
 
     /// The device with a name.
@@ -135,10 +142,7 @@ impl Net {
         ensures device { result ≡ device_of self.now.network name.now }
         ensures exists { IfSome result (λ d. d < length self.now.network.devices) }
     {
-        match place_of_device(&self.devices, name) {
-            Some(place) => Some(place as u16),
-            None => None,
-        }
+        number_of(&self.device_names, name)
     }
 
     /// Adds a bus.
@@ -194,10 +198,12 @@ impl Net {
         if self.devices.len() == MOST_DEVICES {
             return Err(Refusal::Full(MOST_DEVICES as u32));
         }
-        match self.devices.push(Device { name, a, b, normal }) {
-            Ok(()) => Ok(()),
-            Err(_) => unreachable!(),
+        let number = self.devices.len() as u16;
+        if self.devices.push(Device { name, a, b, normal }).is_err() {
+            unreachable!();
         }
+        put_in(&mut self.device_names, name, number);
+        Ok(())
     }
 
     /// Takes back the node that was added last, which no device may join.
@@ -209,7 +215,9 @@ impl Net {
         ensures node_room { self.new.node_room ≡ self.old.node_room + 1 }
         ensures device_room { self.new.device_room ≡ self.old.device_room }
     {
-        let _ = self.nodes.pop();
+        if let Some(node) = self.nodes.pop() {
+            take_out(&mut self.node_names, &node.name);
+        }
     }
 
     /// Takes back the device that was added last.
@@ -220,7 +228,9 @@ impl Net {
         ensures node_room { self.new.node_room ≡ self.old.node_room }
         ensures device_room { self.new.device_room ≡ self.old.device_room + 1 }
     {
-        let _ = self.devices.pop();
+        if let Some(device) = self.devices.pop() {
+            take_out(&mut self.device_names, &device.name);
+        }
     }
 
     /// How many devices there are.
@@ -278,27 +288,13 @@ impl Net {
         if self.nodes.len() == MOST_NODES {
             return Err(Refusal::Full(MOST_NODES as u32));
         }
-        match self.nodes.push(node) {
-            Ok(()) => Ok(()),
-            Err(_) => unreachable!(),
+        let number = self.nodes.len() as u16;
+        if self.nodes.push(node).is_err() {
+            unreachable!();
         }
+        put_in(&mut self.node_names, node.name, number);
+        Ok(())
     }
-}
-
-fn place_of_node(nodes: &[Node], name: &Name) -> Option<usize>
-    ensures { result ≡ position (λ node. bytes_eq node.name name.now) nodes.now }
-{
-    nodes
-        .iter()
-        .position(|node| node.name.bytes() == name.bytes())
-}
-
-fn place_of_device(devices: &[Device], name: &Name) -> Option<usize>
-    ensures { result ≡ position (λ device. bytes_eq device.name name.now) devices.now }
-{
-    devices
-        .iter()
-        .position(|device| device.name.bytes() == name.bytes())
 }
 
 fn grid_name() -> Name

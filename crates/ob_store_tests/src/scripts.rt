@@ -47,7 +47,7 @@ pub const CORRECTED: &'static str = "\
 FIX1 correct 4 1 close 1704073800 3 K1 => 26: cause 3 -1200, feeder 1 -1200, day 0 -1200
 FIX1 correct 4 1 close 1704073800 3 K1 => 26: cause 3 -1200, feeder 1 -1200, day 0 -1200
 FIX2 correct 4 1 close 1704073800 3 K1 => no: 7 Stale 2
-FIX1 correct 4 1 close 1704073801 3 K1 => no: 11 RefConflict 26
+FIX1 correct 4 1 close 1704073200 3 K1 => no: 11 RefConflict 26
 FIX1 correct 4 1 close 1704073800 3 K1 => 26: cause 3 -1200, feeder 1 -1200, day 0 -1200
 ";
 
@@ -97,9 +97,11 @@ N26 switch B1 open 1704070800 9 K1 => no: 15 UnknownCause
 N26 switch B1 open 1704153600 3 K1 => no: 5 OutOfPeriod
 N26 correct 9 1 open 1704070800 3 K1 => no: 6 UnknownEntry
 N26 connect 11 S1 1704067210 1704067210 => no: 10 BadService
+N26 revise 1 1704067210 1704067210 => no: 10 BadService
 N26 connect 1 S1 1704067200 - => no: 3 NameTaken
 N26 revise 99 1704067200 - => no: 9 UnknownCustomer
 N26 unmark 2024-01-01 E1 => no: 14 NotMarked
+N26 mark 2024-02-01 E1 => no: 5 OutOfPeriod
 N25 mark 2024-01-01 E1 => no: 11 RefConflict 25
 N26 mark 2024-01-01 E1 => 26
 N27 mark 2024-01-01 E2 => no: 13 MarkedAlready

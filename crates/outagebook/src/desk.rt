@@ -1,9 +1,10 @@
 //! The job that serves a book over HTTP.
-use crate::books::{fold, keeper_of};
 use crate::tell_stop;
 use ob_desk::{FaultLog, run_serve};
 use ob_net::{Fault, Stop};
-use ob_words::Word;
+use ob_store::Keeper;
+use ob_sweep::Timeline;
+use sqlite::Alter;
 use std::net::{Ipv4Addr, TcpListener};
 
 /// Tells on standard error the faults that ended streams.
@@ -20,19 +21,21 @@ impl FaultLog for Complaints<'_> {
 
 /// Serves a book over HTTP at a port of 127.0.0.1, so many streams one after another, and tells at which port: with 0 it is one
 /// that was free.
-pub(crate) fn serve(rt: &HostRuntime, book: &Word, port: u16, streams: u64) -> Result<(), Stop> {
-    let mut keeper = keeper_of(rt, book)?;
+pub(crate) fn serve<S: Alter, T: Timeline>(
+    rt: &HostRuntime,
+    keeper: &mut Keeper<S, T>,
+    port: u16,
+    streams: u64,
+) -> Result<(), Stop> {
     keeper.load()?;
     let listener = listen(rt, port)?;
-    let served = run_serve(
+    match run_serve(
         rt.alloc(),
         &listener,
         streams,
-        &mut keeper,
+        keeper,
         &mut Complaints { rt },
-    );
-    fold(keeper);
-    match served {
+    ) {
         Ok(()) => Ok(()),
         Err(fault) => Err(Stop::Fault(fault)),
     }

@@ -7,9 +7,10 @@
 
 mod books;
 mod desk;
+mod ending;
 
-use ob_net::{Fault, Refusal, Stop, Watched};
-use ob_tables::Table;
+use crate::books::{Task, look_at_period, run_on_book};
+use ob_net::{Fault, Stop, Watched};
 pub use ob_total::{TotalStop, run_total};
 pub use ob_words::{Job, Unfinished, Word, WrongWords, complaint_of, read_words, status_of_run};
 use std::alloc::{AllocError, Global};
@@ -45,16 +46,30 @@ fn run_job(rt: &HostRuntime, job: Job) -> Result<(), Unfinished> {
             first,
             days,
             zone,
-        } => ended(books::init(rt, &book, &first, days, &zone)),
-        Job::Import { book, input } => imported(books::import(rt, &book, &input)),
-        Job::Export { book, output } => ended(books::export(rt, &book, &output)),
-        Job::Table { book } => ended(books::table(rt, &book)),
-        Job::Audit { book } => audited(books::audit(rt, &book)),
+        } => init(rt, &book, &first, days, &zone),
+        Job::Import { book, input } => run_on_book(rt, &book, &Task::Import { input: &input }),
+        Job::Export { book, output } => run_on_book(rt, &book, &Task::Export { output: &output }),
+        Job::Table { book } => run_on_book(rt, &book, &Task::Table),
+        Job::Audit { book } => run_on_book(rt, &book, &Task::Audit),
         Job::Serve {
             book,
             port,
             streams,
-        } => ended(desk::serve(rt, &book, port, streams)),
+        } => run_on_book(rt, &book, &Task::Serve { port, streams }),
+    }
+}
+
+/// Makes the book of a period.
+fn init(
+    rt: &HostRuntime,
+    book: &Word,
+    first: &Word,
+    days: u16,
+    zone: &Word,
+) -> Result<(), Unfinished> {
+    match look_at_period(rt, first, days, zone) {
+        Ok(()) => run_on_book(rt, book, &Task::Init { first, days, zone }),
+        Err(stop) => Err(Unfinished::Stopped(stop, None)),
     }
 }
 
@@ -122,36 +137,6 @@ pub(crate) fn tell_stop<R: Eprint + AllocGlobal>(rt: &R, stop: &Stop, row: Optio
     }
 }
 
-/// The end of a job on a book.
-fn ended(job: Result<(), Stop>) -> Result<(), Unfinished> {
-    match job {
-        Ok(()) => Ok(()),
-        Err(stop) => Err(stopped(stop)),
-    }
-}
-
-/// The end of an import, which may have stopped at a row.
-fn imported(job: Result<Option<(u32, Refusal)>, Stop>) -> Result<(), Unfinished> {
-    match job {
-        Ok(None) => Ok(()),
-        Ok(Some((row, refusal))) => Err(Unfinished::Stopped(Stop::Refused(refusal), Some(row))),
-        Err(stop) => Err(stopped(stop)),
-    }
-}
-
-/// The end of an audit, which has told what it found.
-fn audited(job: Result<Option<Table>, Stop>) -> Result<(), Unfinished> {
-    match job {
-        Ok(None) => Ok(()),
-        Ok(Some(_)) => Err(Unfinished::Differs),
-        Err(stop) => Err(stopped(stop)),
-    }
-}
-
-fn stopped(stop: Stop) -> Unfinished {
-    Unfinished::Stopped(stop, None)
-}
-
 fn faulty(fault: Fault) -> Unfinished {
-    stopped(Stop::Fault(fault))
+    Unfinished::Stopped(Stop::Fault(fault), None)
 }

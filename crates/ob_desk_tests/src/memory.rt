@@ -1,0 +1,66 @@
+//! The worked exchange where one allocation is refused.
+use crate::desk::{Desk, Heard, Trial, over_a_book};
+use crate::streams::{Sink, Source};
+use crate::texts::{FIRST, STORM, UNAVAILABLE};
+use ob_base::Fault;
+use std::alloc::{AllocError, Global};
+use std::process::Abort;
+
+// What the exchange is answered, by a writer that has its memory already.
+fn heard<D: Desk>(alloc: Global, desk: &mut D) -> Result<Heard, AllocError> {
+    let mut sink = Sink::wide(alloc);
+    sink.taken.reserve(200)?;
+    Ok(desk.hears(alloc, Source::whole(STORM), sink))
+}
+
+// Whether the exchange is answered. Where a fault ends the stream, nothing is written, or 503; after a fault of the store there
+// is no book until it is loaded again.
+fn is_answered<D: Desk>(rt: &impl Abort, desk: &mut D, heard: &Heard) -> bool {
+    match heard.end {
+        Ok(replies) => {
+            assert!(rt; replies == 1 && heard.bytes.as_slice() == FIRST);
+            true
+        }
+        Err(fault) => {
+            assert!(rt; heard.bytes.is_empty() || heard.bytes.as_slice() == UNAVAILABLE);
+            assert!(rt; fault == Fault::OutOfMemory || fault == Fault::Store);
+            assert!(rt; desk.commands().is_none() == (fault == Fault::Store));
+            false
+        }
+    }
+}
+
+// Loads the book where there is none, at the second try where memory is refused to the first.
+fn has_book<D: Desk>(desk: &mut D) -> bool {
+    desk.commands().is_some() || desk.loads() || desk.loads()
+}
+
+// Three times the exchange; the book is loaded where there is none.
+struct Refused;
+
+impl Trial for Refused {
+    fn run<A: Abort, D: Desk>(
+        &self,
+        rt: &A,
+        alloc: Global,
+        desk: &mut D,
+    ) -> Result<(), AllocError> {
+        let mut count = 0u32;
+        for _ in 0..3 {
+            let heard = heard(alloc, desk)?;
+            if is_answered(rt, desk, &heard) {
+                count = count.saturating_add(1);
+            }
+            assert!(rt; has_book(desk));
+        }
+        assert!(rt; count >= 2 && desk.commands() == Some(1));
+        Ok(())
+    }
+}
+
+// Run with one allocation refused, it sees that the exchange acts once, and that a repeat is answered by its reply. Where
+// memory is refused to the test itself, it ends there.
+#[test]
+fn memory_refused(rt: HostRuntime) {
+    let _ = over_a_book(&rt, rt.alloc(), &Refused);
+}

@@ -1,0 +1,96 @@
+//! Streams in their order, and what each is answered.
+use crate::desk::{Desk, Trial, over_a_book, told};
+use crate::texts::{STORM, get, json, many, post};
+use ob_base::Fault;
+use std::alloc::{AllocError, Global};
+use std::process::Abort;
+
+/// A text, so many times another, and a text.
+pub type Many = (&'static [u8], &'static [u8], u32, &'static [u8]);
+
+/// What a stream says.
+pub enum Ask {
+    /// A GET of a path.
+    Get(&'static str),
+    /// A POST to a path, of a body.
+    Post(&'static str, &'static str),
+    /// These bytes.
+    Text(&'static [u8]),
+    /// These bytes, and behind them the request that enters a cause, which is not read any more.
+    Last(&'static [u8]),
+    /// These bytes.
+    Many(Many),
+}
+
+/// What is written.
+pub enum Reply {
+    /// A reply with this status and this body in JSON.
+    Json(&'static str, &'static str),
+    /// These bytes.
+    Text(&'static [u8]),
+    /// These bytes.
+    Many(Many),
+}
+
+/// A stream, how it ends, after so many replies or by a fault, and what is written.
+pub type Row = (Ask, Result<u32, Fault>, Reply);
+
+/// Streams, one after the other, and how many commands the book then has.
+#[derive(Drop)]
+pub struct Script<'r> {
+    pub rows: &'r [Row],
+    pub commands: Option<u32>,
+}
+
+fn bytes_of_ask(alloc: Global, ask: &Ask) -> Result<Vec<u8>, AllocError> {
+    match ask {
+        Ask::Get(path) => get(alloc, path),
+        Ask::Post(path, body) => post(alloc, path, body),
+        Ask::Text(bytes) => bytes.to_vec(alloc),
+        Ask::Last(bytes) => many(alloc, &(bytes, b"", 0, STORM)),
+        Ask::Many(parts) => many(alloc, parts),
+    }
+}
+
+fn bytes_of_reply(alloc: Global, reply: &Reply) -> Result<Vec<u8>, AllocError> {
+    match reply {
+        Reply::Json(status, body) => json(alloc, status, body),
+        Reply::Text(bytes) => bytes.to_vec(alloc),
+        Reply::Many(parts) => many(alloc, parts),
+    }
+}
+
+fn stands<D: Desk>(desk: &mut D, commands: Option<u32>) -> bool {
+    match commands {
+        Some(count) => desk.stands_with(count),
+        None => desk.commands().is_none(),
+    }
+}
+
+impl Trial for Script<'_> {
+    fn run<A: Abort, D: Desk>(
+        &self,
+        rt: &A,
+        alloc: Global,
+        desk: &mut D,
+    ) -> Result<(), AllocError> {
+        for (ask, end, reply) in self.rows {
+            let text = bytes_of_ask(alloc, ask)?;
+            let wanted = bytes_of_reply(alloc, reply)?;
+            assert!(rt; told(alloc, desk, &text).is(*end, &wanted));
+        }
+        assert!(rt; stands(desk, self.commands));
+        Ok(())
+    }
+}
+
+/// Streams are answered so by a desk over a new book, one after the other, and the book then has so many commands.
+pub fn are_answered(
+    rt: &impl Abort,
+    alloc: Global,
+    rows: &[Row],
+    commands: u32,
+) -> Result<(), AllocError> {
+    let commands = Some(commands);
+    over_a_book(rt, alloc, &Script { rows, commands })
+}

@@ -1,0 +1,59 @@
+//! Requests and replies.
+use crate::script::Many;
+use std::alloc::{AllocError, Global};
+
+/// A request that enters a cause under the reference R1, and its reply by a new book.
+pub const STORM: &'static [u8] = b"\
+POST /commands HTTP/1.1\r\nHost: localhost\r\nContent-Length: 49\r\n\r\n\
+{\"kind\":\"cause\",\"ref\":\"R1\",\"f1\":\"3\",\"f2\":\"STORM\"}";
+
+pub const FIRST: &'static [u8] = b"\
+HTTP/1.1 200 OK\r\nContent-Type: application/json\r\nContent-Length: 19\r\n\r\n{\"moved\":[],\"no\":1}";
+
+/// Replies without a body, on streams that go on.
+pub const NOT_FOUND: &'static [u8] = b"HTTP/1.1 404 Not Found\r\nContent-Length: 0\r\n\r\n";
+
+pub const GET_ALONE: &'static [u8] =
+    b"HTTP/1.1 405 Method Not Allowed\r\nContent-Length: 0\r\nAllow: GET\r\n\r\n";
+
+pub const POST_ALONE: &'static [u8] =
+    b"HTTP/1.1 405 Method Not Allowed\r\nContent-Length: 0\r\nAllow: POST\r\n\r\n";
+
+/// The reply to a request that a fault kept from being answered.
+pub const UNAVAILABLE: &'static [u8] =
+    b"HTTP/1.1 503 Service Unavailable\r\nContent-Length: 0\r\nConnection: close\r\n\r\n";
+
+/// A request without a body.
+pub fn get(alloc: Global, path: &str) -> Result<Vec<u8>, AllocError> {
+    let text = format!(in alloc; "GET {path} HTTP/1.1\r\nHost: a\r\n\r\n")?;
+    Ok(text.into_bytes())
+}
+
+/// A request with a body.
+pub fn post(alloc: Global, path: &str, body: &str) -> Result<Vec<u8>, AllocError> {
+    let length = body.len();
+    let text = format!(in alloc;
+        "POST {path} HTTP/1.1\r\nHost: a\r\nContent-Length: {length}\r\n\r\n{body}"
+    )?;
+    Ok(text.into_bytes())
+}
+
+/// A reply with a body in JSON.
+pub fn json(alloc: Global, status: &str, body: &str) -> Result<Vec<u8>, AllocError> {
+    let length = body.len();
+    let text = format!(in alloc;
+        "HTTP/1.1 {status}\r\nContent-Type: application/json\r\nContent-Length: {length}\r\n\r\n{body}"
+    )?;
+    Ok(text.into_bytes())
+}
+
+/// A text, so many times another, and a text.
+pub fn many(alloc: Global, parts: &Many) -> Result<Vec<u8>, AllocError> {
+    let (front, middle, count, back) = parts;
+    let mut text = front.to_vec(alloc)?;
+    for _ in 0..*count {
+        text.extend_from_slice(middle)?;
+    }
+    text.extend_from_slice(back)?;
+    Ok(text)
+}

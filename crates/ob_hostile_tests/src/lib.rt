@@ -1,0 +1,27 @@
+//! Tests of a keeper whose store stops: over two files in memory, one of which answers so many calls and then none. A command,
+//! a request, an import and the making of a new book are stopped at each call of either file, from the opening of the files to
+//! their closing. What is left, with or without what was not synced, then holds all that was acknowledged, and at most one
+//! command or the book more; the work goes on from there; and a keeper whose store failed answers nothing before its book is
+//! loaded again.
+//!
+//! It holds tests alone.
+#![tactic(auto)]
+
+#[cfg(test)]
+mod creations;
+#[cfg(test)]
+mod disks;
+#[cfg(test)]
+mod importing;
+#[cfg(test)]
+mod office;
+#[cfg(test)]
+mod scripts;
+#[cfg(test)]
+mod sending;
+#[cfg(test)]
+mod serving;
+#[cfg(test)]
+mod stops;
+#[cfg(test)]
+mod tasks;

@@ -1,0 +1,107 @@
+//! What a keeper is to do over files that may stop, from their opening to their closing.
+use crate::creations::{holds_new, make};
+use crate::importing::{holds_rows, import};
+use crate::office::Office;
+use crate::sending::{holds, outage, send};
+use crate::serving::serve;
+use ob_store::Keeper;
+use ob_sweep::Windowed;
+use sqlite::{Alter, Connection, FileStore, Files, Options};
+use sqlite_disk::Disk;
+use std::alloc::Global;
+use std::process::Abort;
+
+/// How much the files hold: so much was acknowledged, and so much may have come.
+#[derive(Clone, Copy)]
+pub struct Kept {
+    pub least: u32,
+    pub most: u32,
+}
+
+impl Kept {
+    /// Just so much.
+    pub fn all(count: u32) -> Kept {
+        Kept {
+            least: count,
+            most: count,
+        }
+    }
+
+    /// So much may be there.
+    pub fn allows(&self, count: u32) -> bool {
+        self.least <= count && count <= self.most
+    }
+}
+
+/// What a keeper is to do.
+#[derive(Clone, Copy)]
+pub enum Task {
+    /// Make a book with the outage.
+    Outage,
+    /// Load the book and send it the correction.
+    Send,
+    /// Load the book that is kept, and go on.
+    Hold(Kept),
+    /// Load the book and serve it a stream with the correction.
+    Serve,
+    /// Load the book and import rows into it.
+    Import,
+    /// Load the book with the rows that are kept, and import the others.
+    HoldRows(Kept),
+    /// Make a new book.
+    Make,
+    /// Load the new book that is kept, or make it, and go on.
+    HoldNew(Kept),
+}
+
+/// Opens the files, does a task with a keeper over them, and closes them. Answers what they then hold; None where they weren't
+/// opened.
+pub fn run<D: Disk + Drop>(
+    rt: &impl Abort,
+    alloc: Global,
+    files: Files<D>,
+    task: Task,
+) -> (Option<Kept>, Files<D>) {
+    assert!(rt; files.may_be_used());
+    match Connection::open_files(alloc, files, Options::new(7)) {
+        Ok(conn) => {
+            let (kept, conn) = over(rt, alloc, conn, task);
+            (Some(kept), closed(conn))
+        }
+        Err((_, left)) => (None, left.into_files()),
+    }
+}
+
+// Closes the files; where they stop, they are left as they are.
+fn closed<D: Disk + Drop>(conn: Connection<FileStore<D>>) -> Files<D> {
+    match conn.close_files() {
+        Ok(files) => files,
+        Err((_, store)) => store.close(),
+    }
+}
+
+// Does a task with a keeper over a database.
+fn over<S: Alter + Drop>(
+    rt: &impl Abort,
+    alloc: Global,
+    conn: Connection<S>,
+    task: Task,
+) -> (Kept, Connection<S>) {
+    assert!(rt; conn.is_autocommit());
+    let mut keeper: Keeper<S, Windowed> = Keeper::adopt_connection(alloc, conn);
+    let kept = done(rt, alloc, &mut keeper, task);
+    (kept, keeper.into_connection())
+}
+
+fn done<O: Office>(rt: &impl Abort, alloc: Global, office: &mut O, task: Task) -> Kept {
+    match task {
+        Task::Outage => outage(rt, office),
+        Task::Send => send(rt, office),
+        Task::Hold(kept) => holds(rt, office, kept),
+        Task::Serve => serve(rt, alloc, office),
+        Task::Import => import(rt, alloc, office),
+        Task::HoldRows(kept) => holds_rows(rt, alloc, office, kept),
+        Task::Make => make(rt, office),
+        Task::HoldNew(kept) => holds_new(rt, office, kept),
+    }
+}
