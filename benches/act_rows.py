@@ -5,9 +5,9 @@
 An act is a lookup of its reference and one transaction: a row of `cmd`, one of `entry`, some of `moved` and as many
 updates of `posting`, over the ten tables with foreign keys. In memory and in a file, with a write-ahead log and
 synchronous = FULL. By Python's sqlite3 the rows are made up, and nothing of a book is computed. The program imports as
-many switchings of one breaker, each of which moves a cause, a feeder and a day; its time is that of the import less
-that of a tenth of it, so without its start. It keeps no book in memory alone, so its book then lies in a file system in
-memory, beside one of Python's there.
+many switchings of some breakers in turn, each of which moves a cause, a feeder and a day; its time is that of the import
+less that of a tenth of it, so without its start. It keeps no book in memory alone, so its book then lies in a file system
+in memory, beside one of Python's there. The two take turns, so that a machine whose speed changes slows both.
 """
 
 import argparse
@@ -27,62 +27,70 @@ from state import Period
 
 FIRST = 1_704_067_200
 BATCH = 500
-FIRST_ROWS = [
-    ["cause", "C1", "1", "STORM", "", "", "", ""],
-    ["section", "N1", "S1", "1", "", "", "", ""],
-    ["device", "N2", "B1", "GRID", "S1", "closed", "", ""],
-]
+BREAKERS = 100
 
 
-def act(run, number, places):
+def first_rows():
+    """A cause, and sections behind one breaker each."""
+    rows = [["cause", "C1", "1", "STORM", "", "", "", ""]]
+    for breaker in range(BREAKERS):
+        rows.append(["section", f"N{breaker}", f"S{breaker}", "1", "", "", "", ""])
+    for breaker in range(BREAKERS):
+        rows.append(["device", f"D{breaker}", f"B{breaker}", "GRID", f"S{breaker}", "closed", "", ""])
+    return rows
+
+
+def switching(turn):
+    """The breaker of a switching, and whether it closes: each breaker in turn is opened and closed."""
+    return turn // 2 % BREAKERS, turn % 2 == 1
+
+
+def act(run, number, turn, places):
     """The statements of a command that enters a switching; a place is a dimension and a key."""
-    ref = f"OUT-{number}"
+    ref = f"OUT-{turn}"
     if run("SELECT id, body FROM cmd WHERE ref = ?", (ref,)).fetchone():
         raise ValueError(ref)
-    second = FIRST + number
-    act = "open" if number % 2 else "close"
+    second = FIRST + turn
+    breaker, closes = switching(turn)
+    text = f"switch B{breaker} {'close' if closes else 'open'} {second} 1 CREW-1"
     run("BEGIN IMMEDIATE")
-    run("INSERT INTO cmd VALUES (?, ?, ?)", (number, ref, f"switch B1 {act} {second} 1 CREW-1"))
-    entry = number - len(FIRST_ROWS), 1, 0, number % 2 == 0, second, 1, "CREW-1", 1
+    run("INSERT INTO cmd VALUES (?, ?, ?)", (number, ref, text))
+    entry = turn + 1, 1, breaker, closes, second, 1, "CREW-1", 1
     run("INSERT INTO entry VALUES (?, ?, ?, ?, ?, ?, ?, ?)", entry)
-    delta = 1 if number % 2 else -1
     for dimension, key in places:
-        run("INSERT INTO moved VALUES (?, ?, ?, ?)", (number, dimension, key, delta))
+        run("INSERT INTO moved VALUES (?, ?, ?, ?)", (number, dimension, key, -1 if closes else 1))
     for dimension, key in places:
-        run("UPDATE posting SET amount = ? WHERE dim = ? AND k = ?", (number % 2, dimension, key))
+        run("UPDATE posting SET amount = ? WHERE dim = ? AND k = ?", (0 if closes else 1, dimension, key))
     run("COMMIT")
 
 
 def measure(path, acts, moved):
     """The seconds of an act by the clock and of the processor, batch by batch."""
     office = Office(path, Period("2024-01-01", 366, "UTC0"), "wal", "full")
-    for row in FIRST_ROWS:
+    before = first_rows()
+    for row in before:
         office.act(row)
     places = [(1, 1), (2, 1), *((3, day) for day in range(moved - 2))][:moved]
     seconds = []
-    number = len(FIRST_ROWS)
-    for _ in range(acts // BATCH):
+    for batch in range(acts // BATCH):
         clock, processor = time.perf_counter(), time.process_time()
-        for _ in range(BATCH):
-            number += 1
-            act(office.run, number, places)
+        for turn in range(BATCH * batch, BATCH * (batch + 1)):
+            act(office.run, len(before) + turn + 1, turn, places)
         clock, processor = time.perf_counter() - clock, time.process_time() - processor
         seconds.append((clock / BATCH, processor / BATCH))
     office.database.close()
     return seconds
 
 
-def show(name, seconds):
-    figures = [f"{value(times) * 1e6:.0f}" for times in zip(*seconds) for value in [min, median]]
-    print(f"| {name} | {len(seconds) * BATCH:,} | {' | '.join(figures)} |", flush=True)
-
-
 def csv_text(acts):
-    """Switchings of one breaker, a second after the other: each moves a cause, a feeder and the one day."""
-    rows = [["kind", "ref", *(f"f{i}" for i in range(1, 7))], *FIRST_ROWS, ["connect", "P1", "1", "S1", "0", "", "", ""]]
-    for number in range(acts):
-        act = "close" if number % 2 else "open"
-        rows.append(["switch", f"OUT-{number}", "B1", act, str(FIRST + number), "1", "CREW-1", ""])
+    """Switchings of the breakers, a second after the other: each moves a cause, a feeder and the one day."""
+    rows = [["kind", "ref", *(f"f{i}" for i in range(1, 7))], *first_rows()]
+    for breaker in range(BREAKERS):
+        rows.append(["connect", f"P{breaker}", str(breaker + 1), f"S{breaker}", "0", "", "", ""])
+    for turn in range(acts):
+        breaker, closes = switching(turn)
+        act = "close" if closes else "open"
+        rows.append(["switch", f"OUT-{turn}", f"B{breaker}", act, str(FIRST + turn), "1", "CREW-1", ""])
     return "".join(",".join(row) + "\n" for row in rows)
 
 
@@ -110,25 +118,41 @@ def act_of_program(program, folder, acts):
     return tuple((a - b) / (acts - acts // 10) for a, b in zip(long, short))
 
 
+def act_of_python(folder, acts, moved):
+    """The seconds of an act by Python's sqlite3, the median of its batches, by the clock and of the processor."""
+    with tempfile.TemporaryDirectory(dir=folder) as place:
+        seconds = measure(Path(place) / "book.db", acts, moved)
+    return tuple(median(times) for times in zip(*seconds))
+
+
+def compare(name, folder, words):
+    """Both by turns, and what each takes; the ratios are those of a turn."""
+    turns = []
+    for _ in range(words.rounds):
+        plain = act_of_python(folder, words.acts, words.moved)
+        turns.append((plain, act_of_program(words.program, folder, words.acts)))
+    figures = []
+    for which in [0, 1]:
+        plain, program = ([turn[of][which] for turn in turns] for of in [0, 1])
+        ratios = sorted(b / a for a, b in zip(plain, program))
+        figures += [f"{median(program) * 1e6:.0f}", f"{median(plain) * 1e6:.0f}"]
+        figures.append(f"{median(ratios):.2f} ({ratios[0]:.2f} to {ratios[-1]:.2f})")
+    print(f"| {name} | {' | '.join(figures)} |", flush=True)
+
+
 def main():
     words = argparse.ArgumentParser(description="Times the rows of one command by Python's sqlite3 and by the program.")
     words.add_argument("--acts", type=int, default=10_000, help="how many acts, in batches of 500; at most 50,000")
     words.add_argument("--moved", type=int, default=3, help="how many amounts an act of Python's moves, 1 to 368")
+    words.add_argument("--rounds", type=int, default=5, help="how often each is timed")
     words.add_argument("--folder", help="where the books in files are made (that of temporary files)")
     words.add_argument("--memory", default="/dev/shm", help="a folder of a file system in memory")
     words.add_argument("--program", default=PROGRAM, help="the program (that of crates/outagebook)")
     words = words.parse_args()
-    print("| Tables | acts | clock, least of batches, us an act | median, us | processor, least, us | median, us |")
-    print("|---|---|---|---|---|---|")
-    show("Python, in memory", measure(":memory:", words.acts, words.moved))
-    for name, place in [("file system in memory", words.memory), ("file", words.folder)]:
-        with tempfile.TemporaryDirectory(dir=place) as folder:
-            seconds = measure(Path(folder) / "book.db", words.acts, words.moved)
-        show(f"Python, {name}", seconds)
-        clock, processor = act_of_program(words.program, place, words.acts)
-        by_clock, by_processor = (median(times) for times in zip(*seconds))
-        print(f"| the program, {name} | {words.acts:,} | | {clock * 1e6:.0f} | | {processor * 1e6:.0f} |")
-        print(f"| times Python's | | | {clock / by_clock:.2f} | | {processor / by_processor:.2f} |", flush=True)
+    print("| An act, us | by the clock | Python's | ratio | processor | Python's | ratio |")
+    print("|---|---|---|---|---|---|---|")
+    compare("file system in memory", words.memory, words)
+    compare("file", words.folder, words)
 
 
 if __name__ == "__main__":
