@@ -2,10 +2,10 @@
 
     python3 benches/desk.py [--views N] [--commands N] [--rounds N] [--program FILE] [--folder FOLDER]
 
-Both begin with the book of a small feeder, and serve it at the same time. One client asks each in turn, round by round,
+Both begin with a small book of a hundred breakers, and serve it at the same time. One client asks each in turn, round by round,
 over one kept connection that it makes anew where a reply says `Connection: close`: GET /totals, each after the reply to
 the one before, and twenty at once, by which the client's own time counts less; then POST /commands with openings and
-closings of a breaker, each a transaction of its own, and the same again under the same references. The books lie in bench-data/, where a commit
+closings of a hundred breakers in turn, each a transaction of its own, and the same again under the same references. The books lie in bench-data/, where a commit
 waits for the disk, and then in memory, in /dev/shm. The bodies of both have to be equal, reply for reply. It prints the
 median rates of the rounds and their ratio; with --plain the plain desk stands in the program's place, which shows what
 the measure itself is worth.
@@ -32,23 +32,18 @@ HEAD_END = b"\r\n\r\n"
 LENGTH = re.compile(rb"\r\ncontent-length: *([0-9]+)", re.IGNORECASE)
 CLOSE = re.compile(rb"\r\nconnection: *close", re.IGNORECASE)
 
-FEEDER = """kind,ref,f1,f2,f3,f4,f5,f6
-cause,N1,3,STORM,,,,
-cause,N2,4,PLANNED,,,,
-bus,N3,BUS-A,,,,,
-section,N4,S1,1,,,,
-section,N5,S2,1,,,,
-section,N6,S3,2,,,,
-device,N7,I1,GRID,BUS-A,closed,,
-device,N8,B1,BUS-A,S1,closed,,
-device,N9,W1,S1,S2,closed,,
-device,N10,B2,BUS-A,S3,closed,,
-device,N11,T1,S2,S3,open,,
-"""
-CUSTOMERS = "".join(
-    f"connect,C{number},{number},{section},{FIRST},,,\n"
-    for number, section in enumerate(["S1"] * 2 + ["S2"] * 3 + ["S3"] * 5, 1)
-)
+BREAKERS = 100
+
+
+def book_text():
+    """A cause, a bus, and sections behind one breaker each, with a customer each."""
+    rows = ["kind,ref,f1,f2,f3,f4,f5,f6", "cause,N1,3,STORM,,,,", "bus,N2,BUS-A,,,,,"]
+    numbers = range(1, BREAKERS + 1)
+    rows += [f"section,S{number},S{number},1,,,," for number in numbers]
+    rows.append("device,D0,I1,GRID,BUS-A,closed,,")
+    rows += [f"device,D{number},B{number},BUS-A,S{number},closed,," for number in numbers]
+    rows += [f"connect,C{number},{number},S{number},{FIRST},,," for number in numbers]
+    return "".join(f"{row}\n" for row in rows)
 
 
 class Client:
@@ -125,11 +120,11 @@ def view(path):
 
 
 def command(number):
-    """The opening or closing of a breaker, ten seconds after the one before."""
+    """The opening or closing of one of the breakers, which take turns, ten seconds after the one before."""
     said = {
         "kind": "switch",
         "ref": f"OUT-{number}",
-        "f1": "B1",
+        "f1": f"B{number // 2 % BREAKERS + 1}",
         "f2": "close" if number % 2 else "open",
         "f3": str(FIRST + 10 * number),
         "f4": "3",
@@ -198,7 +193,7 @@ def main():
     words = words.parse_args()
     words.folder.mkdir(exist_ok=True)
     text = words.folder / "desk.csv"
-    text.write_text(FEEDER + CUSTOMERS, encoding="ascii")
+    text.write_text(book_text(), encoding="ascii")
     print("| Requests over one kept connection | rounds | program, a second | http.server and sqlite3, a second | ratio |")
     print("|---|---|---|---|---|")
     measure("on disk", words.folder, text, words)
