@@ -7,13 +7,23 @@
 #[cfg(test)]
 mod exports;
 #[cfg(test)]
+mod fortnight;
+#[cfg(test)]
+mod fortnight_moves;
+#[cfg(test)]
+mod fortnight_texts;
+#[cfg(test)]
 mod imports;
 #[cfg(test)]
 mod office;
 #[cfg(test)]
 mod refusals;
 #[cfg(test)]
+mod script;
+#[cfg(test)]
 mod sinks;
+#[cfg(test)]
+mod sources;
 #[cfg(test)]
 mod streams;
 #[cfg(test)]

@@ -49,3 +49,9 @@ switch,N23,W1,open,1704071400,3,K1,
 switch,N24,T1,close,1704071400,3,K1,
 switch,N25,B1,close,1704074400,3,K1,
 ";
+
+/// The breaker closed ten minutes earlier.
+pub const CORRECTION: &'static str = "\
+kind,ref,f1,f2,f3,f4,f5,f6
+correct,FIX1,4,1,close,1704073800,3,K1
+";
