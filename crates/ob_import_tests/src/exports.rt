@@ -112,19 +112,13 @@ fn are_stored<O: Office>(alloc: Global, office: &mut O) -> bool {
 struct Sinks;
 
 impl Trial for Sinks {
-    fn run<A: Abort, O: Office>(
-        &self,
-        rt: &A,
-        alloc: Global,
-        office: &mut O,
-    ) -> Result<(), AllocError> {
-        CORRECTED.run(rt, alloc, office)?;
+    fn run<A: Abort, O: Office>(&self, rt: &A, alloc: Global, office: &mut O) {
+        CORRECTED.run(rt, alloc, office);
         for room in 0..12 {
             assert!(rt; fills(alloc, office, room));
         }
         assert!(rt; takes_all(alloc, office));
         assert!(rt; are_stored(alloc, office));
-        Ok(())
     }
 }
 
@@ -141,26 +135,22 @@ fn breaks_off<O: Office>(
     full: Option<ErrorKind>,
 ) -> bool {
     let written = office.writes(alloc, Sink::jolting(alloc, room, full));
-    written.is(Err(Stop::Fault(Fault::Output)), &EXPORT.as_bytes()[..room])
+    written.end == Err(Stop::Fault(Fault::Output))
+        && written.bytes.len() == room
+        && EXPORT.as_bytes().starts_with(&written.bytes)
 }
 
 // Writers that fail behind each byte in turn, one that takes none any more, and one that is interrupted for ever.
 struct Writers;
 
 impl Trial for Writers {
-    fn run<A: Abort, O: Office>(
-        &self,
-        rt: &A,
-        alloc: Global,
-        office: &mut O,
-    ) -> Result<(), AllocError> {
-        CORRECTED.run(rt, alloc, office)?;
+    fn run<A: Abort, O: Office>(&self, rt: &A, alloc: Global, office: &mut O) {
+        CORRECTED.run(rt, alloc, office);
         for room in 0..EXPORT.len() {
             assert!(rt; breaks_off(alloc, office, room, Some(ErrorKind::Other)));
         }
         assert!(rt; breaks_off(alloc, office, 40, None));
         assert!(rt; breaks_off(alloc, office, 40, Some(ErrorKind::Interrupted)));
-        Ok(())
     }
 }
 

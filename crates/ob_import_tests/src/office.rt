@@ -128,12 +128,7 @@ impl<S: Alter, T: Timeline> Office for Keeper<S, T> {
 
 /// What a keeper is tried by.
 pub trait Trial {
-    fn run<A: Abort, O: Office>(
-        &self,
-        rt: &A,
-        alloc: Global,
-        office: &mut O,
-    ) -> Result<(), AllocError>;
+    fn run<A: Abort, O: Office>(&self, rt: &A, alloc: Global, office: &mut O);
 }
 
 /// A keeper without a book over a store in memory is tried. In the end no table differs from what the commands give, and the
@@ -159,18 +154,17 @@ pub fn over_tables<C: Trial, N: Trial>(
     let Ok(conn) = Connection::open_in_memory(alloc) else {
         return Err(AllocError);
     };
-    let conn = over(rt, alloc, conn, trial)?;
-    let mut conn = over(rt, alloc, conn, next)?;
-    has_rows(rt, alloc, &mut conn, rows)
+    let conn = over(rt, alloc, conn, trial);
+    let mut conn = over(rt, alloc, conn, next);
+    has_rows(rt, alloc, &mut conn, rows);
+    Ok(())
 }
 
 // Nothing is tried.
 struct Nothing;
 
 impl Trial for Nothing {
-    fn run<A: Abort, O: Office>(&self, _: &A, _: Global, _: &mut O) -> Result<(), AllocError> {
-        Ok(())
-    }
+    fn run<A: Abort, O: Office>(&self, _: &A, _: Global, _: &mut O) {}
 }
 
 // A keeper over a database is tried. Answers the database that it leaves.
@@ -179,20 +173,14 @@ fn over<S: Alter + Drop, C: Trial>(
     alloc: Global,
     conn: Connection<S>,
     trial: &C,
-) -> Result<Connection<S>, AllocError> {
+) -> Connection<S> {
     assert!(rt; conn.is_autocommit());
     let mut keeper: Keeper<S, Windowed> = Keeper::adopt_connection(alloc, conn);
-    is_tried(rt, alloc, &mut keeper, trial)?;
-    Ok(keeper.into_connection())
+    is_tried(rt, alloc, &mut keeper, trial);
+    keeper.into_connection()
 }
 
-fn is_tried<O: Office, C: Trial>(
-    rt: &impl Abort,
-    alloc: Global,
-    office: &mut O,
-    trial: &C,
-) -> Result<(), AllocError> {
-    trial.run(rt, alloc, office)?;
+fn is_tried<O: Office, C: Trial>(rt: &impl Abort, alloc: Global, office: &mut O, trial: &C) {
+    trial.run(rt, alloc, office);
     assert!(rt; office.is_sound());
-    Ok(())
 }

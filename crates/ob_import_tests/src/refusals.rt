@@ -6,28 +6,26 @@ use ob_net::Refusal;
 use std::alloc::{AllocError, Global};
 use std::process::Abort;
 
+// Whether the import of this row under the header is refused in this column.
+fn is_refused<O: Office>(alloc: Global, office: &mut O, row: &str, column: u8) -> bool {
+    let wanted = Outcome::Stopped(0, 0, 1, Refusal::BadField(column)).report();
+    match format!(in alloc; "kind,ref,f1,f2,f3,f4,f5,f6\n{row}") {
+        Ok(text) => office.takes(alloc, text.as_bytes()) == wanted,
+        Err(_) => false,
+    }
+}
+
 // Rows, each of which is refused in this column by a book that stays as it is.
 struct Bad<'r> {
     rows: &'r [(&'static str, u8)],
 }
 
 impl Trial for Bad<'_> {
-    fn run<A: Abort, O: Office>(
-        &self,
-        rt: &A,
-        alloc: Global,
-        office: &mut O,
-    ) -> Result<(), AllocError> {
+    fn run<A: Abort, O: Office>(&self, rt: &A, alloc: Global, office: &mut O) {
         assert!(rt; office.makes(&A_DAY));
         for (row, column) in self.rows {
-            let text = format!(in alloc; "kind,ref,f1,f2,f3,f4,f5,f6\n{row}")?;
-            let wanted = Outcome::Stopped(0, 0, 1, Refusal::BadField(*column));
-            assert!(rt;
-                office.takes(alloc, text.as_bytes()) == wanted.report(),
-                "{row}"
-            );
+            assert!(rt; is_refused(alloc, office, row, *column), "{row}");
         }
-        Ok(())
     }
 }
 

@@ -111,16 +111,10 @@ impl Script<'_> {
 }
 
 impl Trial for Script<'_> {
-    fn run<A: Abort, O: Office>(
-        &self,
-        rt: &A,
-        alloc: Global,
-        office: &mut O,
-    ) -> Result<(), AllocError> {
+    fn run<A: Abort, O: Office>(&self, rt: &A, alloc: Global, office: &mut O) {
         for step in self.steps {
             assert!(rt; self.holds(alloc, office, step));
         }
-        Ok(())
     }
 }
 
