@@ -1,6 +1,6 @@
 //! Exports of what the commands moved, and sinks and writers that fail.
 use crate::office::{Office, Trial, over_a_store};
-use crate::script::{A_DAY, Outcome, Script, Step, goes};
+use crate::script::{A_DAY, Outcome, Script, Step, are_answered};
 use crate::sinks::{Shelf, Sink};
 use crate::texts::{CORRECTION, OUTAGE};
 use ob_net::{Fault, Stop};
@@ -38,7 +38,7 @@ const EXPORTED: &[Step] = &[
 
 #[test]
 fn an_export(rt: HostRuntime) -> Result<(), AllocError> {
-    goes(&rt, rt.alloc(), EXPORTED, ROWS)
+    are_answered(&rt, rt.alloc(), EXPORTED, ROWS)
 }
 
 const OF_NOTHING: &[Step] = &[
@@ -50,7 +50,7 @@ const OF_NOTHING: &[Step] = &[
 #[test]
 fn exports_of_nothing(rt: HostRuntime) -> Result<(), AllocError> {
     let rows = &[1, 1, 1, 0, 0, 0, 0, 0, 0, 320];
-    goes(&rt, rt.alloc(), OF_NOTHING, rows)
+    are_answered(&rt, rt.alloc(), OF_NOTHING, rows)
 }
 
 // The book of the outage with its correction is made.
@@ -108,7 +108,7 @@ fn are_stored<O: Office>(alloc: Global, office: &mut O) -> bool {
     office.tells(27, &mut shelf) == Ok(false) && are_first(&shelf.taken, 12)
 }
 
-// Sinks with less and less too little room.
+// Sinks with room for each number of amounts, none to all twelve.
 struct Sinks;
 
 impl Trial for Sinks {

@@ -2,7 +2,7 @@
 use crate::fortnight_moves::{CORRECTED_MOVES, MOVES};
 use crate::fortnight_texts::{CORRECTED_TABLE, CORRECTIONS, FORTNIGHT, TABLE};
 use crate::office::Period;
-use crate::script::{Outcome, Step, goes};
+use crate::script::{Outcome, Step, are_answered};
 use std::alloc::AllocError;
 
 const FOURTEEN_DAYS: Period = ("2025-03-24", 14, "CET-1CEST,M3.5.0,M10.5.0/3");
@@ -21,5 +21,5 @@ const STEPS: &[Step] = &[
 #[test]
 fn the_sample_fortnight(rt: HostRuntime) -> Result<(), AllocError> {
     let rows = &[1, 9, 10, 11, 33, 33, 1, 100, 234, 333];
-    goes(&rt, rt.alloc(), STEPS, rows)
+    are_answered(&rt, rt.alloc(), STEPS, rows)
 }

@@ -1,6 +1,6 @@
 //! Imports into new books, and texts that come twice.
 use crate::office::over_tables;
-use crate::script::{A_DAY, Outcome, Script, Step, goes, goes_both_ways};
+use crate::script::{A_DAY, Outcome, Script, Step, are_answered, are_answered_both_ways};
 use crate::texts::{ONE_NAME_TWICE, OUTAGE, TWO_NAMES};
 use ob_net::{Fault, Refusal};
 use std::alloc::AllocError;
@@ -26,7 +26,7 @@ const CHANGED: &[Step] = &[
 #[test]
 fn a_row_stops_and_is_changed(rt: HostRuntime) -> Result<(), AllocError> {
     let rows = &[1, 2, 4, 0, 0, 0, 0, 4, 0, 320];
-    goes_both_ways(&rt, rt.alloc(), CHANGED, rows)
+    are_answered_both_ways(&rt, rt.alloc(), CHANGED, rows)
 }
 
 const WITHOUT_ROWS: &[Step] = &[
@@ -48,7 +48,7 @@ const WITHOUT_ROWS: &[Step] = &[
 #[test]
 fn texts_without_rows(rt: HostRuntime) -> Result<(), AllocError> {
     let rows = &[1, 1, 1, 0, 0, 0, 0, 0, 0, 320];
-    goes_both_ways(&rt, rt.alloc(), WITHOUT_ROWS, rows)
+    are_answered_both_ways(&rt, rt.alloc(), WITHOUT_ROWS, rows)
 }
 
 const TWICE: &[Step] = &[
@@ -60,7 +60,7 @@ const TWICE: &[Step] = &[
 #[test]
 fn a_text_comes_twice(rt: HostRuntime) -> Result<(), AllocError> {
     let rows = &[1, 3, 5, 5, 10, 4, 0, 25, 9, 320];
-    goes_both_ways(&rt, rt.alloc(), TWICE, rows)
+    are_answered_both_ways(&rt, rt.alloc(), TWICE, rows)
 }
 
 // The book of the outage has this total, and each amount of it by cause, day and feeder.
@@ -151,5 +151,5 @@ const WITHOUT_A_BOOK: &[Step] = &[
 
 #[test]
 fn without_a_book(rt: HostRuntime) -> Result<(), AllocError> {
-    goes_both_ways(&rt, rt.alloc(), WITHOUT_A_BOOK, &[])
+    are_answered_both_ways(&rt, rt.alloc(), WITHOUT_A_BOOK, &[])
 }

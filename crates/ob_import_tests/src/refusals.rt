@@ -1,6 +1,6 @@
 //! Rows that can't be read, and other spellings of rows that can.
 use crate::office::{Office, Trial, over_a_store};
-use crate::script::{A_DAY, Outcome, Step, goes};
+use crate::script::{A_DAY, Outcome, Step, are_answered};
 use crate::texts::OUTAGE;
 use ob_net::Refusal;
 use std::alloc::{AllocError, Global};
@@ -70,7 +70,7 @@ const BOTH: &[Step] = &[
 #[test]
 fn marks_line_ends_and_quotes(rt: HostRuntime) -> Result<(), AllocError> {
     let rows = &[1, 2, 3, 0, 0, 0, 0, 3, 0, 320];
-    goes(&rt, rt.alloc(), BOTH, rows)
+    are_answered(&rt, rt.alloc(), BOTH, rows)
 }
 
 // Rows under references that the outage has.
@@ -89,5 +89,5 @@ const SPELT_OTHERWISE: &[Step] = &[
 #[test]
 fn another_spelling_is_the_same_command(rt: HostRuntime) -> Result<(), AllocError> {
     let rows = &[1, 3, 5, 5, 10, 4, 0, 25, 9, 320];
-    goes(&rt, rt.alloc(), SPELT_OTHERWISE, rows)
+    are_answered(&rt, rt.alloc(), SPELT_OTHERWISE, rows)
 }

@@ -112,14 +112,14 @@ impl Script<'_> {
 
 impl Trial for Script<'_> {
     fn run<A: Abort, O: Office>(&self, rt: &A, alloc: Global, office: &mut O) {
-        for step in self.steps {
-            assert!(rt; self.holds(alloc, office, step));
+        for (place, step) in self.steps.iter().enumerate() {
+            assert!(rt; self.holds(alloc, office, step), "step {place}, from 0");
         }
     }
 }
 
 /// The steps are answered as they say by a keeper over a store in memory, and the tables then have so many rows.
-pub fn goes(
+pub fn are_answered(
     rt: &impl Abort,
     alloc: Global,
     steps: &[Step],
@@ -130,13 +130,13 @@ pub fn goes(
 }
 
 /// The same where each text lies in memory, and where it comes from a reader.
-pub fn goes_both_ways(
+pub fn are_answered_both_ways(
     rt: &impl Abort,
     alloc: Global,
     steps: &[Step],
     rows: &[i64],
 ) -> Result<(), AllocError> {
-    goes(rt, alloc, steps, rows)?;
+    are_answered(rt, alloc, steps, rows)?;
     let by_reader = true;
     over_a_store(rt, alloc, &Script { steps, by_reader }, rows)
 }

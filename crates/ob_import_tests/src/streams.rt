@@ -1,6 +1,6 @@
 //! Imports from readers that fail or are interrupted.
 use crate::office::{Office, Trial, over_a_store};
-use crate::script::{A_DAY, Outcome, Step, goes};
+use crate::script::{A_DAY, Outcome, Step, are_answered};
 use crate::sources::Source;
 use crate::texts::{OUTAGE, TWO_NAMES};
 use ob_net::Fault;
@@ -53,7 +53,7 @@ const JOLTING: &[Step] = &[
 #[test]
 fn an_interrupted_reader(rt: HostRuntime) -> Result<(), AllocError> {
     let rows = &[1, 3, 5, 5, 10, 4, 0, 25, 9, 320];
-    goes(&rt, rt.alloc(), JOLTING, rows)
+    are_answered(&rt, rt.alloc(), JOLTING, rows)
 }
 
 // The whole text, and then interrupted reads alone.
@@ -65,5 +65,5 @@ const STUCK: &[Step] = &[
 #[test]
 fn a_reader_interrupted_for_ever(rt: HostRuntime) -> Result<(), AllocError> {
     let rows = &[1, 2, 4, 0, 0, 0, 0, 4, 0, 320];
-    goes(&rt, rt.alloc(), STUCK, rows)
+    are_answered(&rt, rt.alloc(), STUCK, rows)
 }
