@@ -67,7 +67,7 @@ fn a_text_comes_twice(rt: HostRuntime) -> Result<(), AllocError> {
 const TOTALS: &'static str =
     "{\"cause\":[[3,9000]],\"day\":[[0,9000]],\"feeder\":[[1,9000]],\"total\":9000}";
 
-// Its annual table, by a plain model of the book.
+// Its annual table.
 const TABLE: &'static str = "\
 OUTAGE BOOK 2024-01-01 days 1 zone UTC0
 P 86400 S 864000 W 9000

@@ -4,7 +4,7 @@ use crate::sources::Source;
 use crate::tables::has_rows;
 use ob_export::export_moves;
 use ob_import::{ImportFault, ImportReport, import, import_text};
-use ob_net::{Fault, Stop, Watched};
+use ob_net::{Fault, Refusal, Stop, Watched};
 use ob_store::Keeper;
 use ob_sweep::{Timeline, Windowed};
 use sqlite::{Alter, Connection};
@@ -31,8 +31,8 @@ impl Written {
     }
 }
 
-/// A book, or none, that texts are imported into and moved amounts are exported from. A test knows no more of a keeper than
-/// this: with the clauses of a keeper's calls each function that makes some is long to prove.
+/// A book, or none, that texts are imported into and moved amounts are exported from. A test knows no more of a keeper
+/// than this: with the clauses of a keeper's calls each function that makes some is long to prove.
 pub trait Office {
     /// Makes a new book of a period.
     fn makes(&mut self, period: &Period) -> bool;
@@ -40,7 +40,7 @@ pub trait Office {
     /// Reads the book that the tables hold.
     fn loads(&mut self) -> bool;
 
-    /// Whether there is no book, or no table differs from what the commands give.
+    /// Whether no table differs from what the commands give, or there is no book in the tables, as there is none here.
     fn is_sound(&mut self) -> bool;
 
     /// What the import of a text is answered.
@@ -76,7 +76,10 @@ impl<S: Alter, T: Timeline> Office for Keeper<S, T> {
     }
 
     fn is_sound(&mut self) -> bool {
-        self.book().is_none() || matches!(self.audit(), Ok(None))
+        match self.audit() {
+            Ok(found) => found.is_none(),
+            Err(stop) => stop == Stop::Refused(Refusal::BadBook) && self.book().is_none(),
+        }
     }
 
     fn takes(&mut self, alloc: Global, text: &[u8]) -> Report {
@@ -131,8 +134,8 @@ pub trait Trial {
     fn run<A: Abort, O: Office>(&self, rt: &A, alloc: Global, office: &mut O);
 }
 
-/// A keeper without a book over a store in memory is tried. In the end no table differs from what the commands give, and the
-/// tables have so many rows.
+/// A keeper without a book over a store in memory is tried. In the end no table differs from what the commands give,
+/// and the tables have so many rows.
 pub fn over_a_store<C: Trial>(
     rt: &impl Abort,
     alloc: Global,
@@ -142,8 +145,8 @@ pub fn over_a_store<C: Trial>(
     over_tables(rt, alloc, trial, &Nothing, rows)
 }
 
-/// The same, and before the rows are counted another keeper over the tables that the first one left is tried by what comes
-/// next.
+/// The same, and before the rows are counted another keeper over the tables that the first one left is tried by what
+/// comes next.
 pub fn over_tables<C: Trial, N: Trial>(
     rt: &impl Abort,
     alloc: Global,

@@ -6,8 +6,8 @@ use std::alloc::Global;
 use std::io;
 use std::io::{ErrorKind, Write};
 
-/// Takes at most `step` bytes a write while it has room, each time after an interrupted write where `jolts`. Then it answers
-/// this error, or takes none.
+/// Takes at most `step` bytes a write while it has room, each time after an interrupted write where `jolts`. Then it
+/// answers this error, or takes none.
 #[derive(Drop)]
 pub struct Sink {
     pub taken: Vec<u8>,
@@ -31,7 +31,7 @@ impl Sink {
         }
     }
 
-    /// Room for so many bytes, one a write, each after an interrupted write; and then this error for ever, or none taken.
+    /// Room for so many bytes, one a write, each after an interrupted write; then this error for ever, or none taken.
     pub fn jolting(alloc: Global, room: usize, full: Option<ErrorKind>) -> Sink {
         Sink {
             taken: Vec::new(alloc),

@@ -2,8 +2,8 @@
 use std::io;
 use std::io::{ErrorKind, Read};
 
-/// Gives at most `step` bytes a read, each time after an interrupted read where `jolts`. Behind its bytes it answers this error,
-/// or ends.
+/// Gives at most `step` bytes a read, each time after an interrupted read where `jolts`. Behind its bytes it answers
+/// this error, or ends.
 #[derive(Drop)]
 pub struct Source<'b> {
     rest: &'b [u8],
