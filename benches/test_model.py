@@ -295,6 +295,16 @@ class Examples(unittest.TestCase):
                 self.assertEqual({key: amount for key, amount in book.amounts().items() if key[0] == 1}, BY_HAND)
                 self.assertEqual([counts["MOMENTARY"] for _, counts in map(book.indices, [False, True])], [16, 16])
 
+    def test_texts_of_the_tests(self):
+        """The crates' tests have the files of the sample fortnight as they stand in `examples/`."""
+        root = Path(__file__).resolve().parent.parent
+        sources = [root / f"crates/ob_import_tests/src/fortnight_{name}.rt" for name in ["texts", "moves"]]
+        source = "".join(file.read_text(encoding="ascii") for file in sources)
+        for name in ["fortnight", "corrections"]:
+            for file in [f"{name}.{end}" for end in ["csv", "table.txt", "moves.csv"]]:
+                text = (root / "examples" / file).read_text(encoding="ascii")
+                self.assertIn(f'"\\\n{text}";', source, file)
+
 
 class Fields(unittest.TestCase):
     def bad_column(self, row):

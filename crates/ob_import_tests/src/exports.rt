@@ -1,16 +1,16 @@
 //! Exports of what the commands moved, and sinks and writers that fail.
-use crate::office::Office;
-use crate::sinks::Shelf;
-use crate::streams::Sink;
-use ob_net::{Fault, Stop, Watched};
+use crate::office::{Office, Trial, over_a_store};
+use crate::script::{A_DAY, Outcome, Script, Step, are_answered};
+use crate::sinks::{Shelf, Sink};
+use crate::texts::{CORRECTION, OUTAGE};
+use ob_net::{Fault, Stop};
 use ob_post::{Dim, Moved};
-use std::alloc::Global;
+use std::alloc::{AllocError, Global};
 use std::io::ErrorKind;
 use std::process::Abort;
-use std::test::Fail;
 
 // The outage with its correction, as an export shows it.
-const EXPORT: &[u8] = b"cmd,dim,key,delta
+const EXPORT: &'static str = "cmd,dim,key,delta
 22,cause,3,414000
 22,feeder,1,414000
 22,day,0,414000
@@ -25,95 +25,136 @@ const EXPORT: &[u8] = b"cmd,dim,key,delta
 26,day,0,-1200
 ";
 
-// What the outage and its correction moved: each time the same by cause 3, feeder 1 and day 0.
-fn moved(alloc: Global) -> Result<Vec<(u32, Moved)>, Fail> {
-    let mut rows = Vec::new(alloc);
-    for (cmd, delta) in [(22, 414_000), (24, -246_600), (25, -158_400), (26, -1_200)] {
-        for (dim, key) in [(Dim::Cause, 3), (Dim::Feeder, 1), (Dim::Day, 0)] {
-            rows.push((cmd, Moved { dim, key, delta }))?;
-        }
-    }
-    Ok(rows)
-}
-
 // How many rows the tables of the outage with its correction have.
 const ROWS: &[i64] = &[1, 3, 5, 5, 10, 4, 0, 26, 12, 320];
 
-#[test]
-fn an_export(rt: HostRuntime) -> Result<(), Fail> {
-    let mut office = Office::corrected(&rt, rt.alloc())?;
-    let mut writer = Watched::new(Vec::new(rt.alloc()));
-    assert!(rt; office.writes(&mut writer) == Ok(12));
-    assert!(rt; writer.into_parts().0.as_slice() == EXPORT);
-    office.leaves(&rt, ROWS)
-}
+const EXPORTED: &[Step] = &[
+    Step::Make(A_DAY),
+    Step::Import(OUTAGE, Outcome::Took(25, 0)),
+    Step::Import(CORRECTION, Outcome::Took(1, 0)),
+    Step::Export(Ok(12), EXPORT),
+    Step::ExportJolting(Ok(12), EXPORT),
+];
 
 #[test]
-fn exports_of_nothing(rt: HostRuntime) -> Result<(), Fail> {
-    let mut office = Office::new(&rt, rt.alloc())?;
-    let mut writer = Watched::new(Vec::new(rt.alloc()));
-    assert!(rt; office.writes(&mut writer) == Ok(0));
-    assert!(rt; writer.into_parts().0.as_slice() == b"cmd,dim,key,delta\n".as_slice());
-    let mut office = Office::without_book(&rt, rt.alloc())?;
-    let mut writer = Watched::new(Vec::new(rt.alloc()));
-    assert!(rt; office.writes(&mut writer) == Err(Stop::Fault(Fault::Reopen)));
-    assert!(rt; writer.into_parts().0.is_empty());
-    Ok(())
+fn an_export(rt: HostRuntime) -> Result<(), AllocError> {
+    are_answered(&rt, rt.alloc(), EXPORTED, ROWS)
 }
 
+const OF_NOTHING: &[Step] = &[
+    Step::Export(Err(Stop::Fault(Fault::Reopen)), ""),
+    Step::Make(A_DAY),
+    Step::Export(Ok(0), "cmd,dim,key,delta\n"),
+];
+
 #[test]
-fn sinks_that_fail(rt: HostRuntime) -> Result<(), Fail> {
-    let mut office = Office::corrected(&rt, rt.alloc())?;
-    let moved = moved(rt.alloc())?;
-    for room in 0..12 {
-        fills(&rt, rt.alloc(), &mut office, room, &moved);
+fn exports_of_nothing(rt: HostRuntime) -> Result<(), AllocError> {
+    let rows = &[1, 1, 1, 0, 0, 0, 0, 0, 0, 320];
+    are_answered(&rt, rt.alloc(), OF_NOTHING, rows)
+}
+
+// The book of the outage with its correction is made.
+const CORRECTED: Script<'static> = Script {
+    steps: &[
+        Step::Make(A_DAY),
+        Step::Import(OUTAGE, Outcome::Took(25, 0)),
+        Step::Import(CORRECTION, Outcome::Took(1, 0)),
+    ],
+    by_reader: false,
+};
+
+// What the commands moved: the outage and its correction, each time the same by cause 3, feeder 1 and day 0.
+const COMMANDS: &[(u32, i64)] = &[(22, 414_000), (24, -246_600), (25, -158_400), (26, -1_200)];
+
+const KEYS: &[(Dim, u16)] = &[(Dim::Cause, 3), (Dim::Feeder, 1), (Dim::Day, 0)];
+
+// The amount at this place of the twelve, from 0.
+fn moved(place: usize) -> Option<(u32, Moved)> {
+    let (cmd, delta) = *COMMANDS.get(place / 3)?;
+    let (dim, key) = *KEYS.get(place % 3)?;
+    Some((cmd, Moved { dim, key, delta }))
+}
+
+// Whether there are so many amounts, and they are the first of the twelve.
+fn are_first(taken: &[(u32, Moved)], count: usize) -> bool {
+    for (place, row) in taken.iter().enumerate() {
+        if moved(place) != Some(*row) {
+            return false;
+        }
     }
-    let mut sink = Shelf::new(rt.alloc(), 12);
-    assert!(rt; office.hands(&mut sink) == Ok(12));
-    assert!(rt; sink.taken.as_slice() == moved.as_slice());
-    stands(&rt, office, &moved)
+    taken.len() == count
 }
 
-// A sink with too little room takes the first amounts, and its fault comes back.
-fn fills(rt: &impl Abort, alloc: Global, office: &mut Office, room: usize, moved: &[(u32, Moved)]) {
-    let mut sink = Shelf::new(alloc, room);
-    assert!(rt; office.hands(&mut sink) == Err(Stop::Fault(Fault::Output)));
-    assert!(rt; sink.taken.len() == room && moved.starts_with(sink.taken.as_slice()));
+// Whether a sink with too little room takes the first amounts, and its fault comes back.
+fn fills<O: Office>(alloc: Global, office: &mut O, room: usize) -> bool {
+    let mut shelf = Shelf::new(alloc, room);
+    office.hands(&mut shelf) == Err(Stop::Fault(Fault::Output)) && are_first(&shelf.taken, room)
 }
 
-// The stored replies have what the commands moved, and the tables are those of the commands.
-fn stands(rt: &impl Abort, mut office: Office, moved: &[(u32, Moved)]) -> Result<(), Fail> {
-    assert!(rt; office.replies(26)?.as_slice() == moved);
-    assert!(rt; office.has_no_reply(27)?);
-    office.leaves(rt, ROWS)
+// Whether a sink with room for all amounts takes them.
+fn takes_all<O: Office>(alloc: Global, office: &mut O) -> bool {
+    let mut shelf = Shelf::new(alloc, 12);
+    office.hands(&mut shelf) == Ok(12) && are_first(&shelf.taken, 12)
 }
 
-#[test]
-fn writers_that_fail(rt: HostRuntime) -> Result<(), Fail> {
-    let mut office = Office::corrected(&rt, rt.alloc())?;
-    for room in 0..EXPORT.len() {
-        assert!(rt; breaks_off(rt.alloc(), &mut office, room, Some(ErrorKind::Other)));
+// Whether the stored replies of the 26 commands have the amounts, and there is no other reply.
+fn are_stored<O: Office>(alloc: Global, office: &mut O) -> bool {
+    let mut shelf = Shelf::new(alloc, 12);
+    for no in 1..=26 {
+        if office.tells(no, &mut shelf) != Ok(true) {
+            return false;
+        }
     }
-    assert!(rt; breaks_off(rt.alloc(), &mut office, 40, None));
-    assert!(rt; breaks_off(rt.alloc(), &mut office, 40, Some(ErrorKind::Interrupted)));
-    office.leaves(&rt, ROWS)
+    office.tells(27, &mut shelf) == Ok(false) && are_first(&shelf.taken, 12)
 }
 
-// An export to a writer with room for so many bytes stops for a failed output when they are written.
-fn breaks_off(alloc: Global, office: &mut Office, room: usize, full: Option<ErrorKind>) -> bool {
-    let mut writer = Sink::new(alloc, room, full);
-    let answer = office.writes(&mut writer);
-    let taken = writer.into_parts().0.taken;
-    answer == Err(Stop::Fault(Fault::Output))
-        && taken.len() == room
-        && EXPORT.starts_with(taken.as_slice())
+// Sinks with room for each number of amounts, none to all twelve.
+struct Sinks;
+
+impl Trial for Sinks {
+    fn run<A: Abort, O: Office>(&self, rt: &A, alloc: Global, office: &mut O) {
+        CORRECTED.run(rt, alloc, office);
+        for room in 0..12 {
+            assert!(rt; fills(alloc, office, room));
+        }
+        assert!(rt; takes_all(alloc, office));
+        assert!(rt; are_stored(alloc, office));
+    }
 }
 
 #[test]
-fn a_slow_writer(rt: HostRuntime) -> Result<(), Fail> {
-    let mut office = Office::corrected(&rt, rt.alloc())?;
-    let mut writer = Sink::new(rt.alloc(), EXPORT.len(), None);
-    assert!(rt; office.writes(&mut writer) == Ok(12));
-    assert!(rt; writer.into_parts().0.taken.as_slice() == EXPORT);
-    Ok(())
+fn sinks_that_fail(rt: HostRuntime) -> Result<(), AllocError> {
+    over_a_store(&rt, rt.alloc(), &Sinks, ROWS)
+}
+
+// Whether an export to a writer with room for so many bytes stops for a failed output when they are written.
+fn breaks_off<O: Office>(
+    alloc: Global,
+    office: &mut O,
+    room: usize,
+    full: Option<ErrorKind>,
+) -> bool {
+    let written = office.writes(alloc, Sink::jolting(alloc, room, full));
+    written.end == Err(Stop::Fault(Fault::Output))
+        && written.bytes.len() == room
+        && EXPORT.as_bytes().starts_with(&written.bytes)
+}
+
+// Writers that fail behind each byte in turn, one that takes none any more, and one that is interrupted for ever.
+struct Writers;
+
+impl Trial for Writers {
+    fn run<A: Abort, O: Office>(&self, rt: &A, alloc: Global, office: &mut O) {
+        CORRECTED.run(rt, alloc, office);
+        for room in 0..EXPORT.len() {
+            assert!(rt; breaks_off(alloc, office, room, Some(ErrorKind::Other)));
+        }
+        assert!(rt; breaks_off(alloc, office, 40, None));
+        assert!(rt; breaks_off(alloc, office, 40, Some(ErrorKind::Interrupted)));
+    }
+}
+
+#[test]
+fn writers_that_fail(rt: HostRuntime) -> Result<(), AllocError> {
+    over_a_store(&rt, rt.alloc(), &Writers, ROWS)
 }

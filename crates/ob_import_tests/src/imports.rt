@@ -1,110 +1,155 @@
 //! Imports into new books, and texts that come twice.
-use crate::office::{Office, Report, broken, stopped, took};
+use crate::office::over_tables;
+use crate::script::{A_DAY, Outcome, Script, Step, are_answered, are_answered_both_ways};
 use crate::texts::{ONE_NAME_TWICE, OUTAGE, TWO_NAMES};
-use ob_net::{Fault, Refusal, Watched};
-use std::alloc::Global;
-use std::process::Abort;
-use std::test::Fail;
+use ob_net::{Fault, Refusal};
+use std::alloc::AllocError;
 
-// Texts are imported into a new book in their order: each is answered so, and the tables have so many rows in the end. It
-// is all the same whether the text lies in memory or comes from a reader.
-fn imports(
-    rt: &impl Abort,
-    alloc: Global,
-    table: &[(&[u8], Report)],
-    rows: &[i64],
-) -> Result<(), Fail> {
-    let mut office = Office::new(rt, alloc)?;
-    for (text, wanted) in table {
-        assert!(rt; office.takes(text) == *wanted);
-    }
-    office.leaves(rt, rows)?;
-    let mut office = Office::new(rt, alloc)?;
-    for (text, wanted) in table {
-        assert!(rt; office.reads(&mut Watched::new(*text)) == *wanted);
-    }
-    office.leaves(rt, rows)
-}
+const CHANGED: &[Step] = &[
+    Step::Make(A_DAY),
+    Step::Import(
+        ONE_NAME_TWICE,
+        Outcome::Stopped(3, 0, 4, Refusal::NameTaken),
+    ),
+    Step::Import(
+        ONE_NAME_TWICE,
+        Outcome::Stopped(0, 3, 4, Refusal::NameTaken),
+    ),
+    Step::Import(TWO_NAMES, Outcome::Took(1, 3)),
+    Step::Import(TWO_NAMES, Outcome::Took(0, 4)),
+    Step::Import(
+        ONE_NAME_TWICE,
+        Outcome::Stopped(0, 3, 4, Refusal::RefConflict(4)),
+    ),
+];
 
 #[test]
-fn a_row_stops_and_is_changed(rt: HostRuntime) -> Result<(), Fail> {
-    let table = &[
-        (
-            ONE_NAME_TWICE.as_bytes(),
-            stopped(3, 0, 4, Refusal::NameTaken),
-        ),
-        (
-            ONE_NAME_TWICE.as_bytes(),
-            stopped(0, 3, 4, Refusal::NameTaken),
-        ),
-        (TWO_NAMES.as_bytes(), took(1, 3)),
-        (TWO_NAMES.as_bytes(), took(0, 4)),
-        (
-            ONE_NAME_TWICE.as_bytes(),
-            stopped(0, 3, 4, Refusal::RefConflict(4)),
-        ),
-    ];
-    imports(&rt, rt.alloc(), table, &[1, 2, 4, 0, 0, 0, 0, 4, 0, 320])
+fn a_row_stops_and_is_changed(rt: HostRuntime) -> Result<(), AllocError> {
+    let rows = &[1, 2, 4, 0, 0, 0, 0, 4, 0, 320];
+    are_answered_both_ways(&rt, rt.alloc(), CHANGED, rows)
 }
+
+const WITHOUT_ROWS: &[Step] = &[
+    Step::Make(A_DAY),
+    Step::Import("kind,ref,f1,f2,f3,f4,f5,f6\n", Outcome::Took(0, 0)),
+    Step::Import("kind,ref,f1,f2,f3,f4,f5,f6", Outcome::Took(0, 0)),
+    Step::Import("", Outcome::Stopped(0, 0, 0, Refusal::BadField(0))),
+    Step::Import("\n", Outcome::Stopped(0, 0, 0, Refusal::BadField(0))),
+    Step::Import(
+        "kind,ref,f1,f2,f3,f4,f5\n",
+        Outcome::Stopped(0, 0, 0, Refusal::BadField(0)),
+    ),
+    Step::Import(
+        "bus,R1,BUS-A,,,,,\n",
+        Outcome::Stopped(0, 0, 0, Refusal::BadField(0)),
+    ),
+];
 
 #[test]
-fn texts_without_rows(rt: HostRuntime) -> Result<(), Fail> {
-    let table = &[
-        (b"kind,ref,f1,f2,f3,f4,f5,f6\n".as_slice(), took(0, 0)),
-        (b"kind,ref,f1,f2,f3,f4,f5,f6".as_slice(), took(0, 0)),
-        (b"".as_slice(), stopped(0, 0, 0, Refusal::BadField(0))),
-        (b"\n".as_slice(), stopped(0, 0, 0, Refusal::BadField(0))),
-        (
-            b"kind,ref,f1,f2,f3,f4,f5\n".as_slice(),
-            stopped(0, 0, 0, Refusal::BadField(0)),
-        ),
-        (
-            b"bus,R1,BUS-A,,,,,\n".as_slice(),
-            stopped(0, 0, 0, Refusal::BadField(0)),
-        ),
-    ];
-    imports(&rt, rt.alloc(), table, &[1, 1, 1, 0, 0, 0, 0, 0, 0, 320])
+fn texts_without_rows(rt: HostRuntime) -> Result<(), AllocError> {
+    let rows = &[1, 1, 1, 0, 0, 0, 0, 0, 0, 320];
+    are_answered_both_ways(&rt, rt.alloc(), WITHOUT_ROWS, rows)
 }
+
+const TWICE: &[Step] = &[
+    Step::Make(A_DAY),
+    Step::Import(OUTAGE, Outcome::Took(25, 0)),
+    Step::Import(OUTAGE, Outcome::Took(0, 25)),
+];
 
 #[test]
-fn a_text_comes_twice(rt: HostRuntime) -> Result<(), Fail> {
-    let table = &[
-        (OUTAGE.as_bytes(), took(25, 0)),
-        (OUTAGE.as_bytes(), took(0, 25)),
-    ];
-    imports(&rt, rt.alloc(), table, &[1, 3, 5, 5, 10, 4, 0, 25, 9, 320])
+fn a_text_comes_twice(rt: HostRuntime) -> Result<(), AllocError> {
+    let rows = &[1, 3, 5, 5, 10, 4, 0, 25, 9, 320];
+    are_answered_both_ways(&rt, rt.alloc(), TWICE, rows)
 }
 
-// The book has this total, and each amount of it by cause, day and feeder.
-const TOTALS: &[u8] =
-    b"{\"cause\":[[3,9000]],\"day\":[[0,9000]],\"feeder\":[[1,9000]],\"total\":9000}";
+// The book of the outage has this total, and each amount of it by cause, day and feeder.
+const TOTALS: &'static str =
+    "{\"cause\":[[3,9000]],\"day\":[[0,9000]],\"feeder\":[[1,9000]],\"total\":9000}";
+
+// Its annual table.
+const TABLE: &'static str = "\
+OUTAGE BOOK 2024-01-01 days 1 zone UTC0
+P 86400 S 864000 W 9000
+cause   0 UNASSIGNED                             0
+cause   3 STORM                               9000
+cause   4 PLANNED                                0
+feeder   1                                    9000
+feeder   2                                       0
+day 2024-01-01                                9000
+SAIFI     all      1/2 0.500
+SAIDI     all      15/1 15.000
+CAIDI     all      30/1 30.000
+CAIFI     all      1/1 1.000
+ASAI      all      95/96 0.990
+CEMI-1    all      1/2 0.500
+CEMI-2    all      0/1 0.000
+CEMI-3    all      0/1 0.000
+CEMI-4    all      0/1 0.000
+CEMI-5    all      0/1 0.000
+CEMI-6    all      0/1 0.000
+CEMI-7    all      0/1 0.000
+CEMI-8    all      0/1 0.000
+CEMI-9    all      0/1 0.000
+CEMI-10   all      0/1 0.000
+SUSTAINED all      5
+MOMENTARY all      0
+SAIFI     unmarked 1/2 0.500
+SAIDI     unmarked 15/1 15.000
+CAIDI     unmarked 30/1 30.000
+CAIFI     unmarked 1/1 1.000
+ASAI      unmarked 95/96 0.990
+CEMI-1    unmarked 1/2 0.500
+CEMI-2    unmarked 0/1 0.000
+CEMI-3    unmarked 0/1 0.000
+CEMI-4    unmarked 0/1 0.000
+CEMI-5    unmarked 0/1 0.000
+CEMI-6    unmarked 0/1 0.000
+CEMI-7    unmarked 0/1 0.000
+CEMI-8    unmarked 0/1 0.000
+CEMI-9    unmarked 0/1 0.000
+CEMI-10   unmarked 0/1 0.000
+SUSTAINED unmarked 5
+MOMENTARY unmarked 0
+";
+
+const IMPORTED: &[Step] = &[
+    Step::Make(A_DAY),
+    Step::Import(OUTAGE, Outcome::Took(25, 0)),
+    Step::Totals(TOTALS),
+    Step::Import(OUTAGE, Outcome::Took(0, 25)),
+    Step::Totals(TOTALS),
+    Step::Table(TABLE),
+];
+
+// Another keeper loads the same book, to which the text adds nothing.
+const LOADED: &[Step] = &[
+    Step::Load,
+    Step::Totals(TOTALS),
+    Step::Table(TABLE),
+    Step::Import(OUTAGE, Outcome::Took(0, 25)),
+];
 
 #[test]
-fn the_book_of_an_import(rt: HostRuntime) -> Result<(), Fail> {
-    let mut office = Office::new(&rt, rt.alloc())?;
-    assert!(rt; office.takes(OUTAGE.as_bytes()) == took(25, 0));
-    assert!(rt; office.totals()?.as_slice() == TOTALS);
-    assert!(rt; office.takes(OUTAGE.as_bytes()) == took(0, 25));
-    assert!(rt; office.totals()?.as_slice() == TOTALS);
-    is_loaded(&rt, office)
+fn the_book_of_an_import(rt: HostRuntime) -> Result<(), AllocError> {
+    let first = Script {
+        steps: IMPORTED,
+        by_reader: false,
+    };
+    let next = Script {
+        steps: LOADED,
+        by_reader: false,
+    };
+    let rows = &[1, 3, 5, 5, 10, 4, 0, 25, 9, 320];
+    over_tables(&rt, rt.alloc(), &first, &next, rows)
 }
 
-// Another keeper loads a book with the same totals and the same annual table, to which the text adds nothing.
-fn is_loaded(rt: &impl Abort, office: Office) -> Result<(), Fail> {
-    let table = office.table()?;
-    let mut loaded = office.loaded(rt)?;
-    assert!(rt; loaded.totals()?.as_slice() == TOTALS);
-    assert!(rt; loaded.table()?.as_slice() == table.as_slice());
-    assert!(rt; loaded.takes(OUTAGE.as_bytes()) == took(0, 25));
-    Ok(())
-}
+const WITHOUT_A_BOOK: &[Step] = &[
+    Step::Import(OUTAGE, Outcome::Broken(0, 0, Fault::Reopen)),
+    Step::Import("", Outcome::Broken(0, 0, Fault::Reopen)),
+];
 
 #[test]
-fn without_a_book(rt: HostRuntime) -> Result<(), Fail> {
-    let mut office = Office::without_book(&rt, rt.alloc())?;
-    let none = broken(0, 0, Fault::Reopen);
-    assert!(rt; office.takes(OUTAGE.as_bytes()) == none);
-    assert!(rt; office.takes(b"") == none);
-    assert!(rt; office.reads(&mut Watched::new(OUTAGE.as_bytes())) == none);
-    Ok(())
+fn without_a_book(rt: HostRuntime) -> Result<(), AllocError> {
+    are_answered_both_ways(&rt, rt.alloc(), WITHOUT_A_BOOK, &[])
 }

@@ -1,152 +1,189 @@
-//! A keeper over a store in memory, what is imported into it, and what it then shows.
+//! What a test knows of a keeper, and what a keeper is tried by.
+use crate::sinks::{Shelf, Sink};
+use crate::sources::Source;
 use crate::tables::has_rows;
-use crate::texts::OUTAGE;
 use ob_export::export_moves;
 use ob_import::{ImportFault, ImportReport, import, import_text};
 use ob_net::{Fault, Refusal, Stop, Watched};
-use ob_post::Moved;
-use ob_store::{Keeper, MoveSink};
-use ob_sweep::Windowed;
-use sqlite::{Connection, MemStore};
-use std::alloc::Global;
-use std::io::{Read, Write};
+use ob_store::Keeper;
+use ob_sweep::{Timeline, Windowed};
+use sqlite::{Alter, Connection};
+use std::alloc::{AllocError, Global};
 use std::process::Abort;
-use std::test::Fail;
 
 /// What an import answers.
 pub type Report = Result<ImportReport, ImportFault>;
 
-/// So many rows were new, and so many were there already.
-pub fn took(added: u32, again: u32) -> Report {
-    Ok(ImportReport {
-        added,
-        again,
-        stopped: None,
-    })
-}
+/// The first day of a book, how many days it has, and its zone.
+pub type Period = (&'static str, u16, &'static str);
 
-/// This row stopped an import, after so many that were new and so many that were there already.
-pub fn stopped(added: u32, again: u32, row: u32, refusal: Refusal) -> Report {
-    Ok(ImportReport {
-        added,
-        again,
-        stopped: Some((row, refusal)),
-    })
-}
-
-/// A fault stopped an import, after so many rows that were new and so many that were there already.
-pub fn broken(added: u32, again: u32, fault: Fault) -> Report {
-    Err(ImportFault {
-        fault,
-        added,
-        again,
-    })
-}
-
-/// A keeper over a store in memory.
+/// What an export answers, and what its writer has taken.
 #[derive(Drop)]
-pub struct Office {
-    alloc: Global,
-    keeper: Keeper<MemStore, Windowed>,
+pub struct Written {
+    pub end: Result<u64, Stop>,
+    pub bytes: Vec<u8>,
 }
 
-impl Office {
-    /// A keeper without a book, over a database that holds nothing.
-    pub fn without_book(rt: &impl Abort, alloc: Global) -> Result<Office, Fail> {
-        let conn = Connection::open_in_memory(alloc)?;
-        Ok(Office::over(rt, alloc, conn))
+impl Written {
+    /// Whether it answers this, and these bytes were written.
+    pub fn is(&self, end: Result<u64, Stop>, bytes: &[u8]) -> bool {
+        self.end == end && self.bytes.as_slice() == bytes
     }
+}
 
-    /// A keeper without a book, over a database.
-    fn over(rt: &impl Abort, alloc: Global, conn: Connection<MemStore>) -> Office {
-        assert!(rt; conn.is_autocommit());
-        let keeper = Keeper::adopt_connection(alloc, conn);
-        Office { alloc, keeper }
-    }
+/// A book, or none, that texts are imported into and moved amounts are exported from. A test knows no more of a keeper
+/// than this: with the clauses of a keeper's calls each function that makes some is long to prove.
+pub trait Office {
+    /// Makes a new book of a period.
+    fn makes(&mut self, period: &Period) -> bool;
 
-    /// A new book of 2024-01-01 in UTC.
-    pub fn new(rt: &impl Abort, alloc: Global) -> Result<Office, Fail> {
-        let mut office = Office::without_book(rt, alloc)?;
-        assert!(rt; office.keeper.create(b"2024-01-01", 1, b"UTC0").is_ok());
-        Ok(office)
-    }
+    /// Reads the book that the tables hold.
+    fn loads(&mut self) -> bool;
 
-    /// A book of 2024-01-01 in UTC with the outage, in which the breaker's closing was corrected.
-    pub fn corrected(rt: &impl Abort, alloc: Global) -> Result<Office, Fail> {
-        let mut office = Office::new(rt, alloc)?;
-        assert!(rt; office.takes(OUTAGE.as_bytes()) == took(25, 0));
-        assert!(rt; office.takes(CORRECTION.as_bytes()) == took(1, 0));
-        Ok(office)
-    }
+    /// Whether no table differs from what the commands give, or there is no book in the tables, as there is none here.
+    fn is_sound(&mut self) -> bool;
 
     /// What the import of a text is answered.
-    pub fn takes(&mut self, text: &[u8]) -> Report {
-        import_text(self.alloc, text, &mut self.keeper)
-    }
+    fn takes(&mut self, alloc: Global, text: &[u8]) -> Report;
 
     /// What the import of what a reader gives is answered.
-    pub fn reads<R: Read>(&mut self, reader: &mut Watched<R>) -> Report {
-        import(self.alloc, reader, &mut self.keeper)
-    }
+    fn reads(&mut self, alloc: Global, source: Source<'_>) -> Report;
 
     /// What an export to a writer is answered.
-    pub fn writes<W: Write>(&mut self, writer: &mut Watched<W>) -> Result<u64, Stop> {
-        export_moves(self.alloc, &mut self.keeper, writer)
-    }
+    fn writes(&mut self, alloc: Global, sink: Sink) -> Written;
 
     /// What a sink makes of the moved amounts.
-    pub fn hands<V: MoveSink>(&mut self, sink: &mut V) -> Result<u64, Stop> {
-        self.keeper.moves_out(sink)
+    fn hands(&mut self, shelf: &mut Shelf) -> Result<u64, Stop>;
+
+    /// Puts what a command moved, by its stored reply, on a shelf. Answers whether there is such a reply.
+    fn tells(&mut self, no: u32, shelf: &mut Shelf) -> Result<bool, Stop>;
+
+    /// Whether the book has these totals.
+    fn has_totals(&self, text: &[u8]) -> bool;
+
+    /// Whether the book has this annual table.
+    fn has_table(&self, text: &[u8]) -> bool;
+}
+
+impl<S: Alter, T: Timeline> Office for Keeper<S, T> {
+    fn makes(&mut self, period: &Period) -> bool {
+        let (first, days, zone) = *period;
+        self.create(first.as_bytes(), days, zone.as_bytes()).is_ok()
     }
 
-    /// The stored replies of the commands 1 to `last`: what each moved, one command after another.
-    pub fn replies(&mut self, last: u32) -> Result<Vec<(u32, Moved)>, Fail> {
-        let mut moved = Vec::new(self.alloc);
-        for no in 1..=last {
-            let reply = self.keeper.reply_of(no)?.ok_or("a stored reply")?;
-            for row in reply.moved.as_slice() {
-                moved.push((no, *row))?;
-            }
+    fn loads(&mut self) -> bool {
+        self.load().is_ok()
+    }
+
+    fn is_sound(&mut self) -> bool {
+        match self.audit() {
+            Ok(found) => found.is_none(),
+            Err(stop) => stop == Stop::Refused(Refusal::BadBook) && self.book().is_none(),
         }
-        Ok(moved)
     }
 
-    /// Whether no command has this number.
-    pub fn has_no_reply(&mut self, no: u32) -> Result<bool, Stop> {
-        Ok(self.keeper.reply_of(no)?.is_none())
+    fn takes(&mut self, alloc: Global, text: &[u8]) -> Report {
+        import_text(alloc, text, self)
     }
 
-    /// The totals of the book.
-    pub fn totals(&self) -> Result<Vec<u8>, Fail> {
-        let book = self.keeper.book().ok_or("a book")?;
-        Ok(book.totals_text()?)
+    fn reads(&mut self, alloc: Global, source: Source<'_>) -> Report {
+        import(alloc, &mut Watched::new(source), self)
     }
 
-    /// The annual table of the book.
-    pub fn table(&self) -> Result<Vec<u8>, Fail> {
-        let book = self.keeper.book().ok_or("a book")?;
-        Ok(book.annual_text()?)
+    fn writes(&mut self, alloc: Global, sink: Sink) -> Written {
+        let mut writer = Watched::new(sink);
+        let end = export_moves(alloc, self, &mut writer);
+        Written {
+            end,
+            bytes: writer.into_parts().0.taken,
+        }
     }
 
-    /// No table differs from what the accepted commands give, and the tables have so many rows.
-    pub fn leaves(mut self, rt: &impl Abort, rows: &[i64]) -> Result<(), Fail> {
-        assert!(rt; self.keeper.audit()?.is_none());
-        let alloc = self.alloc;
-        has_rows(rt, alloc, &mut self.keeper.into_connection(), rows)
+    fn hands(&mut self, shelf: &mut Shelf) -> Result<u64, Stop> {
+        self.moves_out(shelf)
     }
 
-    /// The book that another keeper loads from the tables.
-    pub fn loaded(self, rt: &impl Abort) -> Result<Office, Fail> {
-        let alloc = self.alloc;
-        let mut office = Office::over(rt, alloc, self.keeper.into_connection());
-        assert!(rt; office.keeper.book().is_none());
-        assert!(rt; office.keeper.load().is_ok());
-        Ok(office)
+    fn tells(&mut self, no: u32, shelf: &mut Shelf) -> Result<bool, Stop> {
+        match self.reply_of(no) {
+            Ok(Some(reply)) => match shelf.take_all(no, reply.moved.as_slice()) {
+                Ok(()) => Ok(true),
+                Err(fault) => Err(Stop::Fault(fault)),
+            },
+            Ok(None) => Ok(false),
+            Err(stop) => Err(stop),
+        }
+    }
+
+    fn has_totals(&self, text: &[u8]) -> bool {
+        match self.book() {
+            Some(book) => matches!(book.totals_text(), Ok(found) if found.as_slice() == text),
+            None => false,
+        }
+    }
+
+    fn has_table(&self, text: &[u8]) -> bool {
+        match self.book() {
+            Some(book) => matches!(book.annual_text(), Ok(found) if found.as_slice() == text),
+            None => false,
+        }
     }
 }
 
-/// The breaker closed ten minutes earlier.
-const CORRECTION: &'static str = "\
-kind,ref,f1,f2,f3,f4,f5,f6
-correct,FIX1,4,1,close,1704073800,3,K1
-";
+/// What a keeper is tried by.
+pub trait Trial {
+    fn run<A: Abort, O: Office>(&self, rt: &A, alloc: Global, office: &mut O);
+}
+
+/// A keeper without a book over a store in memory is tried. In the end no table differs from what the commands give,
+/// and the tables have so many rows.
+pub fn over_a_store<C: Trial>(
+    rt: &impl Abort,
+    alloc: Global,
+    trial: &C,
+    rows: &[i64],
+) -> Result<(), AllocError> {
+    over_tables(rt, alloc, trial, &Nothing, rows)
+}
+
+/// The same, and before the rows are counted another keeper over the tables that the first one left is tried by what
+/// comes next.
+pub fn over_tables<C: Trial, N: Trial>(
+    rt: &impl Abort,
+    alloc: Global,
+    trial: &C,
+    next: &N,
+    rows: &[i64],
+) -> Result<(), AllocError> {
+    let Ok(conn) = Connection::open_in_memory(alloc) else {
+        return Err(AllocError);
+    };
+    let conn = over(rt, alloc, conn, trial);
+    let mut conn = over(rt, alloc, conn, next);
+    has_rows(rt, alloc, &mut conn, rows);
+    Ok(())
+}
+
+// Nothing is tried.
+struct Nothing;
+
+impl Trial for Nothing {
+    fn run<A: Abort, O: Office>(&self, _: &A, _: Global, _: &mut O) {}
+}
+
+// A keeper over a database is tried. Answers the database that it leaves.
+fn over<S: Alter + Drop, C: Trial>(
+    rt: &impl Abort,
+    alloc: Global,
+    conn: Connection<S>,
+    trial: &C,
+) -> Connection<S> {
+    assert!(rt; conn.is_autocommit());
+    let mut keeper: Keeper<S, Windowed> = Keeper::adopt_connection(alloc, conn);
+    is_tried(rt, alloc, &mut keeper, trial);
+    keeper.into_connection()
+}
+
+fn is_tried<O: Office, C: Trial>(rt: &impl Abort, alloc: Global, office: &mut O, trial: &C) {
+    trial.run(rt, alloc, office);
+    assert!(rt; office.is_sound());
+}

@@ -1,10 +1,73 @@
-//! Sinks of moved amounts.
+//! A writer, and a sink of moved amounts, that fail when they have no room left.
 use ob_net::Fault;
 use ob_post::Moved;
 use ob_store::MoveSink;
 use std::alloc::Global;
+use std::io;
+use std::io::{ErrorKind, Write};
 
-/// Keeps what it is handed, and fails when it has no room left.
+/// Takes at most `step` bytes a write while it has room, each time after an interrupted write where `jolts`. Then it
+/// answers this error, or takes none.
+#[derive(Drop)]
+pub struct Sink {
+    pub taken: Vec<u8>,
+    step: usize,
+    jolts: bool,
+    jolted: bool,
+    room: usize,
+    full: Option<ErrorKind>,
+}
+
+impl Sink {
+    /// Room for more than any export here, in one piece.
+    pub fn new(alloc: Global) -> Sink {
+        Sink {
+            taken: Vec::new(alloc),
+            step: 1_000_000,
+            jolts: false,
+            jolted: false,
+            room: 1_000_000,
+            full: None,
+        }
+    }
+
+    /// Room for so many bytes, one a write, each after an interrupted write; then this error for ever, or none taken.
+    pub fn jolting(alloc: Global, room: usize, full: Option<ErrorKind>) -> Sink {
+        Sink {
+            taken: Vec::new(alloc),
+            step: 1,
+            jolts: true,
+            jolted: false,
+            room,
+            full,
+        }
+    }
+}
+
+impl Write for Sink {
+    fn write(&mut self, buf: &[u8]) -> io::Result<usize> {
+        self.jolted = self.jolts && !self.jolted;
+        if self.jolted {
+            return Err(io::Error::from(ErrorKind::Interrupted));
+        }
+        if self.room == 0 {
+            return match self.full {
+                Some(kind) => Err(io::Error::from(kind)),
+                None => Ok(0),
+            };
+        }
+        let count = buf.len().min(self.room).min(self.step);
+        self.taken.extend_from_slice(&buf[..count])?;
+        self.room -= count;
+        Ok(count)
+    }
+
+    fn flush(&mut self) -> io::Result<()> {
+        Ok(())
+    }
+}
+
+/// Keeps the moved amounts that it is handed.
 #[derive(Drop)]
 pub struct Shelf {
     pub taken: Vec<(u32, Moved)>,
@@ -18,6 +81,14 @@ impl Shelf {
             taken: Vec::new(alloc),
             room,
         }
+    }
+
+    /// Takes what a command moved.
+    pub fn take_all(&mut self, cmd: u32, moved: &[Moved]) -> Result<(), Fault> {
+        for row in moved {
+            self.take(cmd, row)?;
+        }
+        Ok(())
     }
 }
 

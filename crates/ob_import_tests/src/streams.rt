@@ -1,89 +1,12 @@
-//! Readers and writers that fail or are interrupted, and imports from such readers.
-use crate::office::{Office, broken, took};
+//! Imports from readers that fail or are interrupted.
+use crate::office::{Office, Trial, over_a_store};
+use crate::script::{A_DAY, Outcome, Step, are_answered};
+use crate::sources::Source;
 use crate::texts::{OUTAGE, TWO_NAMES};
-use ob_net::{Fault, Watched};
-use std::alloc::Global;
-use std::io;
-use std::io::{ErrorKind, Read, Write};
-use std::test::Fail;
-
-// Gives one byte a read and is interrupted before each read; fails behind its bytes where `fails`.
-#[derive(Drop)]
-struct Source<'b> {
-    rest: &'b [u8],
-    interrupted: bool,
-    fails: bool,
-}
-
-impl<'b> Source<'b> {
-    fn new(rest: &'b [u8], fails: bool) -> Watched<Source<'b>> {
-        Watched::new(Source {
-            rest,
-            interrupted: false,
-            fails,
-        })
-    }
-}
-
-impl Read for Source<'_> {
-    fn read(&mut self, buf: &mut [u8]) -> io::Result<usize> {
-        self.interrupted = !self.interrupted;
-        if self.interrupted {
-            return Err(io::Error::from(ErrorKind::Interrupted));
-        }
-        if self.rest.is_empty() && self.fails {
-            return Err(io::Error::from(ErrorKind::Other));
-        }
-        let count = self.rest.len().min(1).min(buf.len());
-        buf[..count].copy_from_slice(&self.rest[..count]);
-        self.rest = &self.rest[count..];
-        Ok(count)
-    }
-}
-
-/// Takes one byte a write while it has room, interrupted before each, and then answers this error,
-/// or 0.
-#[derive(Drop)]
-pub struct Sink {
-    pub taken: Vec<u8>,
-    interrupted: bool,
-    room: usize,
-    full: Option<ErrorKind>,
-}
-
-impl Sink {
-    pub fn new(alloc: Global, room: usize, full: Option<ErrorKind>) -> Watched<Sink> {
-        Watched::new(Sink {
-            taken: Vec::new(alloc),
-            interrupted: false,
-            room,
-            full,
-        })
-    }
-}
-
-impl Write for Sink {
-    fn write(&mut self, buf: &[u8]) -> io::Result<usize> {
-        self.interrupted = !self.interrupted;
-        if self.interrupted {
-            return Err(io::Error::from(ErrorKind::Interrupted));
-        }
-        if self.room == 0 {
-            return match self.full {
-                Some(kind) => Err(io::Error::from(kind)),
-                None => Ok(0),
-            };
-        }
-        let count = buf.len().min(1);
-        self.taken.extend_from_slice(&buf[..count])?;
-        self.room -= count;
-        Ok(count)
-    }
-
-    fn flush(&mut self) -> io::Result<()> {
-        Ok(())
-    }
-}
+use ob_net::Fault;
+use std::alloc::{AllocError, Global};
+use std::io::ErrorKind;
+use std::process::Abort;
 
 // How many whole rows follow the header in a front of a text of lines.
 fn whole_rows(front: &[u8]) -> u32 {
@@ -96,48 +19,51 @@ fn whole_rows(front: &[u8]) -> u32 {
     lines.saturating_sub(1)
 }
 
-#[test]
-fn readers_that_fail(rt: HostRuntime) -> Result<(), Fail> {
-    let text = TWO_NAMES.as_bytes();
-    let mut office = Office::new(&rt, rt.alloc())?;
-    let mut before = 0;
-    for count in 0..=text.len() {
-        let rows = whole_rows(&text[..count]);
-        let wanted = broken(rows.saturating_sub(before), before, Fault::Input);
-        assert!(rt; office.reads(&mut Source::new(&text[..count], true)) == wanted);
-        before = rows;
-    }
-    office.leaves(&rt, &[1, 2, 4, 0, 0, 0, 0, 4, 0, 320])
-}
+// A text whose reader fails behind each of its bytes in turn.
+struct Fronts;
 
-#[test]
-fn an_interrupted_reader(rt: HostRuntime) -> Result<(), Fail> {
-    let mut office = Office::new(&rt, rt.alloc())?;
-    let mut reader = Source::new(OUTAGE.as_bytes(), false);
-    assert!(rt; office.reads(&mut reader) == took(25, 0));
-    office.leaves(&rt, &[1, 3, 5, 5, 10, 4, 0, 25, 9, 320])
-}
-
-// Gives a text, and then is interrupted for ever.
-#[derive(Drop)]
-struct Stuck<'b> {
-    rest: &'b [u8],
-}
-
-impl Read for Stuck<'_> {
-    fn read(&mut self, buf: &mut [u8]) -> io::Result<usize> {
-        if self.rest.is_empty() {
-            return Err(io::Error::from(ErrorKind::Interrupted));
+impl Trial for Fronts {
+    fn run<A: Abort, O: Office>(&self, rt: &A, alloc: Global, office: &mut O) {
+        assert!(rt; office.makes(&A_DAY));
+        let mut before = 0;
+        let text = TWO_NAMES.as_bytes();
+        for count in 0..=text.len() {
+            let front = &text[..count];
+            let rows = whole_rows(front);
+            let wanted = Outcome::Broken(rows.saturating_sub(before), before, Fault::Input);
+            let source = Source::jolting(front, Some(ErrorKind::Other));
+            assert!(rt; office.reads(alloc, source) == wanted.report());
+            before = rows;
         }
-        self.rest.read(buf)
     }
 }
 
 #[test]
-fn a_reader_interrupted_for_ever(rt: HostRuntime) -> Result<(), Fail> {
-    let mut office = Office::new(&rt, rt.alloc())?;
-    let rest = TWO_NAMES.as_bytes();
-    let wanted = broken(4, 0, Fault::Input);
-    assert!(rt; office.reads(&mut Watched::new(Stuck { rest })) == wanted);
-    office.leaves(&rt, &[1, 2, 4, 0, 0, 0, 0, 4, 0, 320])
+fn readers_that_fail(rt: HostRuntime) -> Result<(), AllocError> {
+    let rows = &[1, 2, 4, 0, 0, 0, 0, 4, 0, 320];
+    over_a_store(&rt, rt.alloc(), &Fronts, rows)
+}
+
+// Each byte of the outage after an interrupted read.
+const JOLTING: &[Step] = &[
+    Step::Make(A_DAY),
+    Step::ImportJolting(OUTAGE, Outcome::Took(25, 0)),
+];
+
+#[test]
+fn an_interrupted_reader(rt: HostRuntime) -> Result<(), AllocError> {
+    let rows = &[1, 3, 5, 5, 10, 4, 0, 25, 9, 320];
+    are_answered(&rt, rt.alloc(), JOLTING, rows)
+}
+
+// The whole text, and then interrupted reads alone.
+const STUCK: &[Step] = &[
+    Step::Make(A_DAY),
+    Step::ImportStuck(TWO_NAMES, Outcome::Broken(4, 0, Fault::Input)),
+];
+
+#[test]
+fn a_reader_interrupted_for_ever(rt: HostRuntime) -> Result<(), AllocError> {
+    let rows = &[1, 2, 4, 0, 0, 0, 0, 4, 0, 320];
+    are_answered(&rt, rt.alloc(), STUCK, rows)
 }

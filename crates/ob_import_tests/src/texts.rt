@@ -18,9 +18,9 @@ section,R3,S1,1,,,,
 section,R4,S2,1,,,,
 ";
 
-/// Two feeders of one bus with a tie between them, S1 and S2 behind the breaker B1 and S3 behind B2, with two, three and
-/// five customers. An hour after the start of 2024 B1 opens; ten minutes later W1 opens and the tie takes S2 over; an hour
-/// after its opening B1 closes.
+/// Two feeders of one bus with a tie between them, S1 and S2 behind the breaker B1 and S3 behind B2, with two, three
+/// and five customers. An hour after the start of 2024 B1 opens; ten minutes later W1 opens and the tie takes S2 over;
+/// an hour after its opening B1 closes.
 pub const OUTAGE: &'static str = "\
 kind,ref,f1,f2,f3,f4,f5,f6
 cause,N1,3,STORM,,,,
@@ -48,4 +48,10 @@ switch,N22,B1,open,1704070800,3,K1,
 switch,N23,W1,open,1704071400,3,K1,
 switch,N24,T1,close,1704071400,3,K1,
 switch,N25,B1,close,1704074400,3,K1,
+";
+
+/// The breaker closed ten minutes earlier.
+pub const CORRECTION: &'static str = "\
+kind,ref,f1,f2,f3,f4,f5,f6
+correct,FIX1,4,1,close,1704073800,3,K1
 ";

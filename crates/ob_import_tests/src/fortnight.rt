@@ -1,0 +1,25 @@
+//! The sample fortnight of `examples/`, whose tables and moves a plain model of the book has computed.
+use crate::fortnight_moves::{CORRECTED_MOVES, MOVES};
+use crate::fortnight_texts::{CORRECTED_TABLE, CORRECTIONS, FORTNIGHT, TABLE};
+use crate::office::Period;
+use crate::script::{Outcome, Step, are_answered};
+use std::alloc::AllocError;
+
+const FOURTEEN_DAYS: Period = ("2025-03-24", 14, "CET-1CEST,M3.5.0,M10.5.0/3");
+
+const STEPS: &[Step] = &[
+    Step::Make(FOURTEEN_DAYS),
+    Step::Import(FORTNIGHT, Outcome::Took(97, 0)),
+    Step::Table(TABLE),
+    Step::Export(Ok(226), MOVES),
+    Step::Import(CORRECTIONS, Outcome::Took(3, 0)),
+    Step::Table(CORRECTED_TABLE),
+    Step::Export(Ok(234), CORRECTED_MOVES),
+];
+
+// The annual tables and the moves of the fortnight, before and after its corrections, are those that stand beside it.
+#[test]
+fn the_sample_fortnight(rt: HostRuntime) -> Result<(), AllocError> {
+    let rows = &[1, 9, 10, 11, 33, 33, 1, 100, 234, 333];
+    are_answered(&rt, rt.alloc(), STEPS, rows)
+}
