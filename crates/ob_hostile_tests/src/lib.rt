@@ -14,7 +14,11 @@ mod disks;
 #[cfg(test)]
 mod importing;
 #[cfg(test)]
+mod memory;
+#[cfg(test)]
 mod office;
+#[cfg(test)]
+mod refusals;
 #[cfg(test)]
 mod scripts;
 #[cfg(test)]
@@ -25,3 +29,5 @@ mod serving;
 mod stops;
 #[cfg(test)]
 mod tasks;
+#[cfg(test)]
+mod working;
