@@ -2,10 +2,10 @@
 
     python3 benches/refused_tests.py [--program FILE] [--first N] [--every N] [--jobs N] [TEST ..]
 
-The program is one of tests, as `rt test` builds it (that of crates/ob_hostile_tests). Each test is run with its first request
-refused, with its second, and so on until a run meets none; a run is a process of its own, so that no other test's requests are
-counted. At the first run that fails it ends with status 1. Without names the tests are those of TESTS. What is refused is
-chosen by refuse.c, which `cc` builds: so this wants Linux with the GNU C library.
+The program is one of tests, as `rt test` builds it: that of crates/ob_hostile_tests where none is named. Without names the tests
+are those of TESTS. Each is run with its first request refused, with its second, and so on until a run meets none; a run is a
+process of its own, so that no other test's requests are counted. At the first run that fails it ends with status 1. What is
+refused is chosen by refuse.c, which `cc` builds: so this wants Linux with the GNU C library.
 """
 
 import argparse
@@ -21,7 +21,11 @@ from pathlib import Path
 from refused_memory import BENCHES, built_library
 
 PROGRAM = BENCHES.parent / "crates/ob_hostile_tests/out/ob_hostile_tests_tests"
-TESTS = ["refusals::commands_where_memory_is_refused", "refusals::an_import_where_memory_is_refused"]
+TESTS = {
+    "ob_hostile_tests_tests": ["refusals::commands_where_memory_is_refused", "refusals::an_import_where_memory_is_refused"],
+    "ob_desk_tests_tests": ["memory::memory_refused"],
+    "ob_total_tests_tests": ["streams::memory_refused"],
+}
 PASSED = "test result: ok"
 
 
@@ -62,7 +66,7 @@ class Test:
 
 def main():
     words = argparse.ArgumentParser(description="Each request for memory of a test refused in turn.")
-    words.add_argument("tests", nargs="*", default=TESTS, metavar="TEST", help="the tests' names")
+    words.add_argument("tests", nargs="*", metavar="TEST", help="the tests' names (those of TESTS)")
     words.add_argument("--program", default=PROGRAM, help="the program of tests")
     words.add_argument("--first", type=int, default=1, help="the first request that is refused (1)")
     words.add_argument("--every", type=int, default=1, help="which of them from there on: each second one, .. (1, all)")
@@ -72,7 +76,7 @@ def main():
     print("| Test | Runs | Refused | All passed | Seconds |\n|---|---|---|---|---|")
     with tempfile.TemporaryDirectory() as folder:
         library = built_library(Path(folder))
-        for name in words.tests:
+        for name in words.tests or TESTS[program.name]:
             began = time.monotonic()
             runs, refusals = Test(program, library, name, Path(folder)).sweep(words.first, words.every, words.jobs)
             print(f"| {name} | {runs} | {refusals} | yes | {time.monotonic() - began:.0f} |", flush=True)

@@ -110,12 +110,22 @@ fn totals_of(postings: &Postings) -> [u64; 3] {
 
 // Those of the first causes.
 fn causes_of(postings: &Postings) -> [u64; 5] {
-    [0u16, 1, 2, 3, 4].map(|code| postings.amount(Dim::Cause, code))
+    [
+        postings.amount(Dim::Cause, 0),
+        postings.amount(Dim::Cause, 1),
+        postings.amount(Dim::Cause, 2),
+        postings.amount(Dim::Cause, 3),
+        postings.amount(Dim::Cause, 4),
+    ]
 }
 
 // Those of the first feeders.
 fn feeders_of(postings: &Postings) -> [u64; 3] {
-    [0u16, 1, 2].map(|number| postings.amount(Dim::Feeder, number))
+    [
+        postings.amount(Dim::Feeder, 1),
+        postings.amount(Dim::Feeder, 2),
+        postings.amount(Dim::Feeder, 3),
+    ]
 }
 
 /// A sink that has no use for what it takes.
