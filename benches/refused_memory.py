@@ -125,6 +125,13 @@ def refuse_each(program, library, what, words, work):
         print(f"| {what} | {job[0]} {job[-1] if job[0] in ('import', 'export') else ''} | {sum(told.values())} | {answers} |", flush=True)
 
 
+def built_library(folder):
+    """What refuses requests, built into a folder."""
+    library = folder / "refuse.so"
+    subprocess.run(["cc", "-O2", "-shared", "-fPIC", "-o", library, BENCHES / "refuse.c"], check=True)
+    return library
+
+
 def main():
     words = argparse.ArgumentParser(description="Each request for memory, read and write refused in turn.")
     words.add_argument("--program", default=PROGRAM, help="the program (that of crates/outagebook)")
@@ -134,8 +141,7 @@ def main():
     words.add_argument("--every", type=int, default=1, help="which of them from there on: each second one, .. (1, all)")
     words = words.parse_args()
     with tempfile.TemporaryDirectory() as folder:
-        library = Path(folder) / "refuse.so"
-        subprocess.run(["cc", "-O2", "-shared", "-fPIC", "-o", library, BENCHES / "refuse.c"], check=True)
+        library = built_library(Path(folder))
         print("| Refused | Job | Runs | Answers |\n|---|---|---|---|")
         for what in words.what:
             work = Path(folder) / what

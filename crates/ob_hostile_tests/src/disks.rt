@@ -68,3 +68,15 @@ fn is_changed(rt: &impl Abort, alloc: Global, file: &mut Fuse<Memory>) -> bool {
     file.crash();
     file.inner().bytes() != before.as_slice()
 }
+
+/// Files that can be used again: one whose syncing failed loses what was not synced.
+pub fn restart(files: &mut Pair) {
+    recover(&mut files.log);
+    recover(&mut files.db);
+}
+
+fn recover(file: &mut Fuse<Memory>) {
+    if !file.may_be_used() {
+        file.crash();
+    }
+}

@@ -30,9 +30,10 @@ pub fn import<O: Office>(rt: &impl Abort, alloc: Global, office: &mut O) -> Kept
     if let Err(stop) = office.loads() {
         return failed(rt, office, stop, Kept::all(BEFORE));
     }
-    let (rows, stop) = office.imports(alloc, ROWS);
+    let found = office.imports(alloc, ROWS);
+    let rows = found.rows();
     assert!(rt; rows <= 3);
-    match stop {
+    match found.stop {
         None => {
             assert!(rt; rows == 3);
             Kept::all(IMPORTED)
@@ -55,7 +56,8 @@ pub fn holds_rows<O: Office>(rt: &impl Abort, alloc: Global, office: &mut O, kep
     let (accepted, total) = office.shows().unwrap_or((0, 0));
     assert!(rt; kept.allows(accepted));
     assert!(rt; total == total_of(accepted));
-    assert!(rt; office.imports(alloc, ROWS) == (3, None));
+    let found = office.imports(alloc, ROWS);
+    assert!(rt; found.rows() == 3 && found.stop == None);
     assert!(rt; office.shows() == Some((IMPORTED, total_of(IMPORTED))));
     Kept::all(accepted)
 }

@@ -4,6 +4,9 @@
 //! command or the book more; the work goes on from there; and a keeper whose store failed answers nothing before its book is
 //! loaded again.
 //!
+//! And over two files that go on, where one allocation is refused, which is chosen from outside: commands one by one and an
+//! import are told so, leave what stood, and succeed at the second try.
+//!
 //! It holds tests alone.
 #![tactic(auto)]
 
@@ -14,7 +17,11 @@ mod disks;
 #[cfg(test)]
 mod importing;
 #[cfg(test)]
+mod memory;
+#[cfg(test)]
 mod office;
+#[cfg(test)]
+mod refusals;
 #[cfg(test)]
 mod scripts;
 #[cfg(test)]
@@ -25,3 +32,5 @@ mod serving;
 mod stops;
 #[cfg(test)]
 mod tasks;
+#[cfg(test)]
+mod working;

@@ -2,8 +2,9 @@
 use ob_command::{Command, read_body};
 use ob_desk::serve_stream;
 use ob_import::import_text;
+use ob_index::{Indices, Which};
 use ob_net::{Fault, Ref, Refusal, Stop, Watched};
-use ob_post::{Dim, Moved};
+use ob_post::{Dim, Moved, Postings};
 use ob_store::{Keeper, MoveSink};
 use ob_sweep::Timeline;
 use sqlite::Alter;
@@ -14,6 +15,32 @@ pub const STORE: Stop = Stop::Fault(Fault::Store);
 
 /// A call that needs a book, where there is none.
 const REOPEN: Stop = Stop::Fault(Fault::Reopen);
+
+/// What a book shows without asking for memory: its commands, its customer-seconds in all and by cause and feeder, and the
+/// indices.
+#[derive(Clone, Copy, PartialEq)]
+pub struct Views {
+    accepted: u32,
+    totals: [u64; 3],
+    causes: [u64; 5],
+    feeders: [u64; 3],
+    indices: Indices,
+}
+
+/// What an import tells.
+#[derive(Clone, Copy)]
+pub struct Imported {
+    pub added: u32,
+    pub again: u32,
+    pub stop: Option<Stop>,
+}
+
+impl Imported {
+    /// How many rows are acknowledged.
+    pub fn rows(&self) -> u32 {
+        self.added.saturating_add(self.again)
+    }
+}
 
 /// The calls of a keeper, without their clauses: with these each function that makes some is long to prove.
 pub trait Office {
@@ -32,14 +59,20 @@ pub trait Office {
     /// How many amounts the commands moved.
     fn moves(&mut self) -> Result<u64, Stop>;
 
-    /// Imports a text. Answers how many of its rows are acknowledged, and what stopped it.
-    fn imports(&mut self, alloc: Global, text: &[u8]) -> (u32, Option<Stop>);
+    /// Imports a text.
+    fn imports(&mut self, alloc: Global, text: &[u8]) -> Imported;
 
     /// Serves a stream of these bytes. Answers what is written, and the fault that ended it.
     fn serves(&mut self, alloc: Global, bytes: &[u8]) -> (Vec<u8>, Option<Stop>);
 
     /// How many commands the book has accepted, and its customer-seconds; None where there is no book.
     fn shows(&self) -> Option<(u32, u64)>;
+
+    /// All that the book shows; None where there is no book.
+    fn views(&self) -> Option<Views>;
+
+    /// Whether no table differs from what the commands in the tables give.
+    fn agrees(&mut self) -> bool;
 }
 
 /// Whether there is no book, and each call that needs one asks for it to be loaded first.
@@ -58,17 +91,41 @@ fn asked(line: &str) -> Option<(Ref, Command)> {
     Some((reference, command))
 }
 
-// Rows that are in a book.
-fn taken(added: u32, again: u32) -> u32 {
-    added.saturating_add(again)
-}
-
 // Why a row is refused.
 fn refused(row: Option<(u32, Refusal)>) -> Option<Stop> {
     match row {
         Some((_, refusal)) => Some(Stop::Refused(refusal)),
         None => None,
     }
+}
+
+// The customer-seconds by each dimension.
+fn totals_of(postings: &Postings) -> [u64; 3] {
+    [
+        postings.total(Dim::Cause),
+        postings.total(Dim::Feeder),
+        postings.total(Dim::Day),
+    ]
+}
+
+// Those of the first causes.
+fn causes_of(postings: &Postings) -> [u64; 5] {
+    [
+        postings.amount(Dim::Cause, 0),
+        postings.amount(Dim::Cause, 1),
+        postings.amount(Dim::Cause, 2),
+        postings.amount(Dim::Cause, 3),
+        postings.amount(Dim::Cause, 4),
+    ]
+}
+
+// Those of the first feeders.
+fn feeders_of(postings: &Postings) -> [u64; 3] {
+    [
+        postings.amount(Dim::Feeder, 1),
+        postings.amount(Dim::Feeder, 2),
+        postings.amount(Dim::Feeder, 3),
+    ]
 }
 
 /// A sink that has no use for what it takes.
@@ -116,10 +173,18 @@ impl<S: Alter, T: Timeline> Office for Keeper<S, T> {
         self.moves_out(&mut Nowhere)
     }
 
-    fn imports(&mut self, alloc: Global, text: &[u8]) -> (u32, Option<Stop>) {
+    fn imports(&mut self, alloc: Global, text: &[u8]) -> Imported {
         match import_text(alloc, text, self) {
-            Ok(report) => (taken(report.added, report.again), refused(report.stopped)),
-            Err(it) => (taken(it.added, it.again), Some(Stop::Fault(it.fault))),
+            Ok(report) => Imported {
+                added: report.added,
+                again: report.again,
+                stop: refused(report.stopped),
+            },
+            Err(it) => Imported {
+                added: it.added,
+                again: it.again,
+                stop: Some(Stop::Fault(it.fault)),
+            },
         }
     }
 
@@ -138,5 +203,22 @@ impl<S: Alter, T: Timeline> Office for Keeper<S, T> {
             Some(book) => Some((book.accepted(), book.postings().total(Dim::Cause))),
             None => None,
         }
+    }
+
+    fn views(&self) -> Option<Views> {
+        match self.book() {
+            Some(book) => Some(Views {
+                accepted: book.accepted(),
+                totals: totals_of(book.postings()),
+                causes: causes_of(book.postings()),
+                feeders: feeders_of(book.postings()),
+                indices: book.index_view(Which::All),
+            }),
+            None => None,
+        }
+    }
+
+    fn agrees(&mut self) -> bool {
+        matches!(self.audit(), Ok(None))
     }
 }

@@ -30,5 +30,63 @@ N24 switch T1 close 1704071400 3 K1
 N25 switch B1 close 1704074400 3 K1
 ";
 
+/// After the outage: an opening that comes late, ten minutes before the breaker's, and is withdrawn; then the breaker closed ten
+/// minutes earlier, and not at all.
+pub const AFTERWARDS: &'static str = "\
+LATE1 switch W1 open 1704070200 4 K1
+LATE2 withdraw 5 1
+FIX1 correct 4 1 close 1704073800 3 K1
+FIX2 withdraw 4 2
+";
+
+/// How many commands the outage and those after it are.
+pub const COMMANDS: u32 = 29;
+
+/// The customer-seconds of the book of the first so many of them.
+pub fn total_of(accepted: u32) -> u64 {
+    match accepted {
+        0..=21 => 0,
+        22 | 23 => 414_000,
+        24 | 29 => 167_400,
+        26 => 10_800,
+        28 => 7_800,
+        _ => 9_000,
+    }
+}
+
+/// The same commands as the rows of an import.
+pub const ROWS: &'static [u8] = b"\
+kind,ref,f1,f2,f3,f4,f5,f6
+cause,N1,3,STORM,,,,
+cause,N2,4,PLANNED,,,,
+bus,N3,BUS-A,,,,,
+section,N4,S1,1,,,,
+section,N5,S2,1,,,,
+section,N6,S3,2,,,,
+device,N7,I1,GRID,BUS-A,closed,,
+device,N8,B1,BUS-A,S1,closed,,
+device,N9,W1,S1,S2,closed,,
+device,N10,B2,BUS-A,S3,closed,,
+device,N11,T1,S2,S3,open,,
+connect,N12,1,S1,1704067200,,,
+connect,N13,2,S1,1704067200,,,
+connect,N14,3,S2,1704067200,,,
+connect,N15,4,S2,1704067200,,,
+connect,N16,5,S2,1704067200,,,
+connect,N17,6,S3,1704067200,,,
+connect,N18,7,S3,1704067200,,,
+connect,N19,8,S3,1704067200,,,
+connect,N20,9,S3,1704067200,,,
+connect,N21,10,S3,1704067200,,,
+switch,N22,B1,open,1704070800,3,K1,
+switch,N23,W1,open,1704071400,3,K1,
+switch,N24,T1,close,1704071400,3,K1,
+switch,N25,B1,close,1704074400,3,K1,
+switch,LATE1,W1,open,1704070200,4,K1,
+withdraw,LATE2,5,1,,,,
+correct,FIX1,4,1,close,1704073800,3,K1
+withdraw,FIX2,4,2,,,,
+";
+
 /// The breaker closed ten minutes earlier.
 pub const CORRECTION: &'static str = "FIX1 correct 4 1 close 1704073800 3 K1";

@@ -4,6 +4,7 @@ use crate::importing::{holds_rows, import};
 use crate::office::Office;
 use crate::sending::{holds, outage, send};
 use crate::serving::serve;
+use crate::working::{act, read};
 use ob_store::Keeper;
 use ob_sweep::Windowed;
 use sqlite::{Alter, Connection, FileStore, Files, Options};
@@ -52,6 +53,10 @@ pub enum Task {
     Make,
     /// Load the new book that is kept, or make it, and go on.
     HoldNew(Kept),
+    /// Load the book that is kept, or make it, and send it the rest of the outage and what comes afterwards.
+    Act(Kept),
+    /// The same by an import.
+    Read(Kept),
 }
 
 /// Opens the files, does a task with a keeper over them, and closes them. Answers what they then hold; None where they weren't
@@ -103,5 +108,7 @@ fn done<O: Office>(rt: &impl Abort, alloc: Global, office: &mut O, task: Task) -
         Task::HoldRows(kept) => holds_rows(rt, alloc, office, kept),
         Task::Make => make(rt, office),
         Task::HoldNew(kept) => holds_new(rt, office, kept),
+        Task::Act(kept) => act(rt, office, kept),
+        Task::Read(kept) => read(rt, alloc, office, kept),
     }
 }
