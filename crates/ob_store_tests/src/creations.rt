@@ -1,60 +1,91 @@
 //! New books, and calls without one.
-use crate::office::Office;
+use crate::books::{leaves, take, two_feeders};
+use crate::office::{BAD_BOOK, InMemory, Office};
 use crate::scripts::TWO_FEEDERS;
+use crate::texts::stored_text;
 use ob_net::{Refusal, Stop};
-use sqlite::Connection;
+use std::alloc::Global;
 use std::process::Abort;
-use std::test::Fail;
-
-#[test]
-fn a_book_is_made_once(rt: HostRuntime) -> Result<(), Fail> {
-    let mut office = Office::two_feeders(&rt, rt.alloc())?;
-    is_refused(&rt, &mut office, Refusal::BadBook);
-    assert!(rt; office.has_book());
-    let mut again = Office::over(&rt, rt.alloc(), office.into_connection());
-    is_refused(&rt, &mut again, Refusal::BadBook);
-    assert!(rt; !again.has_book());
-    again.leaves(&rt, &[1, 3, 5, 5, 10, 0, 0, 21, 0, 320], 0)
-}
 
 // No book of another period can be made.
-fn is_refused(rt: &impl Abort, office: &mut Office, refusal: Refusal) {
-    assert!(rt; office.create(b"2024-02-01", 2, b"UTC0") == Err(Stop::Refused(refusal)));
+fn is_refused<O: Office>(rt: &impl Abort, office: &mut O) {
+    assert!(rt; office.makes(b"2024-02-01", 2, b"UTC0") == BAD_BOOK);
 }
 
-// There is no book of such a period; one of another period can still be made.
-fn has_no_period(rt: &impl Abort, office: &mut Office, first: &[u8], days: u16, zone: &[u8]) {
-    let found = office.create(first, days, zone);
-    assert!(rt; found == Err(Stop::Refused(Refusal::BadPeriod)));
-    assert!(rt; !office.has_book());
-}
-
-#[test]
-fn a_period_that_there_is_not(rt: HostRuntime) -> Result<(), Fail> {
-    let mut office = Office::new(&rt, rt.alloc())?;
-    has_no_period(&rt, &mut office, b"2024-01-01", 0, b"UTC0");
-    has_no_period(&rt, &mut office, b"2024-01-01", 367, b"UTC0");
-    has_no_period(&rt, &mut office, b"2024-01-01", 1, b"NOWHERE/AT/ALL");
-    has_no_period(&rt, &mut office, b"2024-02-30", 1, b"UTC0");
-    assert!(rt; office.create(b"2024-01-01", 366, b"UTC0").is_ok());
-    office.leaves(&rt, &[1, 1, 1, 0, 0, 0, 0, 0, 0, 685], 0)
+// A second book is refused, by the keeper that has the first and by another one; the first stays.
+fn is_made_once<O: Office>(rt: &impl Abort, alloc: Global) -> Result<(), Stop> {
+    let mut office: O = two_feeders(rt, alloc)?;
+    is_refused(rt, &mut office);
+    assert!(rt; office.has_book());
+    let mut again = office.changed(alloc, "")?;
+    is_refused(rt, &mut again);
+    assert!(rt; !again.has_book());
+    leaves(rt, alloc, again, &[1, 3, 5, 5, 10, 0, 0, 21, 0, 320], 0)
 }
 
 #[test]
-fn a_database_of_something_else(rt: HostRuntime) -> Result<(), Fail> {
-    let mut conn = Connection::open_in_memory(rt.alloc())?;
-    conn.execute_batch("CREATE TABLE note (id INTEGER PRIMARY KEY) STRICT")?;
-    let mut office = Office::over(&rt, rt.alloc(), conn);
-    is_refused(&rt, &mut office, Refusal::BadBook);
+fn a_book_is_made_once(rt: HostRuntime) -> Result<(), Stop> {
+    is_made_once::<InMemory>(&rt, rt.alloc())
+}
+
+// There are no books of such periods; one of another period can still be made.
+fn has_no_periods<O: Office>(
+    rt: &impl Abort,
+    alloc: Global,
+    periods: &[(&[u8], u16, &[u8])],
+) -> Result<(), Stop> {
+    let mut office = O::opens(alloc)?;
+    for (first, days, zone) in periods {
+        let found = office.makes(first, *days, zone);
+        assert!(rt; found == Err(Stop::Refused(Refusal::BadPeriod)));
+        assert!(rt; !office.has_book());
+    }
+    office.makes(b"2024-01-01", 366, b"UTC0")?;
+    leaves(rt, alloc, office, &[1, 1, 1, 0, 0, 0, 0, 0, 0, 685], 0)
+}
+
+#[test]
+fn a_period_that_there_is_not(rt: HostRuntime) -> Result<(), Stop> {
+    let periods: &[(&[u8], u16, &[u8])] = &[
+        (b"2024-01-01", 0, b"UTC0"),
+        (b"2024-01-01", 367, b"UTC0"),
+        (b"2024-01-01", 1, b"NOWHERE/AT/ALL"),
+        (b"2024-02-30", 1, b"UTC0"),
+    ];
+    has_no_periods::<InMemory>(&rt, rt.alloc(), periods)
+}
+
+// In a database that holds a table no book can be made.
+fn is_not_made<O: Office>(rt: &impl Abort, alloc: Global) -> Result<(), Stop> {
+    let sql = "CREATE TABLE note (id INTEGER PRIMARY KEY) STRICT";
+    let mut office = O::opens(alloc)?.changed(alloc, sql)?;
+    is_refused(rt, &mut office);
     assert!(rt; !office.has_book());
     Ok(())
 }
 
 #[test]
-fn without_a_book(rt: HostRuntime) -> Result<(), Fail> {
-    let mut office = Office::new(&rt, rt.alloc())?;
-    office.take(&rt, "N1 cause 3 STORM => no: 22 Reopen")?;
-    assert!(rt; office.stored(1)?.as_str() == "no: 22 Reopen");
-    assert!(rt; office.create(b"2024-01-01", 1, b"UTC0").is_ok());
-    office.take(&rt, TWO_FEEDERS)
+fn a_database_of_something_else(rt: HostRuntime) -> Result<(), Stop> {
+    is_not_made::<InMemory>(&rt, rt.alloc())
+}
+
+// Without a book a command and a stored reply ask for one to be loaded.
+fn is_without<O: Office>(rt: &impl Abort, alloc: Global, office: &mut O) -> Result<(), Stop> {
+    take(rt, alloc, office, "N1 cause 3 STORM => no: 22 Reopen")?;
+    let stored = stored_text(alloc, &office.replies(1))?;
+    assert!(rt; stored.as_str() == "no: 22 Reopen");
+    Ok(())
+}
+
+// So it is at first; then a book is made, and takes commands.
+fn begins<O: Office>(rt: &impl Abort, alloc: Global) -> Result<(), Stop> {
+    let mut office = O::opens(alloc)?;
+    is_without(rt, alloc, &mut office)?;
+    office.makes(b"2024-01-01", 1, b"UTC0")?;
+    take(rt, alloc, &mut office, TWO_FEEDERS)
+}
+
+#[test]
+fn without_a_book(rt: HostRuntime) -> Result<(), Stop> {
+    begins::<InMemory>(&rt, rt.alloc())
 }

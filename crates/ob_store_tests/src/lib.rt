@@ -9,6 +9,8 @@ mod acts;
 #[cfg(test)]
 mod audits;
 #[cfg(test)]
+mod books;
+#[cfg(test)]
 mod creations;
 #[cfg(test)]
 mod loads;
@@ -16,7 +18,5 @@ mod loads;
 mod office;
 #[cfg(test)]
 mod scripts;
-#[cfg(test)]
-mod tables;
 #[cfg(test)]
 mod texts;

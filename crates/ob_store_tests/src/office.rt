@@ -1,176 +1,169 @@
-//! A keeper over a store in memory, and what it is asked.
-use crate::scripts::{OUTAGE, TWO_FEEDERS};
-use crate::tables::{has_amounts, has_rows};
-use crate::texts::{reply_text, stop_text};
-use ob_command::read_body;
-use ob_net::{Ref, Stop};
-use ob_store::Keeper;
-use ob_sweep::Windowed;
-use sqlite::{Connection, MemStore};
+//! What a test knows of a keeper.
+use ob_book::Book;
+use ob_command::{Command, read_body};
+use ob_net::{Fault, Ref, Refusal, Stop};
+use ob_store::{Keeper, Reply};
+use ob_sweep::{Timeline, Windowed};
+use sqlite::{Alter, Connection, Error, MemStore};
 use std::alloc::Global;
-use std::process::Abort;
-use std::test::Fail;
 
-// Puts a text of a book behind others.
-fn push_text(text: &mut Vec<u8>, more: Result<Vec<u8>, Stop>) -> Result<(), Fail> {
-    text.extend_from_slice(&more?)?;
-    Ok(())
+/// The tables are no book's.
+pub const BAD_BOOK: Result<(), Stop> = Err(Stop::Refused(Refusal::BadBook));
+
+/// A call that needs a book, where there is none.
+const REOPEN: Stop = Stop::Fault(Fault::Reopen);
+
+/// A fault of the store.
+const STORE: Stop = Stop::Fault(Fault::Store);
+
+/// The calls of a keeper over a store, without their clauses: with these each function that makes some is long to prove.
+pub trait Office: Drop {
+    /// A keeper without a book, over a database that holds nothing.
+    fn opens(alloc: Global) -> Result<Self, Stop>;
+
+    /// Makes a new book.
+    fn makes(&mut self, first: &[u8], days: u16, zone: &[u8]) -> Result<(), Stop>;
+
+    /// Reads the book that the tables hold.
+    fn loads(&mut self) -> Result<(), Stop>;
+
+    /// What the command of a line, a reference and a body text, is answered.
+    fn acts(&mut self, line: &str) -> Result<Reply, Stop>;
+
+    /// The stored reply of a command; None where there is none.
+    fn replies(&mut self, no: u32) -> Result<Option<Reply>, Stop>;
+
+    /// The first table that differs from those of the commands, `none` where none does; or why there is no answer.
+    fn audits(&mut self) -> &'static str;
+
+    /// The totals, the indices and the annual table of the book.
+    fn shows(&self) -> Result<Vec<u8>, Stop>;
+
+    /// Whether it has a book.
+    fn has_book(&self) -> bool;
+
+    /// Another keeper, without a book, over the tables after some statements.
+    fn changed(self, alloc: Global, sql: &str) -> Result<Self, Stop>;
+
+    /// Gives the keeper up. Answers the number that each query finds in the tables.
+    fn finds(self, alloc: Global, queries: &[&str]) -> Result<Vec<i64>, Stop>;
+}
+
+/// A store that a new database begins in.
+pub trait Blank: Alter + Drop {
+    /// A connection to a database that holds nothing.
+    fn connects(alloc: Global) -> Result<Connection<Self>, Stop>;
+}
+
+impl Blank for MemStore {
+    fn connects(alloc: Global) -> Result<Connection<MemStore>, Stop> {
+        Connection::open_in_memory(alloc).map_err(|_| STORE)
+    }
 }
 
 /// A keeper over a store in memory.
-#[derive(Drop)]
-pub struct Office {
+pub type InMemory = Keeper<MemStore, Windowed>;
+
+// A keeper without a book, over a database.
+fn adopted<S: Alter + Drop, T: Timeline>(
     alloc: Global,
-    keeper: Keeper<MemStore, Windowed>,
+    conn: Connection<S>,
+) -> Result<Keeper<S, T>, Stop> {
+    if !conn.is_autocommit() {
+        return Err(STORE);
+    }
+    Ok(Keeper::adopt_connection(alloc, conn))
 }
 
-impl Office {
-    /// A keeper without a book, over a database that holds nothing.
-    pub fn new(rt: &impl Abort, alloc: Global) -> Result<Office, Fail> {
-        let conn = Connection::open_in_memory(alloc)?;
-        Ok(Office::over(rt, alloc, conn))
+// A reference and the command of a body text.
+fn asked(line: &str) -> Option<(Ref, Command)> {
+    let (reference, body) = line.split_once(" ")?;
+    let reference = Ref::read(reference.as_bytes())?;
+    let command = read_body(body.as_bytes())?;
+    Some((reference, command))
+}
+
+// The texts of a book, one behind the other.
+fn texts<T: Timeline>(book: &Book<T>) -> Result<Vec<u8>, Stop> {
+    let mut text = book.totals_text()?;
+    text.extend_from_slice(&book.indices_text()?)?;
+    text.extend_from_slice(&book.annual_text()?)?;
+    Ok(text)
+}
+
+fn number<S: Alter>(conn: &mut Connection<S>, sql: &str) -> Result<i64, Error> {
+    conn.query_row(sql, &[])?.get(0)
+}
+
+// The number that each query finds.
+fn numbers<S: Alter>(
+    alloc: Global,
+    conn: &mut Connection<S>,
+    queries: &[&str],
+) -> Result<Vec<i64>, Stop> {
+    let mut numbers = Vec::new(alloc);
+    for sql in queries {
+        match number(conn, sql) {
+            Ok(number) => numbers.push(number)?,
+            Err(_) => return Err(STORE),
+        }
+    }
+    Ok(numbers)
+}
+
+impl<S: Blank, T: Timeline> Office for Keeper<S, T> {
+    fn opens(alloc: Global) -> Result<Keeper<S, T>, Stop> {
+        adopted(alloc, S::connects(alloc)?)
     }
 
-    /// A keeper without a book, over a database.
-    pub fn over(rt: &impl Abort, alloc: Global, conn: Connection<MemStore>) -> Office {
-        assert!(rt; conn.is_autocommit());
-        let keeper = Keeper::adopt_connection(alloc, conn);
-        Office { alloc, keeper }
+    fn makes(&mut self, first: &[u8], days: u16, zone: &[u8]) -> Result<(), Stop> {
+        self.create(first, days, zone)
     }
 
-    /// A book of 2024-01-01 in UTC with the two feeders.
-    pub fn two_feeders(rt: &impl Abort, alloc: Global) -> Result<Office, Fail> {
-        let mut office = Office::new(rt, alloc)?;
-        assert!(rt; office.create(b"2024-01-01", 1, b"UTC0").is_ok());
-        office.take(rt, TWO_FEEDERS)?;
-        Ok(office)
+    fn loads(&mut self) -> Result<(), Stop> {
+        self.load()
     }
 
-    /// The two feeders after the outage.
-    pub fn outage(rt: &impl Abort, alloc: Global) -> Result<Office, Fail> {
-        let mut office = Office::two_feeders(rt, alloc)?;
-        office.take(rt, OUTAGE)?;
-        Ok(office)
-    }
-
-    /// Makes a new book.
-    pub fn create(&mut self, first: &[u8], days: u16, zone: &[u8]) -> Result<(), Stop> {
-        self.keeper.create(first, days, zone)
-    }
-
-    /// What a command under a reference is answered.
-    fn act(&mut self, reference: &str, body: &str) -> Result<String, Fail> {
-        let reference = Ref::read(reference.as_bytes()).ok_or("a reference")?;
-        let command = read_body(body.as_bytes()).ok_or("a command")?;
-        match self.keeper.act(reference, command) {
-            Ok(reply) => reply_text(self.alloc, &reply),
-            Err(stop) => stop_text(self.alloc, &stop),
+    fn acts(&mut self, line: &str) -> Result<Reply, Stop> {
+        match asked(line) {
+            Some((reference, command)) => self.act(reference, command),
+            None => Err(Stop::Refused(Refusal::BadField(0))),
         }
     }
 
-    /// The lines of a script are answered as they say, one after another.
-    pub fn take(&mut self, rt: &impl Abort, script: &str) -> Result<(), Fail> {
-        for line in script.lines() {
-            let (asked, wanted) = line.split_once(" => ").ok_or("an answer")?;
-            let (reference, body) = asked.split_once(" ").ok_or("a body text")?;
-            let found = self.act(reference, body)?;
-            assert!(rt; found.as_str() == wanted, "{asked}: {found}");
-        }
-        Ok(())
+    fn replies(&mut self, no: u32) -> Result<Option<Reply>, Stop> {
+        self.reply_of(no)
     }
 
-    /// The stored reply of a command, `none` where there is none.
-    pub fn stored(&mut self, no: u32) -> Result<String, Fail> {
-        match self.keeper.reply_of(no) {
-            Ok(Some(reply)) => reply_text(self.alloc, &reply),
-            Ok(None) => Ok(String::from_str(self.alloc, "none")?),
-            Err(stop) => stop_text(self.alloc, &stop),
-        }
-    }
-
-    /// Reads the book that the tables hold.
-    pub fn load(&mut self) -> Result<(), Stop> {
-        self.keeper.load()
-    }
-
-    /// The first table that differs from those of the commands, `none` where none does; or why there is no answer.
-    pub fn audited(&mut self) -> &'static str {
-        match self.keeper.audit() {
+    fn audits(&mut self) -> &'static str {
+        match self.audit() {
             Ok(Some(table)) => table.name(),
             Ok(None) => "none",
             Err(stop) => stop.name(),
         }
     }
 
-    /// The totals, the indices and the annual table of the book.
-    pub fn views(&self) -> Result<Vec<u8>, Fail> {
-        let book = self.keeper.book().ok_or("a book")?;
-        let mut text = book.totals_text()?;
-        push_text(&mut text, book.indices_text())?;
-        push_text(&mut text, book.annual_text())?;
-        Ok(text)
-    }
-
-    // What the book shows, and the stored replies of its commands, of which there are fewer than thirty.
-    fn shown(&mut self) -> Result<Vec<u8>, Fail> {
-        let mut text = self.views()?;
-        for no in 0..30 {
-            text.extend_from_slice(self.stored(no)?.as_bytes())?;
+    fn shows(&self) -> Result<Vec<u8>, Stop> {
+        match self.book() {
+            Some(book) => texts(book),
+            None => Err(REOPEN),
         }
-        Ok(text)
     }
 
-    // The tables hold a book that shows this.
-    fn loads(&mut self, rt: &impl Abort, shown: &[u8]) -> Result<(), Fail> {
-        assert!(rt; self.audited() == "none");
-        assert!(rt; self.load().is_ok());
-        assert!(rt; self.shown()?.as_slice() == shown);
-        Ok(())
+    fn has_book(&self) -> bool {
+        self.book().is_some()
     }
 
-    /// A keeper that loads the same tables, and then shows the same book and the same replies.
-    pub fn reopened(mut self, rt: &impl Abort) -> Result<Office, Fail> {
-        let shown = self.shown()?;
-        let mut again = Office::over(rt, self.alloc, self.into_connection());
-        again.loads(rt, &shown)?;
-        Ok(again)
-    }
-
-    /// A keeper without a book, over the tables after some statements.
-    pub fn changed(self, rt: &impl Abort, sql: &str) -> Result<Office, Fail> {
-        let alloc = self.alloc;
+    fn changed(self, alloc: Global, sql: &str) -> Result<Keeper<S, T>, Stop> {
         let mut conn = self.into_connection();
-        conn.execute_batch(sql)?;
-        Ok(Office::over(rt, alloc, conn))
+        match conn.execute_batch(sql) {
+            Ok(()) => adopted(alloc, conn),
+            Err(_) => Err(STORE),
+        }
     }
 
-    /// Whether it has a book.
-    pub fn has_book(&self) -> bool {
-        self.keeper.book().is_some()
-    }
-
-    /// The lines of a script are answered as they say, and leave the book, so many rows and so much in total.
-    pub fn ends(
-        mut self,
-        rt: &impl Abort,
-        script: &str,
-        rows: &[i64],
-        total: i64,
-    ) -> Result<(), Fail> {
-        self.take(rt, script)?;
-        self.reopened(rt)?.leaves(rt, rows, total)
-    }
-
-    /// Gives the keeper up; the tables then have so many rows and amounts of so much in total.
-    pub fn leaves(self, rt: &impl Abort, rows: &[i64], total: i64) -> Result<(), Fail> {
-        let alloc = self.alloc;
+    fn finds(self, alloc: Global, queries: &[&str]) -> Result<Vec<i64>, Stop> {
         let mut conn = self.into_connection();
-        has_rows(rt, alloc, &mut conn, rows)?;
-        has_amounts(rt, alloc, &mut conn, total)
-    }
-
-    /// The tables, without the keeper.
-    pub fn into_connection(self) -> Connection<MemStore> {
-        self.keeper.into_connection()
+        numbers(alloc, &mut conn, queries)
     }
 }

@@ -2,12 +2,31 @@
 use ob_net::Stop;
 use ob_post::{Dim, Moved};
 use ob_store::Reply;
-use std::alloc::Global;
-use std::test::Fail;
+use std::alloc::{AllocError, Global};
 
-/// The number of a command and what it moved, as `22: cause 3 600, feeder 1 600, day 0 600`; the number alone where
-/// nothing moved.
-pub fn reply_text(alloc: Global, reply: &Reply) -> Result<String, Fail> {
+/// What a command is answered.
+pub fn answer_text(alloc: Global, answer: &Result<Reply, Stop>) -> Result<String, AllocError> {
+    match answer {
+        Ok(reply) => reply_text(alloc, reply),
+        Err(stop) => stop_text(alloc, stop),
+    }
+}
+
+/// The stored reply of a command, `none` where there is none.
+pub fn stored_text(
+    alloc: Global,
+    stored: &Result<Option<Reply>, Stop>,
+) -> Result<String, AllocError> {
+    match stored {
+        Ok(Some(reply)) => reply_text(alloc, reply),
+        Ok(None) => String::from_str(alloc, "none"),
+        Err(stop) => stop_text(alloc, stop),
+    }
+}
+
+// The number of a command and what it moved, as `22: cause 3 600, feeder 1 600, day 0 600`; the number alone where
+// nothing moved.
+fn reply_text(alloc: Global, reply: &Reply) -> Result<String, AllocError> {
     let no = reply.no;
     let mut text = format!(in alloc; "{no}")?;
     let mut between = ": ";
@@ -19,23 +38,21 @@ pub fn reply_text(alloc: Global, reply: &Reply) -> Result<String, Fail> {
     Ok(text)
 }
 
-/// Why there is no answer, as `no: 7 Stale 2`.
-pub fn stop_text(alloc: Global, stop: &Stop) -> Result<String, Fail> {
+// Why there is no answer, as `no: 7 Stale 2`.
+fn stop_text(alloc: Global, stop: &Stop) -> Result<String, AllocError> {
     let (number, name) = (stop.number(), stop.name());
-    let text = match stop.detail() {
+    match stop.detail() {
         Some(detail) => format!(in alloc; "no: {number} {name} {detail}"),
         None => format!(in alloc; "no: {number} {name}"),
-    };
-    Ok(text?)
+    }
 }
 
-fn row_text(alloc: Global, row: &Moved) -> Result<String, Fail> {
+fn row_text(alloc: Global, row: &Moved) -> Result<String, AllocError> {
     let dim = match row.dim {
         Dim::Cause => "cause",
         Dim::Feeder => "feeder",
         Dim::Day => "day",
     };
     let (key, delta) = (row.key, row.delta);
-    let text = format!(in alloc; "{dim} {key} {delta}")?;
-    Ok(text)
+    format!(in alloc; "{dim} {key} {delta}")
 }
