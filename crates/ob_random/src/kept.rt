@@ -73,7 +73,7 @@ fn tell_list<O: Office>(
     (first, end): (u64, u64),
 ) -> Result<(), Fail> {
     for place in first..end {
-        let command = command(random, place)?;
+        let command = command(random, place).ok_or("a command")?;
         let reference = reference(alloc, random, place)?;
         tell(rt, alloc, office, told, &reference, &command)?;
         tell(rt, alloc, office, told, &reference, &command)?;

@@ -72,16 +72,22 @@ impl<B: Acts, C: Acts> Pair<B, C> {
         found
     }
 
-    // Follows an accepted command, and counts anew.
+    // Follows an accepted command.
     fn follow(&mut self, rt: &impl Abort, command: &Command, moves: &[Moved]) -> Result<(), Fail> {
         self.plain.follow(command)?;
+        self.count_anew(rt, moves)?;
+        self.accepted.push(*command)?;
+        Ok(())
+    }
+
+    // What is moved is what the counts differ by, and the first book shows what is counted.
+    fn count_anew(&mut self, rt: &impl Abort, moves: &[Moved]) -> Result<(), Fail> {
         let counted = count(self.alloc, &self.plain)?;
         let wanted = differences(self.alloc, &self.counted, &counted)?;
         assert!(rt; moves == wanted.as_slice());
         has_posted(rt, &self.book, &counted);
         has_figures(rt, &self.book, &self.plain, &counted);
         self.counted = counted;
-        self.accepted.push(*command)?;
         Ok(())
     }
 
