@@ -1,20 +1,69 @@
-//! A keeper over a store in memory, and what it is asked.
+//! What a test knows of a keeper that answers requests.
 use ob_answers::{ReplyText, Routes, answer};
-use ob_base::Fault;
+use ob_base::{Fault, Stop};
 use ob_requests::{Method, Request};
 use ob_store::Keeper;
-use ob_sweep::Windowed;
-use sqlite::{Connection, MemStore};
+use ob_sweep::{Timeline, Windowed};
+use sqlite::{Alter, Connection, MemStore};
 use std::alloc::{AllocError, Global};
-use std::process::Abort;
-use std::test::Fail;
+
+/// A fault of the store.
+const STORE: Stop = Stop::Fault(Fault::Store);
+
+/// A keeper that answers requests, without its clauses: with these each function that makes some is long to prove.
+pub trait Office: Drop {
+    /// A keeper without a book, over a database that holds nothing.
+    fn opens(alloc: Global) -> Result<Self, Stop>;
+
+    /// Makes a new book of 2024-01-01 in UTC.
+    fn makes(&mut self) -> Result<(), Stop>;
+
+    /// What a request is answered.
+    fn answers(
+        &mut self,
+        alloc: Global,
+        method: Method,
+        target: &str,
+        body: &str,
+        closes: bool,
+    ) -> Result<ReplyText, Fault>;
+}
+
+/// A store that a new database begins in.
+pub trait Blank: Alter + Drop {
+    /// A connection to a database that holds nothing.
+    fn connects(alloc: Global) -> Result<Connection<Self>, Stop>;
+}
+
+impl Blank for MemStore {
+    fn connects(alloc: Global) -> Result<Connection<MemStore>, Stop> {
+        Connection::open_in_memory(alloc).map_err(|_| STORE)
+    }
+}
+
+/// A keeper and the table of routes.
+#[derive(Drop)]
+pub struct Desk<S: Alter, T: Timeline> {
+    keeper: Keeper<S, T>,
+    routes: Routes,
+}
 
 /// A keeper over a store in memory, and the table of routes.
-#[derive(Drop)]
-pub struct Office {
+pub type InMemory = Desk<MemStore, Windowed>;
+
+// A keeper without a book, over a database.
+fn adopted<S: Alter + Drop, T: Timeline>(
     alloc: Global,
-    keeper: Keeper<MemStore, Windowed>,
-    routes: Routes,
+    conn: Connection<S>,
+) -> Result<Keeper<S, T>, Stop> {
+    if !conn.is_autocommit() {
+        return Err(STORE);
+    }
+    Ok(Keeper::adopt_connection(alloc, conn))
+}
+
+fn routes(alloc: Global) -> Result<Routes, Stop> {
+    Routes::new(alloc).map_err(|_| Stop::Fault(Fault::OutOfMemory))
 }
 
 /// A request without an interim reply.
@@ -28,36 +77,28 @@ fn request(alloc: Global, method: Method, target: &str, body: &str) -> Result<Re
     })
 }
 
-impl Office {
-    /// A keeper without a book, over a database that holds nothing.
-    pub fn without_book(rt: &impl Abort, alloc: Global) -> Result<Office, Fail> {
-        let conn = Connection::open_in_memory(alloc)?;
-        assert!(rt; conn.is_autocommit());
-        let keeper = Keeper::adopt_connection(alloc, conn);
-        let routes = Routes::new(alloc).map_err(|_| "the routes")?;
-        Ok(Office {
-            alloc,
-            keeper,
-            routes,
-        })
+impl<S: Blank, T: Timeline> Office for Desk<S, T> {
+    fn opens(alloc: Global) -> Result<Desk<S, T>, Stop> {
+        let routes = routes(alloc)?;
+        let keeper = adopted(alloc, S::connects(alloc)?)?;
+        Ok(Desk { keeper, routes })
     }
 
-    /// A new book of 2024-01-01 in UTC.
-    pub fn new(rt: &impl Abort, alloc: Global) -> Result<Office, Fail> {
-        let mut office = Office::without_book(rt, alloc)?;
-        assert!(rt; office.keeper.create(b"2024-01-01", 1, b"UTC0").is_ok());
-        Ok(office)
+    fn makes(&mut self) -> Result<(), Stop> {
+        self.keeper.create(b"2024-01-01", 1, b"UTC0")
     }
 
-    /// What a request is answered.
-    pub fn answers(
+    fn answers(
         &mut self,
+        alloc: Global,
         method: Method,
         target: &str,
         body: &str,
         closes: bool,
-    ) -> Result<Result<ReplyText, Fault>, AllocError> {
-        let request = request(self.alloc, method, target, body)?;
-        Ok(answer(self.alloc, &self.routes, &mut self.keeper, &request, closes))
+    ) -> Result<ReplyText, Fault> {
+        match request(alloc, method, target, body) {
+            Ok(request) => answer(alloc, &self.routes, &mut self.keeper, &request, closes),
+            Err(_) => Err(Fault::OutOfMemory),
+        }
     }
 }

@@ -1,56 +1,92 @@
 //! The replies to requests in their order.
-use crate::office::Office;
+use crate::office::{InMemory, Office};
 use crate::texts::{Asked, COMMANDS, FIRST, IMPORTS, ROUTES, VIEWS};
-use ob_base::Fault;
+use ob_answers::ReplyText;
+use ob_base::{Fault, Stop};
 use ob_requests::Method;
+use std::alloc::Global;
 use std::process::Abort;
-use std::test::Fail;
+
+fn is_reply(found: &Result<ReplyText, Fault>, wanted: &[u8]) -> bool {
+    match found {
+        Ok(reply) => reply.bytes() == wanted,
+        Err(_) => false,
+    }
+}
+
+fn is_fault(found: &Result<ReplyText, Fault>, wanted: Fault) -> bool {
+    match found {
+        Ok(_) => false,
+        Err(fault) => *fault == wanted,
+    }
+}
 
 // The requests are answered so, one after the other.
-fn are_answered(rt: &impl Abort, office: &mut Office, table: &[Asked]) -> Result<(), Fail> {
+fn answers<O: Office>(rt: &impl Abort, alloc: Global, office: &mut O, table: &[Asked]) {
     for (method, target, body, text) in table {
-        match office.answers(*method, target, body, false)? {
-            Ok(reply) => assert!(rt; reply.bytes() == text.as_bytes()),
-            Err(_) => assert!(rt; false),
-        }
+        let found = office.answers(alloc, *method, target, body, false);
+        assert!(rt; is_reply(&found, text.as_bytes()));
     }
+}
+
+// So they are over a new book.
+fn over_a_book<O: Office>(rt: &impl Abort, alloc: Global, table: &[Asked]) -> Result<(), Stop> {
+    let mut office = O::opens(alloc)?;
+    office.makes()?;
+    answers(rt, alloc, &mut office, table);
+    Ok(())
+}
+
+// So they are without a book.
+fn over_none<O: Office>(rt: &impl Abort, alloc: Global, table: &[Asked]) -> Result<(), Stop> {
+    let mut office = O::opens(alloc)?;
+    answers(rt, alloc, &mut office, table);
     Ok(())
 }
 
 #[test]
-fn views(rt: HostRuntime) -> Result<(), Fail> {
-    are_answered(&rt, &mut Office::new(&rt, rt.alloc())?, VIEWS)
+fn views(rt: HostRuntime) -> Result<(), Stop> {
+    over_a_book::<InMemory>(&rt, rt.alloc(), VIEWS)
 }
 
 #[test]
-fn routes(rt: HostRuntime) -> Result<(), Fail> {
-    are_answered(&rt, &mut Office::new(&rt, rt.alloc())?, ROUTES)?;
-    are_answered(&rt, &mut Office::without_book(&rt, rt.alloc())?, ROUTES)
+fn routes(rt: HostRuntime) -> Result<(), Stop> {
+    over_a_book::<InMemory>(&rt, rt.alloc(), ROUTES)?;
+    over_none::<InMemory>(&rt, rt.alloc(), ROUTES)
 }
 
 #[test]
-fn commands(rt: HostRuntime) -> Result<(), Fail> {
-    are_answered(&rt, &mut Office::new(&rt, rt.alloc())?, COMMANDS)
+fn commands(rt: HostRuntime) -> Result<(), Stop> {
+    over_a_book::<InMemory>(&rt, rt.alloc(), COMMANDS)
 }
 
 #[test]
-fn imports(rt: HostRuntime) -> Result<(), Fail> {
-    are_answered(&rt, &mut Office::new(&rt, rt.alloc())?, IMPORTS)
+fn imports(rt: HostRuntime) -> Result<(), Stop> {
+    over_a_book::<InMemory>(&rt, rt.alloc(), IMPORTS)
 }
 
 #[test]
-fn a_first_command(rt: HostRuntime) -> Result<(), Fail> {
-    are_answered(&rt, &mut Office::new(&rt, rt.alloc())?, FIRST)
+fn a_first_command(rt: HostRuntime) -> Result<(), Stop> {
+    over_a_book::<InMemory>(&rt, rt.alloc(), FIRST)
 }
 
-#[test]
-fn the_last_reply(rt: HostRuntime) -> Result<(), Fail> {
-    let mut office = Office::new(&rt, rt.alloc())?;
-    match office.answers(Method::Get, "/totals", "", true)? {
-        Ok(reply) => assert!(rt; reply.bytes() == LAST),
-        Err(_) => assert!(rt; false),
-    }
+// A request of a new book, after which the stream ends, is answered so.
+fn ends<O: Office>(
+    rt: &impl Abort,
+    alloc: Global,
+    target: &str,
+    wanted: &[u8],
+) -> Result<(), Stop> {
+    let mut office = O::opens(alloc)?;
+    office.makes()?;
+    let found = office.answers(alloc, Method::Get, target, "", true);
+    assert!(rt; is_reply(&found, wanted));
     Ok(())
+}
+
+#[test]
+fn the_last_reply(rt: HostRuntime) -> Result<(), Stop> {
+    ends::<InMemory>(&rt, rt.alloc(), "/totals", LAST)
 }
 
 // The totals of a new book, after which the stream ends.
@@ -70,14 +106,17 @@ const NEEDS: &[Needs] = &[
     (Method::Post, "/import", ""),
 ];
 
-#[test]
-fn without_a_book(rt: HostRuntime) -> Result<(), Fail> {
-    let mut office = Office::without_book(&rt, rt.alloc())?;
-    for (method, target, body) in NEEDS {
-        match office.answers(*method, target, body, false)? {
-            Ok(_) => assert!(rt; false),
-            Err(fault) => assert!(rt; fault == Fault::Reopen),
-        }
+// Without a book there is no reply to these.
+fn need_a_book<O: Office>(rt: &impl Abort, alloc: Global, table: &[Needs]) -> Result<(), Stop> {
+    let mut office = O::opens(alloc)?;
+    for (method, target, body) in table {
+        let found = office.answers(alloc, *method, target, body, false);
+        assert!(rt; is_fault(&found, Fault::Reopen));
     }
     Ok(())
+}
+
+#[test]
+fn without_a_book(rt: HostRuntime) -> Result<(), Stop> {
+    need_a_book::<InMemory>(&rt, rt.alloc(), NEEDS)
 }

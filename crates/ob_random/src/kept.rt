@@ -3,16 +3,16 @@
 //! have the rows of the plain lists.
 use crate::compare::{has_figures, has_posted};
 use crate::draw::command;
+use crate::office::Office;
 use crate::random::Random;
 use crate::rows::rows_of;
-use crate::stored::stored_rows;
 use crate::told::Told;
 use ob_book::{Command, read_body};
 use ob_net::{Ref, Refusal, Stop};
 use ob_post::Moved;
 use ob_store::{Keeper, Reply};
-use ob_sweep::{Timeline, Windowed};
-use sqlite::{Alter, Connection, MemStore};
+use ob_sweep::Windowed;
+use sqlite::MemStore;
 use std::alloc::Global;
 use std::process::Abort;
 use std::test::Fail;
@@ -35,16 +35,16 @@ fn is_refused(found: &Result<Reply, Stop>, wanted: Refusal) -> bool {
 }
 
 // A command is answered as by the plain lists.
-fn tell<S: Alter, T: Timeline>(
+fn tell<O: Office>(
     rt: &impl Abort,
     alloc: Global,
-    keeper: &mut Keeper<S, T>,
+    office: &mut O,
     told: &mut Told,
     reference: &Ref,
     command: &Command,
 ) -> Result<(), Fail> {
     let wanted = told.take(alloc, reference, command)?;
-    let found = keeper.act(*reference, *command);
+    let found = office.acts(reference, command);
     match wanted {
         Ok(place) => assert!(rt; is_reply(&found, place, told.moves_at(place))),
         Err(refusal) => assert!(rt; is_refused(&found, refusal)),
@@ -64,141 +64,114 @@ fn reference(alloc: Global, random: &mut Random, place: u64) -> Result<Ref, Fail
 }
 
 // Tells the commands of some places, each twice.
-fn tell_list<S: Alter, T: Timeline>(
+fn tell_list<O: Office>(
     rt: &impl Abort,
     alloc: Global,
-    keeper: &mut Keeper<S, T>,
+    office: &mut O,
     told: &mut Told,
     random: &mut Random,
     (first, end): (u64, u64),
 ) -> Result<(), Fail> {
     for place in first..end {
-        let command = command(random, place)?;
+        let command = command(random, place).ok_or("a command")?;
         let reference = reference(alloc, random, place)?;
-        tell(rt, alloc, keeper, told, &reference, &command)?;
-        tell(rt, alloc, keeper, told, &reference, &command)?;
+        tell(rt, alloc, office, told, &reference, &command)?;
+        tell(rt, alloc, office, told, &reference, &command)?;
     }
     Ok(())
 }
 
 // Tells each accepted command again.
-fn tell_again<S: Alter, T: Timeline>(
+fn tell_again<O: Office>(
     rt: &impl Abort,
     alloc: Global,
-    keeper: &mut Keeper<S, T>,
+    office: &mut O,
     told: &mut Told,
 ) -> Result<(), Fail> {
     for place in 0..told.sent.len() {
         let sent = told.sent.get(place).copied().ok_or("a reference")?;
         let command = read_body(told.body_at(place)).ok_or("a command")?;
-        tell(rt, alloc, keeper, told, &sent.reference, &command)?;
+        tell(rt, alloc, office, told, &sent.reference, &command)?;
     }
     Ok(())
 }
 
+// The keeper's book is that of the plain lists.
+fn has_book<O: Office>(rt: &impl Abort, office: &O, told: &Told) {
+    assert!(rt; office.commands() == Some(told.sent.len()));
+    has_posted(rt, office, &told.counted);
+    has_figures(rt, office, &told.plain, &told.counted);
+}
+
 // A new book of the two days is kept through the most of a list.
-fn begins<S: Alter, T: Timeline>(
+fn begins<O: Office>(
     rt: &impl Abort,
     alloc: Global,
-    keeper: &mut Keeper<S, T>,
+    office: &mut O,
     told: &mut Told,
     random: &mut Random,
 ) -> Result<(), Fail> {
-    assert!(rt; keeper.create(b"1970-01-02", 2, b"UTC0").is_ok());
-    tell_list(rt, alloc, keeper, told, random, (0, 40))
-}
-
-// The keeper's book is that of the plain lists.
-fn has_book<S: Alter, T: Timeline>(
-    rt: &impl Abort,
-    keeper: &Keeper<S, T>,
-    told: &Told,
-) -> Result<(), Fail> {
-    let book = keeper.book().ok_or("a book")?;
-    assert!(rt; book.accepted() as usize == told.sent.len());
-    has_posted(rt, book, &told.counted);
-    has_figures(rt, book, &told.plain, &told.counted);
-    Ok(())
+    office.makes()?;
+    tell_list(rt, alloc, office, told, random, (0, 40))
 }
 
 // The book is loaded and kept through the rest of the list.
-fn goes_on<S: Alter, T: Timeline>(
+fn goes_on<O: Office>(
     rt: &impl Abort,
     alloc: Global,
-    keeper: &mut Keeper<S, T>,
+    office: &mut O,
     told: &mut Told,
     random: &mut Random,
 ) -> Result<(), Fail> {
-    assert!(rt; keeper.load().is_ok());
-    has_book(rt, keeper, told)?;
-    tell_list(rt, alloc, keeper, told, random, (40, 50))?;
-    tell_again(rt, alloc, keeper, told)?;
-    has_book(rt, keeper, told)
-}
-
-// The tables have the rows of the plain lists.
-fn leaves<S: Alter>(
-    rt: &impl Abort,
-    alloc: Global,
-    conn: &mut Connection<S>,
-    told: &Told,
-) -> Result<(), Fail> {
-    let wanted = rows_of(alloc, told)?;
-    assert!(rt; stored_rows(alloc, conn)? == wanted);
+    office.loads()?;
+    has_book(rt, office, told);
+    tell_list(rt, alloc, office, told, random, (40, 50))?;
+    tell_again(rt, alloc, office, told)?;
+    has_book(rt, office, told);
     Ok(())
 }
 
-// A keeper over a new store keeps the most of a list; answers the store.
-fn first_part<S: Alter + Drop, T: Timeline>(
-    rt: &impl Abort,
-    alloc: Global,
-    conn: Connection<S>,
-    told: &mut Told,
-    random: &mut Random,
-) -> Result<Connection<S>, Fail> {
-    assert!(rt; conn.is_autocommit());
-    let mut keeper: Keeper<S, T> = Keeper::adopt_connection(alloc, conn);
-    begins(rt, alloc, &mut keeper, told, random)?;
-    Ok(keeper.into_connection())
-}
-
-// Another keeper over the same store loads the book and keeps the rest; answers the store.
-fn second_part<S: Alter + Drop, T: Timeline>(
-    rt: &impl Abort,
-    alloc: Global,
-    conn: Connection<S>,
-    told: &mut Told,
-    random: &mut Random,
-) -> Result<Connection<S>, Fail> {
-    assert!(rt; conn.is_autocommit());
-    let mut keeper: Keeper<S, T> = Keeper::adopt_connection(alloc, conn);
-    goes_on(rt, alloc, &mut keeper, told, random)?;
-    Ok(keeper.into_connection())
+// The tables have the rows of the plain lists.
+fn leaves<O: Office>(rt: &impl Abort, alloc: Global, office: O, told: &Told) -> Result<(), Fail> {
+    let found = office.rows(alloc)?;
+    assert!(rt; found == rows_of(alloc, told)?);
+    Ok(())
 }
 
 // A list is kept, by one keeper and then by another one, and leaves its rows in the tables.
-fn keeps(rt: &impl Abort, alloc: Global, told: &mut Told, random: &mut Random) -> Result<(), Fail> {
-    let conn = Connection::open_in_memory(alloc)?;
-    let conn = first_part::<MemStore, Windowed>(rt, alloc, conn, told, random)?;
-    let mut conn = second_part::<MemStore, Windowed>(rt, alloc, conn, told, random)?;
-    leaves(rt, alloc, &mut conn, told)
+fn keeps<O: Office>(
+    rt: &impl Abort,
+    alloc: Global,
+    told: &mut Told,
+    random: &mut Random,
+) -> Result<(), Fail> {
+    let mut first = O::opens(alloc)?;
+    begins(rt, alloc, &mut first, told, random)?;
+    let mut second = first.reopened(alloc)?;
+    goes_on(rt, alloc, &mut second, told, random)?;
+    leaves(rt, alloc, second, told)
 }
 
 // A list is kept; how many of its commands were told under a reference of another one.
-fn keeps_list(rt: &impl Abort, alloc: Global, random: &mut Random) -> Result<u32, Fail> {
+fn keeps_list<O: Office>(rt: &impl Abort, alloc: Global, random: &mut Random) -> Result<u32, Fail> {
     let mut told = Told::new(alloc)?;
-    keeps(rt, alloc, &mut told, random)?;
+    keeps::<O>(rt, alloc, &mut told, random)?;
     Ok(told.conflicts)
 }
 
-#[test]
-fn keepers_answer_as_the_plain_lists_do(rt: HostRuntime) -> Result<(), Fail> {
+// So many lists are kept; many of their commands were told under a reference of another one.
+fn keeps_lists<O: Office>(rt: &impl Abort, alloc: Global, lists: u32) -> Result<(), Fail> {
     let mut random = Random::new(19_700_103);
     let mut conflicts = 0u32;
-    for _ in 0..20 {
-        let found = keeps_list(&rt, rt.alloc(), &mut random)?;
+    for _ in 0..lists {
+        let found = keeps_list::<O>(rt, alloc, &mut random)?;
         conflicts = conflicts.saturating_add(found);
     }
     assert!(rt; conflicts > 20);
     Ok(())
+}
+
+#[test]
+fn keepers_answer_as_the_plain_lists_do(rt: HostRuntime) -> Result<(), Fail> {
+    keeps_lists::<Keeper<MemStore, Windowed>>(&rt, rt.alloc(), 20)
 }

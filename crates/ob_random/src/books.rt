@@ -1,0 +1,99 @@
+//! What a test knows of a book.
+use ob_book::{Book, Command, replay};
+use ob_index::{Indices, Which};
+use ob_net::{Refusal, Stop};
+use ob_post::{Dim, Moved};
+use ob_sweep::{Run, Timeline};
+use ob_time::Period;
+use std::alloc::Global;
+
+/// What a book shows.
+pub trait Shows {
+    /// How many commands were accepted.
+    fn commands(&self) -> Option<usize>;
+
+    /// The amount that is posted under a key; None where there is no such key.
+    fn posted(&self, dim: Dim, key: u16) -> Option<u64>;
+
+    /// The indices.
+    fn figures(&self, which: Which) -> Option<Indices>;
+}
+
+/// The calls of a book, without their clauses: with these each function that makes some, or holds a book, is long to prove.
+pub trait Acts: Shows + Drop {
+    /// A new book of the two days that are counted.
+    fn begins(alloc: Global) -> Result<Self, Stop>;
+
+    /// The book of a replay of commands on these days.
+    fn replays(alloc: Global, commands: &[Command]) -> Result<Self, Stop>;
+
+    /// Decides on a command and adopts it where it is accepted; what it moves, or why it is refused.
+    fn acts(&mut self, alloc: Global, command: &Command) -> Result<Vec<Moved>, Stop>;
+
+    /// How many nodes there are.
+    fn nodes(&self) -> u16;
+
+    /// The runs of a node; None where it is no section.
+    fn runs(&self, node: u16) -> Option<&[Run]>;
+}
+
+// The days that are counted.
+fn two_days(alloc: Global) -> Result<Period, Stop> {
+    match Period::from_text(alloc, b"1970-01-02", 2, b"UTC0") {
+        Ok(period) => Ok(period),
+        Err(_) => Err(Stop::Refused(Refusal::BadPeriod)),
+    }
+}
+
+impl<T: Timeline> Shows for Book<T> {
+    fn commands(&self) -> Option<usize> {
+        Some(self.accepted() as usize)
+    }
+
+    fn posted(&self, dim: Dim, key: u16) -> Option<u64> {
+        let is_key = match dim {
+            Dim::Cause => key < 64,
+            Dim::Feeder => 1 <= key && key < 256,
+            Dim::Day => key < self.period().days(),
+        };
+        if is_key {
+            Some(self.postings().amount(dim, key))
+        } else {
+            None
+        }
+    }
+
+    fn figures(&self, which: Which) -> Option<Indices> {
+        Some(self.index_view(which))
+    }
+}
+
+impl<T: Timeline> Acts for Book<T> {
+    fn begins(alloc: Global) -> Result<Book<T>, Stop> {
+        Book::new(alloc, two_days(alloc)?)
+    }
+
+    fn replays(alloc: Global, commands: &[Command]) -> Result<Book<T>, Stop> {
+        replay(alloc, two_days(alloc)?, commands)
+    }
+
+    fn acts(&mut self, alloc: Global, command: &Command) -> Result<Vec<Moved>, Stop> {
+        let plan = self.decide(command)?;
+        let mut moves = Vec::new(alloc);
+        moves.extend_from_slice(plan.moves())?;
+        self.adopt(plan);
+        Ok(moves)
+    }
+
+    fn nodes(&self) -> u16 {
+        self.net().nodes()
+    }
+
+    fn runs(&self, node: u16) -> Option<&[Run]> {
+        if node < self.net().nodes() && self.net().feeder_of(node).is_some() {
+            Some(self.timeline().runs_of(node))
+        } else {
+            None
+        }
+    }
+}
