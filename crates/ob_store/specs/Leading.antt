@@ -1,5 +1,5 @@
 -- A book that is led along the commands which the tables name.
-use Rattle.std.specs.Prelude.{◌≡◌, ◌↔◌, ◌⊎◌, ℕ, Bool, List, Some, None, IsTrue, map}
+use Rattle.std.specs.Prelude.{◌≡◌, ◌↔◌, ◌⊎◌, ℕ, Bool, List, [], Some, None, IsTrue, map}
 use Rattle.sqlite.specs.Tree.{Trees}
 use Rattle.ob_net.specs.declared.net.Node.{Node}
 use Rattle.ob_time.specs.Calendar.{Calendar, day_count}
@@ -30,6 +30,13 @@ pub record IsNewBook (h : Heading) (b : BookState) : Type 0 where
   pub row : meta_row 1 h.first_day.items h.days h.zone.items ≡ meta_row 1 (day_text b.period.first_day) (day_count b.period) b.period.zone
   -- it names no other
   pub only : (p : Calendar) → IsPeriodText h.first_day.items h.days h.zone.items p → p ≡ b.period
+
+-- a new book of the heading's period, with the names of the nodes that the commands give it, and no ends yet
+pub record IsBegun (it : Named) (b : BookState) (names : List (List ℕ)) (ends : List Ends) : Type 0 where
+  pub new : IsNewBook it.heading b
+  pub named : (p : Calendar) (s : BookState) → next_all (empty_book p) (commands_of (filed_of it.commands.items)) ≡ Some s
+      → names ≡ map (λ (n : Node). n.name) s.network.nodes
+  pub no_ends : ends ≡ []
 
 -- the commands lead a new book of the heading's period to this one
 pub record IsLedBy (it : Named) (b : BookState) : Type 0 where

@@ -3,7 +3,7 @@ ghost use Rattle.std.specs.Prelude.{◌≡◌, ◌⊎◌, false, true, is_some, 
 ghost use Rattle.ob_base.specs.Stop.{out_of_memory};
 ghost use Rattle.ob_compare.specs.Reading.{bad_book};
 ghost use Rattle.ob_store.specs.Finding.{Finds, HasNoBook};
-ghost use Rattle.ob_store.specs.Leading.{HasNoPeriodOf, HasParts, IsLed, IsLedBy, IsNewBook, LeadsNowhere, MovesAre};
+ghost use Rattle.ob_store.specs.Leading.{HasNoPeriodOf, HasParts, IsBegun, IsLed, IsLedBy, IsNewBook, LeadsNowhere, MovesAre};
 
 use crate::named::{BAD_BOOK, Named, read_named};
 use ob_base::{Name, Stop};
@@ -44,6 +44,28 @@ fn new_book<T: Timeline>(alloc: Global, heading: &Heading) -> Result<Book<T>, St
     }
 }
 
+/// A new book of the heading's period, before the commands, with the names of the nodes that they give it.
+fn begin<T: Timeline>(alloc: Global, named: &Named) -> Result<Led<T>, Stop>
+    ensures begun { IfOk result (λ led. IsBegun named.now led.book.state led.names.items led.ends.items) }
+    ensures moved { IfOk result (λ led. led.moved ≡ false) }
+    ensures none { IfErr result (λ stop. stop ≡ bad_book → HasNoPeriodOf named.now.heading) }
+    ensures faults { IfErr result (λ stop. (stop ≡ bad_book) ⊎ (stop ≡ out_of_memory)) }
+{
+    let book = match new_book(alloc, &named.heading) {
+        Ok(book) => book,
+        Err(stop) => return Err(stop),
+    };
+    match names_of(alloc, &named.commands) {
+        Ok(names) => Ok(Led {
+            book,
+            names,
+            ends: Vec::new(alloc),
+            moved: false,
+        }),
+        Err(stop) => Err(stop),
+    }
+}
+
 /// A new book, led along the commands while what they move is compared with its table; None where that has other rows, or
 /// a command isn't accepted.
 fn follow<S: Alter, T: Timeline>(
@@ -56,22 +78,15 @@ fn follow<S: Alter, T: Timeline>(
     ensures finds { Finds S.Store (λ trees found. MovesAre named.now trees (is_some found))
         (λ _. HasNoPeriodOf named.now.heading) conn.old conn.new result }
 {
-    let mut book = match new_book(alloc, &named.heading) {
-        Ok(book) => book,
+    let mut led: Led<T> = match begin(alloc, named) {
+        Ok(led) => led,
         Err(stop) => return Err(stop),
     };
-    let names = match names_of(alloc, &named.commands) {
-        Ok(names) => names,
-        Err(stop) => return Err(stop),
-    };
-    let mut ends = Vec::new(alloc);
-    match holds_moves(conn, &mut book, &named.commands, &mut ends) {
-        Ok(true) => Ok(Some(Led {
-            book,
-            names,
-            ends,
-            moved: true,
-        })),
+    match holds_moves(conn, &mut led.book, &named.commands, &mut led.ends) {
+        Ok(true) => {
+            led.moved = true;
+            Ok(Some(led))
+        }
         Ok(false) => Ok(None),
         Err(stop) => Err(stop),
     }
@@ -84,22 +99,12 @@ fn again<T: Timeline>(alloc: Global, named: &Named) -> Result<Led<T>, Stop>
     ensures nowhere { IfErr result (λ stop. stop ≡ bad_book → LeadsNowhere named.now) }
     ensures faults { IfErr result (λ stop. (stop ≡ bad_book) ⊎ (stop ≡ out_of_memory)) }
 {
-    let mut book = match new_book(alloc, &named.heading) {
-        Ok(book) => book,
+    let mut led: Led<T> = match begin(alloc, named) {
+        Ok(led) => led,
         Err(stop) => return Err(stop),
     };
-    let names = match names_of(alloc, &named.commands) {
-        Ok(names) => names,
-        Err(stop) => return Err(stop),
-    };
-    let mut ends = Vec::new(alloc);
-    match lead(&mut book, &named.commands, &mut ends) {
-        Ok(true) => Ok(Led {
-            book,
-            names,
-            ends,
-            moved: false,
-        }),
+    match lead(&mut led.book, &named.commands, &mut led.ends) {
+        Ok(true) => Ok(led),
         Ok(false) => Err(BAD_BOOK),
         Err(stop) => Err(stop),
     }

@@ -1,6 +1,8 @@
 //! The book that the tables hold, and the first of them that differs from one.
-ghost use Rattle.std.specs.Prelude.{◌≡◌};
+ghost use Rattle.std.specs.Prelude.{◌≡◌, Ok, map};
+ghost use Rattle.ob_compare.specs.Moves.{ends_of};
 ghost use Rattle.ob_store.specs.Finding.{Finds, HasNoBook};
+ghost use Rattle.ob_store.specs.Leading.{IsLed};
 ghost use Rattle.ob_store.specs.Loading.{Finding, HoldsNoBook, Holding};
 
 use crate::led::{Led, read_led};
@@ -31,6 +33,27 @@ pub(crate) fn audit_on<S: Alter, T: Timeline>(
     }
 }
 
+/// Refuses a led book as `BadBook` where its tables aren't those that stand. Nothing is written.
+fn check_led<S: Alter, T: Timeline>(conn: &mut Connection<S>, led: &Led<T>) -> Result<(), Stop>
+    requires named { led.now.names.items ≡ map (λ n. n.name) led.now.book.state.network.nodes }
+    requires joined { led.now.ends.items ≡ ends_of led.now.book.state.network }
+    // where the led book was read so before
+    ensures { (first : _) → Finds S.Store (λ trees l. IsLed trees l.book.state l.moved) HasNoBook first conn.old
+        (Ok led.now) → Finds S.Store (λ trees done. Holding trees led.now.book.state) HoldsNoBook first conn.new result }
+{
+    match first_off(conn, led) {
+        Ok(None) => {}
+        Ok(Some(_)) => return Err(BAD_BOOK),
+        Err(stop) => return Err(stop),
+    }
+    match are_apart(conn) {
+        Ok(true) => Ok(()),
+        // two rows under one row number: the file is broken
+        Ok(false) => Err(Stop::Fault(Fault::Store)),
+        Err(stop) => Err(stop),
+    }
+}
+
 /// The book that the tables hold, all ten of them.
 pub(crate) fn load_on<S: Alter, T: Timeline>(
     alloc: Global,
@@ -42,15 +65,8 @@ pub(crate) fn load_on<S: Alter, T: Timeline>(
         Ok(led) => led,
         Err(stop) => return Err(stop),
     };
-    match first_off(conn, &led) {
-        Ok(None) => {}
-        Ok(Some(_)) => return Err(BAD_BOOK),
-        Err(stop) => return Err(stop),
-    }
-    match are_apart(conn) {
-        Ok(true) => Ok(led.book),
-        // two rows under one row number: the file is broken
-        Ok(false) => Err(Stop::Fault(Fault::Store)),
+    match check_led(conn, &led) {
+        Ok(()) => Ok(led.book),
         Err(stop) => Err(stop),
     }
 }

@@ -8,15 +8,16 @@ returns-in-Err-clause-nowhere g c is = inl (c.in-Err.ensures.none is)
 pub returns-in-Ok-true-clause-led : goal.returns-in-Ok-true-clause-led
 returns-in-Ok-true-clause-led g c =
     let it = c.args.named.now in
-    let first = c.in-Ok.book.state in
+    let begun = c.in-Ok.ensures.begun in
+    let first = c.in-Ok.led.book.state in
     let s = c.lead.new.book.state in
     let led = c.lead.ensures.book (c.in-Ok-true.is ∙ ap Ok c.in-Ok-true.field-0-test) in (
-      led_by it first c.in-Ok.ensures.new c.deref-2.result.now c.deref-2.ensures.value s led,
-      has_parts it first c.in-Ok.ensures.new c.deref-2.result.now c.deref-2.ensures.value s led c.in-Ok-names_of.names.items c.deref.result.now c.deref.ensures.value c.in-Ok-names_of.ensures.names
-          c.new-ends.result.items c.lead.new.noted.items c.new-ends.ensures.items (c.lead.ensures.noted (c.in-Ok-true.is ∙ ap Ok c.in-Ok-true.field-0-test)),
-      refl,
+      led_by it first begun.new c.deref.result.now c.deref.ensures.value s led,
+      has_parts it first begun.new c.deref.result.now c.deref.ensures.value s led c.in-Ok.led.names.items it.commands.items refl begun.named
+          c.in-Ok.led.ends.items c.lead.new.noted.items begun.no_ends (c.lead.ensures.noted (c.in-Ok-true.is ∙ ap Ok c.in-Ok-true.field-0-test)),
+      c.in-Ok.ensures.moved,
     )
 
 pub returns-in-Ok-false-clause-nowhere : goal.returns-in-Ok-false-clause-nowhere
 returns-in-Ok-false-clause-nowhere g c is =
-    stuck c.args.named.now c.in-Ok.book.state c.in-Ok.ensures.new c.deref-2.result.now c.deref-2.ensures.value c.in-Ok-false.field-0 c.in-Ok-false.field-0-test c.in-Ok-false.ensures.accepted
+    stuck c.args.named.now c.in-Ok.led.book.state c.in-Ok.ensures.begun.new c.deref.result.now c.deref.ensures.value c.in-Ok-false.field-0 c.in-Ok-false.field-0-test c.in-Ok-false.ensures.accepted

@@ -17,12 +17,12 @@ returns-in-Err-clause-finds g c =
 pub returns-in-Ok-true-clause-led : goal.returns-in-Ok-true-clause-led
 returns-in-Ok-true-clause-led g c =
     let it = c.args.named.now in
-    let first = c.in-Ok.book.state in
+    let first = c.in-Ok.led.book.state in
     let s = c.holds_moves.new.book.state in
     let led = c.holds_moves.ensures.book (c.in-Ok-true.is ∙ ap Ok c.in-Ok-true.field-0-test) in (
-      led_by it first c.in-Ok.ensures.new c.deref-2.result.now c.deref-2.ensures.value s led,
-      has_parts it first c.in-Ok.ensures.new c.deref-2.result.now c.deref-2.ensures.value s led c.in-Ok-names_of.names.items c.deref.result.now c.deref.ensures.value c.in-Ok-names_of.ensures.names
-          c.new-ends.result.items c.holds_moves.new.noted.items c.new-ends.ensures.items (c.holds_moves.ensures.noted (c.in-Ok-true.is ∙ ap Ok c.in-Ok-true.field-0-test)),
+      led_by it first c.in-Ok.ensures.begun.new c.deref.result.now c.deref.ensures.value s led,
+      has_parts it first c.in-Ok.ensures.begun.new c.deref.result.now c.deref.ensures.value s led c.in-Ok.led.names.items it.commands.items refl c.in-Ok.ensures.begun.named
+          c.in-Ok.led.ends.items c.holds_moves.new.noted.items c.in-Ok.ensures.begun.no_ends (c.holds_moves.ensures.noted (c.in-Ok-true.is ∙ ap Ok c.in-Ok-true.field-0-test)),
       refl,
     )
 
@@ -34,9 +34,9 @@ returns-in-Ok-true-clause-finds g c =
     let e = c.in-Ok-true.ensures in
     let read : Finds g.S.Store (λ trees (found : Bool). MovesAre it trees found) (λ _. HasNoPeriodOf it.heading) old new (Ok c.in-Ok-true.field-0) =
     read_ok g.S.Store (λ trees (found : Bool). MovesAre it trees found) (λ _. HasNoPeriodOf it.heading) old new c.in-Ok-true.field-0 e.mode e.survives e.clean e.kept e.same (λ clean schema.
-    moves_found it c.in-Ok.book.state c.in-Ok.ensures.new c.deref-2.result.now c.deref-2.ensures.value (state g.S.Store old).now.trees c.in-Ok-true.field-0 c.in-Ok-true.field-0 refl (e.moved clean schema)) in
+    moves_found it c.in-Ok.led.book.state c.in-Ok.ensures.begun.new c.deref.result.now c.deref.ensures.value (state g.S.Store old).now.trees c.in-Ok-true.field-0 c.in-Ok-true.field-0 refl (e.moved clean schema)) in
     then_good g.S.Store (λ trees (found : Bool). MovesAre it trees found) (λ _. HasNoPeriodOf it.heading) (λ trees found. MovesAre it trees (is_some found)) (λ _. HasNoPeriodOf it.heading) old new c.in-Ok-true.field-0 read
-    (Some (record { book = c.holds_moves.new.book; names = c.in-Ok-names_of.names; ends = c.holds_moves.new.noted; moved = true })) (λ trees are. subst (MovesAre it trees) c.in-Ok-true.field-0-test are)
+    (Some (record { book = c.holds_moves.new.book; names = c.in-Ok.led.names; ends = c.holds_moves.new.noted; moved = true })) (λ trees are. subst (MovesAre it trees) c.in-Ok-true.field-0-test are)
 
 pub returns-in-Ok-false-clause-finds : goal.returns-in-Ok-false-clause-finds
 returns-in-Ok-false-clause-finds g c =
@@ -46,7 +46,7 @@ returns-in-Ok-false-clause-finds g c =
     let e = c.in-Ok-false.ensures in
     let read : Finds g.S.Store (λ trees (found : Bool). MovesAre it trees found) (λ _. HasNoPeriodOf it.heading) old new (Ok c.in-Ok-false.field-0) =
     read_ok g.S.Store (λ trees (found : Bool). MovesAre it trees found) (λ _. HasNoPeriodOf it.heading) old new c.in-Ok-false.field-0 e.mode e.survives e.clean e.kept e.same (λ clean schema.
-    moves_found it c.in-Ok.book.state c.in-Ok.ensures.new c.deref-2.result.now c.deref-2.ensures.value (state g.S.Store old).now.trees c.in-Ok-false.field-0 c.in-Ok-false.field-0 refl (e.moved clean schema)) in
+    moves_found it c.in-Ok.led.book.state c.in-Ok.ensures.begun.new c.deref.result.now c.deref.ensures.value (state g.S.Store old).now.trees c.in-Ok-false.field-0 c.in-Ok-false.field-0 refl (e.moved clean schema)) in
     then_good g.S.Store (λ trees (found : Bool). MovesAre it trees found) (λ _. HasNoPeriodOf it.heading) (λ trees found. MovesAre it trees (is_some found)) (λ _. HasNoPeriodOf it.heading) old new c.in-Ok-false.field-0 read
     None (λ trees are. subst (MovesAre it trees) c.in-Ok-false.field-0-test are)
 

@@ -1,61 +1,21 @@
-use Rattle.std.proofs.Common.{◌≡◌, ◌≢◌, ◌⊎◌, Bool, Ok, Err, Some, None, inl, inr, refl, sym, ap, subst, ◌∙◌}
-use Rattle.ob_base.specs.declared.stop.Stop.{Stop}
+use Rattle.std.proofs.Common.{Err}
+use Rattle.std.specs.Prelude.{⊤}
 use Rattle.ob_book.specs.declared.book.Book.{Book}
-use Rattle.ob_tables.specs.Steps.{IsStoreFault}
-use Rattle.ob_compare.specs.Reading.{bad_book}
 use Rattle.ob_store.specs.declared.led.Led.{Led}
-use Rattle.ob_store.specs.Differing.{IsFirstOff, NoneSo}
-use Rattle.ob_store.specs.Finding.{Finds, HasNoBook}
+use Rattle.ob_store.specs.Finding.{HasNoBook}
 use Rattle.ob_store.specs.Leading.{IsLed}
 use Rattle.ob_store.specs.Loading.{Holding, HoldsNoBook}
-use Rattle.ob_store.proofs.Reading.{fails, read_err, read_ok}
-use Rattle.ob_store.proofs.Found.{Apart, apart_err, broken, found_err, found_off, loads}
+use Rattle.ob_store.proofs.Reading.{fails, then_good}
 use Rattle.ob_store.proofs.loading.load_on.Goals as goal
 
 pub returns-in-Err : goal.returns-in-Err
 returns-in-Err g c =
     fails g.S.Store (λ trees (l : Led g.row.T.Denot). IsLed trees l.book.state l.moved) HasNoBook (λ trees (b : Book g.row.T.Denot). Holding trees b.state) HoldsNoBook c.args.conn.now c.read_led.new.conn c.in-Err.stop (λ trees none b has. none b has.0) c.in-Err.ensures.finds
 
-pub returns-in-Ok-Some : goal.returns-in-Ok-Some
-returns-in-Ok-Some g c =
-    found_off g.S.Store (λ (l : Led g.row.T.Denot). l.book.state) (λ (l : Led g.row.T.Denot). l.moved) c.in-Ok.led c.args.conn.now c.read_led.new.conn c.first_off.new.conn c.in-Ok.ensures.finds (λ trees (b : Book g.row.T.Denot). Holding trees b.state) _
-    (λ b is. subst (λ o. Finds g.S.Store (IsFirstOff b c.in-Ok.led.moved) NoneSo c.read_led.new.conn c.first_off.new.conn (Ok o)) c.in-Ok-Some.field-0-is (c.in-Ok-Some.ensures b is))
+pub returns-in-Ok-check_led : goal.returns-in-Ok-check_led
+returns-in-Ok-check_led g c =
+    then_good g.S.Store (λ trees (done : ⊤). Holding trees c.in-Ok.led.book.state) HoldsNoBook (λ trees (b : Book g.row.T.Denot). Holding trees b.state) HoldsNoBook c.args.conn.now c.check_led.new.conn tt (c.in-Ok-check_led.ensures c.args.conn.now c.in-Ok.ensures.finds) c.in-Ok.led.book (λ trees holds. holds)
 
-pub returns-in-Err-first_off : goal.returns-in-Err-first_off
-returns-in-Err-first_off g c =
-    found_err g.S.Store (λ (l : Led g.row.T.Denot). l.book.state) (λ (l : Led g.row.T.Denot). l.moved) c.in-Ok.led c.args.conn.now c.read_led.new.conn c.first_off.new.conn c.in-Ok.ensures.finds (λ trees (b : Book g.row.T.Denot). Holding trees b.state) HoldsNoBook c.in-Err-first_off.stop c.in-Err-first_off.ensures
-
-pub returns-in-Ok-true : goal.returns-in-Ok-true
-returns-in-Ok-true g c =
-    let e = c.in-Ok-true.ensures in
-    let mid = c.first_off.new.conn in
-    let end = c.are_apart.new.conn in
-    let third : Finds g.S.Store Apart NoneSo mid end (Ok c.in-Ok-true.field-0) = read_ok g.S.Store Apart NoneSo mid end c.in-Ok-true.field-0 e.mode e.survives e.clean e.kept e.same e.apart in
-    loads g.S.Store (λ (l : Led g.row.T.Denot). l.book.state) (λ (l : Led g.row.T.Denot). l.moved) c.in-Ok.led c.args.conn.now c.read_led.new.conn mid c.in-Ok.ensures.finds end
-    (λ b is. subst (λ o. Finds g.S.Store (IsFirstOff b c.in-Ok.led.moved) NoneSo c.read_led.new.conn mid (Ok o)) c.in-Ok-None.field-0-is (c.in-Ok-None.ensures b is))
-    (λ (b : Book g.row.T.Denot). b.state) c.in-Ok.led.book refl c.in-Ok-true.field-0 c.in-Ok-true.field-0-test third
-
-pub returns-in-Ok-false : goal.returns-in-Ok-false
-returns-in-Ok-false g c =
-    let e = c.in-Ok-false.ensures in
-    let mid = c.first_off.new.conn in
-    let end = c.are_apart.new.conn in
-    let third : Finds g.S.Store Apart NoneSo mid end (Ok c.in-Ok-false.field-0) = read_ok g.S.Store Apart NoneSo mid end c.in-Ok-false.field-0 e.mode e.survives e.clean e.kept e.same e.apart in
-    broken g.S.Store (λ (l : Led g.row.T.Denot). l.book.state) (λ (l : Led g.row.T.Denot). l.moved) c.in-Ok.led c.args.conn.now c.read_led.new.conn mid c.in-Ok.ensures.finds end
-    (λ b is. subst (λ o. Finds g.S.Store (IsFirstOff b c.in-Ok.led.moved) NoneSo c.read_led.new.conn mid (Ok o)) c.in-Ok-None.field-0-is (c.in-Ok-None.ensures b is))
-    (λ trees (b : Book g.row.T.Denot). Holding trees b.state) HoldsNoBook c.in-Ok-false.field-0 third
-
-no_other : (stop : Stop) → IsStoreFault stop → stop ≢ bad_book
-no_other stop (inl memory) bad = absurd (let e = sym memory ∙ bad in cc)
-no_other stop (inr store) bad = absurd (let e = sym store ∙ bad in cc)
-
-pub returns-in-Err-are_apart : goal.returns-in-Err-are_apart
-returns-in-Err-are_apart g c =
-    let it = c.in-Err-are_apart in
-    let e = it.ensures in
-    let mid = c.first_off.new.conn in
-    let end = c.are_apart.new.conn in
-    let third : Finds g.S.Store Apart NoneSo mid end (Err it.stop) = read_err g.S.Store Apart NoneSo mid end it.stop e.mode e.survives e.clean e.kept (inl e.faults) (λ clean bad. absurd (no_other it.stop e.faults bad)) in
-    apart_err g.S.Store (λ (l : Led g.row.T.Denot). l.book.state) (λ (l : Led g.row.T.Denot). l.moved) c.in-Ok.led c.args.conn.now c.read_led.new.conn mid c.in-Ok.ensures.finds end
-    (λ b is. subst (λ o. Finds g.S.Store (IsFirstOff b c.in-Ok.led.moved) NoneSo c.read_led.new.conn mid (Ok o)) c.in-Ok-None.field-0-is (c.in-Ok-None.ensures b is))
-    (λ trees (b : Book g.row.T.Denot). Holding trees b.state) HoldsNoBook it.stop third
+pub returns-in-Err-check_led : goal.returns-in-Err-check_led
+returns-in-Err-check_led g c =
+    fails g.S.Store (λ trees (done : ⊤). Holding trees c.in-Ok.led.book.state) HoldsNoBook (λ trees (b : Book g.row.T.Denot). Holding trees b.state) HoldsNoBook c.args.conn.now c.check_led.new.conn c.in-Err-check_led.stop (λ trees none. none) (c.in-Err-check_led.ensures c.args.conn.now c.in-Ok.ensures.finds)
