@@ -82,12 +82,17 @@ module _ {S : Type 0} (g : Ghosts S) {L : Type 0} (state_of : L → BookState) (
   finding trees found it = (it.0.book, it.0.is_book, it.1 it.0.book (sym it.0.state) it.0.is_book.commands it.0.moves)
 
   -- the first table that differs
-  pub found_ok : (found : Option Table) → Compared (Ok found) → Finds g Finding HasNoBook old new (Ok found)
+  found_ok : (found : Option Table) → Compared (Ok found) → Finds g Finding HasNoBook old new (Ok found)
   found_ok found second = then_good g Both Neither Finding HasNoBook old new found (both (Ok found) second) found (λ trees it. finding trees found it)
 
   -- no table can be told to be no book's any more
   pub found_err : {Y : Type 0} (Good : Trees → Y → Type 0) (Bad : Trees → Type 0) (stop : Stop) → Compared (Err stop) → Finds g Good Bad old new (Err stop)
   found_err Good Bad stop second = fails g Both Neither Good Bad old new stop (λ trees none. absurd none.1) (both (Err stop) second)
+
+  -- either of both
+  pub found_so : (r : Result (Option Table) Stop) → Compared r → Finds g Finding HasNoBook old new r
+  found_so (Ok found) second = found_ok found second
+  found_so (Err stop) second = found_err Finding HasNoBook stop second
 
   -- a table differs from those of the one book that it could be
   pub found_off : {Y : Type 0} (Good : Trees → Y → Type 0) (table : Table) → Compared (Ok (Some table)) → Finds g Good HoldsNoBook old new (Err bad_book)

@@ -27,10 +27,7 @@ pub(crate) fn audit_on<S: Alter, T: Timeline>(
         Ok(led) => led,
         Err(stop) => return Err(stop),
     };
-    match first_off(conn, &led) {
-        Ok(found) => Ok(found),
-        Err(stop) => Err(stop),
-    }
+    first_off(conn, &led)
 }
 
 /// Refuses a led book as `BadBook` where its tables aren't those that stand. Nothing is written.
