@@ -1,9 +1,9 @@
 -- What was found of the tables once a book was led along their commands.
-use Rattle.std.proofs.Common.{◌≡◌, ◌≢◌, ◌⊎◌, inl, inr, Bool, false, true, [], Option, Some, None, Result, Ok, Err, refl, sym, ap, subst, ◌∙◌, IsTrue}
-use Rattle.std.specs.Prelude.{◌↔◌, IfOk}
+use Rattle.std.proofs.Common.{◌≡◌, ◌≢◌, inl, inr, Bool, true, [], Option, Some, None, Result, Ok, Err, refl, sym, subst, ◌∙◌, IsTrue}
+use Rattle.std.specs.Prelude.{◌↔◌}
 use Rattle.sqlite_trees.specs.declared.store.Store.{Ghosts}
 use Rattle.sqlite.specs.Tree.{Trees}
-use Rattle.sqlite.specs.Held.{Held, state}
+use Rattle.sqlite.specs.Held.{Held}
 use Rattle.ob_base.specs.declared.stop.Stop.{Stop}
 use Rattle.ob_base.specs.declared.stop.Stop.TheVariants.{Fault}
 use Rattle.ob_base.specs.declared.stop.Fault.TheVariants.{Store}
@@ -12,8 +12,8 @@ use Rattle.ob_book.specs.Acts.{ActState}
 use Rattle.ob_tables.specs.Rows.{AreApart}
 use Rattle.ob_tables.specs.declared.table.Table.{Table}
 use Rattle.ob_record.specs.Tables.{Shows, tables_of}
-use Rattle.ob_compare.specs.Reading.{IsReadFault, bad_book}
-use Rattle.ob_store.specs.Finding.{Finds, HasBook, HasNoBook}
+use Rattle.ob_compare.specs.Reading.{bad_book}
+use Rattle.ob_store.specs.Finding.{Finds, HasNoBook}
 use Rattle.ob_store.specs.Differing.{IsFirstOff, NoneSo}
 use Rattle.ob_store.specs.Leading.{IsLed}
 use Rattle.ob_store.specs.Loading.{Finding, Holding, HoldsNoBook}

@@ -1,25 +1,24 @@
 -- What a keeper that read its tables has then.
-use Rattle.std.proofs.Common.{◌≡◌, ◌≢◌, ◌⊎◌, inl, inr, ℕ, List, Option, Some, None, Result, Ok, Err, false, refl, sym, ap, subst, ◌∙◌, arith, IsTrue}
+use Rattle.std.proofs.Common.{◌≡◌, ◌≢◌, inl, inr, Option, Some, None, Result, Ok, Err, refl, sym, ap, subst, ◌∙◌, IsTrue}
 use Rattle.std.specs.Prelude.{⊤}
 use Rattle.sqlite_trees.specs.declared.store.Store.{Ghosts}
 use Rattle.sqlite.specs.Tree.{Trees}
 use Rattle.sqlite.specs.Effect.{Database}
 use Rattle.sqlite.specs.Held.{Held, state}
-use Rattle.sqlite.specs.State.{State, HasCleanDisk, IsUnchanged}
+use Rattle.sqlite.specs.State.{HasCleanDisk}
 use Rattle.ob_base.specs.declared.stop.Stop.{Stop}
-use Rattle.ob_base.specs.declared.stop.Stop.TheVariants.{Refused, Fault}
-use Rattle.ob_base.specs.declared.stop.Refusal.TheVariants.{BadBook}
-use Rattle.ob_base.specs.declared.stop.Fault.TheVariants.{OutOfMemory, Store}
+use Rattle.ob_base.specs.declared.stop.Stop.TheVariants.{Fault}
+use Rattle.ob_base.specs.declared.stop.Fault.TheVariants.{Store}
 use Rattle.ob_state.specs.State.{BookState}
 use Rattle.ob_book.specs.Acts.{ActState}
 use Rattle.ob_tables.specs.Schema.{book_schema}
 use Rattle.ob_tables.specs.Rows.{AreApart, Holds}
 use Rattle.ob_tables.specs.declared.table.Table.{Table}
-use Rattle.ob_commit.specs.Keeps.{Keeps, Leaves}
+use Rattle.ob_commit.specs.Keeps.{Keeps}
 use Rattle.ob_record.specs.Tables.{tables_of}
 use Rattle.ob_compare.specs.Reading.{IsReadFault, bad_book}
-use Rattle.ob_store.specs.Keeping.{KeeperValue, KeepsBook, Ties}
-use Rattle.ob_store.specs.Finding.{Finds, Differs, HasBook, HasNoBook, IsBookOf, OnlyReads, ShowsTheSame}
+use Rattle.ob_store.specs.Keeping.{KeeperValue, Ties}
+use Rattle.ob_store.specs.Finding.{Finds, HasBook, HasNoBook, OnlyReads, ShowsTheSame}
 use Rattle.ob_store.specs.Loading.{Audited, Finding, Holding, HoldsNoBook, Loaded, trees_in}
 
 module _ {S : Type 0} (g : Ghosts S) {X : Type 0} (Good : Trees → X → Type 0) (Bad : Trees → Type 0) (old new : Held S) (schema : old.schema ≡ book_schema) (clean : HasCleanDisk (state g new)) where

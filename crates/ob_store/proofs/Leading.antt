@@ -1,11 +1,10 @@
 -- The book that the commands in the tables lead to.
-use Rattle.std.proofs.Common.{◌≡◌, ◌≢◌, ◌⊎◌, inl, inr, ℕ, ◌<◌, ◌≤◌, ◌^◌, Bool, true, false, List, [], ◌∷◌, length, map, Option, Some, None, is_none, if◌then◌else◌, refl, sym, ap, ap₂, subst, ◌∙◌, arith, IsTrue}
+use Rattle.std.proofs.Common.{◌≡◌, inl, inr, ℕ, Bool, false, List, [], ◌∷◌, map, Option, Some, None, is_none, if◌then◌else◌, refl, sym, ap, ap₂, subst, ◌∙◌, arith, IsTrue}
 use Rattle.std.specs.Prelude.{◌↔◌, IsSome}
 use Rattle.std.proofs.Common.{true≢false}
-use Rattle.std.proofs.Common.{ℤ, pos, ◌+ℤ◌}
+use Rattle.std.proofs.Common.{pos, ◌+ℤ◌}
 use Rattle.std.proofs.lemmas.Int.{ints}
 use Rattle.ob_time.specs.Moment.{IsTextOfDay}
-use Rattle.std.specs.List.{AllByRecursion}
 use Rattle.std.specs.List.Sorted.{IsPermutation}
 use Rattle.std.proofs.lemmas.List.Sorted.{IsPermutation-refl, IsPermutation-sym, IsPermutation-trans}
 use Rattle.sqlite.specs.Tree.{Trees}
@@ -24,7 +23,7 @@ use Rattle.ob_state.specs.Refusals.{refusal}
 use Rattle.ob_state.specs.Next.{next, next_all}
 use Rattle.ob_book.specs.Acts.{ActState, PeriodStays, Referenced, acts, start}
 use Rattle.ob_tables.specs.Rows.{Columns, meta_row, shown, tree_of}
-use Rattle.ob_tables.specs.declared.table.Table.TheVariants.{Meta, Command, Moved}
+use Rattle.ob_tables.specs.declared.table.Table.TheVariants.{Meta, Moved}
 use Rattle.ob_record.specs.Tables.{Shows, moved_rows, tables_of}
 use Rattle.ob_record.specs.Naming.{RowsNameCommands}
 use Rattle.ob_record.specs.Reached.{IsReached, ReachedAreFew}
@@ -36,7 +35,6 @@ use Rattle.ob_net.specs.declared.net.Node.{Node}
 use Rattle.ob_compare.specs.Distinct.{ActsAreAccepted, AreDistinct, MovedIsOf, ReachedByCommands}
 use Rattle.ob_compare.specs.declared.heading.Heading.{Heading}
 use Rattle.ob_store.specs.declared.named.Named.{Named}
-use Rattle.ob_store.specs.Creating.{HasNoPeriodText}
 use Rattle.ob_store.specs.Finding.{HasNoBook, IsBookOf, IsNamed}
 use Rattle.ob_store.specs.Leading.{HasNoPeriodOf, HasParts, IsLed, IsLedBy, IsNewBook, LeadsNowhere, MovesAre}
 

@@ -1,8 +1,8 @@
 -- A book that was led along the commands, or none, once these were read.
-use Rattle.std.proofs.Common.{◌≡◌, ◌≢◌, ◌⊎◌, inl, inr, Bool, false, true, Option, Some, None, Result, Ok, Err, is_some, refl, sym, ap, subst, ◌∙◌, IsTrue}
+use Rattle.std.proofs.Common.{◌≡◌, ◌≢◌, ◌⊎◌, inl, inr, Bool, Option, Result, Ok, Err, is_some, sym, subst, ◌∙◌}
 use Rattle.sqlite_trees.specs.declared.store.Store.{Ghosts}
 use Rattle.sqlite.specs.Tree.{Trees}
-use Rattle.sqlite.specs.Held.{Held, state}
+use Rattle.sqlite.specs.Held.{Held}
 use Rattle.ob_base.specs.Stop.{out_of_memory}
 use Rattle.ob_base.specs.declared.stop.Stop.{Stop}
 use Rattle.ob_state.specs.State.{BookState}
@@ -11,7 +11,7 @@ use Rattle.ob_record.specs.Naming.{RowsNameCommands}
 use Rattle.ob_record.specs.Reached.{ReachedAreFew}
 use Rattle.ob_compare.specs.Listing.{filed_of}
 use Rattle.ob_compare.specs.Distinct.{ActsAreAccepted, AreDistinct, MovedIsOf, ReachedByCommands}
-use Rattle.ob_compare.specs.Reading.{IsReadFault, bad_book}
+use Rattle.ob_compare.specs.Reading.{bad_book}
 use Rattle.ob_store.specs.declared.named.Named.{Named}
 use Rattle.ob_store.specs.Finding.{Finds, HasNoBook, IsNamed}
 use Rattle.ob_store.specs.Leading.{HasNoPeriodOf, IsLed, IsLedBy, LeadsNowhere, MovesAre}

@@ -1,9 +1,5 @@
-use Rattle.std.proofs.Common.{◌≡◌, ◌≢◌, ◌⊎◌, Bool, List, Option, Some, None, Ok, Err, inl, inr, is_some, false, true, refl, sym, ap, subst, ◌∙◌}
-use Rattle.sqlite.specs.Tree.{Trees}
+use Rattle.std.proofs.Common.{Bool, Some, None, Ok, is_some, true, refl, ap, subst, ◌∙◌}
 use Rattle.sqlite.specs.Held.{state}
-use Rattle.sqlite.specs.State.{HasCleanDisk}
-use Rattle.ob_base.specs.Stop.{out_of_memory}
-use Rattle.ob_compare.specs.Reading.{bad_book}
 use Rattle.ob_store.specs.Finding.{Finds}
 use Rattle.ob_store.specs.Leading.{HasNoPeriodOf, MovesAre}
 use Rattle.ob_store.proofs.Reading.{none_read, read_err, read_ok, then_good}

@@ -1,5 +1,4 @@
-use Rattle.std.proofs.Common.{◌≡◌, ◌≢◌, Bool, List, Some, None, Ok, Err, is_some, false, true, true≢false, refl, sym, ap, subst, ◌∙◌}
-use Rattle.ob_state.specs.State.{BookState}
+use Rattle.std.proofs.Common.{List, is_some, true≢false, sym, ap, subst, ◌∙◌}
 use Rattle.ob_compare.specs.declared.filed.Filed.{Filed}
 use Rattle.ob_compare.specs.Listing.{filed_of}
 use Rattle.ob_compare.specs.Distinct.{AreDistinct}

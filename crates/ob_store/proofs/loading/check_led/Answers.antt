@@ -1,14 +1,13 @@
-use Rattle.std.proofs.Common.{◌≡◌, ◌≢◌, ◌⊎◌, Bool, Ok, Err, Some, None, inl, inr, refl, sym, ap, subst, ◌∙◌}
+use Rattle.std.proofs.Common.{◌≢◌, Ok, Err, inl, inr, refl, sym, subst, ◌∙◌}
 use Rattle.ob_base.specs.declared.stop.Stop.{Stop}
 use Rattle.std.specs.Prelude.{⊤}
 use Rattle.ob_tables.specs.Steps.{IsStoreFault}
 use Rattle.ob_compare.specs.Reading.{bad_book}
 use Rattle.ob_store.specs.declared.led.Led.{Led}
 use Rattle.ob_store.specs.Differing.{IsFirstOff, NoneSo}
-use Rattle.ob_store.specs.Finding.{Finds, HasNoBook}
-use Rattle.ob_store.specs.Leading.{IsLed}
+use Rattle.ob_store.specs.Finding.{Finds}
 use Rattle.ob_store.specs.Loading.{Holding, HoldsNoBook}
-use Rattle.ob_store.proofs.Reading.{fails, read_err, read_ok}
+use Rattle.ob_store.proofs.Reading.{read_err, read_ok}
 use Rattle.ob_store.proofs.Found.{Apart, apart_err, broken, found_err, found_off, loads}
 use Rattle.ob_store.proofs.loading.check_led.Goals as goal
 

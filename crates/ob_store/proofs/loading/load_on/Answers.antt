@@ -1,4 +1,3 @@
-use Rattle.std.proofs.Common.{Err}
 use Rattle.std.specs.Prelude.{⊤}
 use Rattle.ob_book.specs.declared.book.Book.{Book}
 use Rattle.ob_store.specs.declared.led.Led.{Led}
