@@ -1,5 +1,5 @@
 -- What passes on from step to step, and through the exit of a `?`.
-use Rattle.std.proofs.Common.{IsTrue, IsErr, IsErrAnd, IfErr, IfOk, Result, Ok, Err, true≢false, sym, arith}
+use Rattle.std.proofs.Common.{◌≡◌, Bool, true, false, IsTrue, IsErr, IsErrAnd, IfErr, IfOk, Result, Ok, Err, true≢false, sym, arith}
 use Rattle.sqlite.specs.State.{State, HasCleanDisk, IsUnchanged, Survives}
 use Rattle.sqlite.proofs.Callers.{unchanged_then}
 
@@ -18,3 +18,10 @@ no_value (Err y) P e = tt
 pub of_error : {X E : Type 0} (r : Result X E) {P : E → Type 0} (Q : E → Type 0) → IsErrAnd r P → ((y : E) → P y → Q y) → IfErr r Q
 of_error (Ok x) Q h f = absurd h
 of_error (Err y) Q h f = f y h
+
+-- a result is one of its two, and an answer is yes or no
+pub no_is_no : {E : Type 0} → ◌≡◌ {A = Result Bool E} (Ok false) (Ok true) → ⊥
+no_is_no e = cc
+
+pub error_is_no_value : {X E : Type 0} {x : X} {y : E} → ◌≡◌ {A = Result X E} (Err y) (Ok x) → ⊥
+error_is_no_value e = cc
