@@ -2,6 +2,7 @@ pub mod Asking
 pub mod Filing
 pub mod Headings
 mod Kept
+mod Passing
 pub mod Listing
 pub mod Order
 pub mod Rowing

@@ -1,16 +1,18 @@
-use Rattle.std.proofs.Common.{List, ◌≡◌, ◌+◌, ◌≤◌, [], ◌∷◌, ◌++◌, length, sym, ap, subst, ◌∙◌, arith}
+use Rattle.std.proofs.Common.{List, ◌≡◌, ◌+◌, ◌≤◌, [], ◌∷◌, ◌++◌, length, inl, sym, ap, subst, ◌∙◌, arith}
 use Rattle.std.specs.List.{AllByRecursion}
 use Rattle.sqlite.specs.Effect.{Database}
 use Rattle.sqlite.specs.State.{HasCleanDisk}
 use Rattle.sqlite.specs.Held.{state}
 use Rattle.sqlite.specs.Given.{HasGiven}
 use Rattle.sqlite.proofs.Callers.{unchanged_then}
+use Rattle.ob_tables.specs.Steps.{IsStoreFault}
 use Rattle.ob_tables.specs.declared.table.Table.TheVariants.{Command}
 use Rattle.ob_compare.specs.Listing.{Lists, Ends, filed_of}
 use Rattle.ob_compare.specs.declared.filed.Filed.{Filed}
-use Rattle.ob_compare.specs.Reading.{IsDue, Stands, command_listing, command_rows}
+use Rattle.ob_compare.specs.Reading.{AreFiled, IsDue, Stands, command_listing, command_rows}
 use Rattle.ob_record.specs.Naming.{IsReferenced}
 use Rattle.ob_compare.proofs.Listing.{still_then}
+use Rattle.ob_compare.proofs.Passing.{clean_before, no_value, of_error, unchanged_after}
 use Rattle.ob_compare.proofs.Selects.{is_listing}
 use Rattle.ob_compare.proofs.Standing.{all_referenced, one_filed, all_filed, other_filed, too_many, pushed_length}
 use Rattle.ob_compare.proofs.commands.filed_rows.Goals as goal
@@ -92,3 +94,153 @@ returns-else-branch-clause-read g c late live has given shows there =
     let db : (state g.S.Store new).now ≡ old.now = (c.in_ok-is_over.ensures.same late).0.now_is ∙ (was.0 live).0.now_is in
     let many : 1000000 ≤ length c.commands.list.items = omega (arith, c.commands-test.false, c.commands.invariant.3) in
     too_many old.now c.commands.list.items ends.0 ends.1 shows many (subst (λ (d : Database). Lists command_listing d (front ++ (ends.0 ∷ ends.1))) db ends.2) there
+
+pub returns-in_err-filed-clause-same_reference : goal.returns-in_err-filed-clause-same_reference
+returns-in_err-filed-clause-same_reference g c = c.next_filed.ensures.same_reference ∙ c.commands.invariant.0
+
+pub returns-in_err-filed-clause-survives : goal.returns-in_err-filed-clause-survives
+returns-in_err-filed-clause-survives g c = still_then (state g.S.Store c.args.rows.now.conn.now) (state g.S.Store c.commands.rows.conn.now) (state g.S.Store c.next_filed.new.rows.conn.now) c.commands.invariant.1 c.next_filed.ensures.survives
+
+pub returns-in_err-filed-clause-kept : goal.returns-in_err-filed-clause-kept
+returns-in_err-filed-clause-kept g c t keeps = c.next_filed.ensures.kept t (c.commands.invariant.6 t keeps)
+
+pub returns-in_err-filed-clause-mode : goal.returns-in_err-filed-clause-mode
+returns-in_err-filed-clause-mode g c idle = c.next_filed.ensures.mode (c.commands.invariant.2 idle)
+
+pub returns-in_err-filed-clause-faults : goal.returns-in_err-filed-clause-faults
+returns-in_err-filed-clause-faults g c = of_error c.from_residual.result IsStoreFault c.from_residual.ensures.1 (λ stop is. subst IsStoreFault (sym is) c.in_err-filed.ensures.faults)
+
+pub returns-in_err-filed-clause-valid : goal.returns-in_err-filed-clause-valid
+returns-in_err-filed-clause-valid g c = no_value c.from_residual.result AreFiled c.from_residual.ensures.0
+
+pub returns-in_err-filed-clause-same : goal.returns-in_err-filed-clause-same
+returns-in_err-filed-clause-same g c late = no_value c.from_residual.result _ c.from_residual.ensures.0
+
+pub returns-in_err-filed-clause-read : goal.returns-in_err-filed-clause-read
+returns-in_err-filed-clause-read g c late = no_value c.from_residual.result _ c.from_residual.ensures.0
+
+pub returns-in_err-push-in-Due-clause-same_reference : goal.returns-in_err-push-in-Due-clause-same_reference
+returns-in_err-push-in-Due-clause-same_reference g c = c.next_filed.ensures.same_reference ∙ c.commands.invariant.0
+
+pub returns-in_err-push-in-Due-clause-survives : goal.returns-in_err-push-in-Due-clause-survives
+returns-in_err-push-in-Due-clause-survives g c = still_then (state g.S.Store c.args.rows.now.conn.now) (state g.S.Store c.commands.rows.conn.now) (state g.S.Store c.next_filed.new.rows.conn.now) c.commands.invariant.1 c.next_filed.ensures.survives
+
+pub returns-in_err-push-in-Due-clause-kept : goal.returns-in_err-push-in-Due-clause-kept
+returns-in_err-push-in-Due-clause-kept g c t keeps = c.next_filed.ensures.kept t (c.commands.invariant.6 t keeps)
+
+pub returns-in_err-push-in-Due-clause-mode : goal.returns-in_err-push-in-Due-clause-mode
+returns-in_err-push-in-Due-clause-mode g c idle = c.next_filed.ensures.mode (c.commands.invariant.2 idle)
+
+pub returns-in_err-push-in-Due-clause-faults : goal.returns-in_err-push-in-Due-clause-faults
+returns-in_err-push-in-Due-clause-faults g c = of_error c.from_residual-in_err-push-in-Due.result IsStoreFault c.from_residual-in_err-push-in-Due.ensures.1 (λ stop is. inl is)
+
+pub returns-in_err-push-in-Due-clause-valid : goal.returns-in_err-push-in-Due-clause-valid
+returns-in_err-push-in-Due-clause-valid g c = no_value c.from_residual-in_err-push-in-Due.result AreFiled c.from_residual-in_err-push-in-Due.ensures.0
+
+pub returns-in_err-push-in-Due-clause-same : goal.returns-in_err-push-in-Due-clause-same
+returns-in_err-push-in-Due-clause-same g c late = no_value c.from_residual-in_err-push-in-Due.result _ c.from_residual-in_err-push-in-Due.ensures.0
+
+pub returns-in_err-push-in-Due-clause-read : goal.returns-in_err-push-in-Due-clause-read
+returns-in_err-push-in-Due-clause-read g c late = no_value c.from_residual-in_err-push-in-Due.result _ c.from_residual-in_err-push-in-Due.ensures.0
+
+pub returns-in-Other-clause-same_reference : goal.returns-in-Other-clause-same_reference
+returns-in-Other-clause-same_reference g c = c.next_filed.ensures.same_reference ∙ c.commands.invariant.0
+
+pub returns-in-Other-clause-survives : goal.returns-in-Other-clause-survives
+returns-in-Other-clause-survives g c = still_then (state g.S.Store c.args.rows.now.conn.now) (state g.S.Store c.commands.rows.conn.now) (state g.S.Store c.next_filed.new.rows.conn.now) c.commands.invariant.1 c.next_filed.ensures.survives
+
+pub returns-in-Other-clause-kept : goal.returns-in-Other-clause-kept
+returns-in-Other-clause-kept g c t keeps = c.next_filed.ensures.kept t (c.commands.invariant.6 t keeps)
+
+pub returns-in-Other-clause-mode : goal.returns-in-Other-clause-mode
+returns-in-Other-clause-mode g c idle = c.next_filed.ensures.mode (c.commands.invariant.2 idle)
+
+pub returns-in-Other-clause-same : goal.returns-in-Other-clause-same
+returns-in-Other-clause-same g c late =
+    let mid = state g.S.Store c.commands.rows.conn.now in
+    let new = state g.S.Store c.next_filed.new.rows.conn.now in
+    unchanged_after (state g.S.Store c.args.rows.now.conn.now) mid new (c.commands.invariant.4 (clean_before mid new c.next_filed.ensures.survives late)).0 (c.in_ok-filed.ensures.same late)
+
+pub returns-in-End-clause-same_reference : goal.returns-in-End-clause-same_reference
+returns-in-End-clause-same_reference g c = c.next_filed.ensures.same_reference ∙ c.commands.invariant.0
+
+pub returns-in-End-clause-survives : goal.returns-in-End-clause-survives
+returns-in-End-clause-survives g c = still_then (state g.S.Store c.args.rows.now.conn.now) (state g.S.Store c.commands.rows.conn.now) (state g.S.Store c.next_filed.new.rows.conn.now) c.commands.invariant.1 c.next_filed.ensures.survives
+
+pub returns-in-End-clause-kept : goal.returns-in-End-clause-kept
+returns-in-End-clause-kept g c t keeps = c.next_filed.ensures.kept t (c.commands.invariant.6 t keeps)
+
+pub returns-in-End-clause-mode : goal.returns-in-End-clause-mode
+returns-in-End-clause-mode g c idle = c.next_filed.ensures.mode (c.commands.invariant.2 idle)
+
+pub returns-in-End-clause-valid : goal.returns-in-End-clause-valid
+returns-in-End-clause-valid g c = (omega (arith, c.commands.invariant.3, c.commands.auto.at-end), c.commands.invariant.5)
+
+pub returns-in-End-clause-same : goal.returns-in-End-clause-same
+returns-in-End-clause-same g c late =
+    let mid = state g.S.Store c.commands.rows.conn.now in
+    let new = state g.S.Store c.next_filed.new.rows.conn.now in
+    unchanged_after (state g.S.Store c.args.rows.now.conn.now) mid new (c.commands.invariant.4 (clean_before mid new c.next_filed.ensures.survives late)).0 (c.in_ok-filed.ensures.same late)
+
+pub returns-in_err-is_over-clause-same_reference : goal.returns-in_err-is_over-clause-same_reference
+returns-in_err-is_over-clause-same_reference g c = c.is_over.ensures.same_reference ∙ c.commands.invariant.0
+
+pub returns-in_err-is_over-clause-survives : goal.returns-in_err-is_over-clause-survives
+returns-in_err-is_over-clause-survives g c = still_then (state g.S.Store c.args.rows.now.conn.now) (state g.S.Store c.commands.rows.conn.now) (state g.S.Store c.is_over.new.rows.conn.now) c.commands.invariant.1 c.is_over.ensures.survives
+
+pub returns-in_err-is_over-clause-kept : goal.returns-in_err-is_over-clause-kept
+returns-in_err-is_over-clause-kept g c t keeps = c.is_over.ensures.kept t (c.commands.invariant.6 t keeps)
+
+pub returns-in_err-is_over-clause-mode : goal.returns-in_err-is_over-clause-mode
+returns-in_err-is_over-clause-mode g c idle = c.is_over.ensures.mode (c.commands.invariant.2 idle)
+
+pub returns-in_err-is_over-clause-faults : goal.returns-in_err-is_over-clause-faults
+returns-in_err-is_over-clause-faults g c = of_error c.from_residual-in_err-is_over.result IsStoreFault c.from_residual-in_err-is_over.ensures.1 (λ stop is. subst IsStoreFault (sym is) c.in_err-is_over.ensures.faults)
+
+pub returns-in_err-is_over-clause-valid : goal.returns-in_err-is_over-clause-valid
+returns-in_err-is_over-clause-valid g c = no_value c.from_residual-in_err-is_over.result AreFiled c.from_residual-in_err-is_over.ensures.0
+
+pub returns-in_err-is_over-clause-same : goal.returns-in_err-is_over-clause-same
+returns-in_err-is_over-clause-same g c late = no_value c.from_residual-in_err-is_over.result _ c.from_residual-in_err-is_over.ensures.0
+
+pub returns-in_err-is_over-clause-read : goal.returns-in_err-is_over-clause-read
+returns-in_err-is_over-clause-read g c late = no_value c.from_residual-in_err-is_over.result _ c.from_residual-in_err-is_over.ensures.0
+
+pub returns-then-branch-clause-same_reference : goal.returns-then-branch-clause-same_reference
+returns-then-branch-clause-same_reference g c = c.is_over.ensures.same_reference ∙ c.commands.invariant.0
+
+pub returns-then-branch-clause-survives : goal.returns-then-branch-clause-survives
+returns-then-branch-clause-survives g c = still_then (state g.S.Store c.args.rows.now.conn.now) (state g.S.Store c.commands.rows.conn.now) (state g.S.Store c.is_over.new.rows.conn.now) c.commands.invariant.1 c.is_over.ensures.survives
+
+pub returns-then-branch-clause-kept : goal.returns-then-branch-clause-kept
+returns-then-branch-clause-kept g c t keeps = c.is_over.ensures.kept t (c.commands.invariant.6 t keeps)
+
+pub returns-then-branch-clause-mode : goal.returns-then-branch-clause-mode
+returns-then-branch-clause-mode g c idle = c.is_over.ensures.mode (c.commands.invariant.2 idle)
+
+pub returns-then-branch-clause-valid : goal.returns-then-branch-clause-valid
+returns-then-branch-clause-valid g c = (omega (arith, c.commands.invariant.3, c.commands.auto.at-end), c.commands.invariant.5)
+
+pub returns-then-branch-clause-same : goal.returns-then-branch-clause-same
+returns-then-branch-clause-same g c late =
+    let mid = state g.S.Store c.commands.rows.conn.now in
+    let new = state g.S.Store c.is_over.new.rows.conn.now in
+    unchanged_after (state g.S.Store c.args.rows.now.conn.now) mid new (c.commands.invariant.4 (clean_before mid new c.is_over.ensures.survives late)).0 (c.in_ok-is_over.ensures.same late)
+
+pub returns-else-branch-clause-same_reference : goal.returns-else-branch-clause-same_reference
+returns-else-branch-clause-same_reference g c = c.is_over.ensures.same_reference ∙ c.commands.invariant.0
+
+pub returns-else-branch-clause-survives : goal.returns-else-branch-clause-survives
+returns-else-branch-clause-survives g c = still_then (state g.S.Store c.args.rows.now.conn.now) (state g.S.Store c.commands.rows.conn.now) (state g.S.Store c.is_over.new.rows.conn.now) c.commands.invariant.1 c.is_over.ensures.survives
+
+pub returns-else-branch-clause-kept : goal.returns-else-branch-clause-kept
+returns-else-branch-clause-kept g c t keeps = c.is_over.ensures.kept t (c.commands.invariant.6 t keeps)
+
+pub returns-else-branch-clause-mode : goal.returns-else-branch-clause-mode
+returns-else-branch-clause-mode g c idle = c.is_over.ensures.mode (c.commands.invariant.2 idle)
+
+pub returns-else-branch-clause-same : goal.returns-else-branch-clause-same
+returns-else-branch-clause-same g c late =
+    let mid = state g.S.Store c.commands.rows.conn.now in
+    let new = state g.S.Store c.is_over.new.rows.conn.now in
+    unchanged_after (state g.S.Store c.args.rows.now.conn.now) mid new (c.commands.invariant.4 (clean_before mid new c.is_over.ensures.survives late)).0 (c.in_ok-is_over.ensures.same late)

@@ -11,7 +11,9 @@ use Rattle.ob_state.specs.Amounts.{moves}
 use Rattle.ob_record.specs.Tables.{rows_of_moves}
 use Rattle.ob_compare.specs.Listing.{IsOff}
 use Rattle.ob_compare.specs.Moves.{moved_listing}
+use Rattle.ob_commit.proofs.Steps.{on_ok}
 use Rattle.ob_compare.proofs.Listing.{still_then, goes_off, goes_given}
+use Rattle.ob_compare.proofs.Passing.{clean_before, error_is_no_value, no_is_no, unchanged_after}
 use Rattle.ob_compare.proofs.Rowing.{leads, expected, leads_on, front_more, leads_here, all_given, off_all, over, if_ok_and, moved_is}
 use Rattle.ob_compare.proofs.moves.follows.Goals as goal
 
@@ -96,3 +98,82 @@ returns-clause-moved g c late =
     let all = all_given b first (c.commands.at + 1) c.commands.at list at.0 end at.2 in
     let leading = sym c.commands.invariant.4 ∙ leads_here b list c.commands.at end in
     over g.S.Store c.args.rows.now.conn.now new first b list at.0 table is (same.0.now_is ∙ (was.0 live).0.now_is) leading all shows (ends there moved_listing moved_is at.0 at.1))
+
+pub returns-in-Ok-false-clause-same_reference : goal.returns-in-Ok-false-clause-same_reference
+returns-in-Ok-false-clause-same_reference g c = c.takes_on.ensures.same_reference ∙ c.commands.invariant.0
+
+pub returns-in-Ok-false-clause-survives : goal.returns-in-Ok-false-clause-survives
+returns-in-Ok-false-clause-survives g c = still_then (state g.S.Store c.args.rows.now.conn.now) (state g.S.Store c.commands.rows.conn.now) (state g.S.Store c.takes_on.new.rows.conn.now) c.commands.invariant.1 c.takes_on.ensures.survives
+
+pub returns-in-Ok-false-clause-kept : goal.returns-in-Ok-false-clause-kept
+returns-in-Ok-false-clause-kept g c t keeps = c.takes_on.ensures.kept t (c.commands.invariant.7 t keeps)
+
+pub returns-in-Ok-false-clause-mode : goal.returns-in-Ok-false-clause-mode
+returns-in-Ok-false-clause-mode g c idle = c.takes_on.ensures.mode (c.commands.invariant.2 idle)
+
+pub returns-in-Ok-false-clause-same : goal.returns-in-Ok-false-clause-same
+returns-in-Ok-false-clause-same g c late live =
+    let old = state g.S.Store c.args.rows.now.conn.now in
+    let mid = state g.S.Store c.commands.rows.conn.now in
+    let new = state g.S.Store c.takes_on.new.rows.conn.now in
+    let was = (c.commands.invariant.6 (clean_before mid new c.takes_on.ensures.survives late)).0 in
+    unchanged_then old mid new (was live) (c.in-Ok-false.ensures.same late (was live).0.is_open)
+
+pub returns-in-Ok-false-clause-book : goal.returns-in-Ok-false-clause-book
+returns-in-Ok-false-clause-book g c e = absurd (no_is_no e)
+
+pub returns-in-Ok-false-clause-noted : goal.returns-in-Ok-false-clause-noted
+returns-in-Ok-false-clause-noted g c e = absurd (no_is_no e)
+
+pub returns-in-Err-clause-same_reference : goal.returns-in-Err-clause-same_reference
+returns-in-Err-clause-same_reference g c = c.takes_on.ensures.same_reference ∙ c.commands.invariant.0
+
+pub returns-in-Err-clause-survives : goal.returns-in-Err-clause-survives
+returns-in-Err-clause-survives g c = still_then (state g.S.Store c.args.rows.now.conn.now) (state g.S.Store c.commands.rows.conn.now) (state g.S.Store c.takes_on.new.rows.conn.now) c.commands.invariant.1 c.takes_on.ensures.survives
+
+pub returns-in-Err-clause-kept : goal.returns-in-Err-clause-kept
+returns-in-Err-clause-kept g c t keeps = c.takes_on.ensures.kept t (c.commands.invariant.7 t keeps)
+
+pub returns-in-Err-clause-mode : goal.returns-in-Err-clause-mode
+returns-in-Err-clause-mode g c idle = c.takes_on.ensures.mode (c.commands.invariant.2 idle)
+
+pub returns-in-Err-clause-faults : goal.returns-in-Err-clause-faults
+returns-in-Err-clause-faults g c = c.in-Err.ensures.faults
+
+pub returns-in-Err-clause-book : goal.returns-in-Err-clause-book
+returns-in-Err-clause-book g c e = absurd (error_is_no_value e)
+
+pub returns-in-Err-clause-noted : goal.returns-in-Err-clause-noted
+returns-in-Err-clause-noted g c e = absurd (error_is_no_value e)
+
+pub returns-clause-same_reference : goal.returns-clause-same_reference
+returns-clause-same_reference g c = c.is_over.ensures.same_reference ∙ c.commands.invariant.0
+
+pub returns-clause-survives : goal.returns-clause-survives
+returns-clause-survives g c = still_then (state g.S.Store c.args.rows.now.conn.now) (state g.S.Store c.commands.rows.conn.now) (state g.S.Store c.is_over.new.rows.conn.now) c.commands.invariant.1 c.is_over.ensures.survives
+
+pub returns-clause-kept : goal.returns-clause-kept
+returns-clause-kept g c t keeps = c.is_over.ensures.kept t (c.commands.invariant.7 t keeps)
+
+pub returns-clause-mode : goal.returns-clause-mode
+returns-clause-mode g c idle = c.is_over.ensures.mode (c.commands.invariant.2 idle)
+
+pub returns-clause-faults : goal.returns-clause-faults
+returns-clause-faults g c = c.is_over.ensures.faults
+
+pub returns-clause-same : goal.returns-clause-same
+returns-clause-same g c late =
+    let old = state g.S.Store c.args.rows.now.conn.now in
+    let mid = state g.S.Store c.commands.rows.conn.now in
+    let new = state g.S.Store c.is_over.new.rows.conn.now in
+    let was = (c.commands.invariant.6 (clean_before mid new c.is_over.ensures.survives late)).0 in
+    on_ok c.is_over.result (c.is_over.ensures.same late) (λ step. unchanged_after old mid new was step)
+
+pub returns-clause-book : goal.returns-clause-book
+returns-clause-book g c e =
+    let list = c.args.commands.now in
+    let end : length list ≤ c.commands.at = omega (arith, c.commands-test.false) in
+    sym c.commands.invariant.4 ∙ leads_here c.commands.book.state list c.commands.at end
+
+pub returns-clause-noted : goal.returns-clause-noted
+returns-clause-noted g c e noted = c.commands.invariant.5 noted

@@ -1,10 +1,12 @@
-use Rattle.std.proofs.Common.{◌<◌, ◌++◌, length, take, ap, ◌∙◌, arith}
+use Rattle.std.proofs.Common.{◌<◌, ◌++◌, length, take, sym, subst, ap, ◌∙◌, arith}
 use Rattle.sqlite.specs.Effect.{Database}
 use Rattle.sqlite.specs.State.{HasCleanDisk}
 use Rattle.sqlite.specs.Held.{state}
 use Rattle.sqlite.proofs.Callers.{unchanged_then}
 use Rattle.ob_record.specs.Tables.{rows_of_moves}
+use Rattle.ob_tables.specs.Steps.{IsStoreFault}
 use Rattle.ob_compare.proofs.Listing.{still_then}
+use Rattle.ob_compare.proofs.Passing.{clean_before, no_value, of_error, unchanged_after}
 use Rattle.ob_compare.proofs.Rowing.{move_on, move_off}
 use Rattle.ob_compare.proofs.moves.matches.Goals as goal
 
@@ -41,3 +43,57 @@ moves-preserved g c =
           ),
       λ t keeps. step.kept t (c.moves.invariant.4 t keeps),
     )
+
+pub returns-in_err-next_is-clause-same_reference : goal.returns-in_err-next_is-clause-same_reference
+returns-in_err-next_is-clause-same_reference g c = c.next_is.ensures.same_reference ∙ c.moves.invariant.0
+
+pub returns-in_err-next_is-clause-survives : goal.returns-in_err-next_is-clause-survives
+returns-in_err-next_is-clause-survives g c = still_then (state g.S.Store c.args.rows.now.conn.now) (state g.S.Store c.moves.rows.conn.now) (state g.S.Store c.next_is.new.rows.conn.now) c.moves.invariant.1 c.next_is.ensures.survives
+
+pub returns-in_err-next_is-clause-kept : goal.returns-in_err-next_is-clause-kept
+returns-in_err-next_is-clause-kept g c t keeps = c.next_is.ensures.kept t (c.moves.invariant.4 t keeps)
+
+pub returns-in_err-next_is-clause-mode : goal.returns-in_err-next_is-clause-mode
+returns-in_err-next_is-clause-mode g c idle = c.next_is.ensures.mode (c.moves.invariant.2 idle)
+
+pub returns-in_err-next_is-clause-faults : goal.returns-in_err-next_is-clause-faults
+returns-in_err-next_is-clause-faults g c = of_error c.from_residual.result IsStoreFault c.from_residual.ensures.1 (λ stop is. subst IsStoreFault (sym is) c.in_err-next_is.ensures.faults)
+
+pub returns-in_err-next_is-clause-same : goal.returns-in_err-next_is-clause-same
+returns-in_err-next_is-clause-same g c late = no_value c.from_residual.result _ c.from_residual.ensures.0
+
+pub returns-in_err-next_is-clause-goes : goal.returns-in_err-next_is-clause-goes
+returns-in_err-next_is-clause-goes g c late = no_value c.from_residual.result _ c.from_residual.ensures.0
+
+pub returns-then-not-branch-clause-same_reference : goal.returns-then-not-branch-clause-same_reference
+returns-then-not-branch-clause-same_reference g c = c.next_is.ensures.same_reference ∙ c.moves.invariant.0
+
+pub returns-then-not-branch-clause-survives : goal.returns-then-not-branch-clause-survives
+returns-then-not-branch-clause-survives g c = still_then (state g.S.Store c.args.rows.now.conn.now) (state g.S.Store c.moves.rows.conn.now) (state g.S.Store c.next_is.new.rows.conn.now) c.moves.invariant.1 c.next_is.ensures.survives
+
+pub returns-then-not-branch-clause-kept : goal.returns-then-not-branch-clause-kept
+returns-then-not-branch-clause-kept g c t keeps = c.next_is.ensures.kept t (c.moves.invariant.4 t keeps)
+
+pub returns-then-not-branch-clause-mode : goal.returns-then-not-branch-clause-mode
+returns-then-not-branch-clause-mode g c idle = c.next_is.ensures.mode (c.moves.invariant.2 idle)
+
+pub returns-then-not-branch-clause-same : goal.returns-then-not-branch-clause-same
+returns-then-not-branch-clause-same g c late =
+    let mid = state g.S.Store c.moves.rows.conn.now in
+    let new = state g.S.Store c.next_is.new.rows.conn.now in
+    unchanged_after (state g.S.Store c.args.rows.now.conn.now) mid new (c.moves.invariant.3 (clean_before mid new c.next_is.ensures.survives late)).0 (c.in_ok-next_is.ensures.same late)
+
+pub returns-clause-same_reference : goal.returns-clause-same_reference
+returns-clause-same_reference g c = c.moves.invariant.0
+
+pub returns-clause-survives : goal.returns-clause-survives
+returns-clause-survives g c = c.moves.invariant.1
+
+pub returns-clause-kept : goal.returns-clause-kept
+returns-clause-kept g c = c.moves.invariant.4
+
+pub returns-clause-mode : goal.returns-clause-mode
+returns-clause-mode g c = c.moves.invariant.2
+
+pub returns-clause-same : goal.returns-clause-same
+returns-clause-same g c late = (c.moves.invariant.3 late).0
