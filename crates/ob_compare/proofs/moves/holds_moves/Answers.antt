@@ -1,7 +1,7 @@
-use Rattle.std.proofs.Common.{◌≡◌, [], inl, sym, ap, subst, ◌∙◌, arith, rules}
+use Rattle.std.proofs.Common.{◌≡◌, [], inl, sym, ap, subst, ◌∙◌, arith, rules, Bool, false, Err, ◌≢◌}
 use Rattle.sqlite.specs.Effect.{Database}
 use Rattle.sqlite.specs.State.{HasCleanDisk, IsUnchanged, Survives}
-use Rattle.sqlite.specs.Held.{state}
+use Rattle.sqlite.specs.Held.{Held, state}
 use Rattle.sqlite.proofs.Callers.{begun_plain, unchanged_then}
 use Rattle.ob_record.specs.Tables.{Shows}
 use Rattle.ob_tables.specs.declared.table.Table.TheVariants.{Moved as MovedTable}
@@ -10,10 +10,17 @@ use Rattle.ob_compare.proofs.Listing.{still_then, quiet, begins}
 use Rattle.ob_commit.specs.Keeps.{Keeps}
 use Rattle.ob_compare.specs.Faults.{HasNoMeaning, IsMissed}
 use Rattle.ob_commit.proofs.Steps.{on_ok}
-use Rattle.ob_compare.proofs.Asking.{foreign_tables, never_clean}
+use Rattle.ob_tables.specs.Schema.{book_schema}
+use Rattle.ob_compare.proofs.Asking.{faults_alone, faults_read, foreign_tables, never_clean}
+use Rattle.ob_compare.proofs.Passing.{clean_before, error_is_no_value}
 use Rattle.ob_compare.proofs.Kept.{kept_asked, unread}
 use Rattle.ob_compare.proofs.Rowing.{if_ok, moved_is}
+use Rattle.ob_compare.proofs.moves.holds_moves.Given.{Over}
 use Rattle.ob_compare.proofs.moves.holds_moves.Goals as goal
+
+-- the connection is given back as the rows left it
+given_back : (g : Over) (c : goal.After-drop-statement-inside-in-Ok-query_prepared-2 g) → c.follows.new.rows.conn.now ≡ c.conn-1.given.0
+given_back g c = search rules
 
 pub returns-in-Ok-query_prepared-clause-survives : goal.returns-in-Ok-query_prepared-clause-survives
 returns-in-Ok-query_prepared-clause-survives g c has =
@@ -21,7 +28,7 @@ returns-in-Ok-query_prepared-clause-survives g c has =
     let mid = state g.S.Store c.prepare.new.conn in
     let start = state g.S.Store c.in-Ok-query_prepared.rows.conn.now in
     let last = c.follows.new.rows.conn.now in
-    let same : last ≡ c.conn-1.given.0 = search rules in
+    let same : last ≡ c.conn-1.given.0 = given_back g c in
     subst (λ x. Survives old (state g.S.Store x) (λ _. ⊥)) same
     (still_then old start (state g.S.Store last) (still_then old mid start c.prepare.ensures.survives (quiet moved_listing moved_is old mid start c.in-Ok.statement.text (λ ready. let it = c.in-Ok.ensures.prepared ready in (it.0 ∙ c.select_of.ensures, it.1)) has c.in-Ok-query_prepared.ensures.survives)) c.follows.ensures.survives)
 
@@ -31,7 +38,7 @@ returns-in-Ok-query_prepared-clause-same g c clean =
     let mid = c.prepare.new.conn in
     let start = c.in-Ok-query_prepared.rows.conn.now in
     let last = c.follows.new.rows.conn.now in
-    let same : last ≡ c.conn-1.given.0 = search rules in
+    let same : last ≡ c.conn-1.given.0 = given_back g c in
     let late : HasCleanDisk (state g.S.Store last) = subst (λ x. HasCleanDisk (state g.S.Store x)) (sym same) clean in
     let begun : HasCleanDisk (state g.S.Store start) = omega (arith, c.follows.ensures.survives.clean, late) in
     let early : HasCleanDisk (state g.S.Store mid) = omega (arith, c.in-Ok-query_prepared.ensures.survives.clean, begun) in
@@ -45,7 +52,7 @@ returns-in-Ok-query_prepared-clause-moved g c clean =
     let mid = c.prepare.new.conn in
     let start = c.in-Ok-query_prepared.rows.conn.now in
     let last = c.follows.new.rows.conn.now in
-    let same : last ≡ c.conn-1.given.0 = search rules in
+    let same : last ≡ c.conn-1.given.0 = given_back g c in
     let late : HasCleanDisk (state g.S.Store last) = subst (λ x. HasCleanDisk (state g.S.Store x)) (sym same) clean in
     let begun : HasCleanDisk (state g.S.Store start) = omega (arith, c.follows.ensures.survives.clean, late) in
     let early : HasCleanDisk (state g.S.Store mid) = omega (arith, c.in-Ok-query_prepared.ensures.survives.clean, begun) in
@@ -63,7 +70,7 @@ returns-clause-survives g c has =
 pub returns-in-Ok-query_prepared-clause-clean : goal.returns-in-Ok-query_prepared-clause-clean
 returns-in-Ok-query_prepared-clause-clean g c clean =
     let last = c.follows.new.rows.conn.now in
-    let same : last ≡ c.conn-1.given.0 = search rules in
+    let same : last ≡ c.conn-1.given.0 = given_back g c in
     let late : HasCleanDisk (state g.S.Store last) = subst (λ x. HasCleanDisk (state g.S.Store x)) (sym same) clean in
     omega (arith, c.prepare.ensures.survives.clean, c.in-Ok-query_prepared.ensures.survives.clean, c.follows.ensures.survives.clean, late)
 
@@ -80,7 +87,7 @@ returns-in-Ok-query_prepared-clause-kept g c t keeps =
     let start = c.in-Ok-query_prepared.rows.conn.now in
     let last = c.follows.new.rows.conn.now in
     let text = c.in-Ok.statement.text in
-    let same : last ≡ c.conn-1.given.0 = search rules in
+    let same : last ≡ c.conn-1.given.0 = given_back g c in
     let begun = kept_asked moved_listing moved_is (state g.S.Store old) (state g.S.Store mid) (state g.S.Store start) text (λ ready. let it = c.in-Ok.ensures.prepared ready in (it.0 ∙ c.select_of.ensures, it.1)) t keeps c.prepare.ensures.survives c.in-Ok-query_prepared.ensures.survives
     (λ late plain. inl (begun_plain g.S.Store text [] mid start plain (c.in-Ok-query_prepared.ensures.begun late)).1) in
     subst (λ x. Keeps (state g.S.Store x) t) same (c.follows.ensures.kept t begun)
@@ -101,7 +108,7 @@ returns-in-Ok-query_prepared-clause-missed g c none =
     let mid = state g.S.Store c.prepare.new.conn in
     let start = state g.S.Store c.in-Ok-query_prepared.rows.conn.now in
     let last = c.follows.new.rows.conn.now in
-    let same : last ≡ c.conn-1.given.0 = search rules in
+    let same : last ≡ c.conn-1.given.0 = given_back g c in
     let unread : HasCleanDisk start → ⊥ = λ clean. c.in-Ok.ensures.missed (omega (arith, c.in-Ok-query_prepared.ensures.survives.clean, clean)) (subst (HasNoMeaning old.now.schema) (sym c.select_of.ensures) none) in
     let all = still_then old start (state g.S.Store last) (never_clean old mid start _ c.prepare.ensures.survives c.in-Ok-query_prepared.ensures.survives unread) c.follows.ensures.survives in
     let never : HasCleanDisk (state g.S.Store last) → ⊥ = λ clean. unread (omega (arith, c.follows.ensures.survives.clean, clean)) in
@@ -119,3 +126,54 @@ returns-clause-missed g c none =
 pub returns-in-Err-clause-missed : goal.returns-in-Err-clause-missed
 returns-in-Err-clause-missed g c none =
     (c.prepare.ensures.survives, λ clean. c.in-Err.ensures.missed clean (subst (HasNoMeaning c.args.conn.now.schema) (sym c.select_of.ensures) none))
+
+pub returns-in-Err-clause-mode : goal.returns-in-Err-clause-mode
+returns-in-Err-clause-mode g c = c.prepare.ensures.mode
+
+pub returns-in-Err-clause-survives : goal.returns-in-Err-clause-survives
+returns-in-Err-clause-survives g c has = c.prepare.ensures.survives
+
+pub returns-in-Err-clause-kept : goal.returns-in-Err-clause-kept
+returns-in-Err-clause-kept g c = c.prepare.ensures.kept
+
+pub returns-in-Err-clause-clean : goal.returns-in-Err-clause-clean
+returns-in-Err-clause-clean g c = clean_before (state g.S.Store c.args.conn.now) (state g.S.Store c.prepare.new.conn) c.prepare.ensures.survives
+
+pub returns-in-Err-clause-faults : goal.returns-in-Err-clause-faults
+returns-in-Err-clause-faults g c = c.in-Err.ensures.faults
+
+pub returns-in-Err-clause-book : goal.returns-in-Err-clause-book
+returns-in-Err-clause-book g c e = absurd (error_is_no_value e)
+
+pub returns-in-Err-clause-noted : goal.returns-in-Err-clause-noted
+returns-in-Err-clause-noted g c e = absurd (error_is_no_value e)
+
+pub returns-in-Ok-query_prepared-clause-mode : goal.returns-in-Ok-query_prepared-clause-mode
+returns-in-Ok-query_prepared-clause-mode g c idle = subst (λ (h : Held g.row.S.Denot). h.in_transaction ≡ false) (given_back g c) (c.follows.ensures.mode (c.in-Ok-query_prepared.ensures.mode (c.prepare.ensures.mode idle)))
+
+pub returns-in-Ok-query_prepared-clause-faults : goal.returns-in-Ok-query_prepared-clause-faults
+returns-in-Ok-query_prepared-clause-faults g c = faults_read c.follows.result c.follows.ensures.faults
+
+pub returns-in-Ok-query_prepared-clause-foreign : goal.returns-in-Ok-query_prepared-clause-foreign
+returns-in-Ok-query_prepared-clause-foreign g c clean = faults_alone c.follows.result (c.args.conn.now.schema ≢ book_schema) c.follows.ensures.faults
+
+pub returns-in-Ok-query_prepared-clause-book : goal.returns-in-Ok-query_prepared-clause-book
+returns-in-Ok-query_prepared-clause-book g c = c.follows.ensures.book
+
+pub returns-in-Ok-query_prepared-clause-noted : goal.returns-in-Ok-query_prepared-clause-noted
+returns-in-Ok-query_prepared-clause-noted g c = c.follows.ensures.noted
+
+pub returns-clause-mode : goal.returns-clause-mode
+returns-clause-mode g c idle = (rw c.in-Err-query_prepared.is at c.query_prepared.follows.holds-at-none).mode (c.prepare.ensures.mode idle)
+
+pub returns-clause-faults : goal.returns-clause-faults
+returns-clause-faults g c = inl c.stop_of.ensures
+
+pub returns-clause-foreign : goal.returns-clause-foreign
+returns-clause-foreign g c clean = faults_alone {X = Bool} (Err c.stop_of.result) (c.args.conn.now.schema ≢ book_schema) c.stop_of.ensures
+
+pub returns-clause-book : goal.returns-clause-book
+returns-clause-book g c e = absurd (error_is_no_value e)
+
+pub returns-clause-noted : goal.returns-clause-noted
+returns-clause-noted g c e = absurd (error_is_no_value e)
