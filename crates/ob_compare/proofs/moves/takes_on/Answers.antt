@@ -145,7 +145,7 @@ pub returns-in-Ok-note_ends-clause-noted : goal.returns-in-Ok-note_ends-clause-n
 returns-in-Ok-note_ends-clause-noted g c e noted =
     let plan = c.in-Ok.ensures in
     c.in-Ok-note_ends.ensures.noted (noted ∙ ap (λ (s : BookState). ends_of s.network) (sym plan.state))
-        ∙ ap (λ (s : BookState). ends_of s.network) (sym (c.adopt.ensures.state ∙ ap (λ (k : Command). next c.decide.new.self.state k) plan.command))
+    ∙ ap (λ (s : BookState). ends_of s.network) (sym (c.adopt.ensures.state ∙ ap (λ (k : Command). next c.decide.new.self.state k) plan.command))
 
 pub returns-in-Err-note_ends-clause-same_reference : goal.returns-in-Err-note_ends-clause-same_reference
 returns-in-Err-note_ends-clause-same_reference g c = c.matches.ensures.same_reference
