@@ -1,11 +1,10 @@
 //! The rows of a command, committed together.
-ghost use Rattle.std.specs.Prelude.{◌≡◌, false, OnOk, IfOk, IfErr, IsPermutation, filter};
+ghost use Rattle.std.specs.Prelude.{◌≡◌, false, OnOk, IfErr};
 ghost use Rattle.sqlite.specs.Held.{state};
-ghost use Rattle.sqlite.specs.State.{HasCleanDisk, Survives};
+ghost use Rattle.sqlite.specs.State.{Survives};
 ghost use Rattle.ob_base.specs.Stop.{out_of_memory};
 ghost use Rattle.ob_tables.specs.Steps.{Changes, IsStoreFault};
-ghost use Rattle.ob_tables.specs.Rows.{Tables, is_reference};
-ghost use Rattle.ob_tables.specs.declared.table.Table.{Table as ATable};
+ghost use Rattle.ob_tables.specs.Rows.{Tables};
 ghost use Rattle.ob_commit.specs.Acts.{CanWrite, NeedsRows, with_act};
 ghost use Rattle.ob_commit.specs.Keeps.{Keeps, KeepsEither, LeavesChanged};
 
@@ -13,8 +12,8 @@ use crate::change::{Change, write_change};
 use crate::moves::write_moves;
 use ob_base::{Fault, Stop};
 use ob_post::{Moved, Postings};
-use ob_tables::{add_command, find_commands};
-use sqlite::{Alter, Connection, Row, Transaction};
+use ob_tables::add_command;
+use sqlite::{Alter, Connection, Transaction};
 
 /// An accepted command, as the rows show it.
 #[derive(Clone, Copy)]
@@ -44,21 +43,6 @@ pub fn write_act<S: Alter>(
     write_change(tx, &act.change)?;
     add_command(tx, act.no, act.reference, act.body)?;
     write_moves(tx, act.no, postings, act.moves)
-}
-
-/// The rows of the commands with a reference: one or none. Nothing is written.
-pub fn known_rows<S: Alter>(conn: &mut Connection<S>, reference: &[u8]) -> Result<Vec<Row>, Stop>
-    requires mode { conn.old.in_transaction ≡ false }
-    ensures mode { conn.new.in_transaction ≡ false }
-    ensures faults { IfErr result IsStoreFault }
-    ensures survives { Survives (state S.Store conn.old) (state S.Store conn.new) (λ _. ⊥) }
-    ensures kept { (t : Tables) → Keeps (state S.Store conn.old) t → Keeps (state S.Store conn.new) t }
-    ensures found { HasCleanDisk (state S.Store conn.new)
-        → IfOk result (λ rows. (t : Tables) → Keeps (state S.Store conn.old) t
-        → IsPermutation (filter (is_reference reference.now) (t ATable.Command)) rows.items) }
-{
-    let mut tx = conn.transaction();
-    find_commands(&mut tx, reference)
 }
 
 /// Commits the rows of an accepted command: all or none.

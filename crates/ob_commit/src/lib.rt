@@ -1,14 +1,27 @@
-//! The rows of an accepted command, committed in one transaction.
+//! The rows of a book, written and read back in transactions.
 //!
-//! Keeps what writes the rows of a command: the one that it changes, its own, and those of the amounts that it moves.
-//! Promises that all of them are committed or none, also where the store fails or the machine stops in the midst; and
-//! what a reference finds among the rows. What keeps a book in step with its rows stands above it.
+//! Keeps what makes the ten tables of a new book with the rows that they begin with (its period, cause 0, GRID, and an
+//! amount of 0 under each key); what writes the rows of an accepted command (the one that it changes, its own, and
+//! those of the amounts that it moves); and what reads the rows of one command back, under its reference or by its
+//! number. Promises that what one transaction writes is committed whole or not at all, also where the store fails or
+//! the machine stops in the midst; that a database which holds something is refused and left as it was; that a reading
+//! writes nothing and tells what the tables hold, and that a row that no book has is a fault of the store. What keeps a
+//! book in step with its rows stands above it.
 #![tactic(auto)]
 
 mod act;
 mod change;
+mod columns;
+mod creation;
+mod known;
 mod moves;
+mod stored;
+mod writing;
 
-pub use act::{Act, commit_act, known_rows, write_act};
+pub use act::{Act, commit_act, write_act};
 pub use change::{Change, write_change};
+pub use creation::commit_new;
+pub use known::{Known, look_up};
 pub use moves::{write_move, write_moves};
+pub use stored::stored_moves;
+pub use writing::write_new;

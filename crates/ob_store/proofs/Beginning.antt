@@ -20,8 +20,8 @@ use Rattle.ob_tables.specs.Steps.{IsStoreFault}
 use Rattle.ob_tables.specs.declared.table.Table.{Table}
 use Rattle.ob_tables.specs.declared.table.Table.TheVariants.{Meta, Cause, Node, Device, Customer, Entry, Mark, Command, Moved, Posting}
 use Rattle.ob_commit.specs.Keeps.{Keeps}
-use Rattle.ob_creation.specs.NewBook.{new_tables}
-use Rattle.ob_creation.specs.Begins.{Stays, StaysOrBegins}
+use Rattle.ob_commit.specs.NewBook.{new_tables}
+use Rattle.ob_commit.specs.Begins.{Stays, StaysOrBegins}
 use Rattle.ob_record.specs.Reached.{IsReached, StartHasFirstRows, StartIsReached, first_rows}
 use Rattle.ob_record.specs.Tables.{tables_of}
 use Rattle.ob_store.specs.Keeping.{KeepsBook}

@@ -12,7 +12,7 @@ use Rattle.ob_state.specs.State.{empty_book}
 use Rattle.ob_state.specs.States.{BookValue}
 use Rattle.ob_book.specs.Acts.{ActState, start}
 use Rattle.ob_tables.specs.Schema.{no_schema}
-use Rattle.ob_creation.specs.Begins.{Stays, StaysOrBegins}
+use Rattle.ob_commit.specs.Begins.{Stays, StaysOrBegins}
 use Rattle.ob_record.specs.Tables.{tables_of}
 use Rattle.ob_store.specs.Keeping.{KeeperValue, KeepsBook, Ties}
 

@@ -4,7 +4,7 @@ ghost use Rattle.ob_store.specs.Creating.{Creates};
 
 use ob_base::{Fault, Stop};
 use ob_book::Book;
-use ob_creation::commit_new;
+use ob_commit::commit_new;
 use ob_record::reached_law;
 use ob_sweep::Timeline;
 use ob_time::Period;

@@ -11,7 +11,7 @@ ghost use Rattle.ob_store.specs.Replying.{Replies};
 use crate::reply::{Moves, Reply};
 use ob_base::{Fault, Stop};
 use ob_book::Book;
-use ob_lookup::stored_moves;
+use ob_commit::stored_moves;
 use ob_post::laws::move_laws;
 use ob_record::reached_law;
 use ob_sweep::Timeline;

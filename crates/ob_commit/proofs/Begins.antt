@@ -1,0 +1,63 @@
+-- What a commit and a failed commit make of a database in which a new book was to begin.
+use Rattle.std.proofs.Common.{◌≡◌, inl, inr, sym, ap, subst, ◌∙◌, arith, IsTrue, true, true≢false}
+use Rattle.std.specs.Prelude.{false}
+use Rattle.sqlite.specs.Tree.{Trees}
+use Rattle.sqlite.specs.Effect.{Database}
+use Rattle.sqlite.specs.declared.error.Error.{Error}
+use Rattle.sqlite.specs.State.{State, HasCleanDisk, Survives, Shows, IsRolledBack}
+use Rattle.sqlite.specs.Steps.{FailsToCommit}
+use Rattle.sqlite.proofs.StateLemmas.{survives_then}
+use Rattle.ob_tables.specs.Schema.{no_schema}
+use Rattle.ob_tables.specs.Rows.{Tables, Holds}
+use Rattle.ob_tables.specs.Steps.{Silent}
+use Rattle.ob_commit.specs.Keeps.{Leaves, Keeps}
+use Rattle.ob_commit.specs.NewBook.{MakesNew}
+use Rattle.ob_commit.specs.Begins.{Begins, StaysOrBegins}
+
+-- a commit that fails inside a transaction is a rollback
+rolls_back : (last end : State) (e : Error) → IsTrue last.in_transaction → FailsToCommit last end e → IsRolledBack last end
+rolls_back last end e inside (inl fails) = fails.3
+rolls_back last end e inside (inr outside) = absurd (true≢false (sym inside ∙ outside.1))
+
+module _ (old last end : State) (t : Tables) (none : old.now.schema ≡ no_schema) (quiet : Silent old last)
+    (makes : HasCleanDisk last → MakesNew t (record old { in_transaction = true }) last) (ends : Survives last end (λ db. db ≡ last.now.trees)) where
+  made : HasCleanDisk end → MakesNew t (record old { in_transaction = true }) last
+  made clean = makes (omega (arith, ends.clean, clean))
+
+  leaves : HasCleanDisk end → (trees : Trees) → trees ≡ last.now.trees → Leaves t trees
+  leaves clean trees is = let it = made clean in (last.now, it.schema none, is, subst (λ x. Holds x t) (sym is) (it.holds none))
+
+  -- a crash leaves what it left before, or the tables of a new book
+  pub survives_new : Survives old end (Begins old t)
+  survives_new =
+      survives_then old last end _ _ (Begins old t) (λ _ db none. absurd none) (λ clean db is. (none, leaves clean db is)) quiet.survives ends
+
+  -- a commit
+  pub keeps_new : (HasCleanDisk end → Shows last end last.now last.now false) → (IsTrue end.is_open → (trees : Trees) → end.may_leave trees → trees ≡ end.committed.trees) → Keeps end t
+  keeps_new shows law = record {
+    settled = λ clean live.
+        let it = shows clean in
+        let m = made clean in
+        record {
+          schema = ap (λ (d : Database). d.schema) it.now_is ∙ m.schema none;
+          committed = it.committed_is ∙ sym it.now_is;
+          holds = subst (λ (d : Database). Holds d.trees t) (sym it.now_is) (m.holds none);
+        };
+    left = λ clean trees may. let it = shows clean in leaves clean trees (law it.is_open trees may ∙ ap (λ (d : Database). d.trees) it.committed_is);
+  }
+
+  -- a commit that failed
+  pub stays_or_begins : (e : Error) → (IsTrue old.is_open → old.now ≡ old.committed) → (HasCleanDisk end → FailsToCommit last end e) → StaysOrBegins old end t
+  stays_or_begins e settled fails = record {
+    shown = λ clean live.
+        let late : HasCleanDisk last = omega (arith, ends.clean, clean) in
+        let it = makes late in
+        let back = rolls_back last end e it.inside (fails clean) in
+        let kept = (quiet.kept late).committed (back.was_open live) in
+        record {
+          was_open = it.live;
+          now = (back.undone live).0 ∙ kept ∙ sym (settled it.live);
+          committed = (back.undone live).1 ∙ kept;
+        };
+    left = survives_new.crash;
+  }

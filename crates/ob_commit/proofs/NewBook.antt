@@ -1,0 +1,38 @@
+-- The tables of a new book: the ten without rows, then the rows that they begin with.
+use Rattle.std.proofs.Common.{◌≡◌, ℕ, List, refl}
+use Rattle.sqlite.specs.State.{State}
+use Rattle.ob_tables.specs.Rows.{Always}
+use Rattle.ob_tables.specs.Steps.{Makes}
+use Rattle.ob_tables.specs.Creation.{MakesBook, no_rows}
+use Rattle.ob_tables.specs.declared.table.Table.{Table}
+use Rattle.ob_tables.specs.declared.table.Table.TheVariants.{Meta, Cause, Node, Device, Customer, Entry, Mark, Command, Moved, Posting}
+use Rattle.ob_commit.specs.Amounts.{all_keys}
+use Rattle.ob_commit.specs.NewBook.{new_tables, with_heading, with_zeros, MakesNew}
+use Rattle.ob_commit.proofs.Zeros.{holds_as}
+
+-- with the heading and the amounts, tables without rows are those of a new book
+new_rows : (first : List ℕ) (days : ℕ) (zone : List ℕ) (table : Table) → with_zeros (all_keys days) (with_heading first days zone no_rows) table ≡ new_tables first days zone table
+new_rows first days zone Meta = refl
+new_rows first days zone Cause = refl
+new_rows first days zone Node = refl
+new_rows first days zone Device = refl
+new_rows first days zone Customer = refl
+new_rows first days zone Entry = refl
+new_rows first days zone Mark = refl
+new_rows first days zone Command = refl
+new_rows first days zone Moved = refl
+new_rows first days zone Posting = refl
+
+pub makes_new : (a b c d : State) (first : List ℕ) (days : ℕ) (zone : List ℕ) → MakesBook a b → Makes b c Always (with_heading first days zone) → Makes c d Always (with_zeros (all_keys days))
+    → MakesNew (new_tables first days zone) a d
+makes_new a b c d first days zone made heading zeros = record {
+  live = made.live;
+  stays = zeros.stays;
+  inside = zeros.inside;
+  schema = λ none. zeros.schema (heading.schema (made.schema none));
+  holds = λ none.
+      let book = made.schema none in
+      let headed = with_heading first days zone no_rows in
+      holds_as d.now.trees (with_zeros (all_keys days) headed) (new_tables first days zone) (new_rows first days zone)
+      (zeros.holds (heading.schema book) headed (heading.holds book no_rows (made.holds none) tt) tt);
+}

@@ -1,0 +1,12 @@
+use Rattle.std.proofs.Common.{◌<◌, length, arith}
+use Rattle.ob_commit.proofs.Moving.{one_more}
+use Rattle.ob_commit.proofs.stored.read_moves.Goals as goal
+
+pub rows-init : goal.rows-init
+rows-init c = rw c.new-moves.ensures.items
+
+pub rows-preserved : goal.rows-preserved
+rows-preserved c =
+    let low : c.rows.row-index < length c.args.rows.now = omega (arith, c.rows-test.true) in
+    rw c.in_ok-push.ensures.items
+    (one_more c.args.no c.args.rows.now c.rows.moves.items c.rows.row-index c.row-item.result c.in_ok-read_move.field-0 low c.row-item.is c.in_ok-read_move.ensures.told c.rows.invariant)

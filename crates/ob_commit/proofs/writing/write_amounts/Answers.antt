@@ -1,0 +1,38 @@
+use Rattle.std.proofs.Common.{◌++◌, ◌∙◌, subst, arith}
+use Rattle.std.specs.List.{range_with_len}
+use Rattle.sqlite.specs.State.{HasCleanDisk}
+use Rattle.sqlite.specs.Held.{state}
+use Rattle.ob_post.specs.declared.Dim.TheVariants.{Cause, Feeder, Day}
+use Rattle.ob_tables.specs.Steps.{Makes}
+use Rattle.ob_tables.specs.Rows.{Always}
+use Rattle.ob_tables.proofs.Silence.{silent_then}
+use Rattle.ob_commit.proofs.Steps.{on_ok}
+use Rattle.ob_commit.specs.NewBook.{with_zeros, keys_of}
+use Rattle.ob_commit.proofs.Zeros.{zeros_then, ranges_are_all}
+use Rattle.ob_commit.proofs.writing.write_amounts.Goals as goal
+
+pub returns : goal.returns
+returns g c =
+    let old = state g.S.Store c.args.tx.now.conn.now in
+    let one = state g.S.Store c.write_keys.new.tx.conn.now in
+    let two = state g.S.Store c.write_keys-2.new.tx.conn.now in
+    let new = state g.S.Store c.write_keys-3.new.tx.conn.now in
+    let causes = keys_of Cause (range_with_len 0 64) in
+    let feeders = keys_of Feeder (range_with_len 1 255) in
+    let all_days = keys_of Day (range_with_len 0 c.args.days) in
+    let last = c.write_keys-3.ensures in
+    let quiet = silent_then one two new c.write_keys-2.ensures.silent last.silent in
+    record {
+      same_reference = last.same_reference ∙ (c.write_keys-2.ensures.same_reference ∙ c.write_keys.ensures.same_reference);
+      silent = silent_then old one new c.write_keys.ensures.silent quiet;
+      faults = last.faults;
+      makes = λ clean.
+          let late : HasCleanDisk two = omega (arith, last.silent.survives.clean, clean) in
+          let early : HasCleanDisk one = omega (arith, quiet.survives.clean, clean) in
+          on_ok c.write_keys-3.result (last.makes clean) (λ third live inside.
+          let first = c.in_ok-write_keys.ensures.makes early live inside in
+          let second = c.in_ok-write_keys-2.ensures.makes late first.stays first.inside in
+          subst (λ l. Makes old new Always (with_zeros l)) (ranges_are_all c.args.days)
+          (zeros_then old one new causes (feeders ++ all_days) first
+          (zeros_then one two new feeders all_days second (third second.stays second.inside))));
+    }

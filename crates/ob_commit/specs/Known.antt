@@ -1,0 +1,19 @@
+-- What stands under a reference.
+use Rattle.std.specs.Prelude.{◌≡◌, ◌≢◌, ℕ, List, [], ◌∷◌}
+use Rattle.ob_base.specs.declared.stop.Stop.{Stop}
+use Rattle.ob_base.specs.declared.stop.Stop.TheVariants.{Fault}
+use Rattle.ob_base.specs.declared.stop.Fault.TheVariants.{Store}
+use Rattle.ob_tables.specs.Rows.{Columns, command_row}
+use Rattle.ob_commit.specs.declared.known.Known.{Known}
+use Rattle.ob_commit.specs.declared.known.Known.TheVariants.{New, Same, Other}
+
+-- the store failed
+abbrev pub store_fault : Stop
+store_fault = Fault Store
+
+-- these are the rows of the commands with a reference: none, or one of this number, with this body or another one
+abbrev pub IsUnder : List Columns → List ℕ → List ℕ → Known → Type 0
+IsUnder rows reference body New = rows ≡ []
+IsUnder rows reference body (Same n) = rows ≡ command_row n reference body ∷ []
+IsUnder rows reference body (Other n) =
+    (other : List ℕ) × (other ≢ body) × (rows ≡ command_row n reference other ∷ [])

@@ -1,0 +1,43 @@
+//! The columns of a row that a query answered.
+ghost use Rattle.std.specs.Prelude.{◌≡◌, IfOk, IfErr};
+ghost use Rattle.sqlite.specs.Order.{column};
+ghost use Rattle.sqlite.specs.declared.types.Value.TheVariants.{Int, Text as AText};
+ghost use Rattle.ob_tables.specs.Rows.{number};
+ghost use Rattle.ob_commit.specs.Known.{store_fault};
+
+use ob_base::{Fault, Stop};
+use sqlite::Row;
+use sqlite_value::value::ValueRef;
+
+/// The number in a column.
+pub(crate) fn number_at(row: &Row, place: usize) -> Result<u32, Stop>
+    ensures value { IfOk result (λ n. column row.now place ≡ number n) }
+    ensures fault { IfErr result (λ stop. stop ≡ store_fault) }
+{
+    match row.get::<u32>(place) {
+        Ok(n) => Ok(n),
+        Err(_) => Err(Stop::Fault(Fault::Store)),
+    }
+}
+
+/// The number in a column, which may be below 0.
+pub(crate) fn signed_at(row: &Row, place: usize) -> Result<i64, Stop>
+    ensures value { IfOk result (λ n. column row.now place ≡ Int n) }
+    ensures fault { IfErr result (λ stop. stop ≡ store_fault) }
+{
+    match row.get::<i64>(place) {
+        Ok(n) => Ok(n),
+        Err(_) => Err(Stop::Fault(Fault::Store)),
+    }
+}
+
+/// The bytes of the text in a column.
+pub(crate) fn text_at(row: &Row, place: usize) -> Result<&[u8], Stop>
+    ensures value { IfOk result (λ text. column row.now place ≡ AText text.now) }
+    ensures fault { IfErr result (λ stop. stop ≡ store_fault) }
+{
+    match row.get_ref(place) {
+        Ok(ValueRef::Text(bytes)) => Ok(bytes),
+        _ => Err(Stop::Fault(Fault::Store)),
+    }
+}

@@ -1,0 +1,61 @@
+//! The tables of a new book, committed together.
+ghost use Rattle.std.specs.Prelude.{◌≡◌, ◌≢◌, ◌↔◌, ◌⊎◌, Err, false, IsTrue, OnOk, IfErr};
+ghost use Rattle.sqlite.specs.Held.{state};
+ghost use Rattle.sqlite.specs.State.{Survives};
+ghost use Rattle.ob_tables.specs.Schema.{no_schema};
+ghost use Rattle.ob_tables.specs.Rows.{Tables};
+ghost use Rattle.ob_tables.specs.Steps.{IsStoreFault};
+ghost use Rattle.ob_commit.specs.Keeps.{Keeps};
+ghost use Rattle.ob_commit.specs.NewBook.{new_tables};
+ghost use Rattle.ob_commit.specs.Begins.{Stays, StaysOrBegins, Begins};
+
+use crate::writing::write_new;
+use ob_base::{Fault, Refusal, Stop};
+use sqlite::{Alter, Connection};
+
+/// Makes the tables of a new book in a database that holds nothing: all or none. It is refused as `BadBook` where
+/// the database holds a table, an index or a view.
+pub fn commit_new<S: Alter>(
+    conn: &mut Connection<S>,
+    first_day: &[u8],
+    days: u16,
+    zone: &[u8],
+) -> Result<(), Stop>
+    requires mode { conn.old.in_transaction ≡ false }
+    ensures mode { conn.new.in_transaction ≡ false }
+    ensures faults { IfErr result (λ stop. (stop ≡ Stop.Refused Refusal.BadBook) ⊎ IsStoreFault stop) }
+    ensures refused { (result ≡ Err (Stop.Refused Refusal.BadBook))
+        ↔ ((state S.Store conn.old).now.schema ≢ no_schema) }
+    ensures empty { result ≢ Err (Stop.Refused Refusal.BadBook)
+        → (state S.Store conn.old).now.schema ≡ no_schema }
+    ensures done { OnOk result (Keeps (state S.Store conn.new) (new_tables first_day.now days zone.now)) }
+    ensures same { IfErr result (λ stop. stop ≢ Stop.Fault Fault.Store
+        → Stays (state S.Store conn.old) (state S.Store conn.new)) }
+    ensures kept { IfErr result (λ stop. stop ≢ Stop.Fault Fault.Store
+        → (t : Tables) → Keeps (state S.Store conn.old) t → Keeps (state S.Store conn.new) t) }
+    ensures either { IfErr result (λ stop. StaysOrBegins (state S.Store conn.old) (state S.Store conn.new)
+        (new_tables first_day.now days zone.now)) }
+    // a crash leaves no more than before, but for the tables of a new book where nothing was
+    ensures survives { Survives (state S.Store conn.old) (state S.Store conn.new)
+        (Begins (state S.Store conn.old) (new_tables first_day.now days zone.now)) }
+{
+    if !is_empty(conn) {
+        return Err(Stop::Refused(Refusal::BadBook));
+    }
+    // outside a transaction what a connection shows is what was committed
+    prove!(conn.is_autocommit());
+    let mut tx = conn.transaction();
+    write_new(&mut tx, first_day, days, zone)?;
+    match tx.commit() {
+        Ok(()) => Ok(()),
+        Err(_) => Err(Stop::Fault(Fault::Store)),
+    }
+}
+
+/// Whether the database holds no table, no index and no view.
+fn is_empty<S: Alter>(conn: &Connection<S>) -> bool
+    ensures { IsTrue result ↔ ((state S.Store conn.now).now.schema ≡ no_schema) }
+{
+    let schema = conn.schema();
+    schema.tables.is_empty() && schema.indexes.is_empty() && schema.views.is_empty()
+}

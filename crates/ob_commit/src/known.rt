@@ -1,0 +1,91 @@
+//! What stands under a reference.
+ghost use Rattle.std.specs.Prelude.{◌≡◌, ◌∷◌, [], false, filter, IsPermutation, IfOk, IfErr};
+ghost use Rattle.sqlite.specs.Held.{state};
+ghost use Rattle.sqlite.specs.State.{HasCleanDisk, Survives};
+ghost use Rattle.ob_tables.specs.Steps.{IsStoreFault};
+ghost use Rattle.ob_tables.specs.Rows.{Tables, is_reference};
+ghost use Rattle.ob_tables.specs.declared.table.Table.{Table as ATable};
+ghost use Rattle.ob_commit.specs.Keeps.{Keeps};
+ghost use Rattle.ob_commit.specs.Known.{IsUnder, store_fault};
+
+use crate::columns::{number_at, text_at};
+use ob_base::{Fault, Stop};
+use ob_tables::find_commands;
+use sqlite::{Alter, Connection, Row};
+
+/// What stands under a reference.
+#[derive(Clone, Copy)]
+pub enum Known {
+    /// No command.
+    New,
+    /// The command of this number, with this body.
+    Same(u32),
+    /// The command of this number, with another body.
+    Other(u32),
+}
+
+/// What the tables hold under a reference. Nothing is written.
+pub fn look_up<S: Alter>(
+    conn: &mut Connection<S>,
+    reference: &[u8],
+    body: &[u8],
+) -> Result<Known, Stop>
+    requires mode { conn.old.in_transaction ≡ false }
+    ensures mode { conn.new.in_transaction ≡ false }
+    ensures faults { IfErr result IsStoreFault }
+    ensures survives { Survives (state S.Store conn.old) (state S.Store conn.new) (λ _. ⊥) }
+    ensures kept { (t : Tables) → Keeps (state S.Store conn.old) t → Keeps (state S.Store conn.new) t }
+    ensures found { HasCleanDisk (state S.Store conn.new)
+        → IfOk result (λ known. (t : Tables) → Keeps (state S.Store conn.old) t
+        → IsUnder (filter (is_reference reference.now) (t ATable.Command)) reference.now body.now known) }
+{
+    match known_rows(conn, reference) {
+        Ok(rows) => tell(&rows, reference, body),
+        Err(stop) => Err(stop),
+    }
+}
+
+/// The rows of the commands with a reference: one or none. Nothing is written.
+fn known_rows<S: Alter>(conn: &mut Connection<S>, reference: &[u8]) -> Result<Vec<Row>, Stop>
+    requires mode { conn.old.in_transaction ≡ false }
+    ensures mode { conn.new.in_transaction ≡ false }
+    ensures faults { IfErr result IsStoreFault }
+    ensures survives { Survives (state S.Store conn.old) (state S.Store conn.new) (λ _. ⊥) }
+    ensures kept { (t : Tables) → Keeps (state S.Store conn.old) t → Keeps (state S.Store conn.new) t }
+    ensures found { HasCleanDisk (state S.Store conn.new)
+        → IfOk result (λ rows. (t : Tables) → Keeps (state S.Store conn.old) t
+        → IsPermutation (filter (is_reference reference.now) (t ATable.Command)) rows.items) }
+{
+    let mut tx = conn.transaction();
+    find_commands(&mut tx, reference)
+}
+
+/// What the rows under a reference tell.
+fn tell(rows: &[Row], reference: &[u8], body: &[u8]) -> Result<Known, Stop>
+    ensures told { IfOk result (IsUnder rows.now reference.now body.now) }
+    ensures fault { IfErr result (λ stop. stop ≡ store_fault) }
+{
+    match rows {
+        [] => Ok(Known::New),
+        [row] => tell_row(row, reference, body),
+        _ => Err(Stop::Fault(Fault::Store)),
+    }
+}
+
+/// What the one row under a reference tells. Another row than that of a command with the reference is a fault.
+fn tell_row(row: &Row, reference: &[u8], body: &[u8]) -> Result<Known, Stop>
+    ensures told { IfOk result (IsUnder (row.now ∷ []) reference.now body.now) }
+    ensures fault { IfErr result (λ stop. stop ≡ store_fault) }
+{
+    let no = number_at(row, 0)?;
+    let its_reference = text_at(row, 1)?;
+    let its_body = text_at(row, 2)?;
+    if row.column_count() != 3 || its_reference != reference {
+        return Err(Stop::Fault(Fault::Store));
+    }
+    if its_body == body {
+        Ok(Known::Same(no))
+    } else {
+        Ok(Known::Other(no))
+    }
+}

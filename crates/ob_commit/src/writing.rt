@@ -1,0 +1,76 @@
+//! The statements that make the tables of a new book, with the rows that they begin with.
+ghost use Rattle.std.specs.List.{range_with_len};
+ghost use Rattle.ob_tables.specs.Steps.{Changes};
+ghost use Rattle.ob_tables.specs.Creation.{Creates};
+ghost use Rattle.ob_tables.specs.Rows.{Always};
+ghost use Rattle.ob_commit.specs.Amounts.{all_keys};
+ghost use Rattle.ob_commit.specs.Keeps.{ChangesOpen};
+ghost use Rattle.ob_commit.specs.NewBook.{new_tables, with_heading, with_zeros, keys_of, MakesNew};
+
+use ob_base::Stop;
+use ob_post::Dim;
+use ob_tables::{add_cause, add_meta, add_node, add_posting, create_tables};
+use sqlite::{Alter, Transaction};
+
+/// How many codes causes may have, from 0 on.
+const CAUSES: u16 = 64;
+
+/// How many numbers home feeders may have, from 1 on.
+const FEEDERS: u16 = 255;
+
+/// Makes the tables of a new book. It fails where one of them stands already.
+pub fn write_new<S: Alter>(
+    tx: &mut Transaction<'_, S>,
+    first_day: &[u8],
+    days: u16,
+    zone: &[u8],
+) -> Result<(), Stop>
+    ensures { Creates S.Store tx.old.conn tx.new.conn result
+        (MakesNew (new_tables first_day.now days zone.now)) }
+{
+    create_tables(tx)?;
+    write_heading(tx, first_day, days, zone)?;
+    write_amounts(tx, days)
+}
+
+/// Adds the rows of the period, of cause 0 and of GRID.
+fn write_heading<S: Alter>(
+    tx: &mut Transaction<'_, S>,
+    first_day: &[u8],
+    days: u16,
+    zone: &[u8],
+) -> Result<(), Stop>
+    ensures { Changes S.Store tx.old.conn tx.new.conn result Always
+        (with_heading first_day.now days zone.now) }
+{
+    add_meta(tx, first_day, u32::from(days), zone)?;
+    add_cause(tx, 0, b"UNASSIGNED")?;
+    add_node(tx, 0, b"GRID", 0, 0)
+}
+
+/// Adds the row of each amount, which is 0.
+fn write_amounts<S: Alter>(tx: &mut Transaction<'_, S>, days: u16) -> Result<(), Stop>
+    ensures { ChangesOpen S.Store tx.old.conn tx.new.conn result Always
+        (with_zeros (all_keys days)) }
+{
+    write_keys(tx, Dim::Cause, 0, CAUSES)?;
+    write_keys(tx, Dim::Feeder, 1, FEEDERS)?;
+    write_keys(tx, Dim::Day, 0, days)
+}
+
+/// Adds the row of each of so many keys of a dimension, from the first on, with the amount 0.
+fn write_keys<S: Alter>(
+    tx: &mut Transaction<'_, S>,
+    dim: Dim,
+    first: u16,
+    count: u16,
+) -> Result<(), Stop>
+    ensures { ChangesOpen S.Store tx.old.conn tx.new.conn result Always
+        (with_zeros (keys_of dim (range_with_len first count))) }
+{
+    let dim_no = u32::from(dim.number());
+    'keys: for at in 0..count {
+        add_posting(tx, dim_no, u32::from(first) + u32::from(at))?;
+    }
+    Ok(())
+}

@@ -1,4 +1,0 @@
-pub mod Knowing
-pub mod Listing
-pub mod Moving
-pub mod Same
