@@ -2,9 +2,10 @@
 
     python3 benches/import_year.py [--entries N] [--customers N] [--seed N] [--program FILE] [--folder FOLDER]
 
-It makes the year as CSV, then a book: `init`, `import`, the same import again, `table`, `export`, `audit`. Then the
-plain office (benches/plain_office.py) imports the same text, and all rows of both books' ten tables are compared. Both
-books lie in the folder, bench-data/ where none is named: a commit takes what its disk takes.
+It makes the year as CSV, then a book: `init`, `import`, the same import again, `table`, `export`, `audit`. Its rows are
+then read by Python's sqlite3 (benches/read_rows.py), which a load or an audit is compared with. Then the plain office
+(benches/plain_office.py) imports the same text, and all rows of both books' ten tables are compared. Both books lie in
+the folder, bench-data/ where none is named: a commit takes what its disk takes.
 """
 
 import argparse
@@ -87,6 +88,7 @@ def main():
     show("table", [*job, "table", "--book", book])
     show("export", [*job, "export", "--book", book, moves])
     show("audit", [*job, "audit", "--book", book])
+    show("its rows read in Python", [sys.executable, BENCHES / "read_rows.py", book])
     show("plain office, import", [sys.executable, BENCHES / "plain_office.py", text, "--book", plain])
     table = first_difference(book, plain)
     print(f"the books differ in table {table}" if table else "all rows of both books are equal")
