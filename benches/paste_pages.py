@@ -3,7 +3,7 @@
     python3 benches/paste_pages.py docs/TUTORIAL.md docs/COMMANDS.md docs/DESK.md
 
 A block is pasted where it has lines that begin with `$ `: these, with the lines of an open quote or here-document behind them, go
-to one shell for the whole page, in a folder of its own that has the repository's examples/ and the program as
+to one shell for the whole page, in a folder of its own that has the repository's examples/ and tools/, and the program as
 `outagebook`. What lies between two of them is what the first one should print, its messages among it. It ends with
 status 1 where a block prints something else. Wants a built program, `sqlite3` and, for the desk, `curl`.
 """
@@ -54,7 +54,8 @@ class Shell:
     """A shell in a new folder, with the program on its path."""
 
     def __init__(self, folder, program):
-        (folder / "examples").symlink_to(EXAMPLES)
+        for name in ["examples", "tools"]:
+            (folder / name).symlink_to(EXAMPLES.parent / name)
         (folder / "bin").mkdir()
         (folder / "bin" / "outagebook").symlink_to(Path(program).resolve())
         words = ["bash", "--norc"]

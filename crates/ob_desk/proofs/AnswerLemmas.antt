@@ -1,8 +1,7 @@
 -- One answer, from what was made of it and what was written.
-use Rattle.std.proofs.Common.{◌≡◌, ℕ, Bool, List, length, take, Option, None, Some, refl, sym, ap, subst, ◌∙◌, arith}
+use Rattle.std.proofs.Common.{◌≡◌, ℕ, Bool, List, take, Option, None, Some, refl, sym, ap, subst, ◌∙◌, inl, inr}
 use Rattle.std.specs.Prelude.{IsSome, Result, Ok, Err, IfErr, OnOk}
 use Rattle.std.specs.Io.KnownBytes.{Appends}
-use Rattle.std.proofs.lemmas.List.{take_all}
 use Rattle.sqlite_trees.specs.declared.store.Store.{Ghosts}
 use Rattle.sqlite.specs.Held.{state}
 use Rattle.sqlite.specs.State.{HasCleanDisk}
@@ -19,7 +18,7 @@ use Rattle.ob_answers.specs.Answers.{Answer, answer_text, bookless}
 use Rattle.ob_answers.specs.Answering.{Answered, IsAnswerFault, Unopened, text_bytes}
 use Rattle.ob_answers.specs.declared.reply.ReplyText.{ReplyText}
 use Rattle.ob_desk.specs.Exchanges.{AnswersAt, unavailable_text}
-use Rattle.ob_desk.specs.Serving.{IsStart}
+use Rattle.ob_desk.specs.Serving.{IsWritten}
 use Rattle.ob_desk.specs.Standing.{IsKept, LeftBy, Over, Stands, fault_of}
 use Rattle.ob_desk.specs.Turns.{HasAnswerCause, IsAnswered, IsUnanswered}
 use Rattle.ob_desk.proofs.StandLemmas.{kept-err}
@@ -38,13 +37,6 @@ unopened-err None closes fault h = (same fault h, refl)
     same : (f : Fault) → (let r : Result ReplyText Fault = Err f in r) ≡ Err Reopen → f ≡ Reopen
     same f e = cc
 unopened-err (Some a) closes fault h = absurd h
-
--- a text of which all was written, or some front
-pub all-written : (had has : Option (List ℕ)) (text : List ℕ) → Appends had has text → (front : List ℕ) × IsStart front text × Appends had has front
-all-written had has text h = (text, (length text, sym (take_all (length text) text (omega arith))), h)
-
-pub some-written : (had has : Option (List ℕ)) (text : List ℕ) → AppendsFront had has text → (front : List ℕ) × IsStart front text × Appends had has front
-some-written had has text h = (take h.count text, (h.count, refl), h.appends)
 
 module _ {S : Type 0} (g : Ghosts S) where
   -- an answer that was made stands, and less or all of it is written
@@ -66,11 +58,11 @@ module _ {S : Type 0} (g : Ghosts S) where
   answered-whole had has old new m ends text unopened kept answered written x over =
       let so = made old new m ends text unopened kept answered x over in (text_bytes text, so.0, so.1, written, so.2)
 
-  pub answered-less : (had has : Option (List ℕ)) (old new : KeeperValue S) (m : Message) (ends : Bool) (text : ReplyText)
+  pub answered-less : {W : Type 0} (writer : Watched W) (had has : Option (List ℕ)) (old new : KeeperValue S) (m : Message) (ends : Bool) (text : ReplyText)
       → (old.book ≡ None → (new ≡ old) × Unopened (bookless m) ends (Ok text)) → (IsSome old.book → IsSome new.book)
       → (HasCleanDisk (state g new.conn) → (b : ActState) → Ties g old b → IsSome old.book → Answered g new b m ends (Ok text))
-      → AppendsFront had has (text_bytes text) → IsUnanswered g had has old new m ends Output
-  answered-less had has old new m ends text unopened kept answered written x over =
+      → AppendsFront had has (text_bytes text) → IsUnanswered g writer had has old new m ends Output
+  answered-less writer had has old new m ends text unopened kept answered written x over =
       let so = made old new m ends text unopened kept answered x over in (text_bytes text, so.0, so.1, written, so.2)
 
   -- what a fault in place of an answer leaves
@@ -82,19 +74,19 @@ module _ {S : Type 0} (g : Ghosts S) where
       let so = unopened-err (bookless m) ends fault (unopened none).1 in (so.0, so.1, ap (λ k. k.book) (unopened none).0 ∙ none)
   left-by old new m ends fault unopened answered (Some b) (disk, ties, some) = answered disk b ties some
 
-  pub unanswered : (had has : Option (List ℕ)) (old new : KeeperValue S) (m : Message) (ends : Bool) (fault : Fault)
+  pub unanswered : {W : Type 0} (writer : Watched W) (had has : Option (List ℕ)) (old new : KeeperValue S) (m : Message) (ends : Bool) (fault : Fault)
       → (old.book ≡ None → (new ≡ old) × Unopened (bookless m) ends (Err fault)) → (IsSome old.book → IsAnswerFault fault)
       → (HasCleanDisk (state g new.conn) → (b : ActState) → Ties g old b → IsSome old.book → Answered g new b m ends (Err fault))
-      → (front : List ℕ) × IsStart front unavailable_text × Appends had has front → IsUnanswered g had has old new m ends fault
-  unanswered had has old new m ends OutOfMemory unopened faults answered (front, start, written) =
+      → (front : List ℕ) × IsWritten writer front unavailable_text × Appends had has front → IsUnanswered g writer had has old new m ends fault
+  unanswered writer had has old new m ends OutOfMemory unopened faults answered (front, start, written) =
       λ x over. (front, start, written, left-by old new m ends OutOfMemory unopened answered x over)
-  unanswered had has old new m ends Store unopened faults answered (front, start, written) =
+  unanswered writer had has old new m ends Store unopened faults answered (front, start, written) =
       λ x over. (front, start, written, left-by old new m ends Store unopened answered x over)
-  unanswered had has old new m ends Reopen unopened faults answered (front, start, written) =
+  unanswered writer had has old new m ends Reopen unopened faults answered (front, start, written) =
       λ x over. (front, start, written, left-by old new m ends Reopen unopened answered x over)
-  unanswered had has old new m ends Input unopened faults answered (front, start, written) =
+  unanswered writer had has old new m ends Input unopened faults answered (front, start, written) =
       λ x over. (front, start, written, left-by old new m ends Input unopened answered x over)
-  unanswered had has old new m ends Output unopened faults answered written = λ x over. absurd (none-so x over)
+  unanswered writer had has old new m ends Output unopened faults answered written = λ x over. absurd (none-so x over)
     where
       not-output : (let f : Fault = Output in f) ≡ Reopen → ⊥
       not-output e = cc
@@ -115,10 +107,10 @@ module _ {S : Type 0} (g : Ghosts S) where
   pub written-less : {A W : Type 0} (r : Result A Fault) (writer : Watched W) (had has : Option (List ℕ)) (old new : KeeperValue S) (m : Message) (ends : Bool) (text : ReplyText)
       → (old.book ≡ None → (new ≡ old) × Unopened (bookless m) ends (Ok text)) → (IsSome old.book → IsSome new.book)
       → (HasCleanDisk (state g new.conn) → (b : ActState) → Ties g old b → IsSome old.book → Answered g new b m ends (Ok text))
-      → IfErr r (λ _. AppendsFront had has (text_bytes text)) → IfErr r (λ f. (f ≡ Output) × HasJustFailed writer) → IfErr r (IsUnanswered g had has old new m ends)
+      → IfErr r (λ _. AppendsFront had has (text_bytes text)) → IfErr r (λ f. (f ≡ Output) × HasJustFailed writer) → IfErr r (IsUnanswered g writer had has old new m ends)
   written-less (Ok x) writer had has old new m ends text unopened kept answered written failed = tt
   written-less (Err f) writer had has old new m ends text unopened kept answered written failed =
-      subst (IsUnanswered g had has old new m ends) (sym failed.0) (answered-less had has old new m ends text unopened kept answered written)
+      subst (IsUnanswered g writer had has old new m ends) (sym failed.0) (answered-less writer had has old new m ends text unopened kept answered written)
 
   pub written-cause : {A W : Type 0} (r : Result A Fault) (writer : Watched W) (old : KeeperValue S) → IfErr r (λ f. (f ≡ Output) × HasJustFailed writer) → IfErr r (HasAnswerCause g writer old)
   written-cause (Ok x) writer old failed = tt
@@ -147,8 +139,8 @@ module _ {S : Type 0} (g : Ghosts S) where
       by-book None none = subst (HasAnswerCause g writer old) (sym (unopened-err (bookless m) ends fault (unopened none).1).0) none
       by-book (Some book) is = of-book fault (faults (subst (λ o. IsSome o) (sym is) refl))
 
--- a constant was written, or some first part of it
-pub any-written : {A : Type 0} (r : Result A Fault) (had has : Option (List ℕ)) (text : List ℕ) → OnOk r (Appends had has text) → IfErr r (λ _. AppendsFront had has text)
-    → (front : List ℕ) × IsStart front text × Appends had has front
-any-written (Ok x) had has text whole front = all-written had has text whole
-any-written (Err f) had has text whole front = some-written had has text front
+-- a text was written whole, or the writer failed before its end
+pub as-written : {A W : Type 0} (r : Result A Fault) (writer : Watched W) (had has : Option (List ℕ)) (text : List ℕ) → OnOk r (Appends had has text)
+    → IfErr r (λ _. AppendsFront had has text) → IfErr r (λ f. (f ≡ Output) × HasJustFailed writer) → (front : List ℕ) × IsWritten writer front text × Appends had has front
+as-written (Ok x) writer had has text whole front failed = (text, inl refl, whole)
+as-written (Err f) writer had has text whole front failed = (take front.count text, inr ((front.count, front.fewer, refl), failed.1), front.appends)

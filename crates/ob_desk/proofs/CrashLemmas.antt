@@ -128,10 +128,10 @@ module _ {S : Type 0} (g : Ghosts S) where
   route-outlasts new b method route body closes Input h = absurd h
   route-outlasts new b method route body closes Output h = absurd h
 
-  answer-outlasts : (allowed : ℕ) (rest : Option (List ℕ)) (part : List ℕ) (new : KeeperValue S) (x : Option ActState) (fault : Fault)
-      → BreaksAnswer g allowed rest part new x fault → Outlasts g new x
-  answer-outlasts allowed rest part new None fault h = tt
-  answer-outlasts allowed rest part new (Some b) fault h = route-outlasts new b h.message.method (route_of (path_of h.message.target)) h.message.body (ends allowed h.message) fault h.leaves
+  answer-outlasts : {W : Type 0} (writer : Watched W) (allowed : ℕ) (rest : Option (List ℕ)) (part : List ℕ) (new : KeeperValue S) (x : Option ActState) (fault : Fault)
+      → BreaksAnswer g writer allowed rest part new x fault → Outlasts g new x
+  answer-outlasts writer allowed rest part new None fault h = tt
+  answer-outlasts writer allowed rest part new (Some b) fault h = route-outlasts new b h.message.method (route_of (path_of h.message.target)) h.message.body (ends allowed h.message) fault h.leaves
 
   -- a reply could not be written whole: its commands have acted
   reply-acts : (allowed : ℕ) (rest : Option (List ℕ)) (part : List ℕ) (new : KeeperValue S) (b : ActState) → BreaksReply g allowed rest part new (Some b)
@@ -146,15 +146,16 @@ module _ {S : Type 0} (g : Ghosts S) where
   reply-outlasts allowed rest part new None h = tt
   reply-outlasts allowed rest part new (Some b) h = let so = reply-acts allowed rest part new b h in tied new b (acts b so.0) so.0 so.1 refl
 
-  pub breaks-outlast : (allowed : ℕ) (rest : Option (List ℕ)) (part : List ℕ) (new : KeeperValue S) (x : Option ActState) (fault : Fault) → Breaks g allowed rest part new x fault → Outlasts g new x
-  breaks-outlast allowed rest part new x OutOfMemory h = elim h [
+  pub breaks-outlast : {R W : Type 0} (reader : Watched R) (writer : Watched W) (allowed : ℕ) (rest left : Option (List ℕ)) (part : List ℕ) (new : KeeperValue S) (x : Option ActState) (fault : Fault)
+      → Breaks g reader writer allowed rest left part new x fault → Outlasts g new x
+  breaks-outlast reader writer allowed rest left part new x OutOfMemory h = elim h [
     | inl reading ↦ stands-outlasts new x reading.1
-    | inr answer ↦ answer-outlasts allowed rest part new x OutOfMemory answer
+    | inr answer ↦ answer-outlasts writer allowed rest part new x OutOfMemory answer
   ]
-  breaks-outlast allowed rest part new x Store h = answer-outlasts allowed rest part new x Store h
-  breaks-outlast allowed rest part new x Reopen h = answer-outlasts allowed rest part new x Reopen h
-  breaks-outlast allowed rest part new x Input h = stands-outlasts new x h.1
-  breaks-outlast allowed rest part new x Output h = elim h [
+  breaks-outlast reader writer allowed rest left part new x Store h = answer-outlasts writer allowed rest part new x Store h
+  breaks-outlast reader writer allowed rest left part new x Reopen h = answer-outlasts writer allowed rest part new x Reopen h
+  breaks-outlast reader writer allowed rest left part new x Input h = stands-outlasts new x h.1
+  breaks-outlast reader writer allowed rest left part new x Output h = elim h [
     | inl interim ↦ stands-outlasts new x interim.1
     | inr other ↦ elim other [
       | inl (refusal, refused, front, stands) ↦ stands-outlasts new x stands
@@ -172,16 +173,16 @@ module _ {S : Type 0} (g : Ghosts S) where
   answer-left new b method route body closes Input h = absurd h
   answer-left new b method route body closes Output h = absurd h
 
-  breaks-left : (allowed : ℕ) (rest : Option (List ℕ)) (part : List ℕ) (new : KeeperValue S) (b : ActState) (fault : Fault)
-      → Breaks g allowed rest part new (Some b) fault → IsLeft g new b (Some fault)
-  breaks-left allowed rest part new b OutOfMemory h = elim h [
+  breaks-left : {R W : Type 0} (reader : Watched R) (writer : Watched W) (allowed : ℕ) (rest left : Option (List ℕ)) (part : List ℕ) (new : KeeperValue S) (b : ActState) (fault : Fault)
+      → Breaks g reader writer allowed rest left part new (Some b) fault → IsLeft g new b (Some fault)
+  breaks-left reader writer allowed rest left part new b OutOfMemory h = elim h [
     | inl reading ↦ ([], reading.1.0)
     | inr answer ↦ answer-left new b answer.message.method (route_of (path_of answer.message.target)) answer.message.body (ends allowed answer.message) OutOfMemory answer.leaves
   ]
-  breaks-left allowed rest part new b Store h = answer-left new b h.message.method (route_of (path_of h.message.target)) h.message.body (ends allowed h.message) Store h.leaves
-  breaks-left allowed rest part new b Reopen h = answer-left new b h.message.method (route_of (path_of h.message.target)) h.message.body (ends allowed h.message) Reopen h.leaves
-  breaks-left allowed rest part new b Input h = ([], h.1.0)
-  breaks-left allowed rest part new b Output h = elim h [
+  breaks-left reader writer allowed rest left part new b Store h = answer-left new b h.message.method (route_of (path_of h.message.target)) h.message.body (ends allowed h.message) Store h.leaves
+  breaks-left reader writer allowed rest left part new b Reopen h = answer-left new b h.message.method (route_of (path_of h.message.target)) h.message.body (ends allowed h.message) Reopen h.leaves
+  breaks-left reader writer allowed rest left part new b Input h = ([], h.1.0)
+  breaks-left reader writer allowed rest left part new b Output h = elim h [
     | inl interim ↦ ([], interim.1.0)
     | inr other ↦ elim other [
       | inl (refusal, refused, front, stands) ↦ ([], stands.0)
@@ -201,9 +202,9 @@ module _ {S : Type 0} (g : Ghosts S) where
   serves-left stream had has old new replies b run over =
       let so = run.answered (Some b) over in (so.5.0, (subst (Stands g new) so.5.1 so.4).0)
 
-  pub fails-left : {R W : Type 0} (stream had has : Option (List ℕ)) (reader : Watched R) (writer : Watched W) (old new : KeeperValue S) (fault : Fault) (b : ActState)
-      → Fails g stream had has reader writer old new fault → Over g old new (Some b) → IsLeft g new b (Some fault)
-  fails-left stream had has reader writer old new fault b run over =
+  pub fails-left : {R W : Type 0} (stream left had has : Option (List ℕ)) (reader : Watched R) (writer : Watched W) (old new : KeeperValue S) (fault : Fault) (b : ActState)
+      → Fails g stream left had has reader writer old new fault → Over g old new (Some b) → IsLeft g new b (Some fault)
+  fails-left stream left had has reader writer old new fault b run over =
       let so = run.answered (Some b) over in
       left-then new b so.6.0 (Some fault)
-      (breaks-left (1000 - length run.requests) run.rest so.1 new (acts b so.6.0) fault (subst (λ y. Breaks g (1000 - length run.requests) run.rest so.1 new y fault) so.6.1 so.5))
+      (breaks-left reader writer (1000 - length run.requests) run.rest left so.1 new (acts b so.6.0) fault (subst (λ y. Breaks g reader writer (1000 - length run.requests) run.rest left so.1 new y fault) so.6.1 so.5))

@@ -22,10 +22,10 @@ not-true : true ≡ false → ⊥
 not-true e = cc
 
 module _ {S : Type 0} (g : Ghosts S) where
-  pub result-left : {R W : Type 0} (r : Result Served Fault) (stream had has : Option (List ℕ)) (reader : Watched R) (writer : Watched W) (old new : KeeperValue S) (b : ActState)
-      → IfOk r (λ served. Serves g stream had has old new served.requests) → IfErr r (Fails g stream had has reader writer old new) → Over g old new (Some b) → IsLeft g new b (fault_of r)
-  result-left (Ok served) stream had has reader writer old new b serves fails over = serves-left g stream had has old new served.requests b serves over
-  result-left (Err fault) stream had has reader writer old new b serves fails over = fails-left g stream had has reader writer old new fault b fails over
+  pub result-left : {R W : Type 0} (r : Result Served Fault) (stream left had has : Option (List ℕ)) (reader : Watched R) (writer : Watched W) (old new : KeeperValue S) (b : ActState)
+      → IfOk r (λ served. Serves g stream had has old new served.requests) → IfErr r (Fails g stream left had has reader writer old new) → Over g old new (Some b) → IsLeft g new b (fault_of r)
+  result-left (Ok served) stream left had has reader writer old new b serves fails over = serves-left g stream had has old new served.requests b serves over
+  result-left (Err fault) stream left had has reader writer old new b serves fails over = fails-left g stream left had has reader writer old new fault b fails over
 
   -- the book goes on after a fault that doesn't end the desk
   pub kept-on : (old new : KeeperValue S) (fault : Fault) → ends_desk fault ≡ false → IsKept g old new (Some fault) → IsKept g old new None

@@ -148,8 +148,8 @@ module _ {S : Type 0} (g : Ghosts S) where
   cause-before rest reader writer old at Output kept h = h
 
   -- memory was refused before the first request
-  pub fails-first : {R W : Type 0} (stream had : Option (List ℕ)) (reader : Watched R) (writer : Watched W) (k : KeeperValue S) → Fails g stream had had reader writer k k OutOfMemory
-  fails-first stream had reader writer k = record {
+  pub fails-first : {R W : Type 0} (stream left had : Option (List ℕ)) (reader : Watched R) (writer : Watched W) (k : KeeperValue S) → Fails g stream left had had reader writer k k OutOfMemory
+  fails-first stream left had reader writer k = record {
     requests = [];
     rest = stream;
     read = known-none stream;
@@ -164,7 +164,7 @@ module _ {S : Type 0} (g : Ghosts S) where
           Appends-nothing had had (Keeps-same had),
           inl (inl refl, stands),
           replies-act 1000 x x [] [] (refl, refl),
-          breaks-outlast g 1000 stream [] k x OutOfMemory (inl (inl refl, stands)),
+          breaks-outlast g reader writer 1000 stream left [] k x OutOfMemory (inl (inl refl, stands)),
         );
   }
     where
@@ -173,11 +173,11 @@ module _ {S : Type 0} (g : Ghosts S) where
       known-none (Some bytes) = refl
 
   -- a fault ends the stream
-  pub run-fails : {R W : Type 0} (stream now had mid has : Option (List ℕ)) (reader : Watched R) (writer : Watched W) (old at new : KeeperValue S) (allowed : ℕ) (fault : Fault)
+  pub run-fails : {R W : Type 0} (stream now left had mid has : Option (List ℕ)) (reader : Watched R) (writer : Watched W) (old at new : KeeperValue S) (allowed : ℕ) (fault : Fault)
       → (HasCleanDisk (state g new.conn) → HasCleanDisk (state g at.conn)) → IsKept g old at None
-      → SoFar stream now had mid old at allowed → TurnFails g allowed now mid has reader writer at new fault
-      → Fails g stream had has reader writer old new fault
-  run-fails stream now had mid has reader writer old at new allowed fault clean kept run turn = record {
+      → SoFar stream now had mid old at allowed → TurnFails g allowed now left mid has reader writer at new fault
+      → Fails g stream left had has reader writer old new fault
+  run-fails stream now left had mid has reader writer old at new allowed fault clean kept run turn = record {
     requests = run.requests;
     rest = now;
     read = run.read;
@@ -191,8 +191,8 @@ module _ {S : Type 0} (g : Ghosts S) where
           so.1,
           so.2,
           Appends-then had mid has so.0 broken.0 so.3 broken.1,
-          subst (λ n. Breaks g n now broken.0 new so.1 fault) (sym (same-allowed allowed run.requests run.count)) broken.2,
+          subst (λ n. Breaks g reader writer n now left broken.0 new so.1 fault) (sym (same-allowed allowed run.requests run.count)) broken.2,
           replies-act 1000 x so.1 run.requests so.0 so.2,
-          breaks-outlast g allowed now broken.0 new so.1 fault broken.2,
+          breaks-outlast g reader writer allowed now left broken.0 new so.1 fault broken.2,
         );
   }

@@ -12,13 +12,13 @@ use Rattle.ob_store.specs.Keeping.{KeeperValue}
 use Rattle.ob_requests.specs.Continue.{interim_text}
 use Rattle.ob_requests.specs.Head.{IsCutHead}
 use Rattle.ob_requests.specs.Message.{Message, IsCut, IsCutBody, IsRefused, ReadsKnown}
-use Rattle.ob_requests.specs.Reading.{AfterHead, Reads, Stops, WritesInterim}
+use Rattle.ob_requests.specs.Reading.{Reads, Stops, WritesInTime, WritesInterim}
 use Rattle.ob_requests.specs.Stream.{ends}
 use Rattle.ob_requests.specs.declared.framing.Framing.{Framing}
 use Rattle.ob_requests.specs.declared.framing.HeadRefusal.{HeadRefusal}
 use Rattle.ob_requests.specs.declared.request.Next.TheVariants as nexts
 use Rattle.ob_desk.specs.Exchanges.{AnswersAt, refusal_text, unavailable_text}
-use Rattle.ob_desk.specs.Serving.{BreaksAnswer, BreaksReading, IsStart}
+use Rattle.ob_desk.specs.Serving.{BreaksAnswer, IsWritten, WritesHead, WritesSoFar}
 use Rattle.ob_desk.specs.Standing.{LeftBy, Over, Stands}
 use Rattle.ob_desk.specs.Turns.{HasAnswerCause, IsAnswered, IsUnanswered, TurnFails, TurnIs}
 use Rattle.ob_desk.specs.declared.turn.Turn.TheVariants as turns
@@ -29,60 +29,60 @@ IfSome-map : (o : Option (List ℕ)) (P Q : List ℕ → Type 0) → ((bytes : L
 IfSome-map None P Q f h = tt
 IfSome-map (Some x) P Q f h = f x h
 
--- bytes that end inside a body begin with its head
-cut-head : (unread : Option (List ℕ)) (framing : Framing) (P : Framing → Type 0) → IfSome unread (λ bytes. IsCutBody bytes framing) → P framing → AfterHead unread P
-cut-head None framing P cut p = (framing, [], None, tt, p)
-cut-head (Some bytes) framing P cut p = (framing, cut.target, Some cut.after, cut.starts, p)
+writes-head : (unread had has : Option (List ℕ)) → WritesInterim unread had has → (part : List ℕ) × Appends had has part × WritesHead unread part
+writes-head unread had has written = elim written [
+  | inl kept ↦ ([], Appends-nothing had has kept, inl refl)
+  | inr (framing, target, left, starts, interim) ↦ (interim_text framing.waits, interim, inr (framing, target, left, starts, refl))
+]
+
+writes-so-far : (unread left had has : Option (List ℕ)) → WritesInTime unread left had has → (part : List ℕ) × Appends had has part × WritesSoFar unread left part
+writes-so-far unread left had has written = elim written [
+  | inl (stops, kept) ↦ ([], Appends-nothing had has kept, inl (stops, refl))
+  | inr (framing, target, after, starts, interim) ↦ (interim_text framing.waits, interim, inr (framing, target, after, starts, refl))
+]
 
 module _ {S : Type 0} (g : Ghosts S) where
-  breaks-reading : (unread had has : Option (List ℕ)) (k : KeeperValue S) (x : Option ActState) → WritesInterim unread had has → Stands g k x
-      → (part : List ℕ) × Appends had has part × BreaksReading g unread part k x
-  breaks-reading unread had has k x written stands = elim written [
-    | inl kept ↦ ([], Appends-nothing had has kept, (inl refl, stands))
-    | inr (framing, target, left, starts, interim) ↦ (interim_text framing.waits, interim, (inr (framing, target, left, starts, refl), stands))
-  ]
-
   -- nothing more is read
-  pub turn-stops : {R W : Type 0} (allowed : ℕ) (unread had has : Option (List ℕ)) (reader : Watched R) (writer : Watched W) (k : KeeperValue S) (fault : Fault)
-      → Stops unread had has reader writer fault → TurnFails g allowed unread had has reader writer k k fault
-  turn-stops allowed unread had has reader writer k OutOfMemory stops = record {
+  pub turn-stops : {R W : Type 0} (allowed : ℕ) (unread left had has : Option (List ℕ)) (reader : Watched R) (writer : Watched W) (k : KeeperValue S) (fault : Fault)
+      → Stops unread left had has reader writer fault → TurnFails g allowed unread left had has reader writer k k fault
+  turn-stops allowed unread left had has reader writer k OutOfMemory stops = record {
     cause = tt;
-    broken = λ x over. let so = breaks-reading unread had has k x stops (over-stands g k k x over) in (so.0, so.1, inl so.2);
+    broken = λ x over. let so = writes-head unread had has stops in (so.0, so.1, inl (so.2, over-stands g k k x over));
   }
-  turn-stops allowed unread had has reader writer k Store stops = absurd stops
-  turn-stops allowed unread had has reader writer k Reopen stops = absurd stops
-  turn-stops allowed unread had has reader writer k Input (failed, stops) = record {
+  turn-stops allowed unread left had has reader writer k Store stops = absurd stops
+  turn-stops allowed unread left had has reader writer k Reopen stops = absurd stops
+  turn-stops allowed unread left had has reader writer k Input (failed, stops) = record {
     cause = inl failed;
-    broken = λ x over. breaks-reading unread had has k x stops (over-stands g k k x over);
+    broken = λ x over. let so = writes-so-far unread left had has stops in (so.0, so.1, (inl (failed, so.2), over-stands g k k x over));
   }
-  turn-stops allowed unread had has reader writer k Output (failed, (framing, target, left, starts, front)) = record {
+  turn-stops allowed unread left had has reader writer k Output (failed, (framing, target, after, starts, front)) = record {
     cause = failed;
     broken = λ x over. (
       take front.count (interim_text framing.waits),
       front.appends,
-      inl ((framing, target, left, starts, (front.count, front.fewer, refl)), over-stands g k k x over),
+      inl ((framing, target, after, starts, (front.count, front.fewer, refl)), over-stands g k k x over),
     );
   }
 
   -- the stream ends inside a request
-  pub turn-cut : {R W : Type 0} (allowed : ℕ) (unread left had has : Option (List ℕ)) (reader : Watched R) (writer : Watched W) (k : KeeperValue S)
-      → Reads unread left had has nexts.Cut → TurnFails g allowed unread had has reader writer k k Input
-  turn-cut allowed unread left had has reader writer k reads = elim reads [
+  pub turn-cut : {R W : Type 0} (allowed : ℕ) (unread after left had has : Option (List ℕ)) (reader : Watched R) (writer : Watched W) (k : KeeperValue S)
+      → Reads unread after had has nexts.Cut → TurnFails g allowed unread left had has reader writer k k Input
+  turn-cut allowed unread after left had has reader writer k reads = elim reads [
     | inl (cut, kept) ↦ record {
       cause = inr (IfSome-map unread IsCutHead IsCut (λ bytes h. inl h) cut);
-      broken = λ x over. breaks-reading unread had has k x (inl kept) (over-stands g k k x over);
+      broken = λ x over. ([], Appends-nothing had has kept, (inr (inl (cut, refl)), over-stands g k k x over));
     }
     | inr (framing, cut, interim) ↦ record {
       cause = inr (IfSome-map unread (λ bytes. IsCutBody bytes framing) IsCut (λ bytes h. inr (framing, h)) cut);
-      broken = λ x over. breaks-reading unread had has k x (inr (cut-head unread framing _ cut interim)) (over-stands g k k x over);
+      broken = λ x over. (interim_text framing.waits, interim, (inr (inr (framing, cut, refl)), over-stands g k k x over));
     }
   ]
 
   -- bytes are refused, and that can't be written whole
-  pub turn-unrefused : {R W : Type 0} (allowed : ℕ) (unread had mid has : Option (List ℕ)) (reader : Watched R) (writer : Watched W) (k : KeeperValue S) (refusal : HeadRefusal)
+  pub turn-unrefused : {R W : Type 0} (allowed : ℕ) (unread left had mid has : Option (List ℕ)) (reader : Watched R) (writer : Watched W) (k : KeeperValue S) (refusal : HeadRefusal)
       → IfSome unread (λ bytes. IsRefused bytes refusal) → Keeps had mid → AppendsFront mid has (refusal_text refusal) → HasJustFailed writer
-      → TurnFails g allowed unread had has reader writer k k Output
-  turn-unrefused allowed unread had mid has reader writer k refusal refused kept front failed = record {
+      → TurnFails g allowed unread left had has reader writer k k Output
+  turn-unrefused allowed unread left had mid has reader writer k refusal refused kept front failed = record {
     cause = failed;
     broken = λ x over. (
       take front.count (refusal_text refusal),
@@ -110,30 +110,30 @@ module _ {S : Type 0} (g : Ghosts S) where
   }
 
   -- one isn't
-  pub turn-unanswered : {R W : Type 0} (allowed : ℕ) (unread left had mid has : Option (List ℕ)) (reader : Watched R) (writer : Watched W) (old new : KeeperValue S) (m : Message) (ended : Bool) (fault : Fault)
-      → ReadsKnown unread m left → Appends had mid (interim_text m.waits) → ended ≡ ends allowed m
-      → IsUnanswered g mid has old new m ended fault → HasAnswerCause g writer old fault
-      → TurnFails g allowed unread had has reader writer old new fault
-  turn-unanswered allowed unread left had mid has reader writer old new m ended fault read interim last unanswered cause = by-fault fault unanswered cause
+  pub turn-unanswered : {R W : Type 0} (allowed : ℕ) (unread after left had mid has : Option (List ℕ)) (reader : Watched R) (writer : Watched W) (old new : KeeperValue S) (m : Message) (ended : Bool) (fault : Fault)
+      → ReadsKnown unread m after → Appends had mid (interim_text m.waits) → ended ≡ ends allowed m
+      → IsUnanswered g writer mid has old new m ended fault → HasAnswerCause g writer old fault
+      → TurnFails g allowed unread left had has reader writer old new fault
+  turn-unanswered allowed unread after left had mid has reader writer old new m ended fault read interim last unanswered cause = by-fault fault unanswered cause
     where
-      no-answer : (f : Fault) → ((x : Option ActState) → Over g old new x → (front : List ℕ) × IsStart front unavailable_text × Appends mid has front × LeftBy g new x m ended f)
-          → (x : Option ActState) → Over g old new x → (part : List ℕ) × Appends had has part × BreaksAnswer g allowed unread part new x f
+      no-answer : (f : Fault) → ((x : Option ActState) → Over g old new x → (front : List ℕ) × IsWritten writer front unavailable_text × Appends mid has front × LeftBy g new x m ended f)
+          → (x : Option ActState) → Over g old new x → (part : List ℕ) × Appends had has part × BreaksAnswer g writer allowed unread part new x f
       no-answer f broken x over = let so = broken x over in (
         interim_text m.waits ++ so.0,
         Appends-then had mid has (interim_text m.waits) so.0 interim so.2,
         record {
           message = m;
-          left = left;
+          left = after;
           read = read;
           front = so.0;
-          start = so.1;
+          unavailable = so.1;
           written = refl;
           leaves = subst (λ e. LeftBy g new x m e f) last so.3;
         },
       )
 
-      by-fault : (f : Fault) → IsUnanswered g mid has old new m ended f → HasAnswerCause g writer old f
-          → TurnFails g allowed unread had has reader writer old new f
+      by-fault : (f : Fault) → IsUnanswered g writer mid has old new m ended f → HasAnswerCause g writer old f
+          → TurnFails g allowed unread left had has reader writer old new f
       by-fault OutOfMemory broken c = record { cause = tt; broken = λ x over. let so = no-answer OutOfMemory broken x over in (so.0, so.1, inr so.2) }
       by-fault Store broken c = record { cause = tt; broken = no-answer Store broken }
       by-fault Reopen broken c = record { cause = c; broken = no-answer Reopen broken }
@@ -145,7 +145,7 @@ module _ {S : Type 0} (g : Ghosts S) where
           Appends-then had mid has (interim_text m.waits) _ interim so.3.appends,
           inr (inr (record {
             message = m;
-            left = left;
+            left = after;
             read = read;
             reply = so.0;
             next = so.1;

@@ -14,7 +14,7 @@ use Rattle.ob_requests.specs.Message.{Message, IsRefused, ReadsKnown}
 use Rattle.ob_requests.specs.Stream.{ends}
 use Rattle.ob_requests.specs.declared.framing.HeadRefusal.{HeadRefusal}
 use Rattle.ob_desk.specs.Exchanges.{AnswersAt, refusal_text, unavailable_text}
-use Rattle.ob_desk.specs.Serving.{Breaks, HasCause, IsStart}
+use Rattle.ob_desk.specs.Serving.{Breaks, HasCause, IsWritten}
 use Rattle.ob_desk.specs.Standing.{Over, Stands, LeftBy}
 use Rattle.ob_desk.specs.declared.turn.Turn.{Turn}
 use Rattle.ob_desk.specs.declared.turn.Turn.TheVariants as turns
@@ -45,11 +45,12 @@ module _ {S : Type 0} (g : Ghosts S) where
       (x : Option ActState) → Over g old new x → (reply : List ℕ) × (y : Option ActState) × AnswersAt x m ends reply y × Appends had has reply × Stands g new y
 
   -- its reply could not be written whole, or it could not be answered
-  abbrev pub IsUnanswered : Option (List ℕ) → Option (List ℕ) → KeeperValue S → KeeperValue S → Message → Bool → Fault → Type 0
-  IsUnanswered had has old new m ends Output =
+  abbrev pub IsUnanswered : {W : Type 0} → Watched W → Option (List ℕ) → Option (List ℕ) → KeeperValue S → KeeperValue S → Message → Bool → Fault → Type 0
+  IsUnanswered writer had has old new m ends Output =
       (x : Option ActState) → Over g old new x → (reply : List ℕ) × (y : Option ActState) × AnswersAt x m ends reply y × AppendsFront had has reply × Stands g new y
-  IsUnanswered had has old new m ends fault =
-      (x : Option ActState) → Over g old new x → (front : List ℕ) × IsStart front unavailable_text × Appends had has front × LeftBy g new x m ends fault
+  IsUnanswered writer had has old new m ends fault =
+      (x : Option ActState) → Over g old new x
+      → (front : List ℕ) × IsWritten writer front unavailable_text × Appends had has front × LeftBy g new x m ends fault
 
   -- why it could not
   abbrev pub HasAnswerCause : {W : Type 0} → Watched W → KeeperValue S → Fault → Type 0
@@ -59,7 +60,7 @@ module _ {S : Type 0} (g : Ghosts S) where
   HasAnswerCause writer old Input = ⊥
   HasAnswerCause writer old Output = HasJustFailed writer
 
-  -- a fault ended a turn
-  pub record TurnFails {R W : Type 0} (allowed : ℕ) (unread had has : Option (List ℕ)) (reader : Watched R) (writer : Watched W) (old new : KeeperValue S) (fault : Fault) : Type 0 where
+  -- a fault ended a turn; left are the bytes that the reader has still to give
+  pub record TurnFails {R W : Type 0} (allowed : ℕ) (unread left had has : Option (List ℕ)) (reader : Watched R) (writer : Watched W) (old new : KeeperValue S) (fault : Fault) : Type 0 where
     pub cause : HasCause g unread reader writer old fault
-    pub broken : (x : Option ActState) → Over g old new x → (part : List ℕ) × Appends had has part × Breaks g allowed unread part new x fault
+    pub broken : (x : Option ActState) → Over g old new x → (part : List ℕ) × Appends had has part × Breaks g reader writer allowed unread left part new x fault

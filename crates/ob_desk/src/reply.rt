@@ -43,7 +43,7 @@ pub(crate) fn reply_to<W: Write, S: Alter, T: Timeline>(
 ) -> Result<(), Fault>
     ensures answered { OnOk result (IsAnswered S.Store (watched_bytes W.contents writer.old) (watched_bytes W.contents writer.new)
         keeper.old keeper.new (message_of request.now) ends) }
-    ensures unanswered { IfErr result (IsUnanswered S.Store (watched_bytes W.contents writer.old) (watched_bytes W.contents writer.new)
+    ensures unanswered { IfErr result (IsUnanswered S.Store writer.new (watched_bytes W.contents writer.old) (watched_bytes W.contents writer.new)
         keeper.old keeper.new (message_of request.now) ends) }
     ensures cause { IfErr result (HasAnswerCause S.Store writer.new keeper.old) }
     ensures kept { IsKept S.Store keeper.old keeper.new (fault_of result) }

@@ -38,7 +38,7 @@ pub struct Served {
 /// `Fault::Input` where the reader fails or the stream ends inside a request, `Fault::Output` where the writer fails:
 /// the requests before it are answered, and of the one in work a part of its reply may be written.
 /// `Fault::OutOfMemory`, `Fault::Store`, and `Fault::Reopen` where a request needs the book and there is none: where
-/// that came in place of an answer, 503 is written as far as it can be. A command, or the rows of an import, may then
+/// that came in place of an answer, 503 is written, whole unless the writer fails. A command, or the rows of an import, may then
 /// stand without a reply.
 pub fn serve_stream<R: Read, W: Write, S: Alter, T: Timeline>(
     alloc: Global,
@@ -48,7 +48,7 @@ pub fn serve_stream<R: Read, W: Write, S: Alter, T: Timeline>(
 ) -> Result<Served, Fault>
     ensures serves { IfOk result (λ served. Serves S.Store (watched_bytes R.remaining reader.old)
         (watched_bytes W.contents writer.old) (watched_bytes W.contents writer.new) keeper.old keeper.new served.requests) }
-    ensures fails { IfErr result (Fails S.Store (watched_bytes R.remaining reader.old)
+    ensures fails { IfErr result (Fails S.Store (watched_bytes R.remaining reader.old) (watched_bytes R.remaining reader.new)
         (watched_bytes W.contents writer.old) (watched_bytes W.contents writer.new) reader.new writer.new keeper.old keeper.new) }
     ensures clean { HasCleanDisk (state S.Store keeper.new.conn) → HasCleanDisk (state S.Store keeper.old.conn) }
     ensures unopened { keeper.old.book ≡ None → keeper.new ≡ keeper.old }
@@ -73,7 +73,7 @@ fn serve_requests<R: Read, W: Write, S: Alter, T: Timeline>(
     requires { ahead.old ≡ [] }
     ensures serves { IfOk result (λ served. Serves S.Store (watched_bytes R.remaining reader.old)
         (watched_bytes W.contents writer.old) (watched_bytes W.contents writer.new) keeper.old keeper.new served.requests) }
-    ensures fails { IfErr result (Fails S.Store (watched_bytes R.remaining reader.old)
+    ensures fails { IfErr result (Fails S.Store (watched_bytes R.remaining reader.old) (watched_bytes R.remaining reader.new)
         (watched_bytes W.contents writer.old) (watched_bytes W.contents writer.new) reader.new writer.new keeper.old keeper.new) }
     ensures kept { IsKept S.Store keeper.old keeper.new (fault_of result) }
 {

@@ -52,7 +52,8 @@ pub(crate) fn serve_turn<R: Read, W: Write, S: Alter, T: Timeline>(
     ensures turn { IfOk result (TurnIs S.Store allowed
         (unread ahead.old (watched_bytes R.remaining reader.old)) (unread ahead.new (watched_bytes R.remaining reader.new))
         (watched_bytes W.contents writer.old) (watched_bytes W.contents writer.new) keeper.old keeper.new) }
-    ensures fails { IfErr result (TurnFails S.Store allowed (unread ahead.old (watched_bytes R.remaining reader.old))
+    ensures fails { IfErr result (TurnFails S.Store allowed
+        (unread ahead.old (watched_bytes R.remaining reader.old)) (watched_bytes R.remaining reader.new)
         (watched_bytes W.contents writer.old) (watched_bytes W.contents writer.new) reader.new writer.new keeper.old keeper.new) }
     ensures kept { IsKept S.Store keeper.old keeper.new (fault_of result) }
 {

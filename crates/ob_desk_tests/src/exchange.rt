@@ -8,7 +8,7 @@ use std::alloc::{AllocError, Global};
 use std::io::ErrorKind;
 use std::process::Abort;
 
-// The exchange in pieces of so many bytes, by a reader and a writer that are interrupted before each piece or never.
+// The exchange in pieces of so many bytes; or byte by byte, and the reader and the writer are interrupted before each.
 #[derive(Drop)]
 struct Exchange {
     step: usize,
@@ -23,9 +23,12 @@ impl Trial for Exchange {
         desk: &mut D,
     ) -> Result<(), AllocError> {
         let mut source = Source::new(STORM, self.step, None);
-        source.jolts = self.jolts;
         let mut sink = Sink::wide(alloc);
-        sink.jolts = self.jolts;
+        if self.jolts {
+            source.jolts = 1;
+            sink.step = 1;
+            sink.jolts = 1;
+        }
         assert!(rt; desk.hears(alloc, source, sink).is(Ok(1), FIRST));
         assert!(rt; desk.commands() == Some(1));
         Ok(())

@@ -21,6 +21,8 @@ mod loopback;
 #[cfg(test)]
 mod memory;
 #[cfg(test)]
+mod retries;
+#[cfg(test)]
 mod script;
 #[cfg(test)]
 mod streams;

@@ -16,6 +16,13 @@ const LAST_REPLY: &'static [u8] = b"\
 HTTP/1.1 200 OK\r\nContent-Type: application/json\r\nContent-Length: 19\r\nConnection: close\r\n\r\n\
 {\"moved\":[],\"no\":1}";
 
+const TOTALS: &'static [u8] =
+    b"GET /totals HTTP/1.1\r\nHost: localhost\r\nConnection: close\r\n\r\n";
+
+const EMPTY_TOTALS: &'static [u8] = b"\
+HTTP/1.1 200 OK\r\nContent-Type: application/json\r\nContent-Length: 43\r\nConnection: close\r\n\r\n\
+{\"cause\":[],\"day\":[],\"feeder\":[],\"total\":0}";
+
 const CUT: &'static [u8] = b"POST /commands HTTP/1.1\r\nHost: a\r\nContent-Length: 49\r\n\r\n{";
 
 // A client that has written a text.
@@ -60,6 +67,57 @@ fn is_behind_a_cut<D: Desk>(
     Ok(is_replied(host, desk, listener, 2, &mut log)? && log.is(1, Some(Fault::Input)))
 }
 
+// A client that asks for the totals, and for no more.
+fn asks(host: &HostRuntime, listener: &TcpListener) -> io::Result<TcpStream> {
+    client(host, listener, TOTALS)
+}
+
+// Whether a client reads the totals of the empty book, and then the end.
+fn is_told(alloc: Global, client: &mut TcpStream) -> io::Result<bool> {
+    let mut reply = Vec::new(alloc);
+    client.read_to_end(&mut reply)?;
+    Ok(reply.as_slice() == EMPTY_TOTALS)
+}
+
+// Of three clients the first two are served, and the stream of the third is still there to be taken.
+fn are_two_of_three<D: Desk>(
+    host: &HostRuntime,
+    desk: &mut D,
+    listener: &TcpListener,
+) -> io::Result<bool> {
+    let mut log = Log::new();
+    let mut first = asks(host, listener)?;
+    let mut second = asks(host, listener)?;
+    let _third = asks(host, listener)?;
+    let served = desk.serves(host.alloc(), listener, 2, &mut log);
+    listener.set_nonblocking(true)?;
+    Ok(
+        served == Ok(())
+            && log.is(0, None)
+            && is_told(host.alloc(), &mut first)?
+            && is_told(host.alloc(), &mut second)?
+            && listener.accept().is_ok(),
+    )
+}
+
+// Without a number all clients are served, until no stream can be taken any more.
+fn are_all<D: Desk>(host: &HostRuntime, desk: &mut D, listener: &TcpListener) -> io::Result<bool> {
+    let mut log = Log::new();
+    let mut first = asks(host, listener)?;
+    let mut second = asks(host, listener)?;
+    let mut third = asks(host, listener)?;
+    // Where no client waits, the next stream can't be taken.
+    listener.set_nonblocking(true)?;
+    let served = desk.serves(host.alloc(), listener, 0, &mut log);
+    Ok(
+        served == Err(Fault::Input)
+            && log.is(0, None)
+            && is_told(host.alloc(), &mut first)?
+            && is_told(host.alloc(), &mut second)?
+            && is_told(host.alloc(), &mut third)?,
+    )
+}
+
 // Without a book the first request that needs one ends the service.
 fn is_without_a_book<D: Desk>(
     host: &HostRuntime,
@@ -77,6 +135,8 @@ fn is_without_a_book<D: Desk>(
 enum Kind {
     One,
     BehindACut,
+    TwoOfThree,
+    All,
     WithoutABook,
 }
 
@@ -85,6 +145,8 @@ fn is_served<D: Desk>(host: &HostRuntime, desk: &mut D, kind: &Kind) -> io::Resu
     match kind {
         Kind::One => is_one(host, desk, &listener),
         Kind::BehindACut => is_behind_a_cut(host, desk, &listener),
+        Kind::TwoOfThree => are_two_of_three(host, desk, &listener),
+        Kind::All => are_all(host, desk, &listener),
         Kind::WithoutABook => is_without_a_book(host, desk, &listener),
     }
 }
@@ -128,6 +190,34 @@ fn one_stream_over_a_socket(rt: HostRuntime) -> Result<(), AllocError> {
 #[test]
 fn a_cut_stream_and_the_next(rt: HostRuntime) -> Result<(), AllocError> {
     let (host, kind, commands) = (&rt, Kind::BehindACut, Some(1));
+    over_a_book(
+        &rt,
+        rt.alloc(),
+        &Served {
+            host,
+            kind,
+            commands,
+        },
+    )
+}
+
+#[test]
+fn two_streams_of_three(rt: HostRuntime) -> Result<(), AllocError> {
+    let (host, kind, commands) = (&rt, Kind::TwoOfThree, Some(0));
+    over_a_book(
+        &rt,
+        rt.alloc(),
+        &Served {
+            host,
+            kind,
+            commands,
+        },
+    )
+}
+
+#[test]
+fn all_streams(rt: HostRuntime) -> Result<(), AllocError> {
+    let (host, kind, commands) = (&rt, Kind::All, Some(0));
     over_a_book(
         &rt,
         rt.alloc(),

@@ -3,15 +3,15 @@ use std::alloc::Global;
 use std::io;
 use std::io::{ErrorKind, Read, Write};
 
-/// Gives at most `step` bytes a read. Behind its bytes it answers this error, or ends. Where `jolts`, it is interrupted before
-/// each read.
+/// Gives at most `step` bytes a read, and is interrupted `jolts` times before each. Behind its bytes it answers this error, or
+/// ends.
 #[derive(Drop)]
 pub struct Source<'b> {
     rest: &'b [u8],
     step: usize,
     failure: Option<ErrorKind>,
-    pub jolts: bool,
-    jolted: bool,
+    pub jolts: u32,
+    jolted: u32,
 }
 
 impl<'b> Source<'b> {
@@ -26,18 +26,19 @@ impl<'b> Source<'b> {
             rest,
             step,
             failure,
-            jolts: false,
-            jolted: false,
+            jolts: 0,
+            jolted: 0,
         }
     }
 }
 
 impl Read for Source<'_> {
     fn read(&mut self, buf: &mut [u8]) -> io::Result<usize> {
-        self.jolted = self.jolts && !self.jolted;
-        if self.jolted {
+        if self.jolted < self.jolts {
+            self.jolted += 1;
             return Err(io::Error::from(ErrorKind::Interrupted));
         }
+        self.jolted = 0;
         if self.rest.is_empty() {
             return match self.failure {
                 Some(kind) => Err(io::Error::from(kind)),
@@ -51,15 +52,16 @@ impl Read for Source<'_> {
     }
 }
 
-/// Takes this many bytes more, and then fails, or takes none where `stands`. Where `jolts`, it takes one byte a write and is
-/// interrupted before each.
+/// Takes this many bytes more, at most `step` a write, and is interrupted `jolts` times before each. Then it fails, or takes
+/// none where `stands`.
 #[derive(Drop)]
 pub struct Sink {
     pub taken: Vec<u8>,
     room: usize,
     stands: bool,
-    pub jolts: bool,
-    jolted: bool,
+    pub step: usize,
+    pub jolts: u32,
+    jolted: u32,
 }
 
 impl Sink {
@@ -74,26 +76,27 @@ impl Sink {
             taken: Vec::new(alloc),
             room,
             stands,
-            jolts: false,
-            jolted: false,
+            step: 1_000_000,
+            jolts: 0,
+            jolted: 0,
         }
     }
 }
 
 impl Write for Sink {
     fn write(&mut self, buf: &[u8]) -> io::Result<usize> {
-        self.jolted = self.jolts && !self.jolted;
-        if self.jolted {
+        if self.jolted < self.jolts {
+            self.jolted += 1;
             return Err(io::Error::from(ErrorKind::Interrupted));
         }
+        self.jolted = 0;
         if self.room == 0 && self.stands {
             return Ok(0);
         }
         if self.room == 0 {
             return Err(io::Error::from(ErrorKind::Other));
         }
-        let most = if self.jolts { 1 } else { self.room };
-        let count = buf.len().min(self.room).min(most);
+        let count = buf.len().min(self.room).min(self.step);
         self.taken.extend_from_slice(&buf[..count])?;
         self.room -= count;
         Ok(count)

@@ -2,7 +2,7 @@
 use ob_net::{Net, Stop};
 use ob_sheet::Sheet;
 use ob_sweep::{Change, Delta, Run, Timeline, Windowed};
-use ob_time::Period;
+use ob_time::CivilDays;
 use std::alloc::Global;
 
 /// A timeline to which every call is handed on, and how many deltas it adopted.
@@ -17,7 +17,12 @@ impl Timeline for Counting {
 
     ghost bound = { ⟦<Windowed as Timeline>⟧.bound };
 
-    fn build(alloc: Global, net: &mut Net, sheet: &Sheet, period: &Period) -> Result<Self, Stop> {
+    fn build(
+        alloc: Global,
+        net: &mut Net,
+        sheet: &Sheet,
+        period: &CivilDays,
+    ) -> Result<Self, Stop> {
         let inner = Windowed::build(alloc, net, sheet, period)?;
         Ok(Counting { inner, adopted: 0 })
     }
@@ -30,7 +35,7 @@ impl Timeline for Counting {
         &self,
         net: &mut Net,
         sheet: &Sheet,
-        period: &Period,
+        period: &CivilDays,
         change: &Change,
     ) -> Result<Delta, Stop> {
         self.inner.plan(net, sheet, period, change)

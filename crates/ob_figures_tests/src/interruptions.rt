@@ -11,7 +11,7 @@ use ob_index::{Counts, Marks, Which};
 use ob_net::{Crew, Name, Net, Pos, Second};
 use ob_sheet::Sheet;
 use ob_sweep::{Scratch, Timeline};
-use ob_time::Period;
+use ob_time::{CivilDays, Period};
 use std::alloc::Global;
 use std::process::Abort;
 use std::test::Fail;
@@ -40,7 +40,7 @@ fn sheet(
     rt: &impl Abort,
     alloc: Global,
     net: &Net,
-    period: &Period,
+    period: &CivilDays,
     switched: &[(Pos, Second)],
 ) -> Result<Sheet, Fail>
     ensures devices { IfOk result (λ s. NameDevices (length net.now.network.devices) s.entries) }
@@ -58,7 +58,7 @@ fn switch(
     rt: &impl Abort,
     sheet: &mut Sheet,
     net: &Net,
-    period: &Period,
+    period: &CivilDays,
     pos: Pos,
     second: Second,
 ) -> Result<(), Fail>
@@ -108,7 +108,7 @@ fn are_on_sections(net: &Net, roll: &Roll) -> bool
 }
 
 // The marks of the period's days, the first marked.
-fn marked(rt: &impl Abort, alloc: Global, period: &Period) -> Result<Marks, Fail>
+fn marked(rt: &impl Abort, alloc: Global, period: &CivilDays) -> Result<Marks, Fail>
     ensures { IfOk result (λ marks. length marks ≡ day_count period.now) }
 {
     let engineer = Crew::read(b"E-1").expect(rt, "an engineer");
@@ -125,7 +125,7 @@ fn have_counts(
     net: &mut Net,
     sheet: &Sheet,
     roll: &Roll,
-    period: &Period,
+    period: &CivilDays,
     wanted: &(Counts, Counts),
 ) -> Result<(), Fail>
     requires devices { NameDevices (length net.old.network.devices) sheet.now.entries }

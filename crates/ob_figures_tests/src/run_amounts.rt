@@ -6,7 +6,7 @@ use ob_cust::{Customer, Roll};
 use ob_net::Second;
 use ob_post::{Dim, Moved, amounts, post_run, post_runs};
 use ob_sweep::Run;
-use ob_time::Period;
+use ob_time::{CivilDays, Period};
 use std::alloc::Global;
 use std::process::Abort;
 use std::test::Fail;
@@ -51,7 +51,7 @@ fn have_amounts(
     alloc: Global,
     run: &Run,
     roll: &Roll,
-    period: &Period,
+    period: &CivilDays,
     wanted: &[Row],
 ) -> Result<(), Fail> {
     assert!(rt; period.first_second() <= run.since);
@@ -156,7 +156,12 @@ fn amounts_of_a_short_day(rt: HostRuntime) -> Result<(), Fail> {
 
 // Appends what two runs of section 4 come to, ten minutes of cause 3 and then one of 300 seconds across midnight, which no
 // entry caused, and the first of them alone.
-fn post(rt: &impl Abort, roll: &Roll, period: &Period, rows: &mut Vec<Moved>) -> Result<(), Fail> {
+fn post(
+    rt: &impl Abort,
+    roll: &Roll,
+    period: &CivilDays,
+    rows: &mut Vec<Moved>,
+) -> Result<(), Fail> {
     let first = run(T + 3_600, T + 4_200, Some(1));
     let second = run(T + 86_200, T + 86_500, None);
     assert!(rt; period.first_second() <= T);

@@ -1,5 +1,5 @@
 //! Exports of what the commands moved, and sinks and writers that fail.
-use crate::office::{Office, Trial, over_a_store};
+use crate::office::{Office, Trial, Written, over_a_store};
 use crate::script::{A_DAY, Outcome, Script, Step, are_answered};
 use crate::sinks::{Shelf, Sink};
 use crate::texts::{CORRECTION, OUTAGE};
@@ -157,4 +157,33 @@ impl Trial for Writers {
 #[test]
 fn writers_that_fail(rt: HostRuntime) -> Result<(), AllocError> {
     over_a_store(&rt, rt.alloc(), &Writers, ROWS)
+}
+
+// What an export to a writer is answered that is interrupted so many times before each line.
+fn stumbles<O: Office>(alloc: Global, office: &mut O, jolts: u32) -> Written {
+    office.writes(alloc, Sink::stumbling(alloc, jolts))
+}
+
+// Whether an export is given up at its last line.
+fn lacks_a_line(written: &Written) -> bool {
+    match EXPORT.strip_suffix("26,day,0,-1200\n") {
+        Some(front) => written.is(Err(Stop::Fault(Fault::Output)), front.as_bytes()),
+        None => false,
+    }
+}
+
+// The header and twelve lines: their thirteen writes are tried again 65,536 times in all.
+struct Interrupted;
+
+impl Trial for Interrupted {
+    fn run<A: Abort, O: Office>(&self, rt: &A, alloc: Global, office: &mut O) {
+        CORRECTED.run(rt, alloc, office);
+        assert!(rt; lacks_a_line(&stumbles(alloc, office, 5_042)));
+        assert!(rt; stumbles(alloc, office, 5_041).is(Ok(12), EXPORT.as_bytes()));
+    }
+}
+
+#[test]
+fn interrupted_in_each_line(rt: HostRuntime) -> Result<(), AllocError> {
+    over_a_store(&rt, rt.alloc(), &Interrupted, ROWS)
 }

@@ -6,14 +6,14 @@ use std::alloc::Global;
 use std::io;
 use std::io::{ErrorKind, Write};
 
-/// Takes at most `step` bytes a write while it has room, each time after an interrupted write where `jolts`. Then it
-/// answers this error, or takes none.
+/// Takes at most `step` bytes a write while it has room, each time after `jolts` interrupted writes. Then it answers this
+/// error, or takes none.
 #[derive(Drop)]
 pub struct Sink {
     pub taken: Vec<u8>,
     step: usize,
-    jolts: bool,
-    jolted: bool,
+    jolts: u32,
+    jolted: u32,
     room: usize,
     full: Option<ErrorKind>,
 }
@@ -24,11 +24,18 @@ impl Sink {
         Sink {
             taken: Vec::new(alloc),
             step: 1_000_000,
-            jolts: false,
-            jolted: false,
+            jolts: 0,
+            jolted: 0,
             room: 1_000_000,
             full: None,
         }
+    }
+
+    /// Room for more than any export here, each write whole after so many interrupted ones.
+    pub fn stumbling(alloc: Global, jolts: u32) -> Sink {
+        let mut sink = Sink::new(alloc);
+        sink.jolts = jolts;
+        sink
     }
 
     /// Room for so many bytes, one a write, each after an interrupted write; then this error for ever, or none taken.
@@ -36,8 +43,8 @@ impl Sink {
         Sink {
             taken: Vec::new(alloc),
             step: 1,
-            jolts: true,
-            jolted: false,
+            jolts: 1,
+            jolted: 0,
             room,
             full,
         }
@@ -46,10 +53,11 @@ impl Sink {
 
 impl Write for Sink {
     fn write(&mut self, buf: &[u8]) -> io::Result<usize> {
-        self.jolted = self.jolts && !self.jolted;
-        if self.jolted {
+        if self.jolted < self.jolts {
+            self.jolted += 1;
             return Err(io::Error::from(ErrorKind::Interrupted));
         }
+        self.jolted = 0;
         if self.room == 0 {
             return match self.full {
                 Some(kind) => Err(io::Error::from(kind)),

@@ -2,14 +2,14 @@
 use std::io;
 use std::io::{ErrorKind, Read};
 
-/// Gives at most `step` bytes a read, each time after an interrupted read where `jolts`. Behind its bytes it answers
-/// this error, or ends.
+/// Gives at most `step` bytes a read, each time after `jolts` interrupted reads. Behind its bytes it answers this error, or
+/// ends.
 #[derive(Drop)]
 pub struct Source<'b> {
     rest: &'b [u8],
     step: usize,
-    jolts: bool,
-    jolted: bool,
+    jolts: u32,
+    jolted: u32,
     failure: Option<ErrorKind>,
 }
 
@@ -19,8 +19,8 @@ impl<'b> Source<'b> {
         Source {
             rest,
             step: 1_000_000,
-            jolts: false,
-            jolted: false,
+            jolts: 0,
+            jolted: 0,
             failure,
         }
     }
@@ -30,19 +30,27 @@ impl<'b> Source<'b> {
         Source {
             rest,
             step: 1,
-            jolts: true,
-            jolted: false,
+            jolts: 1,
+            jolted: 0,
             failure,
         }
+    }
+
+    /// These bytes in one piece, and then the end, each after so many interrupted reads.
+    pub fn stumbling(rest: &'b [u8], jolts: u32) -> Source<'b> {
+        let mut source = Source::new(rest, None);
+        source.jolts = jolts;
+        source
     }
 }
 
 impl Read for Source<'_> {
     fn read(&mut self, buf: &mut [u8]) -> io::Result<usize> {
-        self.jolted = self.jolts && !self.jolted;
-        if self.jolted {
+        if self.jolted < self.jolts {
+            self.jolted += 1;
             return Err(io::Error::from(ErrorKind::Interrupted));
         }
+        self.jolted = 0;
         if self.rest.is_empty() {
             return match self.failure {
                 Some(kind) => Err(io::Error::from(kind)),

@@ -67,3 +67,23 @@ fn a_reader_interrupted_for_ever(rt: HostRuntime) -> Result<(), AllocError> {
     let rows = &[1, 2, 4, 0, 0, 0, 0, 4, 0, 320];
     are_answered(&rt, rt.alloc(), STUCK, rows)
 }
+
+// A text in one piece: its read and that of its end are tried again 65,536 times in all.
+struct Interrupted;
+
+impl Trial for Interrupted {
+    fn run<A: Abort, O: Office>(&self, rt: &A, alloc: Global, office: &mut O) {
+        assert!(rt; office.makes(&A_DAY));
+        let text = TWO_NAMES.as_bytes();
+        let broken = Outcome::Broken(4, 0, Fault::Input);
+        assert!(rt; office.reads(alloc, Source::stumbling(text, 32_769)) == broken.report());
+        let again = Outcome::Took(0, 4);
+        assert!(rt; office.reads(alloc, Source::stumbling(text, 32_768)) == again.report());
+    }
+}
+
+#[test]
+fn interrupted_in_two_reads(rt: HostRuntime) -> Result<(), AllocError> {
+    let rows = &[1, 2, 4, 0, 0, 0, 0, 4, 0, 320];
+    over_a_store(&rt, rt.alloc(), &Interrupted, rows)
+}

@@ -15,6 +15,10 @@ abbrev pub delta_of : List Moved → Dim → ℕ → ℤ
 delta_of [] dim key = pos 0
 delta_of (m ∷ ms) dim key = (if is_under dim key m then m.delta else pos 0) +ℤ delta_of ms dim key
 
+-- the rows together move each amount up by this much
+abbrev pub AddUpTo : List Moved → (Dim → ℕ → ℕ) → Type 0
+AddUpTo moved amount = (dim : Dim) (key : ℕ) → delta_of moved dim key ≡ pos (amount dim key)
+
 -- with this many days, each row moves an amount that is kept
 abbrev pub HaveKeys : ℕ → List Moved → Type 0
 HaveKeys days moved = All (λ m. IsKey days m.dim m.key) moved

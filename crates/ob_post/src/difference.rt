@@ -12,7 +12,7 @@ ghost use Rattle.ob_post.specs.declared.place.TheConstants.{MOST_PLACES};
 
 use crate::Moved;
 use crate::place::{MOST_PLACES, key_at, place_of};
-use ob_net::Stop;
+use ob_base::Stop;
 use std::alloc::Global;
 
 /// The moves from the amounts `taken` to the amounts `given`: for each key what is given less what is

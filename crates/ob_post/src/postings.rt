@@ -2,7 +2,7 @@
 
 use crate::place::{FIRST_FEEDER, FIXED_PLACES, place_of};
 use crate::{Dim, Moved};
-use ob_net::Stop;
+use ob_base::Stop;
 use std::alloc::Global;
 use std::marker::Model;
 

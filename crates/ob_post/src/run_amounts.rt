@@ -8,16 +8,16 @@ ghost use Rattle.ob_time.specs.Calendar.{days_of, first_second_of, end_second_of
 ghost use Rattle.ob_sheet.specs.declared.Entry.{Entry};
 ghost use Rattle.ob_cust.specs.Service.{served_seconds as served};
 ghost use Rattle.ob_post.specs.CustomerSeconds.{Days};
-ghost use Rattle.ob_post.specs.Moved.{delta_of, HaveKeys};
+ghost use Rattle.ob_post.specs.Moved.{delta_of, AddUpTo, HaveKeys};
 ghost use Rattle.ob_post.specs.RunAmounts.{customer_seconds_in, served_in, section_seconds_by, IsRunOf};
 ghost use Rattle.ob_post.specs.SectionAmounts.{run_cause, amount_of_posted, amount_of_runs, LieWithin};
 ghost use Rattle.ob_post.specs.declared.Dim.{Dim as Dimension};
 
 use crate::{Dim, Moved};
+use ob_base::{Second, Stop};
 use ob_cust::{MOST_CUSTOMERS, Roll};
-use ob_net::{Second, Stop};
 use ob_sweep::Run;
-use ob_time::Period;
+use ob_time::CivilDays;
 use std::alloc::Global;
 
 /// The customer-seconds of a run that lies in the period: under its cause, under its section's home
@@ -29,18 +29,18 @@ pub fn amounts(
     cause: u8,
     feeder: u8,
     roll: &Roll,
-    period: &Period,
+    period: &CivilDays,
 ) -> Result<Vec<Moved>, Stop>
     requires cause { cause < 64 }
     requires feeder { 1 ≤ feeder }
     requires begins { first_second_of period.now ≤ run.now.since }
     requires some { run.now.since < run.now.until }
     requires ends { run.now.until ≤ end_second_of period.now }
-    ensures served { IfOk result (λ moved. (dim : Dimension) (key : ℕ) → delta_of moved.items dim key ≡ pos (served_in roll.now.customers run.now cause feeder (days_of period.now) dim key)) }
-    ensures customer_seconds { IfOk result (λ moved. (dim : Dimension) (key : ℕ) → delta_of moved.items dim key ≡ pos (customer_seconds_in roll.now.customers run.now cause feeder (days_of period.now) dim key)) }
+    ensures served { IfOk result (λ moved. AddUpTo moved.items (served_in roll.now.customers run.now cause feeder (days_of period.now))) }
+    ensures customer_seconds { IfOk result (λ moved. AddUpTo moved.items (customer_seconds_in roll.now.customers run.now cause feeder (days_of period.now))) }
 
     // Where it is a run of a network under a sheet, they are its part of the customer-seconds without supply.
-    ensures without_supply { (net : Network) (entries : List Entry) (p : Days) → p.days ≡ days_of period.now → IsRunOf net entries p run.now cause feeder → IfOk result (λ moved. (dim : Dimension) (key : ℕ) → delta_of moved.items dim key ≡ pos (section_seconds_by net entries roll.now.customers p run.now.section (seconds run.now.since run.now.until) dim key)) }
+    ensures without_supply { (net : Network) (entries : List Entry) (p : Days) → p.days ≡ days_of period.now → IsRunOf net entries p run.now cause feeder → IfOk result (λ moved. AddUpTo moved.items (section_seconds_by net entries roll.now.customers p run.now.section (seconds run.now.since run.now.until))) }
     ensures keys { IfOk result (λ moved. HaveKeys (day_count period.now) moved.items) }
     ensures err { IfErr result (λ stop. stop ≡ out_of_memory) }
 {
@@ -56,7 +56,7 @@ pub fn post_runs(
     causes: &[u8],
     feeder: u8,
     roll: &Roll,
-    period: &Period,
+    period: &CivilDays,
     rows: &mut Vec<Moved>,
 ) -> Result<(), Stop>
     requires each { length causes.now ≡ length runs.now }
@@ -84,7 +84,7 @@ pub fn post_run(
     cause: u8,
     feeder: u8,
     roll: &Roll,
-    period: &Period,
+    period: &CivilDays,
     rows: &mut Vec<Moved>,
 ) -> Result<(), Stop>
     requires cause { cause < 64 }

@@ -3,13 +3,13 @@ ghost use Rattle.std.specs.Prelude.{◌≡◌};
 
 use crate::differing::compare;
 use crate::run_causes::{cause_after, cause_before, causes_after, causes_before, recaused};
+use ob_base::Stop;
 use ob_cust::Roll;
-use ob_net::Stop;
 use ob_post::laws::move_laws;
 use ob_post::{MOST_DAYS, Moved, moves, post_run, post_runs};
 use ob_sheet::Sheet;
 use ob_sweep::{Change, Run};
-use ob_time::Period;
+use ob_time::CivilDays;
 use std::alloc::Global;
 
 /// The amounts that a change takes back and gives, as rows.
@@ -31,7 +31,7 @@ impl Posting {
     ghost use Rattle.ob_post.specs.RunAmounts.{customer_seconds_in};
     ghost use Rattle.ob_post.specs.SectionAmounts.{amount_of_runs, LieWithin};
     ghost use Rattle.ob_post.specs.declared.Dim.{Dim as Dimension};
-    ghost use Rattle.ob_posting.specs.Balances.{together, Balances, IsOfSmall};
+    ghost use Rattle.ob_posting.specs.Balances.{together, Balances, IsOfSmall, Posts};
     ghost use Rattle.ob_posting.specs.Causes.{BeginAtCutters, IsSoundChange};
 
     /// No amount is taken or given yet.
@@ -53,7 +53,7 @@ impl Posting {
         sheet: &Sheet,
         feeder: u8,
         roll: &Roll,
-        period: &Period,
+        period: &CivilDays,
     ) -> Result<(), Stop>
         requires causes { All (λ e. e.cause < 64) sheet.now.entries }
         requires feeder { 1 ≤ feeder }
@@ -76,7 +76,7 @@ impl Posting {
         sheet: &Sheet,
         feeder: u8,
         roll: &Roll,
-        period: &Period,
+        period: &CivilDays,
     ) -> Result<(), Stop>
         requires causes { All (λ e. e.cause < 64) sheet.now.entries }
         requires feeder { 1 ≤ feeder }
@@ -99,7 +99,7 @@ impl Posting {
         change: &Change,
         feeder: u8,
         roll: &Roll,
-        period: &Period,
+        period: &CivilDays,
     ) -> Result<(), Stop>
         requires change { IsSoundChange change.now sheet.now.entries }
         requires feeder { 1 ≤ feeder }
@@ -125,7 +125,7 @@ impl Posting {
         change: &Change,
         feeder: u8,
         roll: &Roll,
-        period: &Period,
+        period: &CivilDays,
     ) -> Result<(), Stop>
         requires change { IsSoundChange change.now sheet.now.entries }
         requires feeder { 1 ≤ feeder }
@@ -133,11 +133,10 @@ impl Posting {
         requires new { LieWithin (first_second_of period.now) (end_second_of period.now) new.now }
         requires rising { AllPairs (λ r s. r.until < s.since) old.now }
         requires cut { BeginAtCutters sheet.now.entries old.now }
-        ensures posted { (before after : Dimension → ℕ → ℕ) → Balances (day_count period.now) self.old before after
-            → OnOk result (Balances (day_count period.now) self.new
-            (together before (amount_of_runs sheet.now.entries roll.now.customers (days_of period.now) feeder
-            old.now)) (together after (amount_of_runs (changed change.now sheet.now.entries) roll.now.customers
-            (days_of period.now) feeder new.now))) }
+        ensures posted { Posts (day_count period.now) self.old self.new result
+            (amount_of_runs sheet.now.entries roll.now.customers (days_of period.now) feeder old.now)
+            (amount_of_runs (changed change.now sheet.now.entries) roll.now.customers (days_of period.now) feeder
+            new.now) }
         ensures err { IfErr result (λ stop. stop ≡ out_of_memory) }
     {
         let runs = compare(old, new);
@@ -156,18 +155,17 @@ impl Posting {
         change: &Change,
         feeder: u8,
         roll: &Roll,
-        period: &Period,
+        period: &CivilDays,
     ) -> Result<(), Stop>
         requires change { IsSoundChange change.now sheet.now.entries }
         requires feeder { 1 ≤ feeder }
         requires within { LieWithin (first_second_of period.now) (end_second_of period.now) runs.now }
         requires rising { AllPairs (λ r s. r.until < s.since) runs.now }
         requires cut { BeginAtCutters sheet.now.entries runs.now }
-        ensures posted { (old new : Dimension → ℕ → ℕ) → Balances (day_count period.now) self.old old new
-            → OnOk result (Balances (day_count period.now) self.new
-            (together old (amount_of_runs sheet.now.entries roll.now.customers (days_of period.now) feeder
-            runs.now)) (together new (amount_of_runs (changed change.now sheet.now.entries) roll.now.customers
-            (days_of period.now) feeder runs.now))) }
+        ensures posted { Posts (day_count period.now) self.old self.new result
+            (amount_of_runs sheet.now.entries roll.now.customers (days_of period.now) feeder runs.now)
+            (amount_of_runs (changed change.now sheet.now.entries) roll.now.customers (days_of period.now) feeder
+            runs.now) }
         ensures err { IfErr result (λ stop. stop ≡ out_of_memory) }
     {
         let Some(place) = recaused(runs, change) else {
@@ -187,7 +185,7 @@ impl Posting {
         after: u8,
         feeder: u8,
         roll: &Roll,
-        period: &Period,
+        period: &CivilDays,
     ) -> Result<(), Stop>
         requires before { before < 64 }
         requires after { after < 64 }
@@ -195,10 +193,9 @@ impl Posting {
         requires begins { first_second_of period.now ≤ run.now.since }
         requires some { run.now.since < run.now.until }
         requires ends { run.now.until ≤ end_second_of period.now }
-        ensures posted { (old new : Dimension → ℕ → ℕ) → Balances (day_count period.now) self.old old new
-            → OnOk result (Balances (day_count period.now) self.new
-            (together old (customer_seconds_in roll.now.customers run.now before feeder (days_of period.now)))
-            (together new (customer_seconds_in roll.now.customers run.now after feeder (days_of period.now)))) }
+        ensures posted { Posts (day_count period.now) self.old self.new result
+            (customer_seconds_in roll.now.customers run.now before feeder (days_of period.now))
+            (customer_seconds_in roll.now.customers run.now after feeder (days_of period.now)) }
         ensures err { IfErr result (λ stop. stop ≡ out_of_memory) }
     {
         if before == after {
@@ -209,7 +206,7 @@ impl Posting {
     }
 
     /// What is given less what is taken, by key, in a period. The error is that memory was refused.
-    pub fn moves(&self, period: &Period) -> Result<Vec<Moved>, Stop>
+    pub fn moves(&self, period: &CivilDays) -> Result<Vec<Moved>, Stop>
         requires small { IsOfSmall (day_count period.now) self.now }
         ensures moves { (old new : Dimension → ℕ → ℕ) → Balances (day_count period.now) self.now old new
             → IfOk result (λ moved. moved.items ≡ moves_by (change_from old new) (day_count period.now)) }

@@ -10,7 +10,7 @@ ghost use Rattle.ob_post.specs.CauseLaws.{cause_with as cause_of_run_with};
 ghost use Rattle.ob_post.specs.SectionAmounts.{run_cause};
 ghost use Rattle.ob_posting.specs.Causes.{BeginAtCutters, StayBut};
 
-use ob_net::Stop;
+use ob_base::Stop;
 use ob_post::laws::cause_laws;
 use ob_sheet::{Entry, Sheet};
 use ob_sweep::{Change, Run};

@@ -65,6 +65,8 @@ pub(crate) fn read_ahead<R: Read>(
     ensures end { result ≡ Ok false → (ahead.new.items ≡ ahead.old.items)
         × IsAtEnd (watched_bytes R.remaining reader.new) }
     ensures fault { IfErr result (IsReadFault reader.new) }
+    ensures kept { IfErr result (λ f. f ≡ Fault.Input
+        → Keeps (watched_bytes R.remaining reader.old) (watched_bytes R.remaining reader.new)) }
 {
     let mut piece = [0u8; PIECE];
     let room = (HEAD_BOUND - ahead.len()).min(PIECE);

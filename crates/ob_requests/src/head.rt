@@ -4,8 +4,9 @@ ghost use Rattle.std.specs.Io.KnownBytes.{Keeps};
 ghost use Rattle.httparse.specs.Grammar.{NeverHasRequest};
 ghost use Rattle.httparse.specs.Spans.{IsRequestWithin, IsRequestOf};
 ghost use Rattle.ob_stream.specs.Watching.{watched_bytes};
-ghost use Rattle.ob_requests.specs.Unread.{unread, IsReadFault};
+ghost use Rattle.ob_requests.specs.Unread.{unread};
 ghost use Rattle.ob_requests.specs.Head.{IsUnfinished, IfWhole, IfHead, BeginsWith};
+ghost use Rattle.ob_requests.specs.Reading.{IsHeadFault};
 
 use crate::ahead::{FIELD_ROOM, HEAD_BOUND, read_ahead};
 use httparse::Status;
@@ -68,7 +69,8 @@ pub(crate) fn read_head<R: Read>(
         (λ bytes. BeginsWith bytes next)) }
     ensures within { IfOk result (λ next. IfHead next (IsRequestWithin ahead.new.items fields.new)) }
     ensures head { IfOk result (λ next. IfHead next (IsRequestOf ahead.new.items fields.new)) }
-    ensures fault { IfErr result (IsReadFault reader.new) }
+    ensures fault { IfErr result (IsHeadFault (unread ahead.old.items (watched_bytes R.remaining reader.old))
+        (watched_bytes R.remaining reader.new) reader.new) }
 {
     'pieces: loop {
         match parse_head(ahead, fields) {

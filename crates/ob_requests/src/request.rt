@@ -87,7 +87,7 @@ pub fn read_request<R: Read, W: Write>(
     ensures next { IfOk result (Reads (unread ahead.old (watched_bytes R.remaining reader.old))
         (unread ahead.new (watched_bytes R.remaining reader.new))
         (watched_bytes W.contents writer.old) (watched_bytes W.contents writer.new)) }
-    ensures fault { IfErr result (Stops (unread ahead.old (watched_bytes R.remaining reader.old))
+    ensures fault { IfErr result (Stops (unread ahead.old (watched_bytes R.remaining reader.old)) (watched_bytes R.remaining reader.new)
         (watched_bytes W.contents writer.old) (watched_bytes W.contents writer.new) reader.new writer.new) }
 {
     let (framing, target) = match read_start(alloc, reader, retries, ahead)? {

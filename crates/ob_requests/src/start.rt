@@ -1,8 +1,8 @@
 //! The head of a request, with what it asks.
 ghost use Rattle.std.specs.Prelude.{◌≡◌, ◌≤◌, length, IfOk, IfErr, IsUtf8, vec_len, string_bytes};
 ghost use Rattle.ob_stream.specs.Watching.{watched_bytes};
-ghost use Rattle.ob_requests.specs.Unread.{unread, IsReadFault};
-ghost use Rattle.ob_requests.specs.Reading.{Starts};
+ghost use Rattle.ob_requests.specs.Unread.{unread};
+ghost use Rattle.ob_requests.specs.Reading.{IsHeadFault, Starts};
 
 use crate::ahead::{Ahead, FIELD_ROOM, HEAD_BOUND, drop_front};
 use crate::framing::{Framing, HeadRefusal, find_framing};
@@ -54,7 +54,8 @@ fn start_over<R: Read>(
     ensures bound { vec_len ahead.new ≤ HEAD_BOUND }
     ensures start { IfOk result (Starts (unread ahead.old.items (watched_bytes R.remaining reader.old))
         (unread ahead.new.items (watched_bytes R.remaining reader.new))) }
-    ensures fault { IfErr result (IsReadFault reader.new) }
+    ensures fault { IfErr result (IsHeadFault (unread ahead.old.items (watched_bytes R.remaining reader.old))
+        (watched_bytes R.remaining reader.new) reader.new) }
 {
     let spans = match read_head(reader, retries, ahead, fields)? {
         NextHead::Head(spans) => spans,
@@ -82,7 +83,8 @@ pub fn read_start<R: Read>(
 ) -> Result<Start, Fault>
     ensures start { IfOk result (Starts (unread ahead.old (watched_bytes R.remaining reader.old))
         (unread ahead.new (watched_bytes R.remaining reader.new))) }
-    ensures fault { IfErr result (IsReadFault reader.new) }
+    ensures fault { IfErr result (IsHeadFault (unread ahead.old (watched_bytes R.remaining reader.old))
+        (watched_bytes R.remaining reader.new) reader.new) }
 {
     start_over(alloc, reader, retries, &mut ahead.bytes, &mut ahead.fields)
 }

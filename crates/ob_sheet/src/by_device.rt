@@ -10,7 +10,8 @@ ghost use Rattle.ob_sheet.specs.Sheet.{AreNumbered};
 
 use crate::Entry;
 use crate::sheet::is_after;
-use ob_net::{Net, Pos, Second, Stop};
+use ob_base::{Pos, Second, Stop};
+use ob_net::Net;
 use std::alloc::Global;
 
 /// A device, a second and a number: an entry of the device with them, and those before it.

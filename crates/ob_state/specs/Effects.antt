@@ -7,6 +7,9 @@ use Rattle.ob_sheet.specs.declared.Entry.{Entry}
 use Rattle.ob_post.specs.CustomerSeconds.{customer_seconds_by}
 use Rattle.ob_post.specs.SectionAmounts.{amount_at}
 use Rattle.ob_post.specs.declared.Dim.{Dim}
+use Rattle.ob_time.specs.Calendar.{day_count}
+use Rattle.ob_posting.specs.Balances.{Balances}
+use Rattle.ob_posting.specs.declared.posting.Posting.{Posting}
 use Rattle.ob_state.specs.declared.effect.Effect.{Effect}
 use Rattle.ob_state.specs.State.{BookState}
 use Rattle.ob_state.specs.Amounts.{days_of_book, moves}
@@ -40,6 +43,11 @@ with_network b network = record b { network = network }
 -- the state with other entries
 abbrev pub with_entries : BookState → List Entry → BookState
 with_entries b entries = record b { entries = entries }
+
+-- the rows lead from the amounts of the first n nodes to those that these have with other entries
+abbrev pub BalancesFirst : BookState → List Entry → ℕ → Posting → Type 0
+BalancesFirst b entries n posting =
+    Balances (day_count b.period) posting (amount_of_first b n) (amount_of_first (with_entries b entries) n)
 
 -- the state without the device that was added last
 abbrev pub without_device : BookState → BookState

@@ -2,7 +2,7 @@
 ghost use Rattle.std.specs.Prelude.{◌≡◌, codes};
 
 use crate::MOST_CAUSES;
-use ob_net::Name;
+use ob_base::Name;
 use std::marker::Model;
 
 /// The names of the causes by code, from 0, which is unassigned.

@@ -2,9 +2,9 @@
 ghost use Rattle.std.specs.Prelude.{◌≡◌};
 
 use crate::state::State;
+use ob_base::{Crew, Name, Pos, Second};
 use ob_command::{CauseCode, CivilDate, Command, Ends, FeederNumber, Moment, Serial};
 use ob_cust::Customer;
-use ob_net::{Crew, Name, Pos, Second};
 
 /// The end of a service as a second.
 pub fn end_of(until: Option<Moment>) -> Option<Second>

@@ -15,8 +15,8 @@ ghost use Rattle.ob_state.specs.Effects.{IsEffect, amount_of_node, without_devic
 use crate::effect::Effect;
 use crate::retiming::Retiming;
 use crate::state::State;
+use ob_base::{Name, Pos, Stop};
 use ob_command::{Command, Ends};
-use ob_net::{Name, Pos, Stop};
 use ob_post::laws::{section_laws, total_laws};
 use ob_posting::Posting;
 use ob_sweep::{Delta, Timeline, plan_section, plan_still};

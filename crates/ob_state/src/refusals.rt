@@ -5,9 +5,10 @@ ghost use Rattle.ob_state.specs.Refusals.{refuse_if as refuse_where};
 
 use crate::MOST_COMMANDS;
 use crate::state::State;
+use ob_base::{Name, Refusal};
 use ob_command::{CauseCode, CivilDate, Command, Ends, Moment, Serial};
 use ob_cust::MOST_CUSTOMERS;
-use ob_net::{MOST_DEVICES, MOST_NODES, Name, Refusal};
+use ob_net::{MOST_DEVICES, MOST_NODES};
 use ob_sheet::MOST_ENTRIES;
 
 fn refuse_if(test: bool, refusal: Refusal) -> Option<Refusal>

@@ -1,8 +1,9 @@
 //! The state of a book: everything but the runs and the amounts, which follow from it.
 use crate::causes::Causes;
+use ob_base::{Name, Stop};
 use ob_cust::Roll;
 use ob_index::Marks;
-use ob_net::{Name, Net, Stop};
+use ob_net::Net;
 use ob_sheet::Sheet;
 use ob_sweep::Timeline;
 use ob_time::Period;

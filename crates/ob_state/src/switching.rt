@@ -1,28 +1,27 @@
 //! What a change of the switching sheet moves.
-ghost use Rattle.std.specs.Prelude.{◌≡◌, ◌+◌, ◌<◌, ◌≤◌, ℕ, None, Some, true, IfOk, IfErr, IfSome, IsSome, IsTrue, OnOk, length};
+ghost use Rattle.std.specs.Prelude.{◌≡◌, ◌+◌, ◌<◌, ◌≤◌, None, Some, true, IfOk, IfErr, IfSome, IsSome, IsTrue, OnOk, length};
 ghost use Rattle.ob_base.specs.Stop.{out_of_memory};
 ghost use Rattle.ob_sheet.specs.Order.{entry_of};
 ghost use Rattle.ob_sheet.specs.Revisions.{corrected as corrected_entry, revision_refusal};
 ghost use Rattle.ob_sheet.specs.Sheet.{new_entry};
 ghost use Rattle.ob_sweep.specs.Changed.{changed, Applies};
 ghost use Rattle.ob_sweep.specs.Deltas.{new_runs, IsDelta};
-ghost use Rattle.ob_post.specs.declared.Dim.{Dim as Dimension};
 ghost use Rattle.ob_time.specs.Calendar.{day_count};
 ghost use Rattle.ob_state.specs.Amounts.{amount, moves};
 ghost use Rattle.ob_state.specs.Retimings.{runs_in};
 ghost use Rattle.ob_state.specs.States.{AreRunsOf, IsBookState, IsSoundState};
 ghost use Rattle.ob_state.specs.Refusals.{refusal};
 ghost use Rattle.ob_state.specs.Next.{next};
-ghost use Rattle.ob_state.specs.Effects.{amount_of_first, amount_of_node, with_entries, IsEffect};
-ghost use Rattle.ob_posting.specs.Balances.{together, Balances};
+ghost use Rattle.ob_state.specs.Effects.{amount_of_node, with_entries, BalancesFirst, IsEffect};
+ghost use Rattle.ob_posting.specs.Balances.{Balances, Posts};
 ghost use Rattle.ob_posting.specs.Causes.{KeepsCause};
 ghost use Rattle.ob_state.specs.Searches.{most_searches};
 
 use crate::effect::Effect;
 use crate::retiming::Retiming;
 use crate::state::State;
+use ob_base::{Crew, Name, Pos, Stop};
 use ob_command::{CauseCode, Command, Moment, Serial};
-use ob_net::{Crew, Name, Pos, Stop};
 use ob_post::Moved;
 use ob_post::laws::{cause_laws, section_laws, total_laws};
 use ob_posting::Posting;
@@ -294,11 +293,9 @@ fn post_node<T: Timeline>(
     requires delta { IsDelta state.now.state.network delta.now (T.content timeline.now)
         (runs_in (with_entries state.now.state (changed change.now state.now.state.entries))) }
     requires node { node < length state.now.state.network.nodes }
-    ensures posted { Balances (day_count state.now.state.period) posting.old (amount_of_first state.now.state node)
-        (amount_of_first (with_entries state.now.state (changed change.now state.now.state.entries)) node)
-        → OnOk result (Balances (day_count state.now.state.period) posting.new
-        (amount_of_first state.now.state (node + 1)) (amount_of_first
-        (with_entries state.now.state (changed change.now state.now.state.entries)) (node + 1))) }
+    ensures posted { BalancesFirst state.now.state (changed change.now state.now.state.entries) node posting.old
+        → OnOk result (BalancesFirst state.now.state (changed change.now state.now.state.entries) (node + 1)
+        posting.new) }
     ensures err { IfErr result (λ stop. stop ≡ out_of_memory) }
 {
     section_laws();
@@ -336,11 +333,9 @@ fn post_touched<T: Timeline>(
         (runs_in (with_entries state.now.state (changed change.now state.now.state.entries))) }
     requires node { node < length state.now.state.network.nodes }
     requires touched { IsSome (new_runs delta.now node) }
-    ensures posted { (old new : Dimension → ℕ → ℕ) → Balances (day_count state.now.state.period) posting.old old new
-        → OnOk result (Balances (day_count state.now.state.period) posting.new
-        (together old (amount_of_node state.now.state node))
-        (together new (amount_of_node (with_entries state.now.state (changed change.now state.now.state.entries))
-        node))) }
+    ensures posted { Posts (day_count state.now.state.period) posting.old posting.new result
+        (amount_of_node state.now.state node)
+        (amount_of_node (with_entries state.now.state (changed change.now state.now.state.entries)) node) }
     ensures err { IfErr result (λ stop. stop ≡ out_of_memory) }
 {
     section_laws();

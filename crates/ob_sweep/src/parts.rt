@@ -5,22 +5,22 @@ ghost use Rattle.ob_net.specs.Network.{with_node};
 ghost use Rattle.ob_net.specs.declared.net.Node.{Node};
 ghost use Rattle.ob_sheet.specs.declared.Entry.{Entry};
 ghost use Rattle.ob_sweep.specs.declared.Run.{Run as ARun};
-ghost use Rattle.ob_sweep.specs.Deltas.{Fits, IsDelta};
-ghost use Rattle.ob_sweep.specs.Runs.{history, runs_between};
+ghost use Rattle.ob_sweep.specs.Deltas.{Fits, IsDeltaTo};
 ghost use Rattle.ob_sweep.specs.Timeline.{AreRuns};
 ghost use Rattle.ob_time.specs.Calendar.{end_second_of, first_second_of};
 
 use crate::sweep::still;
 use crate::{Delta, Timeline};
-use ob_net::{Net, Stop};
+use ob_base::Stop;
+use ob_net::Net;
 use ob_sheet::Sheet;
-use ob_time::Period;
+use ob_time::CivilDays;
 use std::alloc::Global;
 
 /// What one section more alters, of which no device is an end yet: it has one run, the whole period, without a cutter, and
 /// the runs of all others stay. The network is the one without it; nothing is searched. The error is that memory was refused.
-pub fn plan_section(alloc: Global, net: &Net, period: &Period) -> Result<Delta, Stop>
-    ensures delta { (section : Node) (entries : List Entry) (lists : List (List ARun)) → IsSome section.feeder → AreRuns net.now.network entries (first_second_of period.now) (end_second_of period.now) lists → IfOk result (λ delta. IsDelta (with_node net.now.network section) delta lists (λ v. runs_between v (history (with_node net.now.network section) entries v) (first_second_of period.now) (end_second_of period.now))) }
+pub fn plan_section(alloc: Global, net: &Net, period: &CivilDays) -> Result<Delta, Stop>
+    ensures delta { (section : Node) (entries : List Entry) (lists : List (List ARun)) → IsSome section.feeder → AreRuns net.now.network entries (first_second_of period.now) (end_second_of period.now) lists → IfOk result (λ delta. IsDeltaTo (with_node net.now.network section) entries (first_second_of period.now) (end_second_of period.now) delta lists) }
     ensures fits { (lists : List (List ARun)) → length net.now.network.nodes < length lists → IfOk result (λ delta. Fits lists delta) }
     ensures err { IfErr result (λ stop. stop ≡ out_of_memory) }
 {
@@ -36,10 +36,10 @@ pub fn plan_still<T: Timeline>(
     alloc: Global,
     timeline: &T,
     net: &mut Net,
-    period: &Period,
+    period: &CivilDays,
 ) -> Result<Delta, Stop>
     requires { length net.old.network.nodes ≤ length (T.content timeline.now) }
-    ensures delta { IfOk result (λ delta. IsDelta net.old.network delta (T.content timeline.now) (λ v. runs_between v (history net.old.network [] v) (first_second_of period.now) (end_second_of period.now))) }
+    ensures delta { IfOk result (λ delta. IsDeltaTo net.old.network [] (first_second_of period.now) (end_second_of period.now) delta (T.content timeline.now)) }
     ensures fits { IfOk result (λ delta. Fits (T.content timeline.now) delta) }
     ensures err { IfErr result (λ stop. stop ≡ out_of_memory) }
     ensures network { net.new.network ≡ net.old.network }

@@ -10,7 +10,7 @@ use ob_command::Command;
 use ob_net::{Crew, Net, Pos, Second};
 use ob_sheet::{Entry, Sheet};
 use ob_sweep::Change;
-use ob_time::Period;
+use ob_time::CivilDays;
 
 // What is done: a position from a second on, with its cause and crew.
 #[derive(Clone, Copy)]
@@ -22,7 +22,7 @@ struct Act {
 }
 
 /// The change of a sheet by a command; None where it makes none.
-pub fn change_by(net: &Net, sheet: &Sheet, period: &Period, command: &Command) -> Option<Change>
+pub fn change_by(net: &Net, sheet: &Sheet, period: &CivilDays, command: &Command) -> Option<Change>
     requires devices { NameDevices (length net.now.network.devices) sheet.now.entries }
     requires all { All (λ e. (first_second_of period.now ≤ e.second) × (e.second < end_second_of period.now)) sheet.now.entries }
     ensures applies { IfSome result (λ c. Applies c sheet.now.entries) }
@@ -66,13 +66,13 @@ pub fn change_by(net: &Net, sheet: &Sheet, period: &Period, command: &Command) -
     }
 }
 
-fn is_outside(period: &Period, second: Second) -> bool
+fn is_outside(period: &CivilDays, second: Second) -> bool
     ensures inside { IsFalse result → (first_second_of period.now ≤ second) × (second < end_second_of period.now) }
 {
     second < period.first_second() || period.end_second() <= second
 }
 
-fn entered(net: &Net, sheet: &Sheet, period: &Period, device: u16, act: &Act) -> Option<Change>
+fn entered(net: &Net, sheet: &Sheet, period: &CivilDays, device: u16, act: &Act) -> Option<Change>
     requires device { device < length net.now.network.devices }
     requires devices { NameDevices (length net.now.network.devices) sheet.now.entries }
     requires all { All (λ e. (first_second_of period.now ≤ e.second) × (e.second < end_second_of period.now)) sheet.now.entries }
@@ -95,7 +95,7 @@ fn entered(net: &Net, sheet: &Sheet, period: &Period, device: u16, act: &Act) ->
     }))
 }
 
-fn corrected(net: &Net, sheet: &Sheet, period: &Period, no: u32, act: &Act) -> Option<Change>
+fn corrected(net: &Net, sheet: &Sheet, period: &CivilDays, no: u32, act: &Act) -> Option<Change>
     requires devices { NameDevices (length net.now.network.devices) sheet.now.entries }
     requires all { All (λ e. (first_second_of period.now ≤ e.second) × (e.second < end_second_of period.now)) sheet.now.entries }
     ensures applies { IfSome result (λ c. Applies c sheet.now.entries) }
@@ -119,7 +119,7 @@ fn corrected(net: &Net, sheet: &Sheet, period: &Period, no: u32, act: &Act) -> O
     })
 }
 
-fn withdrawn(net: &Net, sheet: &Sheet, period: &Period, no: u32) -> Option<Change>
+fn withdrawn(net: &Net, sheet: &Sheet, period: &CivilDays, no: u32) -> Option<Change>
     requires devices { NameDevices (length net.now.network.devices) sheet.now.entries }
     requires all { All (λ e. (first_second_of period.now ≤ e.second) × (e.second < end_second_of period.now)) sheet.now.entries }
     ensures applies { IfSome result (λ c. Applies c sheet.now.entries) }

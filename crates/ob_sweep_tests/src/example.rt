@@ -13,7 +13,7 @@ use ob_command::read_body;
 use ob_net::Net;
 use ob_sheet::Sheet;
 use ob_sweep::{Delta, Run, Scratch, Timeline, Windowed};
-use ob_time::Period;
+use ob_time::{CivilDays, Period};
 use std::alloc::Global;
 use std::process::Abort;
 use std::test::Fail;
@@ -94,7 +94,7 @@ fn shows<T: Timeline>(
     rt: &impl Abort,
     alloc: Global,
     timeline: &T,
-    period: &Period,
+    period: &CivilDays,
     wanted: &str,
 ) -> Result<(), Fail>
     requires { 6 ≤ length (T.content timeline.now) }
@@ -121,7 +121,7 @@ fn build_on<T: Timeline>(
     alloc: Global,
     net: &mut Net,
     sheet: &Sheet,
-    period: &Period,
+    period: &CivilDays,
     searches: u128,
     wanted: &str,
 ) -> Result<(), Fail>
@@ -191,7 +191,7 @@ fn adopt<T: Timeline>(
 fn plan_asked<T: Timeline>(
     net: &mut Net,
     sheet: &Sheet,
-    period: &Period,
+    period: &CivilDays,
     timeline: &T,
     body: &str,
 ) -> Result<Delta, Fail>
@@ -213,7 +213,7 @@ fn takes<T: Timeline>(
     alloc: Global,
     net: &mut Net,
     sheet: &Sheet,
-    period: &Period,
+    period: &CivilDays,
     timeline: &mut T,
     body: &str,
     touched: &str,
@@ -235,7 +235,7 @@ fn change_on<T: Timeline>(
     alloc: Global,
     net: &mut Net,
     sheet: &Sheet,
-    period: &Period,
+    period: &CivilDays,
     body: &str,
     searches: u128,
     effect: &Effect,

@@ -8,12 +8,12 @@ ghost use Rattle.ob_time.specs.Calendar.{first_second_of, end_second_of};
 use ob_command::{Command, read_body};
 use ob_net::Net;
 use ob_sheet::Sheet;
-use ob_time::Period;
+use ob_time::CivilDays;
 use std::alloc::Global;
 use std::test::Fail;
 
 /// The sheet on which the switchings of a script's lines are entered one after another.
-pub fn sheet_of(alloc: Global, net: &Net, period: &Period, script: &str) -> Result<Sheet, Fail>
+pub fn sheet_of(alloc: Global, net: &Net, period: &CivilDays, script: &str) -> Result<Sheet, Fail>
     ensures devices { IfOk result (λ s. NameDevices (length net.now.network.devices) s.entries) }
     ensures all { IfOk result (λ s. All (λ e. (first_second_of period.now ≤ e.second) × (e.second < end_second_of period.now)) s.entries) }
     ensures between { IfOk result (λ s. LieBetween (first_second_of period.now) (end_second_of period.now) s.entries) }
@@ -27,7 +27,7 @@ pub fn sheet_of(alloc: Global, net: &Net, period: &Period, script: &str) -> Resu
 }
 
 // Enters a switching.
-fn enter(sheet: &mut Sheet, net: &Net, period: &Period, command: &Command) -> Result<(), Fail>
+fn enter(sheet: &mut Sheet, net: &Net, period: &CivilDays, command: &Command) -> Result<(), Fail>
     requires devices { NameDevices (length net.now.network.devices) sheet.old.entries }
     requires all { All (λ e. (first_second_of period.now ≤ e.second) × (e.second < end_second_of period.now)) sheet.old.entries }
     ensures devices { OnOk result (NameDevices (length net.now.network.devices) sheet.new.entries) }

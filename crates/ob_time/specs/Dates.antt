@@ -1,8 +1,7 @@
 -- The date of a day number, and its text.
-use Rattle.std.specs.Prelude.{ℕ, ℤ, pos, ◌+◌, ◌-ℤ◌, ◌++◌, List, ◌∷◌, int_le, unsigned_abs}
+use Rattle.std.specs.Prelude.{ℕ, ℤ, pos, ◌+◌, ◌/◌, ◌%◌, ◌-ℤ◌, ◌++◌, List, [], ◌∷◌, int_le, unsigned_abs}
 use Rattle.std.specs.List.{count_by, range_with_len}
 use Rattle.jiff_core.specs.Calendar.{days_from_civil}
-use Rattle.jiff_fmt.specs.Text.{pad2, pad4}
 
 -- the last year that a date may have
 unfoldable pub last_year : ℕ
@@ -20,9 +19,17 @@ month_of_day y day = count_by (λ m. int_le (days_from_civil (pos y) (m + 1) 1) 
 unfoldable pub place_of_day : ℕ → ℕ → ℤ → ℕ
 place_of_day y m day = unsigned_abs (day -ℤ days_from_civil (pos y) m 1) + 1
 
+-- a number below 100, in two digits
+abbrev pub two_digit_text : ℕ → List ℕ
+two_digit_text n = (48 + n / 10) ∷ (48 + n % 10) ∷ []
+
+-- a number below 10000, in four digits
+abbrev pub four_digit_text : ℕ → List ℕ
+four_digit_text n = two_digit_text (n / 100) ++ two_digit_text (n % 100)
+
 -- `YYYY-MM-DD` of these numbers
 abbrev pub ymd_text : ℕ → ℕ → ℕ → List ℕ
-ymd_text y m d = pad4 y ++ 45 ∷ pad2 m ++ 45 ∷ pad2 d
+ymd_text y m d = four_digit_text y ++ 45 ∷ two_digit_text m ++ 45 ∷ two_digit_text d
 
 -- `YYYY-MM-DD` of a day of the years 0 to 9999
 unfoldable pub day_text : ℤ → List ℕ

@@ -1,10 +1,14 @@
 //! Dates as texts.
-ghost use Rattle.std.specs.Prelude.{◌≡◌, ℕ, IfSome, IfNone};
+ghost use Rattle.std.specs.Prelude.{◌≡◌, ℕ, pos, neg_ℤ, ◌≤ℤ◌, IfSome, IfNone, IfOk, IfErr, string_bytes};
 ghost use Rattle.jiff.specs.Types.{Date as PlainDate};
-ghost use Rattle.ob_time.specs.Moment.{IsDateForm, IsDateText};
+ghost use Rattle.ob_base.specs.Stop.{out_of_memory};
+ghost use Rattle.ob_time.specs.Dates.{day_text};
+ghost use Rattle.ob_time.specs.Moment.{IsDateForm, IsDateText, IsTextOfDay};
 
 use crate::reader::{after, four_digits, two_digits};
 use jiff::civil::Date;
+use ob_base::Stop;
+use std::alloc::Global;
 
 // The numbers of `YYYY-MM-DD`.
 fn date_numbers(text: &[u8]) -> Option<(u16, u8, u8)>
@@ -31,4 +35,17 @@ pub fn read_date(text: &[u8]) -> Option<Date>
         Ok(date) => Some(date),
         Err(_) => None,
     }
+}
+
+/// The text of the date of a day number; the error is that memory was refused.
+pub(crate) fn text_of_day(alloc: Global, day: i64) -> Result<String, Stop>
+    requires low { neg_ℤ (pos 1) ≤ℤ day }
+    requires high { day ≤ℤ pos 2_932_896 }
+    ensures ok { IfOk result (λ t. IsTextOfDay (string_bytes t) day) }
+    ensures value { IfOk result (λ t. string_bytes t ≡ day_text day) }
+    ensures errors { IfErr result (λ e. e ≡ out_of_memory) }
+{
+    let date = jiff_core::civil::Date::from_unix_epoch_day(day).unwrap();
+    let date = Date::from_plain(date);
+    Ok(format!(in alloc; "{date}")?)
 }

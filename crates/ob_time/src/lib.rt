@@ -6,6 +6,7 @@
 #![tactic(auto)]
 
 mod bounds;
+mod civil_days;
 mod clock;
 mod date;
 mod midnight;
@@ -13,6 +14,7 @@ mod moment;
 mod period;
 mod reader;
 
+pub use civil_days::CivilDays;
 pub use date::read_date;
 pub use moment::{read_second, second_text};
 pub use period::Period;

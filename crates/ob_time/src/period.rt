@@ -1,21 +1,22 @@
-//! A period of civil days in a zone.
-ghost use Rattle.std.specs.Prelude.{◌≡◌, ℕ, pos, ◌<◌, ◌+◌, ◌^◌, ◌+ℤ◌, ◌↔◌, Some, List, length, slice_get, codes, Err, IsSome, IfSome, IfNone, IfOk, IfErr, string_bytes};
-ghost use Rattle.std.specs.List.{count_by, sum_by};
+//! A period of civil days in a zone, from dates and zones of `jiff`.
+ghost use Rattle.std.specs.Prelude.{◌≡◌, ℕ, pos, ◌<◌, ◌+ℤ◌, ◌↔◌, List, codes, Err, IfSome, IfNone, IfOk, IfErr, string_bytes};
 ghost use Rattle.jiff.specs.Types.{Date as PlainDate, TimeZone as PlainZone};
 ghost use Rattle.jiff.specs.Words.{plain_zone, epoch_day};
 ghost use Rattle.ob_base.specs.Stop.{IsRefusedOrNoMemory, out_of_memory};
-ghost use Rattle.ob_time.specs.Calendar.{Calendar, IsCalendar, IsDayOn, IsInDay, IsInPeriod, PartSeconds, bound_of, calendar, day_at, day_count, day_on, days_of, end_second_of, first_second_of, holds, seconds_in};
+ghost use Rattle.ob_time.specs.Calendar.{Calendar, IsDayOn, day_count, day_on};
 ghost use Rattle.ob_time.specs.Dates.{day_text};
 ghost use Rattle.ob_time.specs.Moment.{IsDateText, IsTextOfDay};
 ghost use Rattle.ob_time.specs.Period.{HasNoPeriod, IsPeriod, IsPeriodText, IsZoneText};
 
-use crate::bounds::{bounds_up_to, day_bounds_from};
-use crate::date::read_date;
+use crate::bounds::day_bounds_from;
+use crate::civil_days::CivilDays;
+use crate::date::{read_date, text_of_day};
 use jiff::civil::Date;
 use jiff::tz::TimeZone;
-use ob_base::{Refusal, Second, Stop};
+use ob_base::{Refusal, Stop};
 use std::alloc::Global;
 use std::marker::Model;
+use std::ops::Deref;
 
 const BAD_PERIOD: Stop = Stop::Refused(Refusal::BadPeriod);
 
@@ -25,21 +26,29 @@ const MOST_DAYS: u16 = 366;
 // A period has fewer seconds than this.
 const TOO_LONG: u64 = 1 << 25;
 
-/// Whole civil days in a zone, one after another: 1 to 366, numbered from 0.
+/// A period: whole civil days in a zone, one after another, 1 to 366, numbered from 0.
+///
+/// What its days alone say is called on them, to which a period points; only what takes dates and
+/// zones stands here, so that a crate which takes `CivilDays` is built without `jiff`.
 #[derive(Drop)]
 pub struct Period {
-    first: Date,
-    // Where each day begins, and after them the second at which the last one ends.
-    bounds: Vec<Second>,
-    zone: Vec<u8>,
+    days: CivilDays,
 }
 
 impl Model for Period {
     ghost Value = { Calendar };
 
-    ghost view = { λ p. calendar (epoch_day p.first) p.bounds.items p.zone.items };
+    ghost view = { λ p. p.days };
+}
 
-    ghost invariant = { λ p. IsCalendar (calendar (epoch_day p.first) p.bounds.items p.zone.items) };
+impl Deref for Period {
+    type Target = CivilDays;
+
+    ghost deref_gives = { λ p days. days ≡ p };
+
+    fn deref(&self) -> &CivilDays {
+        &self.days
+    }
 }
 
 impl Period {
@@ -108,82 +117,10 @@ impl Period {
         }
         let bounds = Vec::from_slice(alloc, &bounds[..last + 1])?;
         let zone = Vec::from_slice(alloc, text)?;
+        let first_day = first.to_plain().to_unix_epoch_day();
         Ok(Period {
-            first,
-            bounds,
-            zone,
+            days: CivilDays::between(first_day, bounds, zone),
         })
-    }
-
-    /// The first second.
-    pub fn first_second(&self) -> Second
-        ensures value { result ≡ first_second_of self.now }
-        ensures kept { IsCalendar self.now }
-    {
-        self.bounds[0]
-    }
-
-    /// The second after the last one.
-    pub fn end_second(&self) -> Second
-        ensures value { result ≡ end_second_of self.now }
-        ensures kept { IsCalendar self.now }
-    {
-        self.bounds[self.bounds.len() - 1]
-    }
-
-    /// How many seconds there are, from 1 to 2^25 - 1.
-    #[tactic(auto, using(crate::proofs::PeriodLemmas::calendar_rises, crate::proofs::DayLemmas::days_add_up))]
-    pub fn length(&self) -> Second
-        ensures value { result + first_second_of self.now ≡ end_second_of self.now }
-        ensures positive { 0 < result }
-        ensures short { result < 2 ^ 25 }
-        ensures adds_up { result ≡ sum_by seconds_in (days_of self.now) }
-    {
-        self.end_second() - self.first_second()
-    }
-
-    /// How many days there are, from 1 to 366. They part the seconds of the period: each second
-    /// lies in exactly one of them.
-    pub fn days(&self) -> u16
-        ensures value { result ≡ day_count self.now }
-        ensures listed { result ≡ length (days_of self.now) }
-        ensures kept { IsCalendar self.now }
-        ensures parts { PartSeconds (first_second_of self.now) (end_second_of self.now)
-            (days_of self.now) }
-        ensures once { (s : ℕ) → IsInPeriod self.now s
-            → count_by (λ day. holds day s) (days_of self.now) ≡ 1 }
-    {
-        (self.bounds.len() - 1) as u16
-    }
-
-    /// The number of the day that holds the second, None outside the period.
-    pub fn day_of(&self, second: Second) -> Option<u16>
-        ensures inside { IsSome result ↔ IsInPeriod self.now second }
-        ensures found { IfSome result (λ k. IsInDay self.now k second) }
-        ensures only { IfSome result (λ k. (j : ℕ) → IsInDay self.now j second → j ≡ k) }
-        ensures none { IfNone result ((j : ℕ) → ¬ (IsInDay self.now j second)) }
-    {
-        if second < self.first_second() || self.end_second() <= second {
-            return None;
-        }
-        Some((bounds_up_to(&self.bounds, second) - 1) as u16)
-    }
-
-    /// The first second of a day, and the second after its last one; None where the period has no
-    /// day of that number.
-    pub fn day_bounds(&self, day: u16) -> Option<(Second, Second)>
-        ensures inside { IsSome result ↔ (day < day_count self.now) }
-        ensures begin { IfSome result (λ p. p.0 ≡ bound_of self.now day) }
-        ensures end { IfSome result (λ p. p.1 ≡ bound_of self.now (day + 1)) }
-        ensures rises { IfSome result (λ p. p.0 < p.1) }
-        ensures listed { IfSome result
-            (λ p. slice_get (days_of self.now) day ≡ Some (day_at self.now day)) }
-    {
-        if day >= self.days() {
-            return None;
-        }
-        let day = usize::from(day);
-        Some((self.bounds[day], self.bounds[day + 1]))
     }
 
     /// The number of the day with this date, None where the period has no such day.
@@ -192,11 +129,7 @@ impl Period {
         ensures found { IfSome result (λ k. IsDayOn self.now k (epoch_day date.now)) }
         ensures none { IfNone result ((k : ℕ) → ¬ (IsDayOn self.now k (epoch_day date.now))) }
     {
-        let day = self.first.to_plain().until(date.to_plain());
-        if day < 0 || day >= i32::from(self.days()) {
-            return None;
-        }
-        Some(day as u16)
+        self.days.index_of(date.to_plain().to_unix_epoch_day())
     }
 
     /// The date of a day, as `2024-03-11`; the error is that memory was refused.
@@ -212,16 +145,7 @@ impl Period {
             string_bytes t ≡ day_text (self.now.first_day +ℤ pos day)) }
         ensures errors { IfErr result (λ e. e ≡ out_of_memory) }
     {
-        let number = self.first.to_plain().days_since_min() + u32::from(day);
-        let date = Date::from_plain(jiff_core::civil::Date::from_days_since_min(number));
-        Ok(format!(in *self.bounds.allocator(); "{date}")?)
-    }
-
-    /// The text of the zone that `from_text` was given, and `-` after `new`.
-    pub fn zone_text(&self) -> &[u8]
-        ensures { result.now ≡ self.now.zone }
-    {
-        &self.zone
+        text_of_day(self.days.allocator(), self.days.day_number(day))
     }
 }
 

@@ -4,7 +4,7 @@ ghost use Rattle.ob_base.specs.Fields.{unix_second_in, until_in};
 ghost use Rattle.ob_rows.specs.RowFields.{fields_in};
 ghost use Rattle.ob_total.specs.Commands.{IsCommand, IsSpan, with_unused, span_end_in, span_of, cause_of, bus_of, section_of, device_of, other_node_in, connect_of, switch_of, kind_in, command_by, command_of};
 
-use ob_net::{
+use ob_base::{
     Crew, LAST_SECOND, Name, Pos, Ref, Refusal, Second, read_act, read_cause, read_feeder,
     read_normal, read_serial, read_unix_second, read_until,
 };

@@ -12,8 +12,9 @@ ghost use Rattle.ob_total.specs.Commands.{IsSpan};
 ghost use Rattle.ob_cust.specs.WithoutSupply.{is_without_supply, seconds_without_supply};
 
 use crate::command::Span;
+use ob_base::{Pos, Second, Stop};
 use ob_cust::{Customer, MOST_CUSTOMERS};
-use ob_net::{Net, Pos, Second, Stop};
+use ob_net::Net;
 use ob_sheet::Sheet;
 
 /// The customer-seconds without supply in a span, where `positions` are at first the normal ones.

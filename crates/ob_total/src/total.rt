@@ -14,8 +14,9 @@ ghost use Rattle.ob_total.specs.Worlds.{customer_seconds_of};
 
 use crate::command::{command_in, span_in};
 use crate::world::World;
-use ob_net::{Fault, Refusal, Retries, Stop, Watched, read_text, write_text};
+use ob_base::{Fault, Refusal, Stop};
 use ob_rows::{MOST_BYTES, MOST_ROWS, Row, RowReader};
+use ob_stream::{Retries, Watched, read_text, write_text};
 use std::alloc::{AllocError, Global};
 use std::io::{Read, Write};
 

@@ -3,8 +3,9 @@ ghost use Rattle.std.specs.Prelude.{◌≡◌};
 
 use crate::command::{Command, Span};
 use crate::count::count_seconds;
+use ob_base::{Crew, Name, Pos, Refusal, Second, Stop};
 use ob_cust::{Customer, Roll};
-use ob_net::{Crew, Name, Net, Pos, Refusal, Second, Stop};
+use ob_net::Net;
 use ob_sheet::{MOST_ENTRIES, Sheet};
 use std::alloc::Global;
 use std::marker::Model;

@@ -4,9 +4,10 @@
 //! closes it, and the jobs are functions over any keeper.
 use crate::desk::serve;
 use crate::ending::{audited, ended, imported};
+use ob_base::{Fault, Refusal, Stop};
 use ob_jobs::{run_audit, run_export, run_import, run_init, run_table};
-use ob_net::{Fault, Refusal, Stop, Watched};
 use ob_store::Keeper;
+use ob_stream::Watched;
 use ob_sweep::{Timeline, Windowed};
 use ob_time::Period;
 use ob_words::{Unfinished, Word};

@@ -1,7 +1,7 @@
 //! The job that serves a book over HTTP.
 use crate::tell_stop;
+use ob_base::{Fault, Stop};
 use ob_desk::{FaultLog, run_serve};
-use ob_net::{Fault, Stop};
 use ob_store::Keeper;
 use ob_sweep::Timeline;
 use sqlite::Alter;

@@ -1,5 +1,5 @@
 //! How a job on a book ended, for the program's status.
-use ob_net::{Refusal, Stop};
+use ob_base::{Refusal, Stop};
 use ob_tables::Table;
 use ob_words::Unfinished;
 

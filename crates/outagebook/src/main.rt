@@ -10,7 +10,8 @@ mod desk;
 mod ending;
 
 use crate::books::{Task, look_at_period, run_on_book};
-use ob_net::{Fault, Stop, Watched};
+use ob_base::{Fault, Stop};
+use ob_stream::Watched;
 pub use ob_total::{TotalStop, run_total};
 pub use ob_words::{Job, Unfinished, Word, WrongWords, complaint_of, read_words, status_of_run};
 use std::alloc::{AllocError, Global};

@@ -1,7 +1,7 @@
 use Rattle.std.proofs.Common.{Ok}
 use Rattle.ob_requests.specs.Reading.{message_of}
 use Rattle.ob_replies.specs.declared.reply.MediaType.TheVariants.{Json}
-use Rattle.ob_desk.proofs.AnswerLemmas.{answer-cause, any-written, unanswered, written-answered, written-cause, written-less}
+use Rattle.ob_desk.proofs.AnswerLemmas.{answer-cause, as-written, unanswered, written-answered, written-cause, written-less}
 use Rattle.ob_desk.proofs.StandLemmas.{kept-by, still-some}
 use Rattle.ob_desk.proofs.reply.reply_to.Goals as goal
 
@@ -25,8 +25,10 @@ returns-in-Ok-clause-cause g c = written-cause g.S.Store c.write_text.result c.w
 pub returns-in-Err-clause-unanswered : goal.returns-in-Err-clause-unanswered
 returns-in-Err-clause-unanswered g c =
     let called = c.in-Err.ensures in
-    unanswered g.S.Store _ _ c.args.keeper.now c.answer.new.keeper (message_of c.args.request.now) c.args.ends c.in-Err.fault
-    called.unopened called.faults called.answered (any-written c.write_text-in-Err.result _ _ _ (rw (c.empty_reply.ensures Json) at c.write_text-in-Err.ensures.whole) (rw (c.empty_reply.ensures Json) at c.write_text-in-Err.ensures.front))
+    unanswered g.S.Store c.write_text-in-Err.new.writer _ _ c.args.keeper.now c.answer.new.keeper (message_of c.args.request.now) c.args.ends c.in-Err.fault
+    called.unopened called.faults called.answered
+    (as-written c.write_text-in-Err.result c.write_text-in-Err.new.writer _ _ _ (rw (c.empty_reply.ensures Json) at c.write_text-in-Err.ensures.whole)
+    (rw (c.empty_reply.ensures Json) at c.write_text-in-Err.ensures.front) c.write_text-in-Err.ensures.fault)
 
 pub returns-in-Err-clause-cause : goal.returns-in-Err-clause-cause
 returns-in-Err-clause-cause g c =

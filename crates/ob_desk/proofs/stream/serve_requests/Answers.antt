@@ -16,7 +16,7 @@ pub returns-in_err-serve_turn-clause-fails : goal.returns-in_err-serve_turn-clau
 returns-in_err-serve_turn-clause-fails g c =
     let p = err_from_is_err_and c.from_residual.result c.from_residual.ensures.1 in
     rw (p.1, p.2)
-    (run-fails g.S.Store _ _ _ _ _ c.serve_turn.new.reader c.serve_turn.new.writer c.args.keeper.now c.requests.keeper c.serve_turn.new.keeper c.requests.allowed c.in_err-serve_turn.field-0.0
+    (run-fails g.S.Store _ _ _ _ _ _ c.serve_turn.new.reader c.serve_turn.new.writer c.args.keeper.now c.requests.keeper c.serve_turn.new.keeper c.requests.allowed c.in_err-serve_turn.field-0.0
     c.in_err-serve_turn.ensures.kept.clean c.requests.invariant.kept c.requests.invariant.run c.in_err-serve_turn.ensures.fails)
 
 pub returns-in-Closed-clause-serves : goal.returns-in-Closed-clause-serves

@@ -24,7 +24,7 @@ returns-clause-effect c = λ name feeder accepted.
     let is = subst (λ (s : BookValue). (section : Node) (entries : List Entry) (lists : List (List Run)) → IsSome section.feeder
     → AreRuns s.state.network entries (first_second_of s.state.period) (end_second_of s.state.period) lists
     → IsDelta (with_node s.state.network section) delta lists (λ v. runs_between v (history (with_node s.state.network section) entries v) (first_second_of s.state.period) (end_second_of s.state.period)))
-    c.state.view_is c.in_ok-delta.ensures.delta in
+    c.state.view_is (rw c.deref.ensures at c.in_ok-delta.ensures.delta) in
     let fits = subst (λ (s : BookValue). (lists : List (List Run)) → length s.state.network.nodes < length lists → Fits lists delta) c.state.view_is c.in_ok-delta.ensures.fits in
     record {
       moved = nothing_moved b (next b (Section name feeder)) c.new.result.items (same_amount b node c.accepted.ensures.sound.state.sections) c.new.ensures.items;

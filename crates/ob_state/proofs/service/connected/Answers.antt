@@ -33,7 +33,7 @@ moves-requires g c =
       small_new = connect_small b number name c.args.since c.args.until v c.total_laws.ensures.amounts c.accepted.ensures.sound.period c.accepted.ensures.sound.roll.few at fine;
       balances = connect_balance c.give_customer.new.posting b number name c.args.since c.args.until v c.roll_laws.ensures.connected at mine;
     } in
-    record { small = subst (λ (s : BookValue). IsOfSmall (day_count s.state.period) c.give_customer.new.posting) (sym c.state.view_is) ok }
+    rw c.deref.ensures (record { small = subst (λ (s : BookValue). IsOfSmall (day_count s.state.period) c.give_customer.new.posting) (sym c.state.view_is) ok })
 
 pub returns-clause-effect : goal.returns-clause-effect
 returns-clause-effect g c =
@@ -47,7 +47,7 @@ returns-clause-effect g c =
     let mine = rw (c.get.ensures.value, c.second.ensures.value, c.end_of.ensures) at given in
     let balances = connect_balance c.give_customer.new.posting b number name c.args.since c.args.until v c.roll_laws.ensures.connected at mine in
     let inside = subst (λ (s : BookValue). Balances (day_count s.state.period) c.give_customer.new.posting (amount b) (amount then)) (sym c.state.view_is) balances in
-    let moved = c.in_ok-moves.ensures.moves (amount b) (amount then) inside in
+    let moved = (rw c.deref.ensures at c.in_ok-moves.ensures.moves) (amount b) (amount then) inside in
     record {
       moved = moved ∙ ap (λ (s : BookValue). moves_by (change_from (amount b) (amount then)) (day_count s.state.period)) c.state.view_is;
       retiming = λ lists are. are;

@@ -26,7 +26,7 @@ returns-clause-given g c = λ old new bal.
     let hb : home_feeder b.network c.args.customer.section ≡ Some f = ap (λ (s : BookValue). home_feeder s.state.network c.args.customer.section) (sym c.state.view_is) ∙ sym c.feeder_of.ensures ∙ c.in-Some.is in
     let of : Dim → ℕ → ℕ = amount_of_runs b.entries roll (days_of b.period) f runs in
     let gives = subst (λ (s : BookValue). (o n : Dim → ℕ → ℕ) → Balances (day_count s.state.period) c.args.posting.now o n
-    → OnOk c.give.result (Balances (day_count s.state.period) c.give.new.self o (together n (amount_of_runs s.state.entries roll (days_of s.state.period) f runs)))) c.state.view_is c.give.ensures.given in
+    → OnOk c.give.result (Balances (day_count s.state.period) c.give.new.self o (together n (amount_of_runs s.state.entries roll (days_of s.state.period) f runs)))) c.state.view_is (rw c.deref.ensures at c.give.ensures.given) in
     on_ok_weaker c.give.result
     (λ h. balances_as (day_count b.period) c.give.new.self old (together new of) old (together new (amount_of_customer b c.args.customer))
     (λ dim key. refl)

@@ -62,7 +62,7 @@ moves-requires g c =
       small_new = revise_small b c.args.customer c.args.since c.args.until c.total_laws.ensures.amounts c.accepted.ensures.sound.period c.accepted.ensures.sound.roll.few;
       balances = revise_balance c.give_customer.new.posting b c.args.customer c.args.since c.args.until old c.roll_laws.ensures.changed c.accepted.ensures.sound.roll.rising found mine;
     } in
-    record { small = subst (λ (s : BookValue). IsOfSmall (day_count s.state.period) c.give_customer.new.posting) (sym c.state.view_is) ok }
+    rw c.deref.ensures (record { small = subst (λ (s : BookValue). IsOfSmall (day_count s.state.period) c.give_customer.new.posting) (sym c.state.view_is) ok })
 
 pub returns-clause-effect : goal.returns-clause-effect
 returns-clause-effect g c =
@@ -76,7 +76,7 @@ returns-clause-effect g c =
     let mine = rw (c.second.ensures.value, c.end_of.ensures) at given in
     let balances = revise_balance c.give_customer.new.posting b c.args.customer c.args.since c.args.until old c.roll_laws.ensures.changed c.accepted.ensures.sound.roll.rising found mine in
     let inside = subst (λ (s : BookValue). Balances (day_count s.state.period) c.give_customer.new.posting (amount b) (amount then)) (sym c.state.view_is) balances in
-    let moved = c.in_ok-moves.ensures.moves (amount b) (amount then) inside in
+    let moved = (rw c.deref.ensures at c.in_ok-moves.ensures.moves) (amount b) (amount then) inside in
     record {
       moved = moved ∙ ap (λ (s : BookValue). moves_by (change_from (amount b) (amount then)) (day_count s.state.period)) c.state.view_is;
       retiming = λ lists are. are;

@@ -26,7 +26,7 @@ returns-clause-taken g c = λ old new bal.
     let hb : home_feeder b.network c.args.customer.section ≡ Some f = ap (λ (s : BookValue). home_feeder s.state.network c.args.customer.section) (sym c.state.view_is) ∙ sym c.feeder_of.ensures ∙ c.in-Some.is in
     let of : Dim → ℕ → ℕ = amount_of_runs b.entries roll (days_of b.period) f runs in
     let gives = subst (λ (s : BookValue). (o n : Dim → ℕ → ℕ) → Balances (day_count s.state.period) c.args.posting.now o n
-    → OnOk c.take.result (Balances (day_count s.state.period) c.take.new.self (together o (amount_of_runs s.state.entries roll (days_of s.state.period) f runs)) n)) c.state.view_is c.take.ensures.taken in
+    → OnOk c.take.result (Balances (day_count s.state.period) c.take.new.self (together o (amount_of_runs s.state.entries roll (days_of s.state.period) f runs)) n)) c.state.view_is (rw c.deref.ensures at c.take.ensures.taken) in
     on_ok_weaker c.take.result
     (λ h. balances_as (day_count b.period) c.take.new.self (together old of) new (together old (amount_of_customer b c.args.customer)) new
     (λ dim key. ap (λ n. old dim key + n) (one_customer b c.args.customer (g.T.Timeline.content c.args.timeline.now) f roll runs dim key c.roll_laws.ensures.one c.requires.runs hb c.in_ok-roll.ensures.roll c.runs_of-runs.ensures.runs))

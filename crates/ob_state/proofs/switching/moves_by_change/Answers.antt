@@ -27,7 +27,7 @@ moves-requires g c =
         | else-gives_another_cause+in_ok-posting-2 w ↦ subst (λ p. Balances (day_count b.period) p (amount b) (amount after)) (sym w.posting-is) w.in_ok-posting-2.ensures.posted
       ];
     } in
-    record { small = subst (λ (s : BookValue). IsOfSmall (day_count s.state.period) posting) (sym c.state.view_is) ok }
+    rw c.deref.ensures (record { small = subst (λ (s : BookValue). IsOfSmall (day_count s.state.period) posting) (sym c.state.view_is) ok })
 
 pub returns-clause-moves : goal.returns-clause-moves
 returns-clause-moves g c =
@@ -41,4 +41,4 @@ returns-clause-moves g c =
     let inside = subst (λ (s : BookValue). Balances (day_count s.state.period) posting (amount b) (amount after)) (sym c.state.view_is) balances in
     IfOk-weaker c.moves.result _ _
     (λ m h. h ∙ ap (λ (s : BookValue). moves_by (change_from (amount b) (amount after)) (day_count s.state.period)) c.state.view_is)
-    (c.moves.ensures.moves (amount b) (amount after) inside)
+    ((rw c.deref.ensures at c.moves.ensures.moves) (amount b) (amount after) inside)

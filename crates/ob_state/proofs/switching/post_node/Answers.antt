@@ -66,7 +66,7 @@ returns-clause-posted g c = λ bal.
     let apart = isnt_among touched v c.binary_search.result c.touched.ensures.rising c.binary_search.ensures.position (sym c.is_ok.ensures.value ∙ c.if-is_ok.false) in
     let none : new_runs c.args.delta.now v ≡ None = untouched c.args.delta.now v (λ at. apart (subst (λ xs. Contains xs v) (sym c.touched.ensures.sections) at)) in
     let stays = c.requires.delta.others v (is_section (home_feeder b.network v) f hb) none in
-    let posts = subst (λ (s : BookValue). Relabels s.state s.state.entries (changed c.args.change.now s.state.entries) c.relabel.result c.args.posting.now c.relabel.new.self f c.runs_of-old.result.now) c.state.view_is c.relabel.ensures.posted in
+    let posts = subst (λ (s : BookValue). Relabels s.state s.state.entries (changed c.args.change.now s.state.entries) c.relabel.result c.args.posting.now c.relabel.new.self f c.runs_of-old.result.now) c.state.view_is (rw c.deref.ensures at c.relabel.ensures.posted) in
     on_ok_weaker c.relabel.result
     (λ h. changed_section c.relabel.new.self b entries (g.T.Timeline.content c.args.timeline.now) v f c.runs_of-old.result.now c.runs_of-old.result.now c.requires.runs hb c.runs_of-old.ensures.runs (c.runs_of-old.ensures.runs ∙ sym stays) h)
     (posts (amount_of_first b v) (amount_of_first (with_entries b entries) v) bal)

@@ -45,7 +45,7 @@ returns-clause-posted g c = λ old new bal.
     let hb : home_feeder b.network v ≡ Some f = ap (λ (s : BookValue). home_feeder s.state.network v) (sym c.state.view_is) ∙ sym c.feeder_of.ensures ∙ c.in-Some.is in
     let before : was ≡ runs_in b v = c.runs_of.ensures.runs ∙ c.requires.runs.defined v (is_section (home_feeder b.network v) f hb) in
     let after : is ≡ runs_in (with_entries b entries) v = (c.requires.delta.named v is c.runs.ensures.runs).0 in
-    let replaces = subst (λ (s : BookValue). Replaces s.state s.state.entries (changed c.args.change.now s.state.entries) c.replace.result c.args.posting.now c.replace.new.self f was is) c.state.view_is c.replace.ensures.posted in
+    let replaces = subst (λ (s : BookValue). Replaces s.state s.state.entries (changed c.args.change.now s.state.entries) c.replace.result c.args.posting.now c.replace.new.self f was is) c.state.view_is (rw c.deref.ensures at c.replace.ensures.posted) in
     on_ok_weaker c.replace.result
     (λ h. balances_as (day_count b.period) c.replace.new.self (together old (of b.entries was)) (together new (of entries is)) (together old (amount_of_node b v)) (together new (amount_of_node (with_entries b entries) v))
     (λ dim key. ap (λ n. old dim key + n) (section_amount b v f was hb before dim key))

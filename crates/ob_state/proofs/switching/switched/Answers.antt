@@ -17,19 +17,19 @@ use Rattle.ob_state.proofs.switching.switched.Goals as goal
 
 pub plan-requires-clause-between : goal.plan-requires-clause-between
 plan-requires-clause-between g c =
-    All-filter (λ (e : Entry). e.kept) (λ (e : Entry). (first_second_of c.state.inside.period ≤ e.second) × (e.second < end_second_of c.state.inside.period)) c.state.inside.sheet.entries c.state.invariant.between
+    rw c.deref.ensures (All-filter (λ (e : Entry). e.kept) (λ (e : Entry). (first_second_of c.state.inside.period ≤ e.second) × (e.second < end_second_of c.state.inside.period)) c.state.inside.sheet.entries c.state.invariant.between)
 
 pub plan-requires-clause-changed_between : goal.plan-requires-clause-changed_between
 plan-requires-clause-changed_between g c =
     let within = subst (λ (s : BookValue). All (λ (e : Entry). (first_second_of s.state.period ≤ e.second) × (e.second < end_second_of s.state.period)) (changed c.args.change.now s.state.entries)) (sym c.state.view_is) c.requires.changed.between in
-    All-filter (λ (e : Entry). e.kept) (λ (e : Entry). (first_second_of c.state.inside.period ≤ e.second) × (e.second < end_second_of c.state.inside.period)) (changed c.args.change.now c.state.inside.sheet.entries) within
+    rw c.deref.ensures (All-filter (λ (e : Entry). e.kept) (λ (e : Entry). (first_second_of c.state.inside.period ≤ e.second) × (e.second < end_second_of c.state.inside.period)) (changed c.args.change.now c.state.inside.sheet.entries) within)
 
 pub moves_by_change-requires-clause-delta : goal.moves_by_change-requires-clause-delta
 moves_by_change-requires-clause-delta g c =
     let i = c.state.inside in
     let entries = changed c.args.change.now i.sheet.entries in
     subst (λ (n : Network). IsDelta n c.in_ok-delta.delta (g.T.Timeline.content c.args.timeline.now) (λ v. runs_between v (history n entries v) (first_second_of i.period) (end_second_of i.period)))
-    (sym c.plan.ensures.network) c.in_ok-delta.ensures.delta
+    (sym c.plan.ensures.network) (rw c.deref.ensures at c.in_ok-delta.ensures.delta)
 
 pub returns-clause-effect : goal.returns-clause-effect
 returns-clause-effect g c =
@@ -40,7 +40,7 @@ returns-clause-effect g c =
     let lists = g.T.Timeline.content c.args.timeline.now in
     let at : Network → BookState = λ n. book_state i.period n i.causes i.roll.customers i.sheet.entries i.marks i.accepted in
     let is : IsDelta b.network delta lists (runs_in (with_entries b (changed change b.entries))) =
-    subst (λ (s : BookValue). IsDelta s.state.network delta lists (runs_in (with_entries s.state (changed change s.state.entries)))) c.state.view_is c.in_ok-delta.ensures.delta in
+    subst (λ (s : BookValue). IsDelta s.state.network delta lists (runs_in (with_entries s.state (changed change s.state.entries)))) c.state.view_is (rw c.deref.ensures at c.in_ok-delta.ensures.delta) in
     record {
       moved = c.in_ok-moves.ensures.moves
           ∙ ap (λ (n : Network). moves (at n) (with_entries (at n) (changed change i.sheet.entries))) c.plan.ensures.network

@@ -5,4 +5,4 @@ use Rattle.ob_state.proofs.state.State.build.Goals as goal
 
 pub build-requires-clause-between : goal.build-requires-clause-between
 build-requires-clause-between g c =
-    All-filter (λ e. e.kept) (λ e. (first_second_of c.self.inside.period ≤ e.second) × (e.second < end_second_of c.self.inside.period)) c.self.inside.sheet.entries c.self.invariant.between
+    rw c.deref.ensures (All-filter (λ e. e.kept) (λ e. (first_second_of c.self.inside.period ≤ e.second) × (e.second < end_second_of c.self.inside.period)) c.self.inside.sheet.entries c.self.invariant.between)

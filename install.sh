@@ -1,0 +1,52 @@
+#!/bin/sh
+# Installs the program, its tools, manual page, completions and pages under PREFIX (/usr/local).
+#
+#     ./install.sh [PREFIX]
+#
+# The program has to be built before; PROGRAM=FILE names another build of it. What is there is written over, nothing else
+# is touched. DESTDIR, where it is set, comes before PREFIX, for those who make packages.
+set -eu
+
+here=$(cd "$(dirname "$0")" && pwd)
+prefix=${1:-/usr/local}
+program=${PROGRAM:-$here/crates/outagebook/out/outagebook}
+to=${DESTDIR:-}$prefix
+
+if [ $# -gt 1 ] || [ "${prefix#/}" = "$prefix" ]; then
+    echo "usage: ./install.sh [PREFIX], a whole path" >&2
+    exit 64
+fi
+if [ ! -x "$program" ]; then
+    echo "install.sh: there is no program at $program: build it by (cd crates/outagebook && rt run -- --help)" >&2
+    exit 1
+fi
+
+put() { # MODE FILE PLACE
+    mkdir -p "$(dirname "$to/$3")"
+    cp "$2" "$to/$3.new"
+    chmod "$1" "$to/$3.new"
+    mv "$to/$3.new" "$to/$3"
+}
+
+put 755 "$program" bin/outagebook
+for module in clock tool charts; do
+    put 644 "$here/tools/$module.py" "lib/outagebook/$module.py"
+done
+for tool in book figures report years next_year commands from_oms; do
+    case $tool in
+        book) name=compare ;;
+        *) name=$(echo "$tool" | tr _ -) ;;
+    esac
+    put 755 "$here/tools/$tool.py" "lib/outagebook/$tool.py"
+    ln -sf "../lib/outagebook/$tool.py" "$to/bin/outagebook-$name"
+done
+put 644 "$here/tools/installed/outagebook.1" share/man/man1/outagebook.1
+put 644 "$here/tools/installed/outagebook.bash" share/bash-completion/completions/outagebook
+put 644 "$here/tools/installed/_outagebook" share/zsh/site-functions/_outagebook
+put 644 "$here/tools/installed/outagebook.fish" share/fish/vendor_completions.d/outagebook.fish
+put 644 "$here/examples/outagebook.service" share/doc/outagebook/examples/outagebook.service
+put 644 "$here/examples/nginx.conf" share/doc/outagebook/examples/nginx.conf
+for page in "$here"/docs/*.md; do
+    put 644 "$page" "share/doc/outagebook/$(basename "$page")"
+done
+echo "installed under $prefix"

@@ -1,0 +1,66 @@
+"""Makes the book files of the tools' tests: of each text the ten tables and the annual table by benches/model.py.
+
+    python3 tools/made_books.py FOLDER [--seeds N | --list FILE]
+
+The model acts commands and finds everything anew each time; the tools share nothing with it, so their tests compare two
+programs. FOLDER gets NAME.csv, NAME.db and NAME.table.txt of the sample fortnight, of the corrected one and of N random
+books, and prints the name, the period's first day, its days and the zone of each. It is a program of its own because
+the modules of benches/ have names that these here have too.
+"""
+
+import argparse
+import sqlite3
+import sys
+from contextlib import closing
+from pathlib import Path
+
+sys.path[0] = str(Path(__file__).resolve().parent.parent / "benches")
+
+from compare import texts  # noqa: E402
+from model import Book  # noqa: E402
+from plain_office import TABLES  # noqa: E402
+from state import Period  # noqa: E402
+
+
+def write_book(book, path):
+    """A book's rows in a new file with a write-ahead log, as the program leaves it."""
+    path.unlink(missing_ok=True)
+    with closing(sqlite3.connect(str(path))) as database:
+        database.execute("PRAGMA journal_mode = wal")
+        database.execute("PRAGMA synchronous = off")
+        database.executescript(TABLES)
+        for table, rows in book.tables().items():
+            for row in rows:
+                database.execute(f"INSERT INTO {table} VALUES ({', '.join('?' * len(row))})", row)
+        database.commit()
+
+
+def listed(path):
+    """The name, the period and the bytes of each text of a list."""
+    for line in path.read_text().splitlines():
+        text, *period = line.split()
+        yield Path(text).stem, period, Path(text).read_bytes()
+
+
+def main():
+    words = argparse.ArgumentParser(description="Makes the book files of the tools' tests.")
+    words.add_argument("folder", type=Path)
+    words.add_argument("--seeds", type=int, default=60)
+    words.add_argument(
+        "--list", type=Path, help="texts in place of these: lines of FILE, FIRST, DAYS and ZONE, by spaces"
+    )
+    words = words.parse_args()
+    for name, period, data in listed(words.list) if words.list else texts(words.seeds):
+        first, days, zone = period
+        book = Book(Period(first, int(days), zone))
+        book.import_text(data)
+        name = name.replace(" ", "-").replace(",", "")
+        (words.folder / f"{name}.csv").write_bytes(data)
+        write_book(book, words.folder / f"{name}.db")
+        lines = "".join(f"{line}\n" for line in book.table_lines())
+        (words.folder / f"{name}.table.txt").write_text(lines, encoding="ascii")
+        print(name, *period)
+
+
+if __name__ == "__main__":
+    main()

@@ -1,0 +1,118 @@
+"""For the tools' tests: books made by benches/model.py, in a folder that goes away when the tests end."""
+
+from __future__ import annotations
+
+import atexit
+import contextlib
+import os
+import shutil
+import subprocess
+import sys
+import tempfile
+from dataclasses import dataclass
+from functools import lru_cache
+from pathlib import Path
+from typing import Iterable, Iterator, List, Optional, Tuple
+
+from book import Checked, open_book
+
+TOOLS = Path(__file__).resolve().parent
+ROOT = TOOLS.parent
+EXAMPLES = ROOT / "examples"
+PROGRAM = Path(os.environ.get("OUTAGEBOOK", ROOT / "crates/outagebook/out/outagebook"))
+SEEDS = 60
+
+
+@dataclass(frozen=True)
+class Made:
+    """A made book: its file, its text, its annual table, its period as the model takes it."""
+
+    name: str
+    book: Path
+    text: Path
+    table: Path
+    period: Tuple[str, str, str]
+
+
+@lru_cache(maxsize=None)
+def folder() -> Path:
+    path = Path(tempfile.mkdtemp(prefix="outagebook-tests-"))
+    atexit.register(shutil.rmtree, path, ignore_errors=True)
+    return path
+
+
+def made(where: Path, *words: str) -> List[Made]:
+    """What made_books.py makes in a folder."""
+    where.mkdir(parents=True)
+    command = [sys.executable, str(TOOLS / "made_books.py"), str(where), *words]
+    lines = subprocess.run(command, check=True, capture_output=True, text=True).stdout.splitlines()
+    books = []
+    for line in lines:
+        name, *period = line.split()
+        books.append(
+            Made(name, where / f"{name}.db", where / f"{name}.csv", where / f"{name}.table.txt", tuple(period))
+        )
+    return books
+
+
+def edge_rows() -> Iterator[str]:
+    """A text with what random books seldom have: interruptions of exactly 300 and of 301 seconds, twelve of one customer,
+    several switchings in one second that come in either order."""
+    yield "kind,ref,f1,f2,f3,f4,f5,f6"
+    yield from ["cause,C1,1,WIND,,,,", "cause,C2,2,TREE,,,,", "section,N1,S1,1,,,,", "section,N2,S2,2,,,,"]
+    yield from ["device,D1,B1,GRID,S1,closed,,", "device,D2,B2,S1,S2,closed,,"]
+    yield from ["connect,P1,1,S1,0,,,", "connect,P2,2,S2,0,,,", "connect,P3,3,S2,1704100000,1704180000,,"]
+    said = [("B1", "open", 1_000, 1), ("B1", "close", 1_300, 1), ("B1", "open", 2_000, 1), ("B1", "close", 2_301, 1)]
+    for turn in range(11):
+        said += [("B2", "open", 10_000 + 1_000 * turn, 2), ("B2", "close", 10_400 + 1_000 * turn, 2)]
+    said += [("B2", "close", 40_000, 1), ("B2", "open", 40_000, 2), ("B2", "close", 41_000, 1)]
+    said += [
+        ("B2", "open", 50_000, 1),
+        ("B2", "close", 50_000, 1),
+        ("B2", "open", 50_000, 2),
+        ("B2", "close", 50_700, 1),
+    ]
+    said += [
+        ("B1", "open", 86_000, 1),
+        ("B1", "close", 90_000, 1),
+        ("B2", "open", 100_000, 2),
+        ("B2", "close", 100_300, 2),
+    ]
+    for number, (device, act, second, cause) in enumerate(said, 1):
+        yield f"switch,E{number},{device},{act},{1_704_067_200 + second},{cause},K1,"
+    yield "mark,M1,2024-01-02,ENG,,,,"
+
+
+@lru_cache(maxsize=None)
+def books() -> Tuple[Made, ...]:
+    """The sample fortnight, the corrected one, sixty random books, and one of what these seldom have."""
+    edges = folder() / "edges.csv"
+    edges.write_text("".join(f"{row}\n" for row in edge_rows()))
+    return (*made(folder() / "books", "--seeds", str(SEEDS)), *made_of("edges", [(edges, ("2024-01-01", "2", "UTC0"))]))
+
+
+@lru_cache(maxsize=None)
+def opened(made: Made) -> Checked:
+    """A made book, compared and kept open until the tests end."""
+    stack = contextlib.ExitStack()
+    atexit.register(stack.close)
+    return stack.enter_context(open_book(str(made.book), str(made.table)))
+
+
+def fortnight() -> Made:
+    return books()[0]
+
+
+def made_of(name: str, texts: Iterable[Tuple[Path, Tuple[str, str, str]]]) -> List[Made]:
+    """The books of some texts."""
+    listed = folder() / f"{name}.list"
+    listed.write_text("".join(f"{text} {' '.join(period)}\n" for text, period in texts))
+    return made(folder() / name, "--list", str(listed))
+
+
+def run_tool(tool: str, *words: object, table: Optional[Made] = None) -> subprocess.CompletedProcess:
+    """Runs a tool as a program; with the table of a made book."""
+    command = [sys.executable, str(TOOLS / f"{tool}.py"), *map(str, words)]
+    if table is not None:
+        command += ["--table", str(table.table)]
+    return subprocess.run(command, capture_output=True, text=True, check=False)

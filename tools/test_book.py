@@ -1,0 +1,311 @@
+"""The reader and the sweep against books made by another program, against worked outages, and against changed books."""
+
+import contextlib
+import random
+import shutil
+import sqlite3
+import subprocess
+import threading
+import unittest
+
+import book as tool
+import support
+from book import Block, Book, Device, Entry, Section, amounts_of, copy_of, interruptions_of, open_book, sweep
+from tool import BookError, Differs
+
+T = 1_704_067_200  # midnight of 1 January 2024 in UTC
+
+
+def changed(name, statement):
+    """A copy of the fortnight's book with a row changed."""
+    copy = support.folder() / f"{name}.db"
+    shutil.copyfile(support.fortnight().book, copy)
+    with contextlib.closing(sqlite3.connect(str(copy))) as database:
+        database.execute("PRAGMA synchronous = off")
+        database.execute(statement)
+        database.commit()
+    return copy
+
+
+def worked(entries, lives=None):
+    """A day's book: two customers on S1 and three on S2 of feeder 1, five on S3 of feeder 2."""
+    period = tool.period_of("2024-01-01", 1, "UTC0")
+    ends = [("I1", 0, 1, True), ("B1", 1, 2, True), ("W1", 2, 3, True), ("B2", 1, 4, True), ("T1", 3, 4, False)]
+    devices = [Device(n, name, a, b, is_closed) for n, (name, a, b, is_closed) in enumerate(ends)]
+    numbers = {device.name: device.number for device in devices}
+    for name, since, until in lives or []:
+        old = devices[numbers[name]] if name in numbers else Device(len(devices), name, 1, 2, True)
+        device = Device(old.number, name, old.a, old.b, old.is_closed, since, until)
+        devices[old.number : old.number + 1] = [device]
+    said = [
+        Entry(n, 1, numbers[name], act == "close", T + second, cause, "K1", True)
+        for n, (name, act, second, cause) in enumerate(entries, 1)
+    ]
+    return Book(
+        version=2,
+        period=period,
+        causes={0: "UNASSIGNED", 3: "STORM", 4: "PLANNED"},
+        nodes={0: "GRID", 1: "BUS-A", 2: "S1", 3: "S2", 4: "S3"},
+        sections={2: Section(2, "S1", 1), 3: Section(3, "S2", 1), 4: Section(4, "S3", 2)},
+        devices=tuple(devices),
+        blocks=tuple(Block(node, T, T + 86_400, count) for node, count in [(2, 2), (3, 3), (4, 5)]),
+        entries=tuple(said),
+        marks={},
+        postings={},
+    )
+
+
+def amounts(book):
+    """The amounts of a book that aren't 0, by dimension and key."""
+    return {key: amount for key, amount in amounts_of(book, interruptions_of(book, sweep(book))).items() if amount}
+
+
+OUTAGE = [("B1", "open", 3_600, 3), ("W1", "open", 4_200, 3), ("T1", "close", 4_200, 3), ("B1", "close", 7_200, 3)]
+
+
+class MadeBooks(unittest.TestCase):
+    def test_all_are_equal_to_the_model(self):
+        for made in support.books():
+            with self.subTest(made.name):
+                self.assertGreater(len(support.opened(made).table), 36)
+
+    @unittest.skipUnless(support.PROGRAM.exists(), "the program isn't built")
+    def test_all_are_equal_to_the_program(self):
+        for made in support.books():
+            path = support.folder() / f"program-{made.name}.db"
+            first, days, zone = made.period
+            words = ["--first", first, "--days", days, "--zone", zone]
+            subprocess.run([support.PROGRAM, "init", "--book", path, *words], check=True, capture_output=True)
+            subprocess.run([support.PROGRAM, "import", "--book", path, made.text], check=False, capture_output=True)
+            with self.subTest(made.name), open_book(str(path), program=str(support.PROGRAM)) as found:
+                self.assertEqual("\n".join(found.table) + "\n", made.table.read_text())
+
+
+class Worked(unittest.TestCase):
+    """Outages of which every figure is known."""
+
+    def test_an_outage_and_a_tie(self):
+        self.assertEqual(amounts(worked(OUTAGE)), {(1, 3): 9_000, (2, 1): 9_000, (3, 0): 9_000})
+
+    def test_two_openings_at_once(self):
+        said = [
+            ("B1", "open", 3_600, 3),
+            ("B2", "open", 3_600, 4),
+            ("B1", "close", 4_200, 3),
+            ("B2", "close", 4_200, 4),
+        ]
+        self.assertEqual(
+            amounts(worked(said)), {(1, 3): 3_000, (1, 4): 3_000, (2, 1): 3_000, (2, 2): 3_000, (3, 0): 6_000}
+        )
+
+    def test_what_opens_and_closes_in_one_second(self):
+        self.assertEqual(amounts(worked([("B2", "open", 3_600, 3), ("B2", "close", 3_600, 3)])), {})
+        self.assertEqual(amounts(worked([("B2", "close", 3_600, 3), ("B2", "open", 3_600, 3)]))[1, 3], 414_000)
+
+    def test_a_run_keeps_its_cutter(self):
+        said = [
+            ("B2", "open", 3_600, 3),
+            ("B2", "close", 4_000, 3),
+            ("B2", "open", 4_000, 4),
+            ("B2", "close", 5_000, 4),
+        ]
+        self.assertEqual(amounts(worked(said))[1, 3], 7_000)
+
+    def test_the_end_of_a_life_cuts_without_a_cause(self):
+        found = amounts(worked(OUTAGE, [("T1", 0, T + 6_000)]))
+        # S2 and S3 hang on the tie from 4,200 on: S2 is cut off by its end until the period's, since W1 stays open.
+        self.assertEqual(found, {(1, 0): 241_200, (1, 3): 9_000, (2, 1): 250_200, (3, 0): 250_200})
+
+    def test_a_device_that_comes_to_life_supplies(self):
+        found = amounts(worked(OUTAGE, [("X1", T + 5_000, None)]))
+        self.assertEqual(found, {(1, 3): 4_600, (2, 1): 4_600, (3, 0): 4_600})
+
+    def test_an_entry_after_the_end_of_a_life_moves_nothing(self):
+        life = [("B2", 0, T + 3_600)]
+        self.assertEqual(amounts(worked([], life)), {(1, 0): 414_000, (2, 2): 414_000, (3, 0): 414_000})
+        self.assertEqual(amounts(worked([("B2", "open", 3_600, 4)], life))[1, 0], 414_000)
+        self.assertEqual(
+            amounts(worked([("B2", "open", 3_599, 4)], life)), {(1, 4): 414_005, (2, 2): 414_005, (3, 0): 414_005}
+        )
+
+
+class Lives(unittest.TestCase):
+    def test_tables_of_version_2_are_read(self):
+        """The fortnight with whole lives has the fortnight's figures; a life that ends early has others."""
+        made = support.fortnight()
+        path = changed("lives", "UPDATE meta SET version = 2")
+        with contextlib.closing(sqlite3.connect(str(path))) as database:
+            database.execute(
+                "CREATE TABLE life (device INTEGER PRIMARY KEY, since INTEGER NOT NULL, until INTEGER) STRICT"
+            )
+            database.execute("INSERT INTO life SELECT id, 0, NULL FROM device")
+            database.commit()
+            with open_book(str(path), str(made.table)) as found:
+                self.assertEqual(found.book.version, 2)
+            database.execute("UPDATE life SET until = 1743000000 WHERE device = 6")
+            database.commit()
+        with self.assertRaises(Differs):
+            with open_book(str(path), str(made.table)):
+                pass
+
+    def test_a_life_for_each_device(self):
+        path = changed("no-lives", "UPDATE meta SET version = 2")
+        with self.assertRaises(BookError):
+            with open_book(str(path), str(support.fortnight().table)):
+                pass
+
+
+class Changed(unittest.TestCase):
+    """What differs is told with both values, and nothing is answered."""
+
+    def told(self, path, table=None):
+        done = support.run_tool("figures", path, "days", "--table", table or support.fortnight().table)
+        self.assertEqual((done.returncode, done.stdout), (2, ""))
+        return done.stderr
+
+    def test_a_posting(self):
+        path = changed("posting", "UPDATE posting SET amount = amount + 1 WHERE dim = 2 AND k = 1")
+        self.assertEqual(
+            self.told(path),
+            "differs: customer-seconds of feeder 1: found here 232530, in the book or its table 232531\n",
+        )
+
+    def test_a_posting_that_is_missing(self):
+        self.assertIn(
+            "of cause 63: found here 0, in the book or its table None",
+            self.told(changed("missing", "DELETE FROM posting WHERE dim = 1 AND k = 63")),
+        )
+
+    def test_rows_of_each_kind(self):
+        changes = [
+            "UPDATE entry SET second = second + 1 WHERE id = 7",
+            "UPDATE entry SET pos = 1 - pos WHERE id = 9",
+            "UPDATE entry SET cause = 1 WHERE id = 7",
+            "UPDATE entry SET kept = 0 WHERE id = 7",
+            "UPDATE customer SET section = 5 WHERE id = 10401",
+            "UPDATE customer SET since = 1743150000 WHERE id = 10401",
+            "UPDATE customer SET until = 1743600000 WHERE id = 10401",
+            "UPDATE device SET normal = 0 WHERE id = 4",
+            "UPDATE node SET feeder = 2 WHERE id = 3",
+            "DELETE FROM mark",
+            "INSERT INTO mark VALUES (3, 'E')",
+            "UPDATE cause SET name = 'WIND' WHERE code = 1",
+            "UPDATE meta SET days = 13",
+            "UPDATE meta SET zone = 'UTC0'",
+            "UPDATE meta SET day0 = '2025-03-25'",
+        ]
+        for number, change in enumerate(changes):
+            with self.subTest(change), self.assertRaises(Differs):
+                with open_book(str(changed(f"change-{number}", change)), str(support.fortnight().table)):
+                    pass
+
+    def test_each_line_of_the_table(self):
+        lines = support.fortnight().table.read_text().splitlines()
+        path = support.folder() / "line.txt"
+        book = str(support.fortnight().book)
+        for number, line in enumerate(lines):
+            other = line[:-1] + ("1" if line[-1] != "1" else "2")
+            path.write_text("\n".join([*lines[:number], other, *lines[number + 1 :]]))
+            with self.subTest(line), self.assertRaises(Differs):
+                with open_book(book, str(path)):
+                    pass
+            path.write_text("\n".join([*lines[:number], *lines[number + 1 :]]))
+            with self.subTest(f"without {line}"), self.assertRaises(Differs):
+                with open_book(book, str(path)):
+                    pass
+
+    def test_of_the_table_is_told_which(self):
+        path = support.folder() / "saidi.txt"
+        text = support.fortnight().table.read_text()
+        path.write_text(text.replace("9615505/62958 152.729", "9615506/62958 152.729"))
+        self.assertEqual(
+            self.told(support.fortnight().book, path),
+            "differs: SAIDI unmarked: found here "
+            "9615505/62958 152.729, in the book or its table 9615506/62958 152.729\n",
+        )
+
+
+class NoBooks(unittest.TestCase):
+    def test_they_are_told_in_plain_words(self):
+        here = support.folder()
+        (here / "text.db").write_text("kind,ref\n")
+        (here / "empty.db").write_bytes(b"")
+        (here / "begun.db").write_bytes(b"SQLite format 3\0")
+        (here / "short.db").write_bytes(b"SQLite format 3\0" + b"\2" * 40)
+        with contextlib.closing(sqlite3.connect(str(here / "other.db"))) as database:
+            database.execute("CREATE TABLE t (a)")
+        changed("version", "UPDATE meta SET version = 3")
+        for name in ["nowhere.db", "text.db", "empty.db", "begun.db", "short.db", "other.db", "version.db", "."]:
+            done = support.run_tool("book", here / name, table=support.fortnight())
+            self.assertEqual((done.returncode, done.stdout), (1, ""), name)
+            self.assertTrue(done.stderr.startswith("error: "), done.stderr)
+
+    def test_a_program_that_isnt_there(self):
+        done = support.run_tool("book", support.fortnight().book, "--program", "/nowhere/outagebook")
+        self.assertEqual((done.returncode, done.stdout), (1, ""))
+        self.assertIn("--table", done.stderr)
+
+    def test_wrong_words(self):
+        self.assertEqual(support.run_tool("book").returncode, 64)
+        self.assertEqual(support.run_tool("figures", "book.db", "weeks").returncode, 64)
+
+
+class AtWork(unittest.TestCase):
+    """A book that somebody else writes."""
+
+    def test_one_that_is_locked(self):
+        path = changed("locked", "DELETE FROM mark WHERE day = 0")
+        with contextlib.closing(sqlite3.connect(str(path), isolation_level=None)) as writer:
+            writer.execute("PRAGMA locking_mode = exclusive")
+            writer.execute("PRAGMA journal_mode = wal")
+            writer.execute("BEGIN IMMEDIATE")
+            writer.execute("UPDATE posting SET amount = 7 WHERE dim = 1 AND k = 1")  # half of a command
+            with open_book(str(path), str(support.fortnight().table)) as found:
+                self.assertEqual(len(found.interruptions), 22)
+            writer.execute("COMMIT")
+            with self.assertRaises(Differs):
+                with open_book(str(path), str(support.fortnight().table)):
+                    pass
+
+    def test_copies_are_of_one_commit(self):
+        """Each commit moves an amount between rows of many pages; no copy shows a part of one."""
+        path = support.folder() / "busy.db"
+        with contextlib.closing(sqlite3.connect(str(path))) as database:
+            database.execute("PRAGMA journal_mode = wal")
+            database.execute("CREATE TABLE amount (id INTEGER PRIMARY KEY, value INTEGER, filler TEXT)")
+            database.executemany("INSERT INTO amount VALUES (?, 100, ?)", ((n, "x" * 900) for n in range(200)))
+            database.commit()
+        enough = threading.Event()
+        writer = threading.Thread(target=write_until, args=(path, enough))
+        writer.start()
+        try:
+            for _ in range(25):
+                with copy_of(path) as copy, contextlib.closing(sqlite3.connect(str(copy))) as database:
+                    self.assertEqual(
+                        database.execute("SELECT sum(value), count(*) FROM amount").fetchone(), (20_000, 200)
+                    )
+                    self.assertEqual(database.execute("PRAGMA integrity_check").fetchone(), ("ok",))
+        finally:
+            enough.set()
+            writer.join()
+
+
+def write_until(path, enough):
+    """Commits one after another, with the log emptied now and then."""
+    rng = random.Random(1)
+    with contextlib.closing(sqlite3.connect(str(path), isolation_level=None)) as database:
+        database.execute("PRAGMA locking_mode = exclusive")
+        database.execute("PRAGMA synchronous = off")
+        database.execute("PRAGMA wal_autocheckpoint = 200")
+        while not enough.is_set():
+            database.execute("BEGIN")
+            for _ in range(3):
+                a, b = rng.sample(range(200), 2)
+                database.execute("UPDATE amount SET value = value - 1 WHERE id = ?", (a,))
+                database.execute("UPDATE amount SET value = value + 1 WHERE id = ?", (b,))
+            database.execute("COMMIT")
+            enough.wait(0.001)
+
+
+if __name__ == "__main__":
+    unittest.main()

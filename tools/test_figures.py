@@ -1,0 +1,213 @@
+"""Figures against what the tutorial tells of the fortnight, and against each other over the made books."""
+
+import contextlib
+import csv
+import io
+import json
+import unittest
+from fractions import Fraction
+from html.parser import HTMLParser
+
+import figures
+import support
+from book import SETS
+from report import page
+
+
+def rows_of(shown):
+    return [dict(zip(shown.columns, row)) for row in shown.rows]
+
+
+def fraction(text):
+    return Fraction(0) if text == "undefined" else Fraction(text)
+
+
+class Fortnight(unittest.TestCase):
+    """What docs/TUTORIAL.md says of the sample fortnight."""
+
+    def rows(self, name):
+        return rows_of(figures.FIGURES[name](support.opened(support.fortnight())))
+
+    def test_the_tree(self):
+        tree = [row for row in self.rows("interruptions") if row["cause_name"] == "TREE"]
+        self.assertEqual(
+            [(row["section"], row["seconds"], row["customers"]) for row in tree],
+            [("MILL-LANE", 11_390, 5), ("CHURCH-ROW", 1_880, 6), ("STATION-ROAD", 1_880, 5), ("QUARRY", 1_880, 2)],
+        )
+        self.assertEqual(sum(row["customer_seconds"] for row in tree), 81_390)
+        self.assertEqual({row["device"] for row in tree}, {"CB-1"})
+        self.assertEqual(tree[0]["since"], "2025-03-27T14:22:10+01:00")
+
+    def test_what_is_momentary(self):
+        momentary = [row for row in self.rows("interruptions") if row["class"] == "momentary"]
+        self.assertEqual(sum(row["customers"] for row in momentary), 16)
+
+    def test_days_in_both_readings(self):
+        days = {row["day"]: row for row in self.rows("days")}
+        # The quarry's outage began on the 29th at 23:30 and went on for 31,500 seconds: half an hour of it is that day's.
+        self.assertEqual(days["2025-03-29"]["customer_seconds"], 3_600)
+        self.assertEqual(days["2025-03-29"]["customer_seconds_begun"], 63_000)
+        self.assertEqual(days["2025-03-28"]["momentary_begun"], 13)
+        self.assertEqual(days["2025-03-30"]["seconds"], 82_800)
+        self.assertEqual((days["2025-03-30"]["marked"], days["2025-03-30"]["engineer"]), ("yes", "ENG-4"))
+
+    def test_late_work(self):
+        late = rows_of(figures.switchings(support.opened(support.fortnight()), late_alone=True))
+        self.assertEqual(
+            [(row["reference"], row["kind"]) for row in late],
+            [
+                ("LATE-0326-1", "late switch"),
+                ("LATE-0326-2", "late switch"),
+                ("COR-0402-1", "correct"),
+                ("WD-0403-1", "withdraw"),
+            ],
+        )
+
+    def test_indices_are_the_words_of_the_table(self):
+        lines = support.fortnight().table.read_text().splitlines()[-34:]
+        found = [
+            f"{row['index']:<10}{row['set']:<9}{row['value']} {row['decimal']}".rstrip() for row in self.rows("indices")
+        ]
+        self.assertEqual(found, lines)
+
+
+class Sums(unittest.TestCase):
+    """Parts add up to the whole, over all made books."""
+
+    def each(self):
+        for made in support.books():
+            with self.subTest(made.name):
+                yield support.opened(made)
+
+    def test_days_months_causes_feeders_sections(self):
+        for found in self.each():
+            counts, served, length = found.counts["all"], found.book.served_seconds(), found.book.period.length
+            saidi = fraction(figures_value(found, "SAIDI"))
+            days = rows_of(figures.days(found))
+            self.assertEqual(sum(fraction(row["daily_saidi"]) for row in days), saidi)
+            total = sum(row["customer_seconds"] for row in days)
+            causes = rows_of(figures.causes(found))
+            self.assertEqual(sum(row["customer_seconds"] for row in causes), total)
+            self.assertEqual(sum(fraction(row["saidi"]) for row in causes), saidi)
+            for name in ["months", "feeders", "sections"]:
+                rows = rows_of(figures.FIGURES[name](found))
+                self.assertEqual(sum(row["customer_seconds"] for row in rows), 2 * total)
+                for which in SETS:
+                    mine = [row for row in rows if row["set"] == which]
+                    self.assertEqual(sum(row["sustained"] for row in mine), found.counts[which].sustained)
+                    self.assertEqual(sum(row["momentary"] for row in mine), found.counts[which].momentary)
+                if name != "months":
+                    whole = [row for row in rows if row["set"] == "all"]
+                    customers = sum(fraction(row["customers_served"]) for row in whole)
+                    self.assertEqual(customers, Fraction(served, length))
+                    if served:
+                        parts = sum(fraction(row["saidi"]) * fraction(row["customers_served"]) for row in whole)
+                        self.assertEqual(parts / customers, saidi)
+            self.assertEqual(
+                sum(row["customers"] for row in rows_of(figures.interruptions(found))),
+                counts.sustained + counts.momentary,
+            )
+
+    def test_what_each_command_moved_adds_up(self):
+        for found in self.each():
+            moved = found.database.execute("SELECT ifnull(sum(delta), 0) FROM moved WHERE dim = 1").fetchone()[0]
+            total = sum(each.customer_seconds for each in found.interruptions)
+            self.assertEqual(moved, total)
+            kinds = "SELECT ifnull(sum(delta), 0) FROM moved JOIN cmd ON cmd.id = moved.cmd WHERE dim = 1 AND (body LIKE 'switch %'"
+            kinds += " OR body LIKE 'correct %' OR body LIKE 'withdraw %')"
+            works = rows_of(figures.switchings(found))
+            self.assertEqual(sum(row["moved"] for row in works), found.database.execute(kinds).fetchone()[0])
+
+
+def figures_value(found, index):
+    return next(row["value"] for row in rows_of(figures.indices(found)) if row["index"] == index)
+
+
+class Forms(unittest.TestCase):
+    def test_csv_json_and_text_say_the_same(self):
+        for name, figures_of in figures.FIGURES.items():
+            shown = figures_of(support.opened(support.fortnight()))
+            texts = [written(write, shown) for write in (figures.write_csv, figures.write_json, figures.write_text)]
+            rows = list(csv.DictReader(io.StringIO(texts[0])))
+            whole = json.loads(texts[1])
+            self.assertEqual([{key: str(value) for key, value in row.items()} for row in whole["rows"]], rows)
+            self.assertEqual(list(whole["columns"]), list(rows[0]))
+            self.assertEqual(len(texts[2].splitlines()), len(whole["about"]) + 1 + len(rows))
+
+    def test_the_words_choose_the_form(self):
+        made = support.fortnight()
+        for form, begin in [(["--csv"], "index,set,"), (["--json"], "{"), ([], "# ")]:
+            done = support.run_tool("figures", made.book, "indices", *form, table=made)
+            self.assertEqual((done.returncode, done.stdout[: len(begin)]), (0, begin))
+
+
+def written(write, shown):
+    """What a writer prints."""
+    out = io.StringIO()
+    with contextlib.redirect_stdout(out):
+        write(shown)
+    return out.getvalue()
+
+
+class Tags(HTMLParser):
+    """Whether each tag that opens is closed, in order."""
+
+    VOID = {"meta", "rect", "line", "path", "br"}
+
+    def __init__(self):
+        super().__init__()
+        self.open = []
+        self.seen = {}
+        self.text = []
+
+    def handle_starttag(self, tag, attrs):
+        self.seen[tag] = self.seen.get(tag, 0) + 1
+        if tag not in self.VOID:
+            self.open.append(tag)
+        for name, value in attrs:
+            if name in ("src", "href") or (value and "url(" in value):
+                raise AssertionError(f"{tag} {name}={value} leads outside")
+
+    def handle_startendtag(self, tag, attrs):
+        self.seen[tag] = self.seen.get(tag, 0) + 1
+
+    def handle_endtag(self, tag):
+        if self.open.pop() != tag:
+            raise AssertionError(f"{tag} closes another")
+
+    def handle_data(self, data):
+        self.text.append(data)
+
+
+class Page(unittest.TestCase):
+    def test_pages_are_whole_and_need_nothing(self):
+        for made in support.books():
+            with self.subTest(made.name):
+                text = page(support.opened(made), "The <utility> & sons")
+                tags = Tags()
+                tags.feed(text)
+                self.assertEqual(tags.open, [])
+                self.assertNotIn("script", tags.seen)
+                self.assertNotRegex(text, "https?:|@import|url\\(")
+                self.assertIn("The <utility> & sons", "".join(tags.text))
+
+    def test_the_indices_are_word_for_word_those_of_the_program(self):
+        made = support.fortnight()
+        text = page(support.opened(made), "Outage book")
+        for line in made.table.read_text().splitlines()[-34:]:
+            self.assertIn(f'<td class="code">{line[19:]}</td>', text)
+
+    def test_a_page_is_written_by_the_program_or_not_at_all(self):
+        made, out = support.fortnight(), support.folder() / "page.html"
+        self.assertEqual(support.run_tool("report", made.book, "-o", out, table=made).returncode, 0)
+        self.assertTrue(out.read_text(encoding="utf-8").startswith("<!DOCTYPE html>"))
+        out.unlink()
+        other = support.books()[1]
+        self.assertEqual(support.run_tool("report", made.book, "-o", out, table=other).returncode, 2)
+        self.assertFalse(out.exists())
+        done = support.run_tool("report", made.book, "-o", support.folder() / "nowhere/page.html", table=made)
+        self.assertEqual(done.returncode, 1)
+
+
+if __name__ == "__main__":
+    unittest.main()

@@ -1,0 +1,168 @@
+"""Random small networks whose devices have lives, over a minute of two days of half a minute: the sweep against the
+definitions, second by second and customer by customer."""
+
+import random
+import unittest
+from collections import Counter
+from datetime import date
+
+from book import (
+    CAUSE,
+    DAY,
+    FEEDER,
+    Block,
+    Book,
+    Device,
+    Entry,
+    Period,
+    Section,
+    amounts_of,
+    counts_of,
+    interruptions_of,
+    sweep,
+)
+from clock import Zone
+
+FIRST, END = 1_000, 1_060
+PERIOD = Period(Zone("UTC0"), (date(1970, 1, 1), date(1970, 1, 2)), (FIRST, FIRST + 30, END))
+BOOKS = 500
+
+
+def drawn(seed):
+    """A book from a seed."""
+    rng = random.Random(f"lives {seed}")
+    second = lambda: rng.choice([FIRST, FIRST + 1, END - 1, rng.randrange(FIRST, END), rng.randrange(FIRST, END)])
+    nodes = rng.randint(2, 6)
+    devices = []
+    for number in range(rng.randint(1, 8)):
+        a, b = rng.sample(range(nodes), 2)
+        since, until = rng.choice(
+            [(0, None), (0, None), (0, second() + 1), (second(), None), (FIRST + 5, second() + 10)]
+        )
+        devices.append(
+            Device(number, f"D{number}", a, b, rng.random() < 0.7, since, max(until, since + 1) if until else None)
+        )
+    entries = tuple(
+        Entry(
+            number,
+            1,
+            rng.randrange(len(devices)),
+            rng.random() < 0.45,
+            second(),
+            rng.randint(1, 3),
+            "K",
+            rng.random() < 0.9,
+        )
+        for number in range(1, rng.randint(1, 14))
+    )
+    sections = {node: Section(node, f"S{node}", rng.randint(1, 2)) for node in range(1, nodes) if rng.random() < 0.8}
+    services = Counter()
+    for node in sections:
+        for _ in range(rng.randint(0, 3)):
+            since = rng.choice([FIRST, FIRST, second()])
+            until = rng.choice([END, END, max(since + 1, second())])
+            services[node, since, until] += rng.randint(1, 3)
+    return Book(
+        version=2,
+        period=PERIOD,
+        causes={0: "UNASSIGNED", 1: "A", 2: "B", 3: "C"},
+        nodes={node: f"N{node}" for node in range(nodes)},
+        sections=sections,
+        devices=tuple(devices),
+        blocks=tuple(Block(*service, count) for service, count in sorted(services.items())),
+        entries=entries,
+        marks={1: "E"} if rng.random() < 0.5 else {},
+        postings={},
+    )
+
+
+def supplied(book, entries, moment):
+    """The nodes that a walk of closed devices joins to GRID under some entries at a moment."""
+    closed = []
+    for device in book.devices:
+        mine = [entry for entry in entries if entry.device == device.number]
+        last = max(mine, key=lambda entry: (entry.second, entry.number), default=None)
+        if device.is_alive(moment) and (last.closes if last else device.is_closed):
+            closed.append({device.a, device.b})
+    reached = {0}
+    while any(len(ends & reached) == 1 for ends in closed):
+        reached |= next(ends for ends in closed if len(ends & reached) == 1)
+    return reached
+
+
+def upto(book, second):
+    return [entry for entry in book.entries if entry.is_kept and entry.second <= second]
+
+
+def cutter(book, section, begin):
+    """The last entry of a run's first second before which the section is supplied and after which it isn't."""
+    taken, found = upto(book, begin - 1), None
+    for entry in sorted(upto(book, begin), key=lambda entry: entry.number):
+        if entry.second == begin:
+            was = section in supplied(book, taken, begin)
+            taken = [*taken, entry]
+            if was and section not in supplied(book, taken, begin):
+                found = entry
+    return found
+
+
+def runs_of(book):
+    """The runs of all sections by their definition: section, since, until, cutter."""
+    at = {second: supplied(book, upto(book, second), second) for second in range(FIRST, END)}
+    for section in book.sections:
+        dark = [second for second in range(FIRST, END) if section not in at[second]]
+        begins = [second for second in dark if second - 1 not in dark]
+        ends = [second + 1 for second in dark if second + 1 not in dark]
+        for begin, end in zip(begins, ends):
+            yield section, begin, end, cutter(book, section, begin)
+
+
+class Lives(unittest.TestCase):
+    def test_the_sweep_is_the_definition(self):
+        kinds = Counter()
+        for seed in range(BOOKS):
+            book = drawn(seed)
+            wanted = sorted(runs_of(book), key=lambda run: (run[1], run[0]))
+            runs = sweep(book)
+            with self.subTest(seed=seed):
+                self.assertEqual([(run.section, run.since, run.until, run.cutter) for run in runs], wanted)
+                self.check_amounts(book, wanted, runs)
+                self.check_counts(book, wanted, runs)
+            kinds.update(
+                "cut" if run[3] else "from the first second" if run[1] == FIRST else "by a life" for run in wanted
+            )
+        self.assertGreater(min(kinds["cut"], kinds["by a life"], kinds["from the first second"]), 30, kinds)
+
+    def check_amounts(self, book, wanted, runs):
+        """One for each second and each customer in service without supply."""
+        amounts = Counter()
+        for section, since, until, entry in wanted:
+            for second in range(since, until):
+                customers = sum(
+                    block.customers
+                    for block in book.blocks
+                    if block.section == section and block.since <= second < block.until
+                )
+                amounts[CAUSE, entry.cause if entry else 0] += customers
+                amounts[FEEDER, book.sections[section].feeder] += customers
+                amounts[DAY, 0 if second < FIRST + 30 else 1] += customers
+        found = amounts_of(book, interruptions_of(book, runs))
+        self.assertEqual(
+            {key: amount for key, amount in found.items() if amount}, {k: a for k, a in amounts.items() if a}
+        )
+
+    def check_counts(self, book, wanted, runs):
+        """All interruptions here are momentary: their number, and that of those that don't begin on the marked day."""
+        number = unmarked = 0
+        for block in book.blocks:
+            for section, since, until, _ in wanted:
+                begin = max(since, block.since)
+                if section == block.section and begin < min(until, block.until):
+                    number += block.customers
+                    unmarked += block.customers if not (book.marks and begin >= FIRST + 30) else 0
+        counts = [counts_of(book, runs, name) for name in (False, True)]
+        self.assertEqual([(each.momentary, each.sustained) for each in counts], [(number, 0), (unmarked, 0)])
+
+
+if __name__ == "__main__":
+    unittest.main()
