@@ -53,7 +53,7 @@ module _ {R : Type 0} (h : Ghosts R) (keeper new : KeeperValue R) (Is : ActState
   not_refused Sealed loaded = loaded
   not_refused OutOfPeriod loaded = loaded
   not_refused UnknownEntry loaded = loaded
-  not_refused Stale loaded = loaded
+  not_refused (Stale revision) loaded = loaded
   not_refused Withdrawn loaded = loaded
   not_refused UnknownCustomer loaded = loaded
   not_refused BadService loaded = loaded
