@@ -8,7 +8,7 @@ ghost use Rattle.ob_tables.specs.Rows.{Tables};
 ghost use Rattle.ob_commit.specs.Acts.{CanWrite, NeedsRows, with_act};
 ghost use Rattle.ob_commit.specs.Keeps.{Keeps, KeepsEither, LeavesChanged};
 
-use crate::change::{Change, write_change};
+use crate::change::{RowChange, write_change};
 use crate::moves::write_moves;
 use ob_base::{Fault, Stop};
 use ob_post::{Moved, Postings};
@@ -25,7 +25,7 @@ pub struct Act<'t> {
     /// Its body text.
     pub body: &'t [u8],
     /// What it does to a row beside its own and those of its amounts.
-    pub change: Change<'t>,
+    pub change: RowChange<'t>,
     /// The amounts that it moves.
     pub moves: &'t [Moved],
 }

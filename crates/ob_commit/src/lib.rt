@@ -19,7 +19,7 @@ mod stored;
 mod writing;
 
 pub use act::{Act, commit_act, write_act};
-pub use change::{Change, write_change};
+pub use change::{RowChange, write_change};
 pub use creation::commit_new;
 pub use known::{Known, look_up};
 pub use moves::{write_move, write_moves};
