@@ -31,7 +31,7 @@ pub struct Act<'t> {
 }
 
 /// Writes the rows of an accepted command: the one that it changes, its own, and those of the amounts that it moves.
-pub fn write_act<S: Alter>(
+pub(crate) fn write_act<S: Alter>(
     tx: &mut Transaction<'_, S>,
     act: &Act<'_>,
     postings: &Postings,
