@@ -82,7 +82,10 @@ pub enum RowChange<'t> {
 }
 
 /// Makes the change of the row.
-pub(crate) fn write_change<S: Alter>(tx: &mut Transaction<'_, S>, change: &RowChange<'_>) -> Result<(), Stop>
+pub(crate) fn write_change<S: Alter>(
+    tx: &mut Transaction<'_, S>,
+    change: &RowChange<'_>,
+) -> Result<(), Stop>
     requires small { HasSmallSeconds change.now }
     ensures { Changes S.Store tx.old.conn tx.new.conn result
         (NeedsRow change.now) (changed_by change.now) }

@@ -235,7 +235,11 @@ fn entry_corrected<'t, T: Timeline>(
     }
 }
 
-fn entry_withdrawn<'t, T: Timeline>(book: &Book<T>, entry: Serial, revision: Serial) -> RowChange<'t>
+fn entry_withdrawn<'t, T: Timeline>(
+    book: &Book<T>,
+    entry: Serial,
+    revision: Serial,
+) -> RowChange<'t>
     requires accepted { refusal book.now.state (Withdraw entry revision) ≡ None }
     ensures { LeadsParts book.now.state (next book.now.state (Withdraw entry revision)) result }
 {
