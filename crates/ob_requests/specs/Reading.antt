@@ -49,6 +49,20 @@ message_of r = record { method = r.method; target = string_bytes r.target; body 
 abbrev pub AfterHead : Option (List ℕ) → (Framing → Type 0) → Type 0
 AfterHead had P = (framing : Framing) × (target : List ℕ) × (left : Option (List ℕ)) × StartsKnown had framing target left × P framing
 
+-- the reader gave fewer bytes than a body of this length has
+abbrev pub StopsInBody : Option (List ℕ) → Option (List ℕ) → ℕ → Type 0
+StopsInBody had left size = (gave : List ℕ) × Consumes had left gave × (length gave < size)
+
+-- the reader gave no whole request: bytes of a head, or a head and less than its body
+abbrev pub StopsInRequest : Option (List ℕ) → Option (List ℕ) → Type 0
+StopsInRequest had left =
+    StopsInHead had left
+    ⊎ ((framing : Framing) × (target : List ℕ) × (after : Option (List ℕ)) × StartsKnown had framing target after × StopsInBody after left framing.length)
+
+-- a head was taken, and nothing of its body
+abbrev pub TakesHeadAlone : Option (List ℕ) → Option (List ℕ) → Type 0
+TakesHeadAlone had left = (framing : Framing) × (target : List ℕ) × StartsKnown had framing target left
+
 -- nothing was written, or the interim reply that the head waits for
 abbrev pub WritesInterim : Option (List ℕ) → Option (List ℕ) → Option (List ℕ) → Type 0
 WritesInterim had wrote writes = Keeps wrote writes ⊎ AfterHead had (λ framing. Appends wrote writes (interim_text framing.waits))

@@ -1,9 +1,9 @@
 //! Reading a body whose length is known.
-ghost use Rattle.std.specs.Prelude.{◌≡◌, ◌<◌, ◌≤◌, length, true, false, Ok, OnOk, IfOk, IfErr, vec_len};
+ghost use Rattle.std.specs.Prelude.{◌≡◌, ◌<◌, ◌≤◌, length, true, false, Ok, Err, OnOk, IfOk, IfErr, vec_len};
 ghost use Rattle.std.specs.Io.KnownBytes.{IsAtEnd};
 ghost use Rattle.ob_stream.specs.Watching.{watched_bytes};
 ghost use Rattle.ob_requests.specs.Unread.{unread, ReadsMore, IsReadFault};
-ghost use Rattle.ob_requests.specs.Reading.{TakesBody};
+ghost use Rattle.ob_requests.specs.Reading.{StopsInBody, TakesBody};
 
 use crate::ahead::{Ahead, PIECE, take_front};
 use ob_base::Fault;
@@ -24,6 +24,8 @@ fn fill_body<R: Read>(
         body.old.items body.new.items) }
     ensures cut { result ≡ Ok false → (vec_len body.new < size) × IsAtEnd (watched_bytes R.remaining reader.new) }
     ensures fault { IfErr result (IsReadFault reader.new) }
+    ensures failed { result ≡ Err Fault.Input → (vec_len body.new < size) × ReadsMore (watched_bytes R.remaining reader.old)
+        (watched_bytes R.remaining reader.new) body.old.items body.new.items }
 {
     let mut piece = [0u8; PIECE];
     'pieces: while body.len() < size {
@@ -51,6 +53,8 @@ fn body_over<R: Read>(
         (unread ahead.new.items (watched_bytes R.remaining reader.new)) size) }
     ensures bound { vec_len ahead.new ≤ vec_len ahead.old }
     ensures fault { IfErr result (IsReadFault reader.new) }
+    ensures failed { result ≡ Err Fault.Input
+        → StopsInBody (unread ahead.old.items (watched_bytes R.remaining reader.old)) (watched_bytes R.remaining reader.new) size }
 {
     let front = ahead.len().min(size);
     let mut body = take_front(alloc, ahead, front)?;
@@ -72,6 +76,8 @@ pub fn read_body<R: Read>(
     ensures body { IfOk result (TakesBody (unread ahead.old (watched_bytes R.remaining reader.old))
         (unread ahead.new (watched_bytes R.remaining reader.new)) size) }
     ensures fault { IfErr result (IsReadFault reader.new) }
+    ensures failed { result ≡ Err Fault.Input
+        → StopsInBody (unread ahead.old (watched_bytes R.remaining reader.old)) (watched_bytes R.remaining reader.new) size }
 {
     body_over(alloc, reader, retries, &mut ahead.bytes, size)
 }

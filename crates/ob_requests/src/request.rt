@@ -1,11 +1,11 @@
 //! Whole requests.
-ghost use Rattle.std.specs.Prelude.{◌≡◌, OnOk, IfOk, IfErr, string_bytes};
+ghost use Rattle.std.specs.Prelude.{◌≡◌, Err, OnOk, IfOk, IfErr, string_bytes};
 ghost use Rattle.std.specs.Io.KnownBytes.{Appends};
 ghost use Rattle.ob_stream.specs.Streams.{AppendsFront};
 ghost use Rattle.ob_stream.specs.Watching.{HasJustFailed, watched_bytes};
 ghost use Rattle.ob_requests.specs.Continue.{interim_text};
 ghost use Rattle.ob_requests.specs.Unread.{unread};
-ghost use Rattle.ob_requests.specs.Reading.{Reads, Stops};
+ghost use Rattle.ob_requests.specs.Reading.{Reads, Stops, StopsInRequest, TakesHeadAlone};
 
 use crate::ahead::Ahead;
 use crate::body::read_body;
@@ -89,6 +89,10 @@ pub fn read_request<R: Read, W: Write>(
         (watched_bytes W.contents writer.old) (watched_bytes W.contents writer.new)) }
     ensures fault { IfErr result (Stops (unread ahead.old (watched_bytes R.remaining reader.old)) (watched_bytes R.remaining reader.new)
         (watched_bytes W.contents writer.old) (watched_bytes W.contents writer.new) reader.new writer.new) }
+    ensures failed { result ≡ Err Fault.Input
+        → StopsInRequest (unread ahead.old (watched_bytes R.remaining reader.old)) (watched_bytes R.remaining reader.new) }
+    ensures unsent { result ≡ Err Fault.Output
+        → TakesHeadAlone (unread ahead.old (watched_bytes R.remaining reader.old)) (unread ahead.new (watched_bytes R.remaining reader.new)) }
 {
     let (framing, target) = match read_start(alloc, reader, retries, ahead)? {
         Start::Head(framing, target) => (framing, target),
