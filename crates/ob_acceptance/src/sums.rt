@@ -35,6 +35,7 @@ fn add_run(
 /// The amounts of all sections' runs.
 pub fn by_runs(alloc: Global, made: &mut Made) -> Result<Vec<Moved>, Fail> {
     let scratch = Scratch::build(alloc, &mut made.net, &made.sheet, &made.period)?;
+    let made = &*made;
     let mut rows = Vec::new(alloc);
     for section in 0..made.net.nodes() {
         let feeder = made.net.feeder_of(section).unwrap_or(0);

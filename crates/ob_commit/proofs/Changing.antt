@@ -6,9 +6,9 @@ use Rattle.sqlite_trees.specs.declared.store.Store.{Ghosts}
 use Rattle.sqlite.specs.Held.{Held}
 use Rattle.ob_base.specs.declared.stop.Stop.{Stop}
 use Rattle.ob_tables.specs.Steps.{Changes}
-use Rattle.ob_commit.specs.declared.change.Change.{Change}
+use Rattle.ob_commit.specs.declared.change.RowChange.{RowChange}
 use Rattle.ob_commit.specs.Changing.{NeedsRow, changed_by}
 
-pub changes_as : {S X : Type 0} (g : Ghosts S) (old new : MutBor (Held S)) (result : Result X Stop) (x y : Change) → x ≡ y
+pub changes_as : {S X : Type 0} (g : Ghosts S) (old new : MutBor (Held S)) (result : Result X Stop) (x y : RowChange) → x ≡ y
     → Changes g old new result (NeedsRow y) (changed_by y) → Changes g old new result (NeedsRow x) (changed_by x)
 changes_as g old new result x y same = subst (λ it. Changes g old new result (NeedsRow it) (changed_by it)) (sym same)

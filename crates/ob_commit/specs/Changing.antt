@@ -4,12 +4,12 @@ use Rattle.ob_tables.specs.Rows.{Tables, Always, HasCustomer, HasEntry, HasMark,
 use Rattle.ob_tables.specs.Rows.{cause_row, node_row, device_row, customer_row, entry_row, mark_row}
 use Rattle.ob_tables.specs.Rows.{serve, correct, withdraw}
 use Rattle.ob_tables.specs.declared.table.Table.TheVariants.{Cause, Node, Device, Customer, Entry, Mark}
-use Rattle.ob_commit.specs.declared.change.Change.{Change}
-use Rattle.ob_commit.specs.declared.change.Change.TheVariants.{AddCause, AddNode, AddDevice, AddCustomer, SetService}
-use Rattle.ob_commit.specs.declared.change.Change.TheVariants.{AddEntry, CorrectEntry, WithdrawEntry, AddMark, DropMark}
+use Rattle.ob_commit.specs.declared.change.RowChange.{RowChange}
+use Rattle.ob_commit.specs.declared.change.RowChange.TheVariants.{AddCause, AddNode, AddDevice, AddCustomer, SetService}
+use Rattle.ob_commit.specs.declared.change.RowChange.TheVariants.{AddEntry, CorrectEntry, WithdrawEntry, AddMark, DropMark}
 
 -- its seconds are small enough for a column
-abbrev pub HasSmallSeconds : Change → Type 0
+abbrev pub HasSmallSeconds : RowChange → Type 0
 HasSmallSeconds (AddCause code name) = ⊤
 HasSmallSeconds (AddNode id name kind feeder) = ⊤
 HasSmallSeconds (AddDevice id name a b normal) = ⊤
@@ -22,7 +22,7 @@ HasSmallSeconds (AddMark day engineer) = ⊤
 HasSmallSeconds (DropMark day) = ⊤
 
 -- the row that it writes anew or takes off is there
-abbrev pub NeedsRow : Change → Tables → Type 0
+abbrev pub NeedsRow : RowChange → Tables → Type 0
 NeedsRow (AddCause code name) = Always
 NeedsRow (AddNode id name kind feeder) = Always
 NeedsRow (AddDevice id name a b normal) = Always
@@ -35,7 +35,7 @@ NeedsRow (AddMark day engineer) = Always
 NeedsRow (DropMark day) = HasMark day
 
 -- the tables once it is made
-abbrev pub changed_by : Change → Tables → Tables
+abbrev pub changed_by : RowChange → Tables → Tables
 changed_by (AddCause code name) = with_row Cause (cause_row code name.now)
 changed_by (AddNode id name kind feeder) = with_row Node (node_row id name.now kind feeder)
 changed_by (AddDevice id name a b normal) = with_row Device (device_row id name.now a b normal)

@@ -8,7 +8,7 @@ ghost use Rattle.ob_tables.specs.Rows.{Tables};
 ghost use Rattle.ob_commit.specs.Acts.{CanWrite, NeedsRows, with_act};
 ghost use Rattle.ob_commit.specs.Keeps.{Keeps, KeepsEither, LeavesChanged};
 
-use crate::change::{Change, write_change};
+use crate::change::{RowChange, write_change};
 use crate::moves::write_moves;
 use ob_base::{Fault, Stop};
 use ob_post::{Moved, Postings};
@@ -25,13 +25,13 @@ pub struct Act<'t> {
     /// Its body text.
     pub body: &'t [u8],
     /// What it does to a row beside its own and those of its amounts.
-    pub change: Change<'t>,
+    pub change: RowChange<'t>,
     /// The amounts that it moves.
     pub moves: &'t [Moved],
 }
 
 /// Writes the rows of an accepted command: the one that it changes, its own, and those of the amounts that it moves.
-pub fn write_act<S: Alter>(
+pub(crate) fn write_act<S: Alter>(
     tx: &mut Transaction<'_, S>,
     act: &Act<'_>,
     postings: &Postings,
@@ -66,6 +66,8 @@ pub fn commit_act<S: Alter>(
     ensures survives { Survives (state S.Store conn.old) (state S.Store conn.new)
         (LeavesChanged (state S.Store conn.old) (NeedsRows postings.now act.now) (with_act postings.now act.now)) }
 {
+    // what is open is a whole database
+    let _schema = conn.schema();
     let mut tx = conn.transaction();
     write_act(&mut tx, act, postings)?;
     match tx.commit() {

@@ -13,7 +13,7 @@ use sqlite::{Alter, Transaction};
 /// What a command does to one row, in plain numbers and bytes. Seconds are Unix seconds, and `until` is None for
 /// without end.
 #[derive(Clone, Copy)]
-pub enum Change<'t> {
+pub enum RowChange<'t> {
     /// Adds a cause.
     AddCause {
         code: u32,
@@ -82,34 +82,37 @@ pub enum Change<'t> {
 }
 
 /// Makes the change of the row.
-pub fn write_change<S: Alter>(tx: &mut Transaction<'_, S>, change: &Change<'_>) -> Result<(), Stop>
+pub(crate) fn write_change<S: Alter>(
+    tx: &mut Transaction<'_, S>,
+    change: &RowChange<'_>,
+) -> Result<(), Stop>
     requires small { HasSmallSeconds change.now }
     ensures { Changes S.Store tx.old.conn tx.new.conn result
         (NeedsRow change.now) (changed_by change.now) }
 {
     match *change {
-        Change::AddCause { code, name } => add_cause(tx, code, name),
-        Change::AddNode {
+        RowChange::AddCause { code, name } => add_cause(tx, code, name),
+        RowChange::AddNode {
             no,
             name,
             kind,
             feeder,
         } => add_node(tx, no, name, kind, feeder),
-        Change::AddDevice {
+        RowChange::AddDevice {
             no,
             name,
             a,
             b,
             normal,
         } => add_device(tx, no, name, a, b, normal),
-        Change::AddCustomer {
+        RowChange::AddCustomer {
             no,
             section,
             since,
             until,
         } => add_customer(tx, no, section, since, until),
-        Change::SetService { no, since, until } => set_service(tx, no, since, until),
-        Change::AddEntry {
+        RowChange::SetService { no, since, until } => set_service(tx, no, since, until),
+        RowChange::AddEntry {
             no,
             device,
             act,
@@ -117,7 +120,7 @@ pub fn write_change<S: Alter>(tx: &mut Transaction<'_, S>, change: &Change<'_>) 
             cause,
             crew,
         } => add_entry(tx, no, device, act, second, cause, crew),
-        Change::CorrectEntry {
+        RowChange::CorrectEntry {
             no,
             revision,
             act,
@@ -125,8 +128,8 @@ pub fn write_change<S: Alter>(tx: &mut Transaction<'_, S>, change: &Change<'_>) 
             cause,
             crew,
         } => correct_entry(tx, no, revision, act, second, cause, crew),
-        Change::WithdrawEntry { no, revision } => withdraw_entry(tx, no, revision),
-        Change::AddMark { day, engineer } => add_mark(tx, day, engineer),
-        Change::DropMark { day } => drop_mark(tx, day),
+        RowChange::WithdrawEntry { no, revision } => withdraw_entry(tx, no, revision),
+        RowChange::AddMark { day, engineer } => add_mark(tx, day, engineer),
+        RowChange::DropMark { day } => drop_mark(tx, day),
     }
 }

@@ -18,10 +18,8 @@ mod moves;
 mod stored;
 mod writing;
 
-pub use act::{Act, commit_act, write_act};
-pub use change::{Change, write_change};
+pub use act::{Act, commit_act};
+pub use change::RowChange;
 pub use creation::commit_new;
 pub use known::{Known, look_up};
-pub use moves::{write_move, write_moves};
 pub use stored::stored_moves;
-pub use writing::write_new;

@@ -24,7 +24,7 @@ fn amount_after(postings: &Postings, it: &Moved) -> u64
 }
 
 /// Writes the row of one amount that a command moves, and the amount that then stands.
-pub fn write_move<S: Alter>(
+pub(crate) fn write_move<S: Alter>(
     tx: &mut Transaction<'_, S>,
     no: u32,
     postings: &Postings,
@@ -41,7 +41,7 @@ pub fn write_move<S: Alter>(
 }
 
 /// Writes the rows of all amounts that a command moves.
-pub fn write_moves<S: Alter>(
+pub(crate) fn write_moves<S: Alter>(
     tx: &mut Transaction<'_, S>,
     no: u32,
     postings: &Postings,

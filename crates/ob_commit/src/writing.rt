@@ -19,7 +19,7 @@ const CAUSES: u16 = 64;
 const FEEDERS: u16 = 255;
 
 /// Makes the tables of a new book. It fails where one of them stands already.
-pub fn write_new<S: Alter>(
+pub(crate) fn write_new<S: Alter>(
     tx: &mut Transaction<'_, S>,
     first_day: &[u8],
     days: u16,

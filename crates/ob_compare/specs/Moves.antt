@@ -10,7 +10,7 @@ use Rattle.ob_book.specs.Acts.{Referenced}
 use Rattle.ob_tables.specs.Rows.{Columns}
 use Rattle.ob_tables.specs.declared.table.Table.TheVariants.{Moved}
 use Rattle.ob_record.specs.Tables.{moved_rows}
-use Rattle.ob_compare.specs.declared.ends.Ends.{Ends}
+use Rattle.ob_compare.specs.declared.ends.EndNodes.{EndNodes}
 use Rattle.ob_compare.specs.Listing.{Listing}
 
 -- the rows of moved amounts, by number, dimension and key
@@ -31,5 +31,5 @@ HasMoved table b list =
     (c : BookState) × (next_all b (commands_of list) ≡ Some c) × IsPermutation table (moved_rows b 1 list)
 
 -- the numbers of the nodes that each device joins
-abbrev pub ends_of : Network → List Ends
+abbrev pub ends_of : Network → List EndNodes
 ends_of net = map (λ (d : Device). record { a = d.a; b = d.b }) net.devices

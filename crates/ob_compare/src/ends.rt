@@ -2,7 +2,7 @@
 
 /// The numbers of the two nodes that a device joins.
 #[derive(Clone, Copy)]
-pub struct Ends {
+pub struct EndNodes {
     pub a: u16,
     pub b: u16,
 }

@@ -6,7 +6,7 @@ ghost use Rattle.ob_state.specs.Refusals.{refusal as refusal_to};
 ghost use Rattle.ob_compare.specs.Listing.{filed_of};
 ghost use Rattle.ob_compare.specs.Moves.{commands_of, ends_of};
 
-use crate::ends::Ends;
+use crate::ends::EndNodes;
 use crate::filed::Filed;
 use crate::moves::note_ends;
 use ob_base::Stop;
@@ -18,7 +18,7 @@ use ob_sweep::Timeline;
 fn adopts<T: Timeline>(
     book: &mut Book<T>,
     command: &Command,
-    noted: &mut Vec<Ends>,
+    noted: &mut Vec<EndNodes>,
 ) -> Result<bool, Stop>
     ensures accepted { IfOk result (λ is. IsTrue is ↔ (refusal_to book.old.state command.now ≡ None)) }
     ensures book { result ≡ Ok true → book.new.state ≡ next book.old.state command.now }
@@ -44,7 +44,7 @@ fn adopts<T: Timeline>(
 pub fn lead<T: Timeline>(
     book: &mut Book<T>,
     commands: &[Filed],
-    noted: &mut Vec<Ends>,
+    noted: &mut Vec<EndNodes>,
 ) -> Result<bool, Stop>
     ensures accepted { IfOk result (λ is. IsTrue is
         ↔ IsSome (next_all book.old.state (commands_of (filed_of commands.now)))) }

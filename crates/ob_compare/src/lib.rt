@@ -18,7 +18,7 @@ mod rows;
 pub use apart::are_apart;
 pub use commands::read_commands;
 pub use distinct::{are_distinct, reaching_law};
-pub use ends::Ends;
+pub use ends::EndNodes;
 pub use filed::Filed;
 pub use heading::{Heading, read_heading};
 pub use leading::lead;

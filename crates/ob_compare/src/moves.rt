@@ -19,17 +19,17 @@ ghost use Rattle.ob_compare.specs.Faults.{HasNoMeaning, IsMissed, IsReadFault, b
 ghost use Rattle.ob_compare.specs.Listing.{Goes, filed_of};
 ghost use Rattle.ob_compare.specs.Moves.{HasMoved, commands_of, ends_of, moved_listing};
 
-use crate::ends::Ends;
+use crate::ends::EndNodes;
 use crate::filed::Filed;
 use crate::listed::select_of;
 use crate::query::prepare;
-use crate::rows::{advance, int, is_over, is_row, signed, stop_of};
+use crate::rows::{advance, is_over, is_row};
 use ob_base::Stop;
 use ob_book::Book;
 use ob_command::Command;
 use ob_post::Moved;
 use ob_sweep::Timeline;
-use ob_tables::Table;
+use ob_tables::{Table, int, signed, stop_of};
 use sqlite::{Alter, Connection, Row, Rows};
 
 /// Whether the row is that of an amount that a command moved.
@@ -94,7 +94,7 @@ fn matches<S: Alter>(rows: &mut Rows<'_, S>, no: u32, moves: &[Moved]) -> Result
 
 /// With the ends of a book's devices, those of the device that an accepted command adds.
 pub(crate) fn note_ends<T: Timeline>(
-    noted: &mut Vec<Ends>,
+    noted: &mut Vec<EndNodes>,
     book: &Book<T>,
     command: &Command,
 ) -> Result<(), Stop>
@@ -104,7 +104,7 @@ pub(crate) fn note_ends<T: Timeline>(
 {
     if let Command::Device { ends, .. } = command {
         let net = book.net();
-        noted.push(Ends {
+        noted.push(EndNodes {
             a: net.node_of(ends.a()).unwrap_or(0),
             b: net.node_of(ends.b()).unwrap_or(0),
         })?;
@@ -119,7 +119,7 @@ fn takes_on<S: Alter, T: Timeline>(
     book: &mut Book<T>,
     no: u32,
     command: &Command,
-    noted: &mut Vec<Ends>,
+    noted: &mut Vec<EndNodes>,
 ) -> Result<bool, Stop>
     ensures same_reference { rows.new.conn.ghost_name ≡ rows.old.conn.ghost_name }
     ensures survives { Survives (state S.Store rows.old.conn.now) (state S.Store rows.new.conn.now) (λ _. ⊥) }
@@ -164,7 +164,7 @@ fn follows<S: Alter, T: Timeline>(
     rows: &mut Rows<'_, S>,
     book: &mut Book<T>,
     commands: &[Filed],
-    noted: &mut Vec<Ends>,
+    noted: &mut Vec<EndNodes>,
 ) -> Result<bool, Stop>
     ensures same_reference { rows.new.conn.ghost_name ≡ rows.old.conn.ghost_name }
     ensures survives { Survives (state S.Store rows.old.conn.now) (state S.Store rows.new.conn.now) (λ _. ⊥) }
@@ -203,11 +203,10 @@ pub fn holds_moves<S: Alter, T: Timeline>(
     conn: &mut Connection<S>,
     book: &mut Book<T>,
     commands: &[Filed],
-    noted: &mut Vec<Ends>,
+    noted: &mut Vec<EndNodes>,
 ) -> Result<bool, Stop>
     ensures mode { conn.old.in_transaction ≡ false → conn.new.in_transaction ≡ false }
-    ensures survives { conn.old.schema ≡ book_schema
-        → Survives (state S.Store conn.old) (state S.Store conn.new) (λ _. ⊥) }
+    ensures survives { Survives (state S.Store conn.old) (state S.Store conn.new) (λ _. ⊥) }
     ensures kept { (t : Tables) → Keeps (state S.Store conn.old) t → Keeps (state S.Store conn.new) t }
     ensures clean { HasCleanDisk (state S.Store conn.new) → HasCleanDisk (state S.Store conn.old) }
     ensures faults { IfErr result IsReadFault }

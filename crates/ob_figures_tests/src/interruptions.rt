@@ -178,11 +178,12 @@ const UNMARKED: Counts = Counts {
 #[test]
 fn interruptions_are_counted(rt: HostRuntime) -> Result<(), Fail> {
     let period = Period::from_text(rt.alloc(), b"2024-01-01", 2, b"UTC0")?;
+    let days: &CivilDays = &period;
     let mut net = feeder(&rt, rt.alloc())?;
-    let sheet = sheet(&rt, rt.alloc(), &net, &period, &OUTAGES)?;
+    let sheet = sheet(&rt, rt.alloc(), &net, days, &OUTAGES)?;
     let roll = roll(rt.alloc(), &SERVICES)?;
     let wanted = (ALL, UNMARKED);
-    have_counts(&rt, rt.alloc(), &mut net, &sheet, &roll, &period, &wanted)
+    have_counts(&rt, rt.alloc(), &mut net, &sheet, &roll, days, &wanted)
 }
 
 #[test]

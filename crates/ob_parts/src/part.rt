@@ -18,7 +18,7 @@ use crate::parts::{
 };
 use ob_base::{Name, Stop};
 use ob_book::Book;
-use ob_compare::Ends;
+use ob_compare::EndNodes;
 use ob_sweep::Timeline;
 use ob_tables::Table;
 use ob_time::Period;
@@ -55,7 +55,7 @@ pub fn holds_part<S: Alter, T: Timeline>(
     conn: &mut Connection<S>,
     book: &Book<T>,
     names: &[Name],
-    ends: &[Ends],
+    ends: &[EndNodes],
     table: Table,
 ) -> Result<bool, Stop>
     requires part { IsPart table }

@@ -13,7 +13,7 @@ ghost use Rattle.ob_compare.specs.Parts.{Compares};
 use crate::fields::{Field, bit, has_fields, number_or_nothing, position_number};
 use ob_base::{Name, Stop};
 use ob_book::Book;
-use ob_compare::{Ends, Listed, holds};
+use ob_compare::{EndNodes, Listed, holds};
 use ob_cust::{Customer, Roll};
 use ob_index::Marks;
 use ob_net::Net;
@@ -25,13 +25,13 @@ use sqlite::{Alter, Connection, Row};
 
 /// The one row of the heading: version 1, the first day, the count of days and the zone.
 #[derive(Drop)]
-struct Heading<'b> {
+struct HeadingRow<'b> {
     first_day: &'b [u8],
     days: u16,
     zone: &'b [u8],
 }
 
-impl<'b> Listed for Heading<'b> {
+impl<'b> Listed for HeadingRow<'b> {
     ghost use Rattle.std.specs.Prelude.{[], ◌∷◌, Some};
     ghost use Rattle.ob_tables.specs.declared.table.Table.{Table as ATable};
     ghost use Rattle.ob_tables.specs.Rows.{meta_row};
@@ -76,7 +76,7 @@ pub(crate) fn holds_heading<S: Alter>(
 ) -> Result<bool, Stop>
     ensures { Compares S.Store ATable.Meta (meta_row 1 first_day.now days zone.now ∷ []) conn.old conn.new result }
 {
-    let heading = Heading {
+    let heading = HeadingRow {
         first_day,
         days,
         zone,
@@ -326,7 +326,7 @@ fn element<X: Copy>(list: &[X], at: usize) -> X
 #[derive(Drop)]
 struct Devices<'b> {
     net: &'b Net,
-    ends: &'b [Ends],
+    ends: &'b [EndNodes],
     ghost all: { ends.now ≡ ends_of net.now.network },
 }
 
@@ -355,7 +355,7 @@ impl<'b> Listed for Devices<'b> {
     fn is_row(&self, at: usize, row: &Row) -> bool {
         // They are few, by a clause of this call.
         let _ = self.net.devices();
-        let Ends { a, b } = element(self.ends, at);
+        let EndNodes { a, b } = element(self.ends, at);
         let name = self.net.device_name(at as u16);
         let normal = self.net.normal(at as u16);
         has_fields(
@@ -375,7 +375,7 @@ impl<'b> Listed for Devices<'b> {
 pub(crate) fn holds_devices<S: Alter>(
     conn: &mut Connection<S>,
     net: &Net,
-    ends: &[Ends],
+    ends: &[EndNodes],
 ) -> Result<bool, Stop>
     requires { ends.now ≡ ends_of net.now.network }
     ensures { Compares S.Store ATable.Device (numbered row_of_device 0 net.now.network.devices)

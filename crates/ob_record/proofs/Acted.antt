@@ -24,9 +24,9 @@ use Rattle.ob_tables.specs.Rows.{Columns, Tables, command_row, moved_row, tree_o
 use Rattle.ob_tables.specs.declared.table.Table.{Table}
 use Rattle.ob_tables.specs.declared.table.Table.TheVariants as tables
 use Rattle.ob_commit.specs.declared.act.Act.{Act}
-use Rattle.ob_commit.specs.declared.change.Change.{Change}
-use Rattle.ob_commit.specs.declared.change.Change.TheVariants.{AddCause, AddNode, AddDevice, AddCustomer, SetService}
-use Rattle.ob_commit.specs.declared.change.Change.TheVariants.{AddEntry, CorrectEntry, WithdrawEntry, AddMark, DropMark}
+use Rattle.ob_commit.specs.declared.change.RowChange.{RowChange}
+use Rattle.ob_commit.specs.declared.change.RowChange.TheVariants.{AddCause, AddNode, AddDevice, AddCustomer, SetService}
+use Rattle.ob_commit.specs.declared.change.RowChange.TheVariants.{AddEntry, CorrectEntry, WithdrawEntry, AddMark, DropMark}
 use Rattle.ob_commit.specs.Acts.{CanWrite, NeedsRows, with_act, with_command}
 use Rattle.ob_commit.specs.Amounts.{all_keys, amount_rows}
 use Rattle.ob_commit.specs.Changing.{changed_by}
@@ -40,12 +40,12 @@ use Rattle.ob_record.proofs.Posted.{IsOnce, all_from_both, ends_new, keys_are, m
 -- ---- which tables stay
 
 -- a change of a row leaves the rows of the commands, of what they moved and of the amounts
-record Leaves (change : Change) (t : Tables) : Type 0 where
+record Leaves (change : RowChange) (t : Tables) : Type 0 where
   commands : changed_by change t tables.Command ≡ t tables.Command
   moved : changed_by change t tables.Moved ≡ t tables.Moved
   amounts : changed_by change t tables.Posting ≡ t tables.Posting
 
-leaves : (change : Change) (t : Tables) → Leaves change t
+leaves : (change : RowChange) (t : Tables) → Leaves change t
 leaves (AddCause code name) t = record { commands = refl; moved = refl; amounts = refl }
 leaves (AddNode id name kind feeder) t = record { commands = refl; moved = refl; amounts = refl }
 leaves (AddDevice id name a b normal) t = record { commands = refl; moved = refl; amounts = refl }

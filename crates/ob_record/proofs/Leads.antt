@@ -33,7 +33,7 @@ use Rattle.ob_state.proofs.Changing.{changed_found}
 use Rattle.ob_state.proofs.Firsts.{no_head}
 use Rattle.ob_tables.specs.Rows.{Columns, Tables, HasEntry, is_key, change_where, cause_row, node_row, device_row, customer_row, entry_row, mark_row, serve, correct, withdraw}
 use Rattle.ob_tables.specs.declared.table.Table.TheVariants.{Cause, Node, Device, Customer, Entry, Mark}
-use Rattle.ob_commit.specs.declared.change.Change.TheVariants.{AddCause, AddNode, AddDevice, AddCustomer, SetService, AddEntry, CorrectEntry, WithdrawEntry, AddMark, DropMark}
+use Rattle.ob_commit.specs.declared.change.RowChange.TheVariants.{AddCause, AddNode, AddDevice, AddCustomer, SetService, AddEntry, CorrectEntry, WithdrawEntry, AddMark, DropMark}
 use Rattle.ob_commit.specs.Changing.{changed_by}
 use Rattle.ob_record.specs.Tables.{numbered, present, row_of_node, row_of_device, row_of_customer, row_of_entry}
 use Rattle.ob_record.specs.Leading.{HaveParts, LeadsParts}

@@ -7,7 +7,7 @@ use Rattle.ob_tables.specs.declared.table.Table.TheVariants.{Meta, Cause, Node, 
 use Rattle.ob_post.specs.Postings.{PostedAmounts}
 use Rattle.ob_state.specs.State.{BookState}
 use Rattle.ob_book.specs.Acts.{ActState, Referenced, take_on}
-use Rattle.ob_commit.specs.declared.change.Change.{Change}
+use Rattle.ob_commit.specs.declared.change.RowChange.{RowChange}
 use Rattle.ob_commit.specs.declared.act.Act.{Act}
 use Rattle.ob_commit.specs.Changing.{HasSmallSeconds, NeedsRow, changed_by}
 use Rattle.ob_commit.specs.Acts.{CanWrite, NeedsRows, with_act}
@@ -28,7 +28,7 @@ pub record HaveParts (b : BookState) (t : Tables) : Type 0 where
   pub marks : IsPermutation (t Mark) (tables_of (bare b) Mark)
 
 -- the change of a row makes of the rows of one book's parts those of another's
-pub record LeadsParts (b c : BookState) (change : Change) : Type 0 where
+pub record LeadsParts (b c : BookState) (change : RowChange) : Type 0 where
   pub small : HasSmallSeconds change
   pub needs : (t : Tables) → HaveParts b t → NeedsRow change t
   pub parts : (t : Tables) → HaveParts b t → HaveParts c (changed_by change t)

@@ -14,7 +14,7 @@ ghost use Rattle.ob_record.specs.Reached.{AcceptedIsReached, IsReached, ReachedC
 ghost use Rattle.ob_record.specs.Reached.{StartHasFirstRows, StartIsReached};
 
 use ob_book::{Book, Plan, acts_law, next_law};
-use ob_commit::{Act, Change};
+use ob_commit::{Act, RowChange};
 use ob_post::laws::move_laws;
 use ob_sweep::Timeline;
 
@@ -23,7 +23,7 @@ use ob_sweep::Timeline;
 pub fn act_of<'t, T: Timeline>(
     book: &Book<T>,
     plan: &'t Plan<T>,
-    change: Change<'t>,
+    change: RowChange<'t>,
     reference: &'t [u8],
     body: &'t [u8],
 ) -> Act<'t>

@@ -11,7 +11,7 @@ ghost use Rattle.ob_record.specs.Leading.{LeadsParts};
 use ob_base::{Crew, Name, Pos, Second};
 use ob_book::Book;
 use ob_command::{CauseCode, CivilDate, Command, Ends, FeederNumber, Moment, Serial};
-use ob_commit::Change;
+use ob_commit::RowChange;
 use ob_sweep::Timeline;
 
 /// The kind of a bus, as the rows of nodes have it.
@@ -21,7 +21,7 @@ const KIND_OF_BUS: u32 = 1;
 const KIND_OF_SECTION: u32 = 2;
 
 /// The row that an accepted command changes beside its own and those of its amounts.
-pub fn change_of<'t, T: Timeline>(book: &Book<T>, command: &'t Command) -> Change<'t>
+pub fn change_of<'t, T: Timeline>(book: &Book<T>, command: &'t Command) -> RowChange<'t>
     requires accepted { refusal book.now.state command.now ≡ None }
     ensures { LeadsParts book.now.state (next book.now.state command.now) result }
 {
@@ -62,23 +62,23 @@ pub fn change_of<'t, T: Timeline>(book: &Book<T>, command: &'t Command) -> Chang
     }
 }
 
-fn cause_added<'t, T: Timeline>(book: &Book<T>, code: CauseCode, name: &'t Name) -> Change<'t>
+fn cause_added<'t, T: Timeline>(book: &Book<T>, code: CauseCode, name: &'t Name) -> RowChange<'t>
     requires accepted { refusal book.now.state (Cause code name.now) ≡ None }
     ensures { LeadsParts book.now.state (next book.now.state (Cause code name.now)) result }
 {
     // There is a place for each code, by a clause of this call.
     let _ = book.accepted();
-    Change::AddCause {
+    RowChange::AddCause {
         code: u32::from(code.get()),
         name: name.bytes(),
     }
 }
 
-fn bus_added<'t, T: Timeline>(book: &Book<T>, name: &'t Name) -> Change<'t>
+fn bus_added<'t, T: Timeline>(book: &Book<T>, name: &'t Name) -> RowChange<'t>
     ensures { LeadsParts book.now.state (next book.now.state (Bus name.now)) result }
 {
     // Nodes are numbered by place, and a bus has no home feeder.
-    Change::AddNode {
+    RowChange::AddNode {
         no: u32::from(book.net().nodes()),
         name: name.bytes(),
         kind: KIND_OF_BUS,
@@ -90,10 +90,10 @@ fn section_added<'t, T: Timeline>(
     book: &Book<T>,
     name: &'t Name,
     feeder: FeederNumber,
-) -> Change<'t>
+) -> RowChange<'t>
     ensures { LeadsParts book.now.state (next book.now.state (Section name.now feeder)) result }
 {
-    Change::AddNode {
+    RowChange::AddNode {
         no: u32::from(book.net().nodes()),
         name: name.bytes(),
         kind: KIND_OF_SECTION,
@@ -106,7 +106,7 @@ fn device_added<'t, T: Timeline>(
     name: &'t Name,
     ends: &Ends,
     normal: Pos,
-) -> Change<'t>
+) -> RowChange<'t>
     requires accepted { refusal book.now.state (Device name.now ends.now normal) ≡ None }
     ensures { LeadsParts book.now.state (next book.now.state (Device name.now ends.now normal)) result }
 {
@@ -118,7 +118,7 @@ fn device_added<'t, T: Timeline>(
     let Some(b) = net.node_of(ends.b()) else {
         unreachable!();
     };
-    Change::AddDevice {
+    RowChange::AddDevice {
         no: u32::from(net.devices()),
         name: name.bytes(),
         a: u32::from(a),
@@ -144,7 +144,7 @@ fn customer_added<'t, T: Timeline>(
     section: &Name,
     since: Moment,
     until: Option<Moment>,
-) -> Change<'t>
+) -> RowChange<'t>
     requires accepted { refusal book.now.state (Connect customer section.now since until) ≡ None }
     ensures { LeadsParts book.now.state (next book.now.state (Connect customer section.now since until)) result }
 {
@@ -152,7 +152,7 @@ fn customer_added<'t, T: Timeline>(
     let Some(section) = book.net().node_of(section) else {
         unreachable!();
     };
-    Change::AddCustomer {
+    RowChange::AddCustomer {
         no: customer.get(),
         section: u32::from(section),
         since: since.second(),
@@ -165,13 +165,13 @@ fn service_set<'t, T: Timeline>(
     customer: Serial,
     since: Moment,
     until: Option<Moment>,
-) -> Change<'t>
+) -> RowChange<'t>
     requires accepted { refusal book.now.state (Revise customer since until) ≡ None }
     ensures { LeadsParts book.now.state (next book.now.state (Revise customer since until)) result }
 {
     // One customer has the number, by a clause of this call.
     let _ = book.accepted();
-    Change::SetService {
+    RowChange::SetService {
         no: customer.get(),
         since: since.second(),
         until: end_of(until),
@@ -185,7 +185,7 @@ fn entry_added<'t, T: Timeline>(
     second: Moment,
     cause: CauseCode,
     crew: &'t Crew,
-) -> Change<'t>
+) -> RowChange<'t>
     requires accepted { refusal book.now.state (Switch device.now act second cause crew.now) ≡ None }
     ensures { LeadsParts book.now.state (next book.now.state (Switch device.now act second cause crew.now)) result }
 {
@@ -193,7 +193,7 @@ fn entry_added<'t, T: Timeline>(
     let Some(device) = book.net().device_of(device) else {
         unreachable!();
     };
-    Change::AddEntry {
+    RowChange::AddEntry {
         no: book.sheet().len() as u32 + 1,
         device: u32::from(device),
         act,
@@ -218,14 +218,14 @@ fn entry_corrected<'t, T: Timeline>(
     second: Moment,
     cause: CauseCode,
     crew: &'t Crew,
-) -> Change<'t>
+) -> RowChange<'t>
     requires accepted { refusal book.now.state (Correct entry revision act second cause crew.now) ≡ None }
     ensures { LeadsParts book.now.state
         (next book.now.state (Correct entry revision act second cause crew.now)) result }
 {
     // One entry has the number, by a clause of this call.
     let _ = book.accepted();
-    Change::CorrectEntry {
+    RowChange::CorrectEntry {
         no: entry.get(),
         revision: revision_after(revision),
         act,
@@ -235,19 +235,23 @@ fn entry_corrected<'t, T: Timeline>(
     }
 }
 
-fn entry_withdrawn<'t, T: Timeline>(book: &Book<T>, entry: Serial, revision: Serial) -> Change<'t>
+fn entry_withdrawn<'t, T: Timeline>(
+    book: &Book<T>,
+    entry: Serial,
+    revision: Serial,
+) -> RowChange<'t>
     requires accepted { refusal book.now.state (Withdraw entry revision) ≡ None }
     ensures { LeadsParts book.now.state (next book.now.state (Withdraw entry revision)) result }
 {
     // One entry has the number, by a clause of this call.
     let _ = book.accepted();
-    Change::WithdrawEntry {
+    RowChange::WithdrawEntry {
         no: entry.get(),
         revision: revision_after(revision),
     }
 }
 
-fn mark_added<'t, T: Timeline>(book: &Book<T>, date: CivilDate, engineer: &'t Crew) -> Change<'t>
+fn mark_added<'t, T: Timeline>(book: &Book<T>, date: CivilDate, engineer: &'t Crew) -> RowChange<'t>
     requires accepted { refusal book.now.state (Mark date engineer.now) ≡ None }
     ensures { LeadsParts book.now.state (next book.now.state (Mark date engineer.now)) result }
 {
@@ -256,13 +260,13 @@ fn mark_added<'t, T: Timeline>(book: &Book<T>, date: CivilDate, engineer: &'t Cr
     let Some(day) = book.period().day_index(&date.date()) else {
         unreachable!();
     };
-    Change::AddMark {
+    RowChange::AddMark {
         day: u32::from(day),
         engineer: engineer.bytes(),
     }
 }
 
-fn mark_dropped<'t, T: Timeline>(book: &Book<T>, date: CivilDate, engineer: &Crew) -> Change<'t>
+fn mark_dropped<'t, T: Timeline>(book: &Book<T>, date: CivilDate, engineer: &Crew) -> RowChange<'t>
     requires accepted { refusal book.now.state (Unmark date engineer.now) ≡ None }
     ensures { LeadsParts book.now.state (next book.now.state (Unmark date engineer.now)) result }
 {
@@ -270,7 +274,7 @@ fn mark_dropped<'t, T: Timeline>(book: &Book<T>, date: CivilDate, engineer: &Cre
     let Some(day) = book.period().day_index(&date.date()) else {
         unreachable!();
     };
-    Change::DropMark {
+    RowChange::DropMark {
         day: u32::from(day),
     }
 }

@@ -29,7 +29,7 @@ use Rattle.ob_record.specs.Naming.{RowsNameCommands}
 use Rattle.ob_record.specs.Reached.{IsReached, ReachedAreFew}
 use Rattle.ob_compare.specs.Listing.{filed_of}
 use Rattle.ob_compare.specs.Moves.{HasMoved, commands_of, ends_of}
-use Rattle.ob_compare.specs.declared.ends.Ends.{Ends}
+use Rattle.ob_compare.specs.declared.ends.EndNodes.{EndNodes}
 use Rattle.ob_compare.specs.declared.filed.Filed.{Filed}
 use Rattle.ob_net.specs.declared.net.Node.{Node}
 use Rattle.ob_compare.specs.Distinct.{ActsAreAccepted, AreDistinct, MovedIsOf, ReachedByCommands}
@@ -221,7 +221,7 @@ module _ (it : Named) (first : BookState) (new : IsNewBook it.heading first) (li
 
   pub has_parts : (s : BookState) → next_all first (commands_of (filed_of list)) ≡ Some s → (names : List (List ℕ)) (same : List Filed) → same ≡ it.commands.items
       → ((p : Calendar) (b : BookState) → next_all (empty_book p) (commands_of (filed_of same)) ≡ Some b → names ≡ map (λ (n : Node). n.name) b.network.nodes)
-      → (none ends : List Ends) → none ≡ [] → (none ≡ ends_of first.network → ends ≡ ends_of s.network) → HasParts s names ends
+      → (none ends : List EndNodes) → none ≡ [] → (none ≡ ends_of first.network → ends ≡ ends_of s.network) → HasParts s names ends
   has_parts s led names same same_is named none ends none_is joined =
       let from : next_all (empty_book first.period) (commands_of (filed_of same)) ≡ Some s = ap₂ (λ x l. next_all x (commands_of (filed_of l))) (sym new.new) (same_is ∙ sym list_is) ∙ led in
       let no_ends : ends_of first.network ≡ [] = ap (λ (x : BookState). ends_of x.network) new.new in

@@ -11,7 +11,7 @@ use Rattle.ob_book.specs.Acts.{ActState}
 use Rattle.ob_tables.specs.Rows.{Columns, meta_row}
 use Rattle.ob_tables.specs.declared.table.Table.TheVariants.{Moved}
 use Rattle.ob_record.specs.Tables.{Shows, tables_of}
-use Rattle.ob_compare.specs.declared.ends.Ends.{Ends}
+use Rattle.ob_compare.specs.declared.ends.EndNodes.{EndNodes}
 use Rattle.ob_compare.specs.declared.heading.Heading.{Heading}
 use Rattle.ob_compare.specs.Listing.{filed_of}
 use Rattle.ob_compare.specs.Moves.{HasMoved, commands_of, ends_of}
@@ -32,7 +32,7 @@ pub record IsNewBook (h : Heading) (b : BookState) : Type 0 where
   pub only : (p : Calendar) → IsPeriodText h.first_day.items h.days h.zone.items p → p ≡ b.period
 
 -- a new book of the heading's period, with the names of the nodes that the commands give it, and no ends yet
-pub record IsBegun (it : Named) (b : BookState) (names : List (List ℕ)) (ends : List Ends) : Type 0 where
+pub record IsBegun (it : Named) (b : BookState) (names : List (List ℕ)) (ends : List EndNodes) : Type 0 where
   pub new : IsNewBook it.heading b
   pub named : (p : Calendar) (s : BookState) → next_all (empty_book p) (commands_of (filed_of it.commands.items)) ≡ Some s
       → names ≡ map (λ (n : Node). n.name) s.network.nodes
@@ -57,7 +57,7 @@ MovesAre it trees moved =
     × ((rows : List Columns) → Shows trees Moved rows → IsTrue moved ↔ HasMoved rows first (filed_of it.commands.items))
 
 -- the names of a book's nodes, and the ends of its devices
-abbrev pub HasParts : BookState → List (List ℕ) → List Ends → Type 0
+abbrev pub HasParts : BookState → List (List ℕ) → List EndNodes → Type 0
 HasParts b names ends = (names ≡ map (λ (n : Node). n.name) b.network.nodes) × (ends ≡ ends_of b.network)
 
 -- the state is that of the book, and of no other, whose heading and commands are in the trees

@@ -8,7 +8,7 @@ ghost use Rattle.ob_store.specs.Leading.{HasNoPeriodOf, HasParts, IsBegun, IsLed
 use crate::named::{BAD_BOOK, Named, read_named};
 use ob_base::{Name, Stop};
 use ob_book::{Book, next_law};
-use ob_compare::{Ends, Heading, are_distinct, holds_moves, lead, names_of, reaching_law};
+use ob_compare::{EndNodes, Heading, are_distinct, holds_moves, lead, names_of, reaching_law};
 use ob_record::naming_law;
 use ob_sweep::Timeline;
 use ob_time::Period;
@@ -21,7 +21,7 @@ use std::alloc::Global;
 pub(crate) struct Led<T: Timeline> {
     pub(crate) book: Book<T>,
     pub(crate) names: Vec<Name>,
-    pub(crate) ends: Vec<Ends>,
+    pub(crate) ends: Vec<EndNodes>,
     /// Whether the table of moved amounts holds what the commands move.
     pub(crate) moved: bool,
 }

@@ -1,7 +1,7 @@
 use Rattle.std.proofs.Common.{◌≡◌, ◌<◌, IsTrue, ◌∙◌, Some, length, map, ap, subst, arith}
 use Rattle.std.specs.Prelude.{◌↔◌, slice_get}
 use Rattle.ob_net.specs.declared.net.Device.{Device}
-use Rattle.ob_compare.specs.declared.ends.Ends.{Ends}
+use Rattle.ob_compare.specs.declared.ends.EndNodes.{EndNodes}
 use Rattle.ob_record.specs.Tables.{row_of_device}
 use Rattle.std.proofs.lemmas.List.{length-map}
 use Rattle.ob_parts.proofs.Network.{device_columns}
@@ -56,6 +56,6 @@ returns c =
     let normal_is = value_of (λ (d : Device). d.normal) xs c.args.at x c.normal-normal.result it.1 c.normal-normal.ensures in
     let ends_are = value_of (λ (d : Device). record { a = d.a; b = d.b }) xs c.args.at x c.element-a.result it.1 (subst (λ l. slice_get l c.args.at ≡ Some c.element-a.result) c.args.self.now.all c.element-a.ensures) in
     let columns = device_columns c.args.at x c.bytes.result.now c.from.result c.from-2.result c.position_number.result c.normal-normal.result
-    (c.bytes.ensures.value ∙ name_is) (c.from.ensures ∙ ap (λ (e : Ends). e.a) ends_are) (c.from-2.ensures ∙ ap (λ (e : Ends). e.b) ends_are) c.position_number.ensures normal_is in
+    (c.bytes.ensures.value ∙ name_is) (c.from.ensures ∙ ap (λ (e : EndNodes). e.a) ends_are) (c.from-2.ensures ∙ ap (λ (e : EndNodes). e.b) ends_are) c.position_number.ensures normal_is in
     decides _ _ c.args.row.now (row_of_device c.args.at x) (subst (λ e. IsTrue c.has_fields.result ↔ (c.args.row.now ≡ e)) columns c.has_fields.ensures)
     (at_placed row_of_device 0 (map Some xs) c.args.at x (place_of (λ x. x) xs c.args.at x it.1) c.args.at (omega arith))
