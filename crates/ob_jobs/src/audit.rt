@@ -1,10 +1,7 @@
 //! The job that compares a book's tables with its commands.
 ghost use Rattle.std.specs.Prelude.{◌≡◌, IfOk, string_bytes};
-ghost use Rattle.sqlite.specs.Held.{state};
-ghost use Rattle.sqlite.specs.State.{HasCleanDisk};
-ghost use Rattle.ob_tables.specs.Schema.{book_schema};
-ghost use Rattle.ob_store.specs.Loading.{Audited};
 ghost use Rattle.ob_jobs.specs.Lines.{audit_line};
+ghost use Rattle.ob_jobs.specs.Loads.{AuditOf};
 ghost use Rattle.ob_jobs.specs.Telling.{Tells};
 
 use crate::tell::tell;
@@ -28,8 +25,7 @@ pub fn run_audit<S: Alter, T: Timeline, W: Write>(
     keeper: &mut Keeper<S, T>,
     writer: &mut Watched<W>,
 ) -> Result<Option<Table>, Stop>
-    ensures { Tells (λ found. HasCleanDisk (state S.Store keeper.new.conn) → keeper.old.conn.schema ≡ book_schema
-        → Audited S.Store keeper.old keeper.new found) audit_line W.contents writer.old writer.new result }
+    ensures { Tells (AuditOf S.Store keeper.old keeper.new) audit_line W.contents writer.old writer.new result }
 {
     let found = match keeper.audit() {
         Ok(found) => found,
