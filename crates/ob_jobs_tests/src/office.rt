@@ -8,9 +8,9 @@ use ob_jobs::{
 };
 use ob_store::Keeper;
 use ob_stream::Watched;
-use ob_sweep::{Timeline, Windowed};
+use ob_sweep::Timeline;
 use ob_words::{Unfinished, status_of_run};
-use sqlite::{Alter, Connection, MemStore};
+use sqlite::{Alter, Connection};
 use std::alloc::Global;
 
 /// A job.
@@ -59,7 +59,7 @@ pub trait Office: Drop {
 const REOPEN: Stop = Stop::Fault(Fault::Reopen);
 
 /// A fault of the store.
-const STORE: Stop = Stop::Fault(Fault::Store);
+pub const STORE: Stop = Stop::Fault(Fault::Store);
 
 fn heard(run: &Result<(), Unfinished>, writer: Watched<Sink>, tried: bool) -> Heard {
     let halt = match run {
@@ -132,8 +132,8 @@ impl<S: Alter + Drop, T: Timeline> Office for Keeper<S, T> {
     }
 }
 
-// A keeper without a book, over a database.
-fn adopted<S: Alter + Drop, T: Timeline>(
+/// A keeper without a book, over a database.
+pub fn adopted<S: Alter + Drop, T: Timeline>(
     alloc: Global,
     conn: Connection<S>,
 ) -> Result<Keeper<S, T>, Stop> {
@@ -141,12 +141,4 @@ fn adopted<S: Alter + Drop, T: Timeline>(
         return Err(STORE);
     }
     Ok(Keeper::adopt_connection(alloc, conn))
-}
-
-/// A keeper without a book, over a store in memory that holds nothing.
-pub fn in_memory(alloc: Global) -> Result<Keeper<MemStore, Windowed>, Stop> {
-    match Connection::open_in_memory(alloc) {
-        Ok(conn) => adopted(alloc, conn),
-        Err(_) => Err(STORE),
-    }
 }

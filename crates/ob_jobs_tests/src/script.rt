@@ -1,7 +1,10 @@
 //! Steps on a store in memory, one after another, and what each is answered.
 use crate::host::Sink;
-use crate::office::{Ask, Halt, Heard, Office, in_memory};
+use crate::office::{Ask, Halt, Heard, Office, STORE, adopted};
 use ob_base::{Fault, Refusal, Stop};
+use ob_store::Keeper;
+use ob_sweep::Windowed;
+use sqlite::{Alter, Connection};
 use std::alloc::{AllocError, Global};
 use std::process::Abort;
 
@@ -77,5 +80,18 @@ pub trait Trial {
 
 /// A store in memory is tried.
 pub fn over_a_store<C: Trial>(rt: &impl Abort, alloc: Global, trial: &C) -> Result<(), Stop> {
-    trial.run(rt, alloc, in_memory(alloc)?)
+    match Connection::open_in_memory(alloc) {
+        Ok(conn) => over(rt, alloc, conn, trial),
+        Err(_) => Err(STORE),
+    }
+}
+
+fn over<S: Alter + Drop, C: Trial>(
+    rt: &impl Abort,
+    alloc: Global,
+    conn: Connection<S>,
+    trial: &C,
+) -> Result<(), Stop> {
+    let keeper: Keeper<S, Windowed> = adopted(alloc, conn)?;
+    trial.run(rt, alloc, keeper)
 }
