@@ -27,7 +27,7 @@ pub fn run_audit<S: Alter, T: Timeline, W: Write>(
 ) -> Result<Option<Table>, Stop>
     ensures { Tells (AuditOf S.Store keeper.old keeper.new) audit_line W.contents writer.old writer.new result }
 {
-    let found = match keeper.audit() {
+    let found = match audit_tables(keeper) {
         Ok(found) => found,
         Err(stop) => return Err(stop),
     };
@@ -39,6 +39,13 @@ pub fn run_audit<S: Alter, T: Timeline, W: Write>(
         Ok(()) => Ok(found),
         Err(stop) => Err(stop),
     }
+}
+
+/// The comparison.
+fn audit_tables<S: Alter, T: Timeline>(keeper: &mut Keeper<S, T>) -> Result<Option<Table>, Stop>
+    ensures { AuditOf S.Store keeper.old keeper.new result }
+{
+    keeper.audit()
 }
 
 /// The line that tells what was found.

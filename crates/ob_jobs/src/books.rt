@@ -1,7 +1,7 @@
 //! The program's jobs, from the opened store of a book to their end.
 ghost use Rattle.ob_jobs.specs.Books.{AuditsBook, ExportsFromBook, ExportsOutput, ImportsInput, ImportsIntoBook, MakesBook, PrintsBook, ServesBook};
 ghost use Rattle.std.specs.Prelude.{◌≡◌};
-ghost use Rattle.ob_jobs.specs.Loads.{LoadsThen};
+ghost use Rattle.ob_jobs.specs.Loads.{LoadOf, LoadsThen};
 ghost use Rattle.ob_jobs.specs.Tabling.{HasTable, table_text};
 ghost use Rattle.ob_jobs.specs.Telling.{Tells};
 
@@ -21,6 +21,13 @@ use ob_words::Unfinished;
 use sqlite::Alter;
 use std::alloc::Global;
 use std::io::Write;
+
+/// Reads the book that the tables hold.
+fn load_book<S: Alter, T: Timeline>(keeper: &mut Keeper<S, T>) -> Result<(), Stop>
+    ensures { LoadOf S.Store keeper.old keeper.new result }
+{
+    keeper.load()
+}
 
 /// Makes the book of a period, as [`run_init`].
 pub fn make_book<S: Alter, T: Timeline, W: Write>(
@@ -64,7 +71,7 @@ fn print_loaded<S: Alter, T: Timeline, W: Write>(
         × Tells (HasTable mid.book) (λ _. table_text mid.book) W.contents writer.old writer.new done)
         (writer.new ≡ writer.old) keeper.old keeper.new result }
 {
-    match keeper.load() {
+    match load_book(keeper) {
         Ok(()) => run_table(keeper, writer),
         Err(stop) => Err(stop),
     }
@@ -93,7 +100,7 @@ fn import_loaded<O: OpenInput, S: Alter, T: Timeline, W: Write>(
         input.old input.new writer.old writer.new done)
         ((input.new ≡ input.old) × (writer.new ≡ writer.old)) keeper.old keeper.new result }
 {
-    match keeper.load() {
+    match load_book(keeper) {
         Ok(()) => import_opened(alloc, keeper, input, writer),
         Err(stop) => Err(stop),
     }
@@ -141,7 +148,7 @@ fn export_loaded<O: OpenOutput, S: Alter, T: Timeline, W: Write>(
         output.old output.new writer.old writer.new done)
         ((output.new ≡ output.old) × (writer.new ≡ writer.old)) keeper.old keeper.new result }
 {
-    match keeper.load() {
+    match load_book(keeper) {
         Ok(()) => export_opened(alloc, keeper, output, writer),
         Err(stop) => Err(stop),
     }
@@ -183,7 +190,7 @@ fn serve_loaded<V: ServeBook<S, T>, S: Alter, T: Timeline>(
     ensures { LoadsThen S.Store (λ mid done. V.serves server.old mid done keeper.new server.new)
         (server.new ≡ server.old) keeper.old keeper.new result }
 {
-    match keeper.load() {
+    match load_book(keeper) {
         Ok(()) => server.serve(keeper),
         Err(stop) => Err(stop),
     }

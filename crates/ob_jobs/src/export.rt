@@ -1,6 +1,6 @@
 //! The job that writes what a book's commands moved.
 ghost use Rattle.std.specs.Prelude.{◌≡◌, IfOk, string_bytes};
-ghost use Rattle.ob_jobs.specs.Importing.{TellsExport, export_line};
+ghost use Rattle.ob_jobs.specs.Importing.{ExportOf, TellsExport, export_line};
 
 use crate::tell::tell;
 use ob_base::{Fault, Stop};
@@ -26,7 +26,7 @@ pub fn run_export<F: Write, S: Alter, T: Timeline, W: Write>(
 ) -> Result<u64, Stop>
     ensures { TellsExport S.Store F.contents W.contents keeper.old keeper.new file.old file.new writer.old writer.new result }
 {
-    let rows = match export_moves(alloc, keeper, file) {
+    let rows = match export_rows(alloc, keeper, file) {
         Ok(rows) => rows,
         Err(stop) => return Err(stop),
     };
@@ -38,6 +38,17 @@ pub fn run_export<F: Write, S: Alter, T: Timeline, W: Write>(
         Ok(()) => Ok(rows),
         Err(stop) => Err(stop),
     }
+}
+
+/// The export.
+fn export_rows<F: Write, S: Alter, T: Timeline>(
+    alloc: Global,
+    keeper: &mut Keeper<S, T>,
+    file: &mut Watched<F>,
+) -> Result<u64, Stop>
+    ensures { ExportOf S.Store F.contents keeper.old keeper.new file.old file.new result }
+{
+    export_moves(alloc, keeper, file)
 }
 
 /// The line that tells how many amounts were written.

@@ -1,6 +1,6 @@
 //! The job that acts the commands of a CSV file on a book.
 ghost use Rattle.std.specs.Prelude.{◌≡◌, IfOk, string_bytes};
-ghost use Rattle.ob_jobs.specs.Importing.{TellsImport, import_line};
+ghost use Rattle.ob_jobs.specs.Importing.{ImportOf, ImportsAs, TellsImport, import_line};
 
 use crate::tell::tell;
 use ob_base::{Fault, Stop};
@@ -27,9 +27,9 @@ pub fn run_import<R: Read, S: Alter, T: Timeline, W: Write>(
 ) -> Result<ImportReport, Stop>
     ensures { TellsImport S.Store R.remaining W.contents keeper.old keeper.new reader.old reader.new writer.old writer.new result }
 {
-    let report = match import(alloc, reader, keeper) {
+    let report = match import_rows(alloc, keeper, reader) {
         Ok(report) => report,
-        Err(failed) => return Err(Stop::Fault(failed.fault)),
+        Err(stop) => return Err(stop),
     };
     let line = match line_of(alloc, &report) {
         Ok(line) => line,
@@ -38,6 +38,20 @@ pub fn run_import<R: Read, S: Alter, T: Timeline, W: Write>(
     match tell(writer, line.as_bytes()) {
         Ok(()) => Ok(report),
         Err(stop) => Err(stop),
+    }
+}
+
+/// The import, whose counts up to a fault aren't told.
+fn import_rows<R: Read, S: Alter, T: Timeline>(
+    alloc: Global,
+    keeper: &mut Keeper<S, T>,
+    reader: &mut Watched<R>,
+) -> Result<ImportReport, Stop>
+    ensures { ImportsAs (ImportOf S.Store R.remaining keeper.old keeper.new reader.old reader.new) result }
+{
+    match import(alloc, reader, keeper) {
+        Ok(report) => Ok(report),
+        Err(failed) => Err(Stop::Fault(failed.fault)),
     }
 }
 
