@@ -30,10 +30,10 @@ pub enum Step {
 }
 
 /// Whether a job ended so and told this. Where the tables are no book's, nothing was opened.
-pub fn ended(heard: &Heard, status: u8, halt: Halt, told: &str) -> bool {
+pub fn ended(heard: &Heard, status: u8, halt: Halt, told: &[u8]) -> bool {
     heard.status == status
         && heard.halt == halt
-        && heard.told.as_slice() == told.as_bytes()
+        && heard.told.as_slice() == told
         && !(heard.tried && halt == BAD_BOOK)
 }
 
@@ -43,7 +43,8 @@ fn holds<O: Office>(alloc: Global, office: &mut O, step: &Step, sink: Sink) -> b
         Step::Change(_) => true,
         Step::Lack => office.lacks_book(alloc),
         Step::Do(ask, status, halt, told) => {
-            ended(&office.does(alloc, *ask, sink), *status, *halt, told)
+            let heard = office.does(alloc, *ask, sink);
+            ended(&heard, *status, *halt, told.as_bytes())
         }
         Step::Begin(ask, told) => {
             let heard = office.does(alloc, *ask, sink);

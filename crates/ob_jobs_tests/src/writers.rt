@@ -25,7 +25,7 @@ const LINES: &[(Ask, &'static str)] = &[
 ];
 
 // A writer with less room than a job's line is told what it has room for.
-fn breaks_off<O: Office>(rt: &impl Abort, alloc: Global, office: &mut O, ask: Ask, line: &str) {
+fn breaks_off<O: Office>(rt: &impl Abort, alloc: Global, office: &mut O, ask: Ask, line: &[u8]) {
     for room in 0..line.len() {
         let heard = office.does(alloc, ask, Sink::new(alloc, room));
         assert!(rt; ended(&heard, 1, OUTPUT, &line[..room]));
@@ -38,7 +38,7 @@ impl Trial for Writers {
     fn run<A: Abort, O: Office>(&self, rt: &A, alloc: Global, office: O) -> Result<(), Stop> {
         let mut office = answered(rt, alloc, office, OUTAGE_BOOK)?;
         for (ask, line) in LINES {
-            breaks_off(rt, alloc, &mut office, *ask, line);
+            breaks_off(rt, alloc, &mut office, *ask, line.as_bytes());
         }
         answered(rt, alloc, office, SOUND)?;
         Ok(())
@@ -50,16 +50,15 @@ fn writers_that_fail(rt: HostRuntime) -> Result<(), Stop> {
     over_a_store(&rt, rt.alloc(), &Writers)
 }
 
-// The book is made all the same, where so many bytes are told of it.
+// The book is made all the same, where just this is told of it.
 #[derive(Drop)]
-struct Made(usize);
+struct Made<'f>(&'f [u8]);
 
-impl Trial for Made {
+impl Trial for Made<'_> {
     fn run<A: Abort, O: Office>(&self, rt: &A, alloc: Global, office: O) -> Result<(), Stop> {
         let mut office = office;
-        let heard = office.does(alloc, Ask::Make(1), Sink::new(alloc, self.0));
-        let front = "created\n".get(..self.0).unwrap_or("");
-        assert!(rt; ended(&heard, 1, OUTPUT, front));
+        let heard = office.does(alloc, Ask::Make(1), Sink::new(alloc, self.0.len()));
+        assert!(rt; ended(&heard, 1, OUTPUT, self.0));
         answered(rt, alloc, office, SOUND)?;
         Ok(())
     }
@@ -67,8 +66,9 @@ impl Trial for Made {
 
 #[test]
 fn writers_that_fail_on_a_new_book(rt: HostRuntime) -> Result<(), Stop> {
-    for room in 0..8 {
-        over_a_store(&rt, rt.alloc(), &Made(room))?;
+    let line = b"created\n".as_slice();
+    for room in 0..line.len() {
+        over_a_store(&rt, rt.alloc(), &Made(&line[..room]))?;
     }
     Ok(())
 }
