@@ -9,6 +9,7 @@ use Rattle.ob_store.specs.Creating.{Created}
 use Rattle.ob_store.specs.Keeping.{KeeperValue}
 use Rattle.ob_import.specs.declared.report.ImportReport.{ImportReport}
 use Rattle.ob_words.specs.declared.status.Unfinished.{Unfinished}
+use Rattle.ob_jobs.specs.After.{TellsAfter}
 use Rattle.ob_jobs.specs.Endings.{audit_end, import_end, job_end}
 use Rattle.ob_jobs.specs.Importing.{TellsExport, TellsImport}
 use Rattle.ob_jobs.specs.Lines.{audit_line, created_line}
@@ -31,7 +32,7 @@ module _ {S : Type 0} (g : Ghosts S) where
   abbrev pub AuditsBook : {W : Type 0} → (W → Option (List ℕ)) → KeeperValue S → KeeperValue S → Watched W → Watched W
       → Result ⊤ Unfinished → Type 0
   AuditsBook contents old new before after result =
-      EndsAs audit_end (Tells (AuditOf g old new) audit_line contents before after) result
+      EndsAs audit_end (TellsAfter (AuditOf g old new) audit_line contents before after) result
 
   -- the book is loaded, and its annual table is printed
   abbrev pub PrintsBook : {W : Type 0} → (W → Option (List ℕ)) → KeeperValue S → KeeperValue S → Watched W → Watched W

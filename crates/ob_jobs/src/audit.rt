@@ -1,8 +1,8 @@
 //! The job that compares a book's tables with its commands.
 ghost use Rattle.std.specs.Prelude.{◌≡◌, IfOk, string_bytes};
+ghost use Rattle.ob_jobs.specs.After.{TellsAfter};
 ghost use Rattle.ob_jobs.specs.Lines.{audit_line};
 ghost use Rattle.ob_jobs.specs.Loads.{AuditOf};
-ghost use Rattle.ob_jobs.specs.Telling.{Tells};
 
 use crate::tell::tell;
 use ob_base::{Fault, Stop};
@@ -25,7 +25,7 @@ pub fn run_audit<S: Alter, T: Timeline, W: Write>(
     keeper: &mut Keeper<S, T>,
     writer: &mut Watched<W>,
 ) -> Result<Option<Table>, Stop>
-    ensures { Tells (AuditOf S.Store keeper.old keeper.new) audit_line W.contents writer.old writer.new result }
+    ensures { TellsAfter (AuditOf S.Store keeper.old keeper.new) audit_line W.contents writer.old writer.new result }
 {
     let found = match audit_tables(keeper) {
         Ok(found) => found,

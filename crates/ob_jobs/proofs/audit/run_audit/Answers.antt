@@ -2,11 +2,11 @@ use Rattle.std.proofs.KnownBytes.{Keeps-refl}
 use Rattle.ob_stream.specs.Watching.{watched_bytes}
 use Rattle.ob_jobs.specs.Lines.{audit_line}
 use Rattle.ob_jobs.specs.Loads.{AuditOf}
-use Rattle.ob_jobs.proofs.Ends.{not_output, stopped}
+use Rattle.ob_jobs.proofs.After.{stopped_after}
 use Rattle.ob_jobs.proofs.audit.run_audit.Goals as goal
 
 pub returns-in-Err : goal.returns-in-Err
 returns-in-Err g c =
-    stopped (AuditOf g.S.Store c.args.keeper.now c.audit_tables.new.keeper)
+    stopped_after (AuditOf g.S.Store c.args.keeper.now c.audit_tables.new.keeper)
     audit_line g.W.Write.contents c.args.writer.now c.args.writer.now c.in-Err.stop c.in-Err.ensures
-    (not_output c.in-Err.stop c.in-Err.ensures.stops) (Keeps-refl (watched_bytes g.W.Write.contents c.args.writer.now))
+    (Keeps-refl (watched_bytes g.W.Write.contents c.args.writer.now))
