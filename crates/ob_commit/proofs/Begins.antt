@@ -4,10 +4,11 @@ use Rattle.std.specs.Prelude.{false}
 use Rattle.sqlite.specs.Tree.{Trees}
 use Rattle.sqlite.specs.Effect.{Database}
 use Rattle.sqlite.specs.declared.error.Error.{Error}
+use Rattle.sqlite_catalog.specs.Listing.{IsSound}
 use Rattle.sqlite.specs.State.{State, HasCleanDisk, Survives, Shows, IsRolledBack}
 use Rattle.sqlite.specs.Steps.{FailsToCommit}
 use Rattle.sqlite.proofs.StateLemmas.{survives_then}
-use Rattle.ob_tables.specs.Schema.{no_schema}
+use Rattle.ob_tables.specs.Schema.{no_schema, book_schema}
 use Rattle.ob_tables.specs.Rows.{Tables, Holds}
 use Rattle.ob_tables.specs.Steps.{Silent}
 use Rattle.ob_commit.specs.Keeps.{Leaves, Keeps}
@@ -25,7 +26,12 @@ module _ (old last end : State) (t : Tables) (none : old.now.schema ≡ no_schem
   made clean = makes (omega (arith, ends.clean, clean))
 
   leaves : HasCleanDisk end → (trees : Trees) → trees ≡ last.now.trees → Leaves t trees
-  leaves clean trees is = let it = made clean in (last.now, it.schema none, is, subst (λ x. Holds x t) (sym is) (it.holds none))
+  leaves clean trees is =
+      let it = made clean in
+      record {
+        sound = subst (IsSound book_schema) (sym is) (subst (λ s. IsSound s last.now.trees) (it.schema none) (it.sound none));
+        holds = subst (λ x. Holds x t) (sym is) (it.holds none);
+      }
 
   -- a crash leaves what it left before, or the tables of a new book
   pub survives_new : Survives old end (Begins old t)

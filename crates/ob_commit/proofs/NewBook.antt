@@ -30,6 +30,7 @@ makes_new a b c d first days zone made heading zeros = record {
   stays = zeros.stays;
   inside = zeros.inside;
   schema = λ none. zeros.schema (heading.schema (made.schema none));
+  sound = λ none. let book = made.schema none in zeros.sound (heading.schema book) (heading.sound book (made.sound none));
   holds = λ none.
       let book = made.schema none in
       let headed = with_heading first days zone no_rows in

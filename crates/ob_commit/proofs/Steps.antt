@@ -19,6 +19,7 @@ makes_then a b c m n l f h enough one two = record {
   stays = two.stays;
   inside = two.inside;
   schema = λ has. two.schema (one.schema has);
+  sound = λ has whole. two.sound (one.schema has) (one.sound has whole);
   holds = λ has t held needs. two.holds (one.schema has) (f t) (one.holds has t held (enough t needs).0) (enough t needs).1;
 }
 
@@ -45,6 +46,7 @@ next_move old mid new id p moves at d low was step =
       stays = step.stays;
       inside = step.inside;
       schema = λ has. step.schema (was.schema has);
+      sound = λ has whole. step.sound (was.schema has) (was.sound has whole);
       holds = λ has t held needs.
           let both = rows_suc id p moves at d t low needs in
           subst (Holds new.now.trees) (sym (more (λ (t : Tables) (m : Moved). with_move id p m t) t moves at d low)) (step.holds (was.schema has) (with_moves id p (take at moves) t) (was.holds has t held both.0) both.1);

@@ -28,6 +28,7 @@ makes_as a b f h same it = record {
   stays = it.stays;
   inside = it.inside;
   schema = it.schema;
+  sound = it.sound;
   holds = λ has t held needs. holds_as b.now.trees (f t) (h t) (same t) (it.holds has t held needs);
 }
 
@@ -51,7 +52,7 @@ none false rows = refl
 pub zeros_none : (a : State) (dim : Dim) (first : ℕ) → IsTrue a.is_open → IsTrue a.in_transaction → Makes a a Always (with_zeros (keys_of dim (range_with_len first 0)))
 zeros_none a dim first live inside =
     makes_as a a (λ t. t) (with_zeros []) (λ t table. none (tree_of Posting == tree_of table) (t table))
-    (record { live = live; stays = live; inside = inside; schema = λ has. has; holds = λ has t held needs. held })
+    (record { live = live; stays = live; inside = inside; schema = λ has. has; sound = λ has whole. whole; holds = λ has t held needs. held })
 
 -- one key more
 pub next_key : (a b c : State) (dim : Dim) (first at : ℕ) → Makes a b Always (with_zeros (keys_of dim (range_with_len first at)))

@@ -3,7 +3,7 @@ use Rattle.std.specs.Prelude.{◌≡◌, ◌⊎◌, Result, IsTrue, IfErr, OnOk}
 use Rattle.std.specs.Borrow.{MutBor}
 use Rattle.sqlite_trees.specs.declared.store.Store.{Ghosts}
 use Rattle.sqlite.specs.Tree.{Trees}
-use Rattle.sqlite.specs.Effect.{Database}
+use Rattle.sqlite_catalog.specs.Listing.{IsSound}
 use Rattle.sqlite.specs.Held.{Held, state}
 use Rattle.sqlite.specs.State.{State, HasCleanDisk}
 use Rattle.ob_base.specs.declared.stop.Stop.{Stop}
@@ -11,9 +11,10 @@ use Rattle.ob_tables.specs.Schema.{book_schema}
 use Rattle.ob_tables.specs.Rows.{Tables, Holds}
 use Rattle.ob_tables.specs.Steps.{Silent, Makes, IsStoreFault}
 
--- a whole database of these tables
-abbrev pub Leaves : Tables → Trees → Type 0
-Leaves t trees = (db : Database) × (db.schema ≡ book_schema) × (trees ≡ db.trees) × Holds trees t
+-- a whole database: its catalog lists the tables of a book, whose rules its rows obey, and these are the rows
+pub record Leaves (t : Tables) (trees : Trees) : Type 0 where
+  pub sound : IsSound book_schema trees
+  pub holds : Holds trees t
 
 -- it shows these tables, and has committed them
 pub record IsSettled (s : State) (t : Tables) : Type 0 where

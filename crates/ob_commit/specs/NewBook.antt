@@ -1,5 +1,6 @@
 -- The tables of a new book.
 use Rattle.std.specs.Prelude.{◌≡◌, ℕ, List, [], ◌∷◌, ◌++◌, map, codes, IsTrue}
+use Rattle.sqlite.specs.Effect.{IsDatabase}
 use Rattle.sqlite.specs.State.{State}
 use Rattle.ob_post.specs.declared.Dim.{Dim}
 use Rattle.ob_tables.specs.Schema.{no_schema, book_schema}
@@ -44,4 +45,5 @@ pub record MakesNew (tables : Tables) (old new : State) : Type 0 where
   pub stays : IsTrue new.is_open
   pub inside : IsTrue new.in_transaction
   pub schema : old.now.schema ≡ no_schema → new.now.schema ≡ book_schema
+  pub sound : old.now.schema ≡ no_schema → IsDatabase new.now
   pub holds : old.now.schema ≡ no_schema → Holds new.now.trees tables

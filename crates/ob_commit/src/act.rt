@@ -66,6 +66,8 @@ pub fn commit_act<S: Alter>(
     ensures survives { Survives (state S.Store conn.old) (state S.Store conn.new)
         (LeavesChanged (state S.Store conn.old) (NeedsRows postings.now act.now) (with_act postings.now act.now)) }
 {
+    // what is open is a whole database
+    let _schema = conn.schema();
     let mut tx = conn.transaction();
     write_act(&mut tx, act, postings)?;
     match tx.commit() {

@@ -16,7 +16,8 @@ ghost use Rattle.ob_commit.specs.Stored.{FindsMoves, AreMovesIn, row_of, rows_of
 use crate::columns::{number_at, signed_at};
 use ob_base::{Fault, Stop};
 use ob_post::{Dim, Moved};
-use sqlite::{Alter, Connection, Error, ErrorCode, Row, Transaction};
+use ob_tables::stop_of;
+use sqlite::{Alter, Connection, Row, Transaction};
 use sqlite_value::value::ValueRef;
 use std::alloc::Global;
 
@@ -70,16 +71,6 @@ fn find_moves<S: Alter>(tx: &mut Transaction<'_, S>, no: u32) -> Result<Vec<Row>
     ) {
         Ok(rows) => Ok(rows),
         Err(error) => Err(stop_of(error)),
-    }
-}
-
-/// A failure of a query as a fault.
-fn stop_of(error: Error) -> Stop
-    ensures { IsStoreFault result }
-{
-    match error {
-        Error::SqliteFailure(ErrorCode::OutOfMemory) => Stop::Fault(Fault::OutOfMemory),
-        _ => Stop::Fault(Fault::Store),
     }
 }
 

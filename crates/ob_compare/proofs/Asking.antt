@@ -83,14 +83,14 @@ shown_unchanged sql params old new rows plain h =
     let it = subst (ShowsRows old new sql h.0 (timed params h.0.formats h.1.now) rows) none h.2 in
     it.3
 
-module _ (l : Listing) (means : IsListing l) (old mid new : State) (text : List ℕ) (prepared : HasCleanDisk mid → (text ≡ l.text) × IsUnchanged old mid) (has : old.now.schema ≡ book_schema) where
+module _ (l : Listing) (means : IsListing l) (old mid new : State) (text : List ℕ) (prepared : HasCleanDisk mid → (text ≡ l.text) × IsUnchanged old mid) where
   -- a whole listing commits nothing
   pub listing_quiet : Survives old mid (λ _. ⊥) → Survives mid new (CommitsShowing text [] mid) → Survives old new (λ _. ⊥)
-  listing_quiet first s = still_then old mid new first (quiet l means old mid new text prepared has s)
+  listing_quiet first s = still_then old mid new first (quiet l means old mid new text prepared s)
 
   -- and changes nothing
-  pub listing_whole : HasCleanDisk mid → (rows : List Row) → Shown text [] mid new rows → Lists l old.now rows × IsUnchanged old new
-  listing_whole clean rows h =
+  pub listing_whole : old.now.schema ≡ book_schema → HasCleanDisk mid → (rows : List Row) → Shown text [] mid new rows → Lists l old.now rows × IsUnchanged old new
+  listing_whole has clean rows h =
       let it = prepared clean in
       let there : mid.now.schema ≡ book_schema = ap (λ (d : Database). d.schema) it.1.0.now_is ∙ has in
       let shown = subst (λ x. Shown x [] mid new rows) it.0 h in

@@ -15,5 +15,6 @@ mod Twins
 mod Naming
 mod Led
 mod Texts
+pub mod Silent
 mod RowNumbers
 mod NumberQuery

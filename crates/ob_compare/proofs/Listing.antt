@@ -150,8 +150,8 @@ module _ {S : Type 0} (g : Ghosts S) (l : Listing) (means : IsListing l) (old ne
 
 -- ---- a listing begins
 -- and commits nothing
-pub quiet : (l : Listing) → IsListing l → (old mid new : State) (text : List ℕ) → (HasCleanDisk mid → (text ≡ l.text) × IsUnchanged old mid) → old.now.schema ≡ book_schema → Survives mid new (CommitsShowing text [] mid) → Survives mid new (λ _. ⊥)
-quiet l means = commits_none l.text means.plain
+pub quiet : (l : Listing) → IsListing l → (old mid new : State) (text : List ℕ) → (HasCleanDisk mid → (text ≡ l.text) × IsUnchanged old mid) → Survives mid new (CommitsShowing text [] mid) → Survives mid new (λ _. ⊥)
+quiet l means = commits_none l.text means.silent
 
 pub begins : {S : Type 0} (g : Ghosts S) (l : Listing) → IsListing l → (old mid new : Held S) (text : List ℕ) → (text ≡ l.text) × IsUnchanged (state g old) (state g mid) → (state g old).now.schema ≡ book_schema → HasBegun g text [] mid new
     → HasGiven g l.text [] new [] × IsUnchanged (state g old) (state g new)

@@ -20,7 +20,8 @@ use Rattle.ob_tables.specs.Schema.{book_schema}
 use Rattle.ob_tables.specs.Rows.{AreApart}
 use Rattle.ob_tables.proofs.Answers.{answered_in_order}
 use Rattle.ob_compare.specs.Apart.{IsAbove, ListsNumbers, number_command, number_query, number_text}
-use Rattle.ob_compare.specs.Listing.{upward}
+use Rattle.ob_compare.specs.Listing.{ShowsNoWrite, upward}
+use Rattle.ob_compare.proofs.Silent.{shows_no_write}
 use Rattle.ob_compare.proofs.RowNumbers.{RiseTo, apart_as, by_rowid, not_apart, number_of, rise_apart}
 
 -- ---- what the text means
@@ -31,6 +32,10 @@ numbers_mean = refl
 pub numbers_plain : IsPlain (understood book_schema number_text)
 unfolding understood everything
 numbers_plain = (refl, refl)
+
+pub numbers_silent : ShowsNoWrite number_text
+unfolding everything
+numbers_silent = shows_no_write number_text (λ schema base. refl)
 
 pub numbers_unlisted : reads_listing book_schema number_text ≡ false
 unfolding understood everything

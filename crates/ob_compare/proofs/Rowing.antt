@@ -33,12 +33,13 @@ use Rattle.ob_compare.specs.declared.filed.Filed.{Filed}
 use Rattle.ob_compare.specs.Listing.{IsListing, Lists, IsOff, Goes, Ends, list_query, keyed, filed_of}
 use Rattle.ob_compare.specs.Moves.{moved_listing, HasMoved, commands_of}
 use Rattle.ob_compare.proofs.Same.{rises_mapped}
+use Rattle.ob_compare.proofs.Silent.{shows_no_write}
 use Rattle.ob_compare.proofs.Listing.{lists_rows, append_last, no_more, row_on, row_off}
 use Rattle.ob_compare.proofs.Order.{Numbered, numbered_row, numbered_cmp, numbered, rows_are, rise}
 
 pub moved_is : IsListing moved_listing
 unfolding understood everything
-moved_is = record { means = refl; plain = (refl, refl); unlisted = refl }
+moved_is = record { means = refl; plain = (refl, refl); unlisted = refl; silent = shows_no_write moved_listing.text (λ schema base. refl) }
 
 -- ---- the rows rise by their key
 same_pos : (m n : ℕ) → int_cmp (pos m) (pos n) ≡ nat_cmp m n

@@ -11,8 +11,10 @@ use Rattle.sqlite.specs.Held.{Held, state}
 use Rattle.sqlite.specs.Given.{HasGiven, HasBegun, GivesOn}
 use Rattle.sqlite_trees.specs.declared.store.Store.{Ghosts}
 use Rattle.sqlite_resolve.specs.declared.compiled.Compiled.{Compiled}
-use Rattle.sqlite.proofs.Callers.{IsPlain, EndsIn, command_of, reads_as, given_begin, begins_shown, begun_plain, never_commits, unchanged_then}
+use Rattle.sqlite.proofs.Callers.{IsPlain, EndsIn, command_of, reads_as, given_begin, begins_shown, begun_plain, unchanged_then}
 use Rattle.ob_tables.specs.Schema.{book_schema}
+use Rattle.ob_compare.specs.Listing.{ShowsNoWrite}
+use Rattle.ob_compare.proofs.Silent.{commits_no_write}
 
 pub same_state : (s : State) → IsTrue s.is_open → IsUnchanged s s
 same_state s live = (record { was_open = live; is_open = live; now_is = refl; committed_is = refl; mode = refl }, record { changes = refl; last_rowid = refl }, refl)
@@ -21,25 +23,23 @@ append_one : (given : List Row) (row : Row) (rest : List Row) → (given ++ row 
 append_one [] row rest = refl
 append_one (g ∷ given) row rest = ap (λ l. g ∷ l) (append_one given row rest)
 
+-- a text that shows no rows of a write commits nothing
+pub commits_none : (sql : List ℕ) → ShowsNoWrite sql → (old mid new : State) (text : List ℕ) → (HasCleanDisk mid → (text ≡ sql) × IsUnchanged old mid) → Survives mid new (CommitsShowing text [] mid) → Survives mid new (λ _. ⊥)
+commits_none sql silent old mid new text prepared s = record {
+  clean = s.clean;
+  shield = s.shield;
+  counts = s.counts;
+  limit = s.limit;
+  closes = s.closes;
+  crash = λ clean db may.
+      let early : HasCleanDisk mid = omega (arith, s.clean, clean) in
+      elim (s.crash clean db may) [ inl before ↦ inl before | inr commits ↦ absurd (commits_no_write sql silent [] mid db (subst (λ x. CommitsShowing x [] mid db) (prepared early).0 commits)) ];
+}
+
 -- a text that is plain over the tables of a book
 module _ (sql : List ℕ) (plain : IsPlain (understood book_schema sql)) where
   plain_at : (schema : Schema) → schema ≡ book_schema → IsPlain (understood schema sql)
   plain_at schema has = subst (λ x. IsPlain (understood x sql)) (sym has) plain
-
-  -- commits nothing
-  pub commits_none : (old mid new : State) (text : List ℕ) → (HasCleanDisk mid → (text ≡ sql) × IsUnchanged old mid) → old.now.schema ≡ book_schema → Survives mid new (CommitsShowing text [] mid) → Survives mid new (λ _. ⊥)
-  commits_none old mid new text prepared has s = record {
-    clean = s.clean;
-    shield = s.shield;
-    counts = s.counts;
-    limit = s.limit;
-    closes = s.closes;
-    crash = λ clean db may.
-        let early : HasCleanDisk mid = omega (arith, s.clean, clean) in
-        let it = prepared early in
-        let there : mid.now.schema ≡ book_schema = ap (λ (d : Database). d.schema) it.1.0.now_is ∙ has in
-        elim (s.crash clean db may) [ inl before ↦ inl before | inr commits ↦ absurd (never_commits sql [] mid db (plain_at mid.now.schema there) (subst (λ x. CommitsShowing x [] mid db) it.0 commits)) ];
-  }
 
   -- begins with no row given
   pub begins_empty : {S : Type 0} (g : Ghosts S) (old mid new : Held S) (text : List ℕ) → (text ≡ sql) × IsUnchanged (state g old) (state g mid) → (state g old).now.schema ≡ book_schema → HasBegun g text [] mid new

@@ -10,6 +10,7 @@ use Rattle.sqlite.specs.Command.{Command as SqlCommand}
 use Rattle.sqlite.specs.Command.TheVariants.{Select}
 use Rattle.sqlite.specs.Effect.{Database, Reads}
 use Rattle.sqlite.specs.Listing.{understood, reads_listing}
+use Rattle.sqlite.specs.Schema.{Schema}
 use Rattle.sqlite_trees.specs.declared.store.Store.{Ghosts}
 use Rattle.sqlite_resolve.specs.declared.compiled.Compiled.{Compiled}
 use Rattle.sqlite_resolve.specs.declared.error.CompileError.{CompileError}
@@ -53,11 +54,16 @@ abbrev pub Means : Result Compiled CompileError → SqlCommand → Type 0
 Means (Ok c) command = c.command ≡ command
 Means (Err e) command = ⊥
 
--- at the schema of the book the text means this query
+-- at whatever schema, the text shows no rows of a write, and so commits nothing
+abbrev pub ShowsNoWrite : List ℕ → Type 0
+ShowsNoWrite text = (schema : Schema) (c : Compiled) → understood schema text ≡ Ok c → c.returning ≡ None
+
+-- at the schema of the book the text means this query, and it writes at no schema
 pub record IsListing (l : Listing) : Type 0 where
   pub means : Means (understood book_schema l.text) (list_command l)
   pub plain : IsPlain (understood book_schema l.text)
   pub unlisted : reads_listing book_schema l.text ≡ false
+  pub silent : ShowsNoWrite l.text
 
 -- the key of a row, and the row
 abbrev pub keyed : Listing → Row → Output

@@ -69,7 +69,7 @@ module _ {S : Type 0} (g : Ghosts S) where
   -- a table was compared with rows that are expected; nothing was written
   pub record Compares (table : Table) (expected : List Columns) (old new : Held S) (result : Result Bool Stop) : Type 0 where
     pub mode : old.in_transaction ≡ false → new.in_transaction ≡ false
-    pub survives : old.schema ≡ book_schema → Survives (state g old) (state g new) (λ _. ⊥)
+    pub survives : Survives (state g old) (state g new) (λ _. ⊥)
     -- whatever it answers, a store that keeps tables keeps them
     pub kept : (t : Tables) → Keeps (state g old) t → Keeps (state g new) t
     pub clean : HasCleanDisk (state g new) → HasCleanDisk (state g old)

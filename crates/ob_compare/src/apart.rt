@@ -12,8 +12,9 @@ ghost use Rattle.ob_commit.specs.Keeps.{Keeps};
 ghost use Rattle.ob_tables.specs.Steps.{IsStoreFault};
 ghost use Rattle.ob_compare.specs.Apart.{IsAbove, IsNextAbove, NumberStands, number_text};
 
-use crate::rows::{advance, stop_of};
+use crate::rows::advance;
 use ob_base::Stop;
+use ob_tables::stop_of;
 use sqlite::{Alter, Connection, Row, Rows};
 use sqlite_value::value::ValueRef;
 
@@ -95,8 +96,7 @@ fn rise<S: Alter>(rows: &mut Rows<'_, S>) -> Result<bool, Stop>
 /// Whether each row of the table of amounts has a number for its hidden key, and no two have the same. Nothing is written.
 pub fn are_apart<S: Alter>(conn: &mut Connection<S>) -> Result<bool, Stop>
     ensures mode { conn.old.in_transaction ≡ false → conn.new.in_transaction ≡ false }
-    ensures survives { conn.old.schema ≡ book_schema
-        → Survives (state S.Store conn.old) (state S.Store conn.new) (λ _. ⊥) }
+    ensures survives { Survives (state S.Store conn.old) (state S.Store conn.new) (λ _. ⊥) }
     ensures clean { HasCleanDisk (state S.Store conn.new) → HasCleanDisk (state S.Store conn.old) }
     ensures faults { IfErr result IsStoreFault }
     ensures kept { (t : Tables) → Keeps (state S.Store conn.old) t → Keeps (state S.Store conn.new) t }

@@ -19,11 +19,11 @@ use crate::columns::{has_number, text_at};
 use crate::filed::Filed;
 use crate::listed::select_of;
 use crate::query::prepare;
-use crate::rows::{advance, is_over, stop_of};
+use crate::rows::{advance, is_over};
 use ob_base::{Ref, Stop};
 use ob_book::MOST_COMMANDS;
 use ob_command::read_body;
-use ob_tables::Table;
+use ob_tables::{Table, stop_of};
 use sqlite::{Alter, Connection, Row, Rows};
 use std::alloc::Global;
 
@@ -113,8 +113,7 @@ pub fn read_commands<S: Alter>(
     conn: &mut Connection<S>,
 ) -> Result<Option<Vec<Filed>>, Stop>
     ensures mode { conn.old.in_transaction ≡ false → conn.new.in_transaction ≡ false }
-    ensures survives { conn.old.schema ≡ book_schema
-        → Survives (state S.Store conn.old) (state S.Store conn.new) (λ _. ⊥) }
+    ensures survives { Survives (state S.Store conn.old) (state S.Store conn.new) (λ _. ⊥) }
     ensures kept { (t : Tables) → Keeps (state S.Store conn.old) t → Keeps (state S.Store conn.new) t }
     ensures clean { HasCleanDisk (state S.Store conn.new) → HasCleanDisk (state S.Store conn.old) }
     ensures faults { IfErr result IsReadFault }

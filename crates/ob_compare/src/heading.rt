@@ -75,8 +75,7 @@ pub fn read_heading<S: Alter>(
     conn: &mut Connection<S>,
 ) -> Result<Option<Heading>, Stop>
     ensures mode { conn.old.in_transaction ≡ false → conn.new.in_transaction ≡ false }
-    ensures survives { conn.old.schema ≡ book_schema
-        → Survives (state S.Store conn.old) (state S.Store conn.new) (λ _. ⊥) }
+    ensures survives { Survives (state S.Store conn.old) (state S.Store conn.new) (λ _. ⊥) }
     ensures kept { (t : Tables) → Keeps (state S.Store conn.old) t → Keeps (state S.Store conn.new) t }
     ensures clean { HasCleanDisk (state S.Store conn.new) → HasCleanDisk (state S.Store conn.old) }
     ensures faults { IfErr result IsReadFault }

@@ -16,9 +16,9 @@ ghost use Rattle.ob_compare.specs.Listing.{Goes};
 ghost use Rattle.ob_compare.specs.Parts.{Compares, listing_of, row_cmp, select_of, standing};
 
 use crate::query::prepare;
-use crate::rows::{advance, is_over, stop_of};
+use crate::rows::{advance, is_over};
 use ob_base::Stop;
-use ob_tables::Table;
+use ob_tables::{Table, stop_of};
 use sqlite::{Alter, Connection, Row, Rows};
 
 /// A part of a book as rows of a table: each of its places has one or none. They rise by key.

@@ -23,13 +23,13 @@ use crate::ends::Ends;
 use crate::filed::Filed;
 use crate::listed::select_of;
 use crate::query::prepare;
-use crate::rows::{advance, int, is_over, is_row, signed, stop_of};
+use crate::rows::{advance, is_over, is_row};
 use ob_base::Stop;
 use ob_book::Book;
 use ob_command::Command;
 use ob_post::Moved;
 use ob_sweep::Timeline;
-use ob_tables::Table;
+use ob_tables::{Table, int, signed, stop_of};
 use sqlite::{Alter, Connection, Row, Rows};
 
 /// Whether the row is that of an amount that a command moved.
@@ -206,8 +206,7 @@ pub fn holds_moves<S: Alter, T: Timeline>(
     noted: &mut Vec<Ends>,
 ) -> Result<bool, Stop>
     ensures mode { conn.old.in_transaction ≡ false → conn.new.in_transaction ≡ false }
-    ensures survives { conn.old.schema ≡ book_schema
-        → Survives (state S.Store conn.old) (state S.Store conn.new) (λ _. ⊥) }
+    ensures survives { Survives (state S.Store conn.old) (state S.Store conn.new) (λ _. ⊥) }
     ensures kept { (t : Tables) → Keeps (state S.Store conn.old) t → Keeps (state S.Store conn.new) t }
     ensures clean { HasCleanDisk (state S.Store conn.new) → HasCleanDisk (state S.Store conn.old) }
     ensures faults { IfErr result IsReadFault }

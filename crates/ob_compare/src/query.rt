@@ -9,8 +9,8 @@ ghost use Rattle.ob_commit.specs.Keeps.{Keeps};
 ghost use Rattle.ob_compare.specs.Listing.{Listing, IsListing, Lists};
 ghost use Rattle.ob_compare.specs.Reading.{HasNoMeaning, IsInputError, IsMissed, IsReadFault, bad_book};
 
-use crate::rows::stop_of;
 use ob_base::{Fault, Refusal, Stop};
+use ob_tables::stop_of;
 use sqlite::{Alter, Connection, Error, ErrorCode, Row, Statement};
 
 /// Why a text wasn't prepared: the tables lack what it names, as those of no book, or the store failed.
@@ -56,7 +56,7 @@ pub(crate) fn list_all<S: Alter>(conn: &mut Connection<S>, sql: &str) -> Result<
     ensures missed { HasNoMeaning conn.old.schema sql.now
         → Survives (state S.Store conn.old) (state S.Store conn.new) (λ _. ⊥)
         × (HasCleanDisk (state S.Store conn.new) → IsMissed (state S.Store conn.old) (state S.Store conn.new) result) }
-    ensures survives { (l : Listing) → IsListing l → l.text ≡ sql.now → conn.old.schema ≡ book_schema
+    ensures survives { (l : Listing) → IsListing l → l.text ≡ sql.now
         → Survives (state S.Store conn.old) (state S.Store conn.new) (λ _. ⊥) }
     ensures kept { (l : Listing) → IsListing l → l.text ≡ sql.now
         → (t : Tables) → Keeps (state S.Store conn.old) t → Keeps (state S.Store conn.new) t }

@@ -5,41 +5,17 @@ ghost use Rattle.sqlite.specs.Held.{state};
 ghost use Rattle.sqlite.specs.Given.{Advances, HasGiven, row_if};
 ghost use Rattle.sqlite.specs.State.{HasCleanDisk, IsUnchanged, Survives};
 ghost use Rattle.sqlite_value.specs.Value.{owned};
-ghost use Rattle.sqlite.specs.declared.types.Value.TheVariants.{Int};
 ghost use Rattle.ob_tables.specs.Schema.{book_schema};
-ghost use Rattle.ob_tables.specs.Rows.{Tables, number};
+ghost use Rattle.ob_tables.specs.Rows.{Tables};
 ghost use Rattle.ob_tables.specs.Steps.{IsStoreFault};
 ghost use Rattle.ob_commit.specs.Keeps.{Keeps};
 ghost use Rattle.ob_compare.specs.Listing.{Listing, IsListing, Ends};
 
-use ob_base::{Fault, Stop};
-use sqlite::{Alter, Error, ErrorCode, Row, Rows};
+use ob_base::Stop;
+use ob_tables::stop_of;
+use sqlite::{Alter, Row, Rows};
 use sqlite_value::order::is_same;
 use sqlite_value::value::ValueRef;
-
-/// A failure of the store as a fault.
-pub(crate) fn stop_of(error: Error) -> Stop
-    ensures { IsStoreFault result }
-{
-    match error {
-        Error::SqliteFailure(ErrorCode::OutOfMemory) => Stop::Fault(Fault::OutOfMemory),
-        _ => Stop::Fault(Fault::Store),
-    }
-}
-
-/// A number as a value.
-pub(crate) fn int(n: u32) -> ValueRef<'static>
-    ensures { owned result ≡ number n }
-{
-    ValueRef::Int(i64::from(n))
-}
-
-/// A number that may be below 0 as a value.
-pub(crate) fn signed(n: i64) -> ValueRef<'static>
-    ensures { owned result ≡ Int n }
-{
-    ValueRef::Int(n)
-}
 
 /// Whether the row has these values.
 pub(crate) fn is_row(row: &Row, values: &[ValueRef<'_>]) -> bool

@@ -1,5 +1,6 @@
 -- What stands once a command under a new reference was decided on, and once its rows were committed or not.
-use Rattle.std.proofs.Common.{◌≡◌, inl, inr, ◌+◌, length, Some, None, Ok, Err, true, refl, sym, ap, subst}
+use Rattle.std.proofs.Common.{◌≡◌, inl, inr, ◌+◌, List, [], ◌∷◌, ◌++◌, length, Some, None, Ok, Err, true, refl, sym, ap, subst}
+use Rattle.std.specs.List.{AllByRecursion}
 use Rattle.std.specs.List.Sorted.{IsPermutation}
 use Rattle.std.proofs.lemmas.List.Sorted.{IsPermutation-trans}
 use Rattle.sqlite_trees.specs.declared.store.Store.{Ghosts}
@@ -25,6 +26,7 @@ use Rattle.ob_commit.specs.declared.act.Act.{Act}
 use Rattle.ob_commit.specs.Acts.{NeedsRows, with_act}
 use Rattle.ob_commit.specs.Keeps.{Keeps, KeepsEither, IsSettled, Leaves}
 use Rattle.ob_record.specs.Leading.{Records}
+use Rattle.ob_record.specs.Naming.{IsReferenced}
 use Rattle.ob_record.specs.Reached.{AcceptedIsReached}
 use Rattle.ob_record.specs.Tables.{tables_of}
 use Rattle.ob_store.specs.Keeping.{KeepsBook, KeepsEitherBook}
@@ -38,7 +40,7 @@ module _ (t u : Tables) (same : (table : Table) → IsPermutation (t table) (u t
   }
 
   pub leaves_as : (trees : Trees) → Leaves t trees → Leaves u trees
-  leaves_as trees leaves = (leaves.0, leaves.1, leaves.2, holds_as trees leaves.3)
+  leaves_as trees leaves = record { sound = leaves.sound; holds = holds_as trees leaves.holds }
 
   settled_as : (s : State) → IsSettled s t → IsSettled s u
   settled_as s it = record { schema = it.schema; committed = it.committed; holds = holds_as s.now.trees it.holds }
@@ -62,8 +64,13 @@ pub decided : {S : Type 0} (g : Ghosts S) (conn : Held S) (was is : BookState) (
 decided g conn was is b a same keeps fresh (Refused r) refused fault = let e = refused r refl in (rw (fresh, e), keeps, same)
 decided g conn was is b a same keeps fresh (Fault f) refused fault = subst (λ x. Acts g conn was is b a (Err (Fault x))) (sym (fault f refl)) (keeps, same)
 
+-- one more reference and command of their types
+pub valid_more : (list : List Referenced) (a : Referenced) → AllByRecursion IsReferenced list → IsReferenced a → AllByRecursion IsReferenced (list ++ a ∷ [])
+valid_more [] a valid named = (named, tt)
+valid_more (x ∷ list) a valid named = (valid.0, valid_more list a valid.1 named)
+
 module _ {S : Type 0} (g : Ghosts S) (old new : Held S) (b : ActState) (a : Referenced) (p : PostedAmounts) (written : Act) (law : AcceptedIsReached) (keeps : KeepsBook (state g old) b)
-    (records : Records b a p written) (fresh : number_of b a.reference ≡ None) (free : refusal b.book a.command ≡ None) where
+    (records : Records b a p written) (fresh : number_of b a.reference ≡ None) (free : refusal b.book a.command ≡ None) (named : IsReferenced a) where
   accepted : is_accepted b a ≡ true
   accepted = rw (fresh, free)
 
@@ -75,6 +82,7 @@ module _ {S : Type 0} (g : Ghosts S) (old new : Held S) (b : ActState) (a : Refe
       (record {
         kept = keeps_as (with_act p written (tables_of b)) (tables_of (take_on b a)) records.tables (state g new) (commits (tables_of b) keeps.kept records.needs);
         reached = law b a keeps.reached accepted;
+        valid = valid_more b.accepted a keeps.valid named;
       })
 
   either : ((t : Tables) → Keeps (state g old) t → NeedsRows p written t → KeepsEither (state g new) t (with_act p written t)) → KeepsEitherBook (state g new) b (act b a)
@@ -83,6 +91,8 @@ module _ {S : Type 0} (g : Ghosts S) (old new : Held S) (b : ActState) (a : Refe
         kept = either_as (with_act p written (tables_of b)) (tables_of (take_on b a)) records.tables (state g new) (tables_of b) (commits (tables_of b) keeps.kept records.needs);
         reached = keeps.reached;
         other_reached = law b a keeps.reached accepted;
+        valid = keeps.valid;
+        other_valid = valid_more b.accepted a keeps.valid named;
       })
 
   pub answered : b.book.accepted ≡ length b.accepted → answer b a ≡ Ok (record { number = b.book.accepted + 1; moved = moves b.book (next b.book a.command) })
@@ -95,5 +105,5 @@ module _ {S : Type 0} (g : Ghosts S) (old new : Held S) (b : ActState) (a : Refe
   pub failed : (was is : BookState) → is ≡ was → (stop : Stop) → IsStoreFault stop → (stop ≡ out_of_memory → (t : Tables) → Keeps (state g old) t → Keeps (state g new) t)
       → ((t : Tables) → Keeps (state g old) t → NeedsRows p written t → KeepsEither (state g new) t (with_act p written t)) → Acts g new was is b a (Err stop)
   failed was is same stop (inl memory) undone commits =
-      subst (λ s. Acts g new was is b a (Err s)) (sym memory) (record { kept = undone memory (tables_of b) keeps.kept; reached = keeps.reached }, same)
+      subst (λ s. Acts g new was is b a (Err s)) (sym memory) (record { kept = undone memory (tables_of b) keeps.kept; reached = keeps.reached; valid = keeps.valid }, same)
   failed was is same stop (inr store) undone commits = subst (λ s. Acts g new was is b a (Err s)) (sym store) (either commits)

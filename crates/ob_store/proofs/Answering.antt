@@ -1,6 +1,7 @@
 -- What is answered under a known reference, and after a fault of the store.
 use Rattle.std.proofs.Common.{◌≡◌, ◌≢◌, inl, inr, ℕ, ◌-◌, true, List, Some, Result, Ok, Err, refl, sym, ap, subst, ◌∙◌}
 use Rattle.std.specs.Prelude.{slice_get, IfOk, IfErr}
+use Rattle.std.specs.List.{AllByRecursion}
 use Rattle.std.specs.Str.{bytes_eq}
 use Rattle.std.proofs.lemmas.Bool.{cases_Bool}
 use Rattle.std.proofs.lemmas.Slice.Eq.{bytes_eq-Decides}
@@ -16,7 +17,9 @@ use Rattle.ob_book.specs.Acts.{ActState, Referenced, act, answer, is_accepted, n
 use Rattle.ob_tables.specs.Steps.{IsStoreFault}
 use Rattle.ob_commit.proofs.Commits.{first_of_either}
 use Rattle.ob_record.specs.Tables.{tables_of}
+use Rattle.ob_record.specs.Naming.{IsReferenced}
 use Rattle.ob_record.specs.Reached.{AcceptedIsReached, IsReached}
+use Rattle.ob_store.proofs.Accepting.{valid_more}
 use Rattle.ob_store.specs.Keeping.{KeepsBook, KeepsEitherBook}
 use Rattle.ob_store.specs.Acting.{Acts, reply_as, under}
 use Rattle.ob_store.specs.declared.reply.Reply.{Reply as GivenReply}
@@ -26,6 +29,13 @@ pub reached_act : AcceptedIsReached → (b : ActState) (a : Referenced) → IsRe
 reached_act law b a reached = elim (cases_Bool (is_accepted b a)) [
   | inl t ↦ subst IsReached (let e : take_on b a ≡ act b a = rw t in e) (law b a reached t)
   | inr f ↦ subst IsReached (let e : b ≡ act b a = rw f in e) reached
+]
+
+-- and its references and commands stay what their types keep
+pub valid_act : (b : ActState) (a : Referenced) → AllByRecursion IsReferenced b.accepted → IsReferenced a → AllByRecursion IsReferenced (act b a).accepted
+valid_act b a valid named = elim (cases_Bool (is_accepted b a)) [
+  | inl t ↦ subst (λ (x : ActState). AllByRecursion IsReferenced x.accepted) (let e : take_on b a ≡ act b a = rw t in e) (valid_more b.accepted a valid named)
+  | inr f ↦ subst (λ (x : ActState). AllByRecursion IsReferenced x.accepted) (let e : b ≡ act b a = rw f in e) valid
 ]
 
 module _ (b : ActState) (r : List ℕ) (command : Command) (id : ℕ) (known : number_of b r ≡ Some id) where
@@ -45,15 +55,20 @@ module _ (b : ActState) (r : List ℕ) (command : Command) (id : ℕ) (known : n
       | inr f ↦ rw (known, there, f)
     ]
 
-pub either_of : (s : State) (b : ActState) (a : Referenced) → KeepsBook s b → IsReached (act b a) → KeepsEitherBook s b (act b a)
-either_of s b a keeps reached =
-    record { kept = first_of_either s (tables_of b) (tables_of (act b a)) keeps.kept; reached = keeps.reached; other_reached = reached }
+pub either_of : (s : State) (b : ActState) (a : Referenced) → KeepsBook s b → IsReached (act b a) → IsReferenced a → KeepsEitherBook s b (act b a)
+either_of s b a keeps reached named = record {
+  kept = first_of_either s (tables_of b) (tables_of (act b a)) keeps.kept;
+  reached = keeps.reached;
+  other_reached = reached;
+  valid = keeps.valid;
+  other_valid = valid_act b a keeps.valid named;
+}
 
-module _ {S : Type 0} (g : Ghosts S) (new : Held S) (was : BookState) (b : ActState) (a : Referenced) (keeps : KeepsBook (state g new) b) (reached : IsReached (act b a)) where
+module _ {S : Type 0} (g : Ghosts S) (new : Held S) (was : BookState) (b : ActState) (a : Referenced) (keeps : KeepsBook (state g new) b) (reached : IsReached (act b a)) (named : IsReferenced a) where
   -- a fault of a read
   pub fault_acts : (stop : Stop) → IsStoreFault stop → Acts g new was was b a (Err stop)
   fault_acts stop (inl memory) = subst (λ s. Acts g new was was b a (Err s)) (sym memory) (keeps, refl)
-  fault_acts stop (inr store) = subst (λ s. Acts g new was was b a (Err s)) (sym store) (either_of (state g new) b a keeps reached)
+  fault_acts stop (inr store) = subst (λ s. Acts g new was was b a (Err s)) (sym store) (either_of (state g new) b a keeps reached named)
 
   -- the reply once more, or a fault
   pub again_acts : (id : ℕ) (r : Result GivenReply Stop) → IfErr r IsStoreFault → IfOk r (λ x. reply_as x ≡ reply_of b id) → act b a ≡ b → answer b a ≡ Ok (reply_of b id) → was ≡ b.book

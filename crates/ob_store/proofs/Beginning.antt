@@ -85,7 +85,7 @@ module _ (p : Calendar) (first text : List ℕ) (days : ℕ) (zone : List ℕ) (
 
   module _ {S : Type 0} (g : Ghosts S) (old new : Held S) (firsts : StartHasFirstRows) where
     pub kept : StartIsReached → Keeps (state g new) (new_tables text days zone) → KeepsBook (state g new) (start p)
-    kept law keeps = record { kept = keeps_as (new_tables text days zone) (tables_of (start p)) (tables_are firsts) (state g new) keeps; reached = reached law }
+    kept law keeps = record { kept = keeps_as (new_tables text days zone) (tables_of (start p)) (tables_are firsts) (state g new) keeps; reached = reached law; valid = tt }
 
     may_begin : StaysOrBegins (state g old) (state g new) (new_tables text days zone) → MayBegin g old new first days zone
     may_begin it = (
@@ -106,9 +106,9 @@ module _ (p : Calendar) (first text : List ℕ) (days : ℕ) (zone : List ℕ) (
     failed stop (inl taken) full stays keeps either =
         let other : stop ≢ Fault Store = λ e. absurd (cc) in
         subst (λ s. Creates g old new first days zone (Err s)) (sym taken)
-        (full taken, record { stays = stays other; kept = λ b k. record { kept = keeps other (tables_of b) k.kept; reached = k.reached } })
+        (p, of_text, full taken, record { stays = stays other; kept = λ b k. record { kept = keeps other (tables_of b) k.kept; reached = k.reached; valid = k.valid } })
     failed stop (inr (inl memory)) full stays keeps either =
         let other : stop ≢ Fault Store = λ e. absurd (cc) in
         subst (λ s. Creates g old new first days zone (Err s)) (sym memory)
-        (record { stays = stays other; kept = λ b k. record { kept = keeps other (tables_of b) k.kept; reached = k.reached } })
+        (record { stays = stays other; kept = λ b k. record { kept = keeps other (tables_of b) k.kept; reached = k.reached; valid = k.valid } })
     failed stop (inr (inr store)) full stays keeps either = subst (λ s. Creates g old new first days zone (Err s)) (sym store) (may_begin either)

@@ -85,7 +85,7 @@ module _ {S : Type 0} (g : Ghosts S) where
   find_as Good Good' Bad Bad' old new (Ok x) better worse it = record {
     mode = it.mode;
     clean = it.clean;
-    left = it.left;
+    survives = it.survives;
     kept = it.kept;
     faults = it.faults;
     same = it.same;

@@ -39,7 +39,7 @@ module _ {S : Type 0} (g : Ghosts S) {X : Type 0} (P : ActState → Trees → X 
   of_each (Ok x) it = record {
     mode = (it bare refl).mode;
     clean = (it bare refl).clean;
-    left = (it bare refl).left;
+    survives = (it bare refl).survives;
     kept = (it bare refl).kept;
     faults = tt;
     same = (it bare refl).same;
@@ -50,7 +50,7 @@ module _ {S : Type 0} (g : Ghosts S) {X : Type 0} (P : ActState → Trees → X 
   of_each (Err stop) it = record {
     mode = (it bare refl).mode;
     clean = (it bare refl).clean;
-    left = (it bare refl).left;
+    survives = (it bare refl).survives;
     kept = (it bare refl).kept;
     faults = (it bare refl).faults;
     same = λ clean. tt;
@@ -122,4 +122,4 @@ module _ {S : Type 0} (g : Ghosts S) {L : Type 0} (state_of : L → BookState) (
     pub loads : {B : Type 0} (book_of : B → BookState) (book : B) → book_of book ≡ state_of l → (is : Bool) → is ≡ true → Finds g Apart NoneSo new end (Ok is) → Finds g (λ trees b. Holding trees (book_of b)) HoldsNoBook old end (Ok book)
     loads book_of book same is so third =
         then_good g All Nothing (λ trees b. Holding trees (book_of b)) HoldsNoBook old end is (all (Ok is) third) book
-        (λ trees it. let found = finding trees None it.0 in (found.0, (found.1, found.2), it.1.0 so, same ∙ it.0.0.state))
+        (λ trees it. let found = finding trees None it.0 in (found.0, (found.1, found.2), it.0.0.only, it.1.0 so, same ∙ it.0.0.state))

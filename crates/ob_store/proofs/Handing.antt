@@ -83,8 +83,8 @@ spared_unasked old new sql params e (inr h) = spared_unshown old new sql h.0 (ti
 
 module _ (old mid new : State) (text : List ℕ) (prepared : HasCleanDisk mid → (text ≡ moved_listing.text) × IsUnchanged old mid) (first : Survives old mid (λ _. ⊥)) (s : Survives mid new (CommitsShowing text [] mid)) where
   -- a query of what was moved commits nothing
-  pub query_survives : old.now.schema ≡ book_schema → Survives old new (λ _. ⊥)
-  query_survives has = still_then old mid new first (quiet moved_listing moved_is old mid new text prepared has s)
+  pub query_survives : Survives old new (λ _. ⊥)
+  query_survives = still_then old mid new first (quiet moved_listing moved_is old mid new text prepared s)
 
   in_turn : (t : Tables) → Keeps old t → HasCleanDisk new → old.now.schema ≡ book_schema
   in_turn t keeps clean =
@@ -96,12 +96,12 @@ module _ (old mid new : State) (text : List ℕ) (prepared : HasCleanDisk mid �
   pub begun_keeps : (HasCleanDisk new → old.now.schema ≡ book_schema → IsUnchanged old new) → (t : Tables) → Keeps old t → Keeps new t
   begun_keeps same t keeps = keeps_when new t (λ clean.
       let has = in_turn t keeps clean in
-      keeps_after old new (query_survives has) (λ late. inl (same late has)) t keeps)
+      keeps_after old new query_survives (λ late. inl (same late has)) t keeps)
 
   -- and where it doesn't
   pub query_keeps : (HasCleanDisk new → IsSpared mid new) → (t : Tables) → Keeps old t → Keeps new t
-  query_keeps spared t keeps = keeps_when new t (λ clean.
-      keeps_after mid new (quiet moved_listing moved_is old mid new text prepared (in_turn t keeps clean) s) spared t (keeps_after old mid first (λ late. inl (prepared late).1) t keeps))
+  query_keeps spared t keeps =
+      keeps_after mid new (quiet moved_listing moved_is old mid new text prepared s) spared t (keeps_after old mid first (λ late. inl (prepared late).1) t keeps)
 
 -- ---- the moves of the accepted commands are the rows of the table
 module _ (b : ActState) where

@@ -5,7 +5,8 @@ use Rattle.sqlite_trees.specs.declared.store.Store.{Ghosts}
 use Rattle.sqlite.specs.Tree.{Trees}
 use Rattle.sqlite.specs.Effect.{Database}
 use Rattle.sqlite.specs.Held.{Held, state}
-use Rattle.sqlite.specs.State.{HasCleanDisk}
+use Rattle.sqlite_catalog.specs.Listing.{IsSound}
+use Rattle.sqlite.specs.State.{HasCleanDisk, IsLive}
 use Rattle.ob_base.specs.declared.stop.Stop.{Stop}
 use Rattle.ob_base.specs.declared.stop.Stop.TheVariants.{Fault}
 use Rattle.ob_base.specs.declared.stop.Fault.TheVariants.{Store}
@@ -19,13 +20,14 @@ use Rattle.ob_record.specs.Tables.{tables_of}
 use Rattle.ob_compare.specs.Reading.{IsReadFault, bad_book}
 use Rattle.ob_store.specs.Keeping.{KeeperValue, Ties}
 use Rattle.ob_store.specs.Finding.{Finds, HasBook, HasNoBook, OnlyReads, ShowsTheSame}
+use Rattle.ob_store.proofs.Reading.{no_more}
 use Rattle.ob_store.specs.Loading.{Audited, Finding, Holding, HoldsNoBook, Loaded, trees_in}
 
 module _ {S : Type 0} (g : Ghosts S) {X : Type 0} (Good : Trees → X → Type 0) (Bad : Trees → Type 0) (old new : Held S) (schema : old.schema ≡ book_schema) (clean : HasCleanDisk (state g new)) where
   only_reads : (r : Result X Stop) → Finds g Good Bad old new r → OnlyReads g old new
   only_reads r it = record {
-    kept = λ b k. record { kept = it.kept (tables_of b) k.kept; reached = k.reached };
-    left = λ trees may. it.left clean schema trees may;
+    kept = λ b k. record { kept = it.kept (tables_of b) k.kept; reached = k.reached; valid = k.valid };
+    left = no_more (state g old) (state g new) it.survives clean;
   }
 
   shows_the_same : (x : X) → Finds g Good Bad old new (Ok x) → ShowsTheSame g old new
@@ -60,10 +62,10 @@ module _ {S : Type 0} (g : Ghosts S) {B : Type 0} (state_of : B → BookState) (
   abbrev Good : Trees → B → Type 0
   Good trees book = Holding trees (state_of book)
 
-  keeps_so : (book : B) (it : Finds g Good HoldsNoBook old.conn new.conn (Ok book)) → (IsTrue (state g old.conn).is_open → (state g old.conn).now ≡ (state g old.conn).committed)
+  keeps_so : (book : B) (it : Finds g Good HoldsNoBook old.conn new.conn (Ok book)) → IsLive (state g old.conn) → (IsTrue (state g old.conn).is_open → (state g old.conn).now ≡ (state g old.conn).committed)
       → (IsTrue (state g new.conn).is_open → (trees : Trees) → (state g new.conn).may_leave trees → trees ≡ (state g new.conn).committed.trees)
       → (b : ActState) → HasBook (trees_in g old.conn) b → AreApart (trees_in g old.conn 14) → Keeps (state g new.conn) (tables_of b)
-  keeps_so book it settled leaves b has apart =
+  keeps_so book it live settled leaves b has apart =
       let same = it.same clean schema in
       let now = same.0.now_is in
       let committed : (state g new.conn).committed ≡ (state g new.conn).now = same.0.committed_is ∙ sym (settled same.0.was_open) ∙ sym now in
@@ -71,21 +73,28 @@ module _ {S : Type 0} (g : Ghosts S) {B : Type 0} (state_of : B → BookState) (
       let holds : Holds (state g new.conn).now.trees (tables_of b) = subst (λ (d : Database). Holds d.trees (tables_of b)) (sym now) (record { rows = has.1; apart = apart }) in
       record {
         settled = λ tidy live. record { schema = schema_is; committed = committed; holds = holds };
-        left = λ tidy trees may. ((state g new.conn).now, schema_is, leaves same.0.is_open trees may ∙ ap (λ (d : Database). d.trees) committed, subst (λ t. Holds t (tables_of b)) (sym (leaves same.0.is_open trees may ∙ ap (λ (d : Database). d.trees) committed)) holds);
+        left = λ tidy trees may.
+            let is : trees ≡ (state g new.conn).now.trees = leaves same.0.is_open trees may ∙ ap (λ (d : Database). d.trees) committed in
+            let whole : IsSound (state g new.conn).now.schema (state g new.conn).now.trees = subst (λ (d : Database). IsSound d.schema d.trees) (sym now) (live same.0.was_open).0 in
+            record {
+              sound = subst (IsSound book_schema) (sym is) (subst (λ s. IsSound s (state g new.conn).now.trees) schema_is whole);
+              holds = subst (λ t. Holds t (tables_of b)) (sym is) holds;
+            };
       }
 
   -- the book of the tables was found
-  pub loaded_ok : (book : B) → Finds g Good HoldsNoBook old.conn new.conn (Ok book) → (IsTrue (state g old.conn).is_open → (state g old.conn).now ≡ (state g old.conn).committed)
+  pub loaded_ok : (book : B) → Finds g Good HoldsNoBook old.conn new.conn (Ok book) → IsLive (state g old.conn) → (IsTrue (state g old.conn).is_open → (state g old.conn).now ≡ (state g old.conn).committed)
       → (IsTrue (state g new.conn).is_open → (trees : Trees) → (state g new.conn).may_leave trees → trees ≡ (state g new.conn).committed.trees)
       → new.book ≡ Some (state_of book) → Loaded g old new (Ok tt)
-  loaded_ok book it settled leaves is =
+  loaded_ok book it live settled leaves is =
       let found = it.good clean schema in
       let b = found.0 in
-      let keeps = keeps_so book it settled leaves b found.1 found.2 in
-      let book_is : new.book ≡ Some b.book = is ∙ ap Some found.3 in
-      let ties : Ties g new b = record { kept = record { kept = keeps; reached = found.1.0.reached }; book = subst (λ (o : Option BookState). Rattle.std.specs.Prelude.IfSome o (λ s. s ≡ b.book)) (sym book_is) refl } in (
+      let keeps = keeps_so book it live settled leaves b found.1 found.3 in
+      let book_is : new.book ≡ Some b.book = is ∙ ap Some found.4 in
+      let ties : Ties g new b = record { kept = record { kept = keeps; reached = found.1.0.reached; valid = found.1.0.valid }; book = subst (λ (o : Option BookState). Rattle.std.specs.Prelude.IfSome o (λ s. s ≡ b.book)) (sym book_is) refl } in (
         b,
         found.1,
+        found.2,
         shows_the_same g Good HoldsNoBook old.conn new.conn schema clean book it,
         ties,
         book_is,

@@ -8,6 +8,8 @@ pub mod Reading
 pub mod Naming
 pub mod Leading
 pub mod Holding
+pub mod Crashing
+pub mod Dropping
 pub mod Leads
 pub mod Differing
 pub mod Found

@@ -11,8 +11,10 @@ use Rattle.ob_base.specs.declared.stop.Stop.{Stop}
 use Rattle.ob_base.specs.Stop.{out_of_memory}
 use Rattle.ob_tables.specs.Schema.{book_schema}
 use Rattle.ob_tables.specs.Rows.{Tables}
+use Rattle.ob_tables.proofs.Silence.{silent_same}
 use Rattle.ob_commit.specs.Keeps.{Keeps}
 use Rattle.ob_compare.specs.Reading.{IsReadFault, bad_book}
+use Rattle.ob_compare.proofs.Listing.{still_then}
 use Rattle.ob_store.specs.Finding.{Finds}
 
 on_ok : {X E : Type 0} {P Q : Type 0} (r : Result X E) → OnOk r P → (P → Q) → OnOk r Q
@@ -42,7 +44,7 @@ module _ {S : Type 0} (g : Ghosts S) where
       record {
         mode = λ idle. second.mode (first.mode idle);
         clean = λ clean. first.clean (second.clean clean);
-        left = λ clean schema trees may. first.left (second.clean clean) schema trees (second.left clean (at clean schema).1 trees may);
+        survives = still_then (state g old) (state g mid) (state g new) first.survives second.survives;
         kept = λ t keeps. second.kept t (first.kept t keeps);
         faults = second.faults;
         same = λ clean. on_ok r (second.same clean) (λ step schema. unchanged_then (state g old) (state g mid) (state g new) (at clean schema).0 (step (at clean schema).1));
@@ -59,7 +61,7 @@ module _ {S : Type 0} (g : Ghosts S) where
   fails Good Bad Good' Bad' old new stop worse it = record {
     mode = it.mode;
     clean = it.clean;
-    left = it.left;
+    survives = it.survives;
     kept = it.kept;
     faults = it.faults;
     same = it.same;
@@ -74,7 +76,7 @@ module _ {S : Type 0} (g : Ghosts S) where
     then_fault stop fault other = record {
       mode = first.mode;
       clean = first.clean;
-      left = first.left;
+      survives = first.survives;
       kept = first.kept;
       faults = fault;
       same = λ clean. tt;
@@ -88,7 +90,7 @@ module _ {S : Type 0} (g : Ghosts S) where
     then_bad none = record {
       mode = first.mode;
       clean = first.clean;
-      left = first.left;
+      survives = first.survives;
       kept = first.kept;
       faults = inr refl;
       same = λ clean. tt;
@@ -102,7 +104,7 @@ module _ {S : Type 0} (g : Ghosts S) where
     then_good y found = record {
       mode = first.mode;
       clean = first.clean;
-      left = first.left;
+      survives = first.survives;
       kept = first.kept;
       faults = tt;
       same = first.same;
@@ -122,7 +124,7 @@ pub none_read : {S : Type 0} (g : Ghosts S) {X : Type 0} (Good : Trees → X →
 none_read g Good Bad conn stop fault none = record {
   mode = λ idle. idle;
   clean = λ clean. clean;
-  left = λ clean schema trees may. may;
+  survives = (silent_same (state g conn)).survives;
   kept = λ t keeps. keeps;
   faults = read_fault stop fault;
   same = λ clean. tt;
@@ -133,14 +135,14 @@ none_read g Good Bad conn stop fault none = record {
 
 module _ {S : Type 0} (g : Ghosts S) {X : Type 0} (Good : Trees → X → Type 0) (Bad : Trees → Type 0) (old new : Held S) where
   -- a reading that answered
-  pub read_ok : (x : X) → (old.in_transaction ≡ false → new.in_transaction ≡ false) → (old.schema ≡ book_schema → Survives (state g old) (state g new) (λ _. ⊥)) → (HasCleanDisk (state g new) → HasCleanDisk (state g old))
+  pub read_ok : (x : X) → (old.in_transaction ≡ false → new.in_transaction ≡ false) → Survives (state g old) (state g new) (λ _. ⊥) → (HasCleanDisk (state g new) → HasCleanDisk (state g old))
       → ((t : Tables) → Keeps (state g old) t → Keeps (state g new) t)
       → (HasCleanDisk (state g new) → old.schema ≡ book_schema → IsUnchanged (state g old) (state g new)) → (HasCleanDisk (state g new) → old.schema ≡ book_schema → Good (state g old).now.trees x)
       → Finds g Good Bad old new (Ok x)
   read_ok x mode survives clean kept same good = record {
     mode = mode;
     clean = clean;
-    left = λ is schema. no_more (state g old) (state g new) (survives schema) is;
+    survives = survives;
     kept = kept;
     faults = tt;
     same = same;
@@ -150,13 +152,13 @@ module _ {S : Type 0} (g : Ghosts S) {X : Type 0} (Good : Trees → X → Type 0
   }
 
   -- a reading that failed, or found the tables of no book
-  pub read_err : (stop : Stop) → (old.in_transaction ≡ false → new.in_transaction ≡ false) → (old.schema ≡ book_schema → Survives (state g old) (state g new) (λ _. ⊥)) → (HasCleanDisk (state g new) → HasCleanDisk (state g old))
+  pub read_err : (stop : Stop) → (old.in_transaction ≡ false → new.in_transaction ≡ false) → Survives (state g old) (state g new) (λ _. ⊥) → (HasCleanDisk (state g new) → HasCleanDisk (state g old))
       → ((t : Tables) → Keeps (state g old) t → Keeps (state g new) t)
       → IsReadFault stop → (HasCleanDisk (state g new) → stop ≡ bad_book → old.schema ≢ book_schema) → Finds g Good Bad old new (Err stop)
   read_err stop mode survives clean kept fault foreign = record {
     mode = mode;
     clean = clean;
-    left = λ is schema. no_more (state g old) (state g new) (survives schema) is;
+    survives = survives;
     kept = kept;
     faults = fault;
     same = λ is. tt;

@@ -37,7 +37,7 @@ module _ {S : Type 0} (g : Ghosts S) where
       (p : Calendar) × IsPeriodText first days zone p × KeepsBook (state g new) (start p) × (book.state ≡ empty_book p)
   Creates old new first days zone (Err (Refused BadPeriod)) = HasNoPeriodText first days zone × LeavesAll old new
   Creates old new first days zone (Err (Refused BadBook)) =
-      ((state g old).now.schema ≢ no_schema) × LeavesAll old new
+      (p : Calendar) × IsPeriodText first days zone p × ((state g old).now.schema ≢ no_schema) × LeavesAll old new
   Creates old new first days zone (Err (Refused refusal)) = ⊥
   Creates old new first days zone (Err (Fault OutOfMemory)) = LeavesAll old new
   Creates old new first days zone (Err (Fault Store)) = MayBegin old new first days zone
@@ -50,7 +50,8 @@ module _ {S : Type 0} (g : Ghosts S) where
   Created old new first days zone (Err (Refused BadPeriod)) =
       HasNoPeriodText first days zone × LeavesAll old.conn new.conn × (new.book ≡ old.book)
   Created old new first days zone (Err (Refused BadBook)) =
-      ((state g old.conn).now.schema ≢ no_schema) × LeavesAll old.conn new.conn × (new.book ≡ old.book)
+      (p : Calendar) × IsPeriodText first days zone p × ((state g old.conn).now.schema ≢ no_schema)
+      × LeavesAll old.conn new.conn × (new.book ≡ old.book)
   Created old new first days zone (Err (Refused refusal)) = ⊥
   Created old new first days zone (Err (Fault OutOfMemory)) = LeavesAll old.conn new.conn × (new.book ≡ old.book)
   Created old new first days zone (Err (Fault Store)) =

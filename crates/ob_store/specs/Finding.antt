@@ -4,7 +4,7 @@ use Rattle.std.specs.List.{AllByRecursion}
 use Rattle.sqlite_trees.specs.declared.store.Store.{Ghosts}
 use Rattle.sqlite.specs.Tree.{Trees}
 use Rattle.sqlite.specs.Held.{Held, state}
-use Rattle.sqlite.specs.State.{HasCleanDisk, IsUnchanged}
+use Rattle.sqlite.specs.State.{HasCleanDisk, IsUnchanged, Survives}
 use Rattle.ob_base.specs.declared.stop.Stop.{Stop}
 use Rattle.ob_book.specs.Acts.{ActState}
 use Rattle.ob_tables.specs.Creation.{before}
@@ -51,6 +51,10 @@ Differs trees b (Some table) =
 abbrev pub HasBook : Trees → ActState → Type 0
 HasBook trees b = IsBookOf trees b × Differs trees b None
 
+-- their heading and commands are those of no other book
+abbrev pub AreOfNoOther : Trees → ActState → Type 0
+AreOfNoOther trees b = (other : ActState) → IsBookOf trees other → other ≡ b
+
 module _ {S : Type 0} (g : Ghosts S) where
   -- nothing was written: a book that the store keeps it keeps on, and a crash leaves no more than before
   pub record OnlyReads (old new : Held S) : Type 0 where
@@ -66,9 +70,8 @@ module _ {S : Type 0} (g : Ghosts S) where
   pub record Finds {X : Type 0} (Good : Trees → X → Type 0) (Bad : Trees → Type 0) (old new : Held S) (result : Result X Stop) : Type 0 where
     pub mode : old.in_transaction ≡ false → new.in_transaction ≡ false
     pub clean : HasCleanDisk (state g new) → HasCleanDisk (state g old)
-    -- a crash leaves no more than before
-    pub left : HasCleanDisk (state g new) → old.schema ≡ book_schema → (trees : Trees) → (state g new).may_leave trees
-        → (state g old).may_leave trees
+    -- a crash leaves no more than before, whatever the schema
+    pub survives : Survives (state g old) (state g new) (λ _. ⊥)
     -- and what the store keeps it keeps on
     pub kept : (t : Tables) → Keeps (state g old) t → Keeps (state g new) t
     pub faults : IfErr result IsReadFault

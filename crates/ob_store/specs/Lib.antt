@@ -4,6 +4,7 @@ pub mod Replying
 pub mod Creating
 pub mod Finding
 pub mod Loading
+pub mod Crashing
 pub mod Leading
 pub mod Differing
 pub mod MovingOut

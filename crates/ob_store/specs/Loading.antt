@@ -12,7 +12,7 @@ use Rattle.ob_book.specs.Acts.{ActState}
 use Rattle.ob_tables.specs.declared.table.Table.{Table}
 use Rattle.ob_tables.specs.Rows.{AreApart}
 use Rattle.ob_store.specs.Keeping.{KeeperValue, Ties}
-use Rattle.ob_store.specs.Finding.{Differs, HasBook, HasNoBook, IsBookOf, OnlyReads, ShowsTheSame}
+use Rattle.ob_store.specs.Finding.{AreOfNoOther, Differs, HasBook, HasNoBook, IsBookOf, OnlyReads, ShowsTheSame}
 
 -- the tables are those of no book
 abbrev pub HoldsNoBook : Trees → Type 0
@@ -22,9 +22,9 @@ HoldsNoBook trees = (b : ActState) → ¬ (HasBook trees b)
 abbrev pub Finding : Trees → Option Table → Type 0
 Finding trees found = (b : ActState) × IsBookOf trees b × Differs trees b found
 
--- the tables are those of a book with this state, and no two amounts stand under one hidden row number
+-- the tables are those of a book with this state, and of no other, and no two amounts stand under one hidden row number
 abbrev pub Holding : Trees → BookState → Type 0
-Holding trees s = (b : ActState) × HasBook trees b × AreApart (trees 14) × (s ≡ b.book)
+Holding trees s = (b : ActState) × HasBook trees b × AreOfNoOther trees b × AreApart (trees 14) × (s ≡ b.book)
 
 module _ {S : Type 0} (g : Ghosts S) where
   -- the tables that the store shows
@@ -35,7 +35,8 @@ module _ {S : Type 0} (g : Ghosts S) where
   -- the store, none
   abbrev pub Loaded : KeeperValue S → KeeperValue S → Result ⊤ Stop → Type 0
   Loaded old new (Ok done) =
-      (b : ActState) × HasBook (trees_in old.conn) b × ShowsTheSame g old.conn new.conn × Ties g new b × (new.book ≡ Some b.book)
+      (b : ActState) × HasBook (trees_in old.conn) b × AreOfNoOther (trees_in old.conn) b × ShowsTheSame g old.conn new.conn
+      × Ties g new b × (new.book ≡ Some b.book)
   Loaded old new (Err (Refused BadBook)) =
       HoldsNoBook (trees_in old.conn) × ShowsTheSame g old.conn new.conn × (new.book ≡ old.book)
   Loaded old new (Err (Refused refusal)) = ⊥

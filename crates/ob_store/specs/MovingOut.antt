@@ -18,7 +18,8 @@ use Rattle.ob_tables.specs.declared.table.Table.TheVariants.{Moved as MovedTable
 use Rattle.ob_record.specs.Tables.{tables_of}
 use Rattle.ob_compare.specs.Listing.{Lists}
 use Rattle.ob_compare.specs.Moves.{moved_listing}
-use Rattle.ob_store.specs.Keeping.{KeeperValue, KeepsBook, Ties}
+use Rattle.ob_state.specs.State.{BookState}
+use Rattle.ob_store.specs.Keeping.{IsBookAfter, KeeperValue, KeepsBook, Ties}
 use Rattle.ob_store.specs.declared.moving.Halt.{Halt}
 use Rattle.ob_store.specs.declared.moving.Halt.TheVariants as halts
 
@@ -83,6 +84,14 @@ module _ {V : Type 0} (takes : Takes V) where
   HandsOver was is (Err (Fault fault)) =
       (front : List Numbered) × (mid : V) × TakesAll was front mid
       × (((it : Numbered) × takes mid it.0 it.1 (Err fault) is) ⊎ ((is ≡ mid) × IsStoreFault (Fault fault)))
+
+  -- the book of a keeper after that: as before, also where the sink has just failed; after a fault of the store there is none
+  abbrev pub IsBookAfterMoves : V → Option BookState → Option BookState → Result ℕ Stop → Type 0
+  IsBookAfterMoves sink was is (Ok count) = is ≡ was
+  IsBookAfterMoves sink was is (Err (Refused refusal)) = ⊥
+  IsBookAfterMoves sink was is (Err (Fault fault)) =
+      ((mid : V) × (it : Numbered) × takes mid it.0 it.1 (Err fault) sink × (is ≡ was))
+      ⊎ (IsStoreFault (Fault fault) × IsBookAfter was is (Fault fault))
 
   -- the sink took all that the commands of a book moved, so many amounts; or a first part of it
   abbrev pub HandsOut : V → V → ActState → Result ℕ Halt → Type 0

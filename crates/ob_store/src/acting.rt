@@ -3,7 +3,7 @@ ghost use Rattle.std.specs.Prelude.{◌≡◌, ◌≢◌, false, None, IfErr, On
 ghost use Rattle.sqlite.specs.Held.{state};
 ghost use Rattle.sqlite.specs.State.{HasCleanDisk, Survives};
 ghost use Rattle.ob_book.specs.Acts.{ActState, number_of};
-ghost use Rattle.ob_command.specs.Commands.{body_text as body_text_of};
+ghost use Rattle.ob_command.specs.Commands.{IsCommand, body_text as body_text_of};
 ghost use Rattle.ob_store.specs.Keeping.{KeepsBook};
 ghost use Rattle.ob_store.specs.Acting.{Acts, IsActStop, under};
 
@@ -58,6 +58,7 @@ fn accept<S: Alter, T: Timeline>(
 ) -> Result<Reply, Stop>
     requires mode { conn.old.in_transaction ≡ false }
     requires body { body.now ≡ body_text_of command.now }
+    requires valid { IsCommand command.now }
     ensures mode { conn.new.in_transaction ≡ false }
     ensures faults { IfErr result IsActStop }
     ensures clean { HasCleanDisk (state S.Store conn.new) → HasCleanDisk (state S.Store conn.old) }

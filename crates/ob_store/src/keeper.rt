@@ -1,5 +1,6 @@
 //! The keeper: a book, and the connection to the store that keeps its tables.
 use crate::acting::act_on;
+use crate::crash::crash_law;
 use crate::creating::create_on;
 use crate::loading::{audit_on, load_on};
 use crate::moving::{Halt, MoveSink, hand_out, moves_law};
@@ -38,16 +39,17 @@ impl<S: Alter, T: Timeline> Model for Keeper<S, T> {
 }
 
 impl<S: Alter, T: Timeline> Keeper<S, T> {
-    ghost use Rattle.std.specs.Prelude.{◌≡◌, ◌↔◌, false, None, Some, Err, IsSome, IfErr};
+    ghost use Rattle.std.specs.Prelude.{◌≡◌, ◌↔◌, false, None, Some, Err, IsSome, IfErr, OnOk};
     ghost use Rattle.sqlite.specs.Held.{state};
     ghost use Rattle.sqlite.specs.State.{HasCleanDisk, Survives};
     ghost use Rattle.ob_book.specs.Acts.{ActState};
-    ghost use Rattle.ob_store.specs.Keeping.{Ties};
+    ghost use Rattle.ob_store.specs.Keeping.{IsBookAfter, Ties};
+    ghost use Rattle.ob_store.specs.Crashing.{CrashLaw};
     ghost use Rattle.ob_store.specs.Acting.{Acted, IsActStop, under};
     ghost use Rattle.ob_store.specs.Replying.{Replied};
     ghost use Rattle.ob_store.specs.Creating.{Created};
     ghost use Rattle.ob_store.specs.Loading.{Audited, Loaded};
-    ghost use Rattle.ob_store.specs.MovingOut.{HandsOver, MovesAreRows, MovesOut};
+    ghost use Rattle.ob_store.specs.MovingOut.{HandsOver, IsBookAfterMoves, MovesAreRows, MovesOut};
     ghost use Rattle.ob_tables.specs.Schema.{book_schema};
     ghost use Rattle.ob_tables.specs.Steps.{IsStoreFault};
     ghost use Rattle.ob_compare.specs.Reading.{IsReadFault};
@@ -139,12 +141,19 @@ impl<S: Alter, T: Timeline> Keeper<S, T> {
     /// Reads the book that the tables hold. The tables are those of its accepted commands, all ten of them, or it is refused
     /// as `BadBook`; a book that the keeper had goes then on as before. Nothing is written.
     pub fn load(&mut self) -> Result<(), Stop>
-        ensures lost { result ≡ Err (Stop.Fault Fault.Store) → self.new.book ≡ None }
+        ensures found { OnOk result (IsSome self.new.book) }
+        ensures dropped { IfErr result (IsBookAfter self.old.book self.new.book) }
         ensures stops { IfErr result IsReadFault }
+        ensures clean { HasCleanDisk (state S.Store self.new.conn) → HasCleanDisk (state S.Store self.old.conn) }
+        ensures survives { Survives (state S.Store self.old.conn) (state S.Store self.new.conn) (λ _. ⊥) }
         ensures loaded { HasCleanDisk (state S.Store self.new.conn) → self.old.conn.schema ≡ book_schema
             → Loaded S.Store self.old self.new result }
+        ensures crash { CrashLaw S.Store S.Store }
     {
+        crash_law::<S, S>();
         prove!(self.conn.is_autocommit());
+        // what is open is a whole database
+        let _schema = self.conn.schema();
         match load_on(self.alloc, &mut self.conn) {
             Ok(book) => {
                 self.book = Some(book);
@@ -161,8 +170,11 @@ impl<S: Alter, T: Timeline> Keeper<S, T> {
     /// The first of the ten tables, in the order of `Table`, that differs from what the heading and the commands give; None
     /// where none does. `BadBook` where heading and commands are those of no book. It needs no book, and nothing is written.
     pub fn audit(&mut self) -> Result<Option<Table>, Stop>
-        ensures lost { result ≡ Err (Stop.Fault Fault.Store) → self.new.book ≡ None }
+        ensures found { OnOk result (self.new.book ≡ self.old.book) }
+        ensures dropped { IfErr result (IsBookAfter self.old.book self.new.book) }
         ensures stops { IfErr result IsReadFault }
+        ensures clean { HasCleanDisk (state S.Store self.new.conn) → HasCleanDisk (state S.Store self.old.conn) }
+        ensures survives { Survives (state S.Store self.old.conn) (state S.Store self.new.conn) (λ _. ⊥) }
         ensures audited { HasCleanDisk (state S.Store self.new.conn) → self.old.conn.schema ≡ book_schema
             → Audited S.Store self.old self.new result }
     {
@@ -183,8 +195,10 @@ impl<S: Alter, T: Timeline> Keeper<S, T> {
         ensures reopen { self.old.book ≡ None → result ≡ Err (Stop.Fault Fault.Reopen) }
         ensures unopened { self.old.book ≡ None → (self.new ≡ self.old) × (sink.new ≡ sink.old) }
         ensures sink { IsSome self.old.book → HandsOver V.takes sink.old sink.new result }
-        ensures survives { self.old.conn.schema ≡ book_schema
-            → Survives (state S.Store self.old.conn) (state S.Store self.new.conn) (λ _. ⊥) }
+        ensures dropped { IsSome self.old.book
+            → IsBookAfterMoves V.takes sink.new self.old.book self.new.book result }
+        ensures clean { HasCleanDisk (state S.Store self.new.conn) → HasCleanDisk (state S.Store self.old.conn) }
+        ensures survives { Survives (state S.Store self.old.conn) (state S.Store self.new.conn) (λ _. ⊥) }
         ensures moves { HasCleanDisk (state S.Store self.new.conn) → (b : ActState) → Ties S.Store self.old b
             → IsSome self.old.book → MovesOut S.Store V.takes self.old self.new sink.old sink.new b result }
         ensures rows { MovesAreRows }

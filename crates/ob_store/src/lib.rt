@@ -2,6 +2,7 @@
 #![tactic(auto)]
 
 mod acting;
+mod crash;
 mod creating;
 mod keeper;
 mod led;
@@ -12,6 +13,7 @@ mod off;
 mod reply;
 mod stored;
 
+pub use crash::crash_law;
 pub use keeper::Keeper;
 pub use moving::MoveSink;
 pub use reply::{Moves, Reply};

@@ -18,7 +18,8 @@ ghost use Rattle.ob_store.specs.MovingOut.{ComesNext, Hands, HandsOut, MovesAreR
 
 use ob_base::{Fault, Stop};
 use ob_post::{Dim, Moved};
-use sqlite::{Alter, Connection, Error, ErrorCode, Row, Rows};
+use ob_tables::stop_of;
+use sqlite::{Alter, Connection, Row, Rows};
 use sqlite_value::value::ValueRef;
 
 /// Takes amounts that commands moved, one after another.
@@ -46,16 +47,6 @@ pub(crate) enum Halt {
     Sink(Fault),
     /// Memory was refused, or the store failed.
     Store(Stop),
-}
-
-/// A failure of the store as a fault.
-fn stop_of(error: Error) -> Stop
-    ensures { IsStoreFault result }
-{
-    match error {
-        Error::SqliteFailure(ErrorCode::OutOfMemory) => Stop::Fault(Fault::OutOfMemory),
-        _ => Stop::Fault(Fault::Store),
-    }
 }
 
 /// The number in a column.
@@ -167,8 +158,7 @@ pub(crate) fn hand_out<S: Alter, V: MoveSink>(
     sink: &mut V,
 ) -> Result<u64, Halt>
     ensures mode { conn.old.in_transaction ≡ false → conn.new.in_transaction ≡ false }
-    ensures survives { conn.old.schema ≡ book_schema
-        → Survives (state S.Store conn.old) (state S.Store conn.new) (λ _. ⊥) }
+    ensures survives { Survives (state S.Store conn.old) (state S.Store conn.new) (λ _. ⊥) }
     ensures sink { Hands V.takes sink.old sink.new result }
     ensures kept { (b : ActState) → KeepsBook (state S.Store conn.old) b → KeepsBook (state S.Store conn.new) b }
     ensures hands { HasCleanDisk (state S.Store conn.new) → (b : ActState) → KeepsBook (state S.Store conn.old) b

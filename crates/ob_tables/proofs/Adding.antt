@@ -62,6 +62,7 @@ makes_row_so table at it terms width text params columns found tree is plain unc
       stays = ran.2.is_open;
       inside = ran.2.mode;
       schema = λ has. (made has).0.schema ∙ has;
+      sound = λ has _. (runs_as text params old new book_schema has (Insert at (Values terms width)) is plain ran.0 ran.1).sound;
       holds = λ has t holds _.
           let it = made has in
           let others : OthersStay (tree_of table) new.now.trees old.now.trees = subst (λ (s : Schema). AllByRecursion (λ x. x.tree ≢ tree_of table → new.now.trees x.tree ≡ old.now.trees x.tree) s.tables) has it.0.others in

@@ -44,6 +44,7 @@ makes_after n text table it old new ran = record {
   live = λ _. ran.2.was_open;
   stays = λ _. ran.2.is_open;
   inside = ran.2.mode;
+  sound = λ _ has. (runs_as text [] old new (schema_of_first n) has.schema CreateTable it.is it.plain ran.0 ran.1).sound;
   made = λ has.
       let w = runs_as text [] old new (schema_of_first n) has.schema CreateTable it.is it.plain ran.0 ran.1 in
       let made = made_table (schema_of_first n) table _ old new [] ran.0 (ap table_defined_by it.whole ∙ it.defines) it.uncounted has.schema w in
@@ -129,6 +130,7 @@ makes_book old new it = record {
   stays = it.stays (omega arith);
   inside = it.inside;
   schema = λ has. (it.made (record { schema = has; empty = tt })).schema;
+  sound = λ has. it.sound (omega arith) (record { schema = has; empty = tt });
   holds = λ has.
       let all = (it.made (record { schema = has; empty = tt })).empty in
       record {
@@ -138,7 +140,7 @@ makes_book old new it = record {
 }
 
 pub up_to_same : (a : State) → a.in_transaction ≡ true → MakesUpTo 0 0 a a
-up_to_same a inside = record { live = λ live. live; stays = λ low. absurd (omega (arith, low)); inside = inside; made = λ has. has }
+up_to_same a inside = record { live = λ live. live; stays = λ low. absurd (omega (arith, low)); inside = inside; made = λ has. has; sound = λ low. absurd (omega (arith, low)) }
 
 pub up_to_then : (a b c : State) (n m : ℕ) → m ≡ n → MakesUpTo 0 n a b → MakesUpTo m (m + 1) b c → MakesUpTo 0 (n + 1) a c
 up_to_then a b c n m same one two =
@@ -148,4 +150,5 @@ up_to_then a b c n m same one two =
       stays = λ low. step.stays (omega arith);
       inside = step.inside;
       made = λ has. step.made (one.made has);
+      sound = λ low has. step.sound (omega arith) (one.made has);
     }

@@ -64,5 +64,6 @@ stays_as old new same inside = record {
   stays = same.0.is_open;
   inside = same.0.mode ∙ inside;
   schema = λ has. ap (λ (d : Rattle.sqlite.specs.Effect.Database). d.schema) same.0.now_is ∙ has;
+  sound = λ has whole. subst Rattle.sqlite.specs.Effect.IsDatabase (sym same.0.now_is) whole;
   holds = λ has t held _. subst (λ (d : Rattle.sqlite.specs.Effect.Database). Holds d.trees t) (sym same.0.now_is) held;
 }

@@ -129,6 +129,7 @@ module _ (table : Table) (at : ℕ) (base : sql.Table) (tests shows : List Term)
         stays = ran.2.is_open;
         inside = ran.2.mode;
         schema = λ has. updated_schema book_schema at it found _ old new _ params ran.0 has (w has) ∙ has;
+        sound = λ has _. (w has).sound;
         holds = λ has t held need.
             let one = one_of t need in
             let stored = stored_one table fronted key rows (t table) one.0 (held.rows table) one.1.one in
@@ -158,6 +159,7 @@ module _ (table : Table) (at : ℕ) (base : sql.Table) (tests shows : List Term)
         stays = ran.2.is_open;
         inside = ran.2.mode;
         schema = λ has. deleted_schema book_schema at it found _ old new _ params ran.0 has (w has) ∙ has;
+        sound = λ has _. (w has).sound;
         holds = λ has t held need.
             let one = one_of t need in
             let stored = stored_one table fronted key rows (t table) one.0 (held.rows table) one.1.one in

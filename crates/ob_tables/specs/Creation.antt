@@ -5,7 +5,7 @@ use Rattle.std.specs.Borrow.{MutBor}
 use Rattle.sqlite_trees.specs.declared.store.Store.{Ghosts}
 use Rattle.sqlite.specs.Schema.{Schema}
 use Rattle.sqlite.specs.Change.{created}
-use Rattle.sqlite.specs.Effect.{Database}
+use Rattle.sqlite.specs.Effect.{Database, IsDatabase}
 use Rattle.sqlite.specs.Held.{Held, state}
 use Rattle.sqlite.specs.State.{State, HasCleanDisk}
 use Rattle.ob_base.specs.declared.stop.Stop.{Stop}
@@ -82,6 +82,8 @@ pub record MakesUpTo (from to : ℕ) (old new : State) : Type 0 where
   pub stays : from < to → IsTrue new.is_open
   pub inside : IsTrue new.in_transaction
   pub made : HasEmpty from old.now → HasEmpty to new.now
+  -- and they are a whole database
+  pub sound : from < to → HasEmpty from old.now → IsDatabase new.now
 
 -- inside a transaction over an empty database, the tables of a book were made, without rows
 pub record MakesBook (old new : State) : Type 0 where
@@ -89,6 +91,7 @@ pub record MakesBook (old new : State) : Type 0 where
   pub stays : IsTrue new.is_open
   pub inside : IsTrue new.in_transaction
   pub schema : old.now.schema ≡ no_schema → new.now.schema ≡ book_schema
+  pub sound : old.now.schema ≡ no_schema → IsDatabase new.now
   pub holds : old.now.schema ≡ no_schema → Holds new.now.trees no_rows
 
 module _ {S : Type 0} (g : Ghosts S) where

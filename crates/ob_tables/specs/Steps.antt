@@ -4,6 +4,7 @@ use Rattle.std.specs.List.Sorted.{IsPermutation}
 use Rattle.sqlite.specs.Order.{Row}
 use Rattle.std.specs.Borrow.{MutBor}
 use Rattle.sqlite_trees.specs.declared.store.Store.{Ghosts}
+use Rattle.sqlite.specs.Effect.{IsDatabase}
 use Rattle.sqlite.specs.Held.{Held, state}
 use Rattle.sqlite.specs.State.{State, HasCleanDisk, Survives, KeepsCommit, Executes, Shows}
 use Rattle.ob_base.specs.Stop.{out_of_memory}
@@ -33,6 +34,8 @@ pub record Makes (old new : State) (needs : Tables → Type 0) (change : Tables 
   pub stays : IsTrue new.is_open
   pub inside : IsTrue new.in_transaction
   pub schema : old.now.schema ≡ book_schema → new.now.schema ≡ book_schema
+  -- a database stays whole: it lists its tables, and they obey their rules
+  pub sound : old.now.schema ≡ book_schema → IsDatabase old.now → IsDatabase new.now
   pub holds : old.now.schema ≡ book_schema → (tables : Tables) → Holds old.now.trees tables → needs tables
       → Holds new.now.trees (change tables)
 

@@ -20,4 +20,5 @@ pub use inserts::{
     add_node, add_posting,
 };
 pub use reads::find_commands;
+pub use run::{int, signed, stop_of};
 pub use table::Table;

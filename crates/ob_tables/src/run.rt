@@ -1,4 +1,4 @@
-//! Running one statement inside a transaction, and its parameters.
+//! Running one statement inside a transaction, its parameters, and what its failure is.
 ghost use Rattle.std.specs.Prelude.{◌≡◌, ◌<◌, ◌^◌, pos, IfSome};
 ghost use Rattle.sqlite.specs.Values.{bound};
 ghost use Rattle.sqlite_value.specs.Value.{owned};
@@ -25,7 +25,7 @@ pub(crate) fn run<S: Alter>(
 }
 
 /// A failure of the store as a fault.
-pub(crate) fn stop_of(error: Error) -> Stop
+pub fn stop_of(error: Error) -> Stop
     ensures { IsStoreFault result }
 {
     match error {
@@ -34,15 +34,15 @@ pub(crate) fn stop_of(error: Error) -> Stop
     }
 }
 
-/// A number as a parameter.
-pub(crate) fn int(n: u32) -> ValueRef<'static>
+/// A number as a value.
+pub fn int(n: u32) -> ValueRef<'static>
     ensures { owned result ≡ number n }
 {
     ValueRef::Int(i64::from(n))
 }
 
-/// A number that may be below 0 as a parameter.
-pub(crate) fn signed(n: i64) -> ValueRef<'static>
+/// A number that may be below 0 as a value.
+pub fn signed(n: i64) -> ValueRef<'static>
     ensures { owned result ≡ Int n }
 {
     ValueRef::Int(n)

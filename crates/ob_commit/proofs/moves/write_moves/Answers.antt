@@ -6,7 +6,7 @@ use Rattle.ob_commit.proofs.Steps.{next_move}
 use Rattle.ob_commit.proofs.moves.write_moves.Goals as goal
 
 pub moves-init : goal.moves-init
-moves-init g c = (refl, silent_same (state g.S.Store c.args.tx.now.conn.now), λ clean live inside. record { live = live; stays = live; inside = inside; schema = λ has. has; holds = λ has t held needs. held })
+moves-init g c = (refl, silent_same (state g.S.Store c.args.tx.now.conn.now), λ clean live inside. record { live = live; stays = live; inside = inside; schema = λ has. has; sound = λ has whole. whole; holds = λ has t held needs. held })
 
 pub moves-preserved : goal.moves-preserved
 moves-preserved g c =

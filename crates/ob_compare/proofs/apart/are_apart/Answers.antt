@@ -10,20 +10,20 @@ use Rattle.ob_commit.specs.Keeps.{Keeps}
 use Rattle.ob_compare.specs.Apart.{number_text}
 use Rattle.ob_compare.proofs.Kept.{kept_still, kept_text, not_run, unread}
 use Rattle.ob_compare.proofs.Listing.{still_then}
-use Rattle.ob_compare.proofs.NumberQuery.{numbers_plain}
+use Rattle.ob_compare.proofs.NumberQuery.{numbers_plain, numbers_silent}
 use Rattle.ob_compare.proofs.Rowing.{if_ok}
 use Rattle.ob_compare.proofs.Texts.{begins_empty, commits_none}
 use Rattle.ob_compare.proofs.apart.are_apart.Goals as goal
 
 pub returns-in-Ok-query_prepared-clause-survives : goal.returns-in-Ok-query_prepared-clause-survives
-returns-in-Ok-query_prepared-clause-survives g c has =
+returns-in-Ok-query_prepared-clause-survives g c =
     let old = state g.S.Store c.args.conn.now in
     let mid = state g.S.Store c.prepare.new.self in
     let start = state g.S.Store c.in-Ok-query_prepared.rows.conn.now in
     let last = c.rise.new.rows.conn.now in
     let same : last ≡ c.conn-1.given.0 = search rules in
     subst (λ x. Survives old (state g.S.Store x) (λ _. ⊥)) same
-    (still_then old start (state g.S.Store last) (still_then old mid start c.prepare.ensures.survives (commits_none number_text numbers_plain old mid start c.in-Ok.statement.text c.in-Ok.ensures.ok has c.in-Ok-query_prepared.ensures.survives)) c.rise.ensures.survives)
+    (still_then old start (state g.S.Store last) (still_then old mid start c.prepare.ensures.survives (commits_none number_text numbers_silent old mid start c.in-Ok.statement.text c.in-Ok.ensures.ok c.in-Ok-query_prepared.ensures.survives)) c.rise.ensures.survives)
 
 pub returns-in-Ok-query_prepared-clause-same : goal.returns-in-Ok-query_prepared-clause-same
 returns-in-Ok-query_prepared-clause-same g c clean =
@@ -54,12 +54,12 @@ returns-in-Ok-query_prepared-clause-apart g c clean =
     subst (λ (d : Database). IsTrue is ↔ AreApart (d.trees 14)) b.1.0.now_is (tells b.1.0.is_open (ap (λ (d : Database). d.schema) b.1.0.now_is ∙ has) b.0))
 
 pub returns-clause-survives : goal.returns-clause-survives
-returns-clause-survives g c has =
+returns-clause-survives g c =
     let old = state g.S.Store c.args.conn.now in
     let mid = state g.S.Store c.prepare.new.self in
     let end = state g.S.Store c.query_prepared.follows.lender-at-none in
     still_then old mid end c.prepare.ensures.survives
-    (commits_none number_text numbers_plain old mid end c.in-Ok.statement.text c.in-Ok.ensures.ok has (rw c.in-Err-query_prepared.is at c.query_prepared.follows.holds-at-none).survives)
+    (commits_none number_text numbers_silent old mid end c.in-Ok.statement.text c.in-Ok.ensures.ok (rw c.in-Err-query_prepared.is at c.query_prepared.follows.holds-at-none).survives)
 
 pub returns-in-Ok-query_prepared-clause-clean : goal.returns-in-Ok-query_prepared-clause-clean
 returns-in-Ok-query_prepared-clause-clean g c clean =

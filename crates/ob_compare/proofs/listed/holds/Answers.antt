@@ -32,9 +32,9 @@ returns-in-Ok-query_prepared g c =
     let same : at_last ≡ c.conn-1.given.0 = search rules in
     subst (λ x. Compares g.S.Store t expected at_old x c.matches.result) same (record {
       mode = λ idle. c.matches.ensures.mode (c.in-Ok-query_prepared.ensures.mode (c.prepare.ensures.mode idle));
-      survives = λ has.
+      survives =
           still_then old start last
-          (still_then old mid start c.prepare.ensures.survives (quiet (listing_of t) (is_listing t) old mid start text ready has c.in-Ok-query_prepared.ensures.survives)) c.matches.ensures.survives;
+          (still_then old mid start c.prepare.ensures.survives (quiet (listing_of t) (is_listing t) old mid start text ready c.in-Ok-query_prepared.ensures.survives)) c.matches.ensures.survives;
       kept = λ x keeps. c.matches.ensures.kept x
           (kept_asked (listing_of t) (is_listing t) old mid start text ready x keeps c.prepare.ensures.survives c.in-Ok-query_prepared.ensures.survives
           (λ late plain. inl (begun_plain g.S.Store text [] at_mid at_start plain (c.in-Ok-query_prepared.ensures.begun late)).1));
@@ -66,7 +66,7 @@ returns g c =
     let refused = rw c.in-Err-query_prepared.is at c.query_prepared.follows.holds-at-none in
     record {
       mode = λ idle. refused.mode (c.prepare.ensures.mode idle);
-      survives = λ has. still_then old mid end c.prepare.ensures.survives (quiet (listing_of t) (is_listing t) old mid end text ready has refused.survives);
+      survives = still_then old mid end c.prepare.ensures.survives (quiet (listing_of t) (is_listing t) old mid end text ready refused.survives);
       kept = λ x keeps. kept_asked (listing_of t) (is_listing t) old mid end text ready x keeps c.prepare.ensures.survives refused.survives (λ late plain. unread mid end text [] c.in-Err-query_prepared.error (refused.err late));
       clean = λ clean. omega (arith, c.prepare.ensures.survives.clean, refused.survives.clean, clean);
       faults = inl c.stop_of.ensures;
@@ -84,7 +84,7 @@ returns-in-Err g c =
     let text_is : c.select_of.result.now ≡ select_of t = c.select_of.ensures ∙ ap select_of c.table.ensures in
     record {
       mode = c.prepare.ensures.mode;
-      survives = λ has. c.prepare.ensures.survives;
+      survives = c.prepare.ensures.survives;
       kept = c.prepare.ensures.kept;
       clean = λ clean. omega (arith, c.prepare.ensures.survives.clean, clean);
       faults = c.in-Err.ensures.faults;

@@ -23,14 +23,14 @@ given_back : (g : Over) (c : goal.After-drop-statement-inside-in-Ok-query_prepar
 given_back g c = search rules
 
 pub returns-in-Ok-query_prepared-clause-survives : goal.returns-in-Ok-query_prepared-clause-survives
-returns-in-Ok-query_prepared-clause-survives g c has =
+returns-in-Ok-query_prepared-clause-survives g c =
     let old = state g.S.Store c.args.conn.now in
     let mid = state g.S.Store c.prepare.new.conn in
     let start = state g.S.Store c.in-Ok-query_prepared.rows.conn.now in
     let last = c.follows.new.rows.conn.now in
     let same : last ≡ c.conn-1.given.0 = given_back g c in
     subst (λ x. Survives old (state g.S.Store x) (λ _. ⊥)) same
-    (still_then old start (state g.S.Store last) (still_then old mid start c.prepare.ensures.survives (quiet moved_listing moved_is old mid start c.in-Ok.statement.text (λ ready. let it = c.in-Ok.ensures.prepared ready in (it.0 ∙ c.select_of.ensures, it.1)) has c.in-Ok-query_prepared.ensures.survives)) c.follows.ensures.survives)
+    (still_then old start (state g.S.Store last) (still_then old mid start c.prepare.ensures.survives (quiet moved_listing moved_is old mid start c.in-Ok.statement.text (λ ready. let it = c.in-Ok.ensures.prepared ready in (it.0 ∙ c.select_of.ensures, it.1)) c.in-Ok-query_prepared.ensures.survives)) c.follows.ensures.survives)
 
 pub returns-in-Ok-query_prepared-clause-same : goal.returns-in-Ok-query_prepared-clause-same
 returns-in-Ok-query_prepared-clause-same g c clean =
@@ -61,11 +61,11 @@ returns-in-Ok-query_prepared-clause-moved g c clean =
     tells b.1.0.is_open (ap (λ (d : Database). d.schema) b.1.0.now_is ∙ has) b.0 table (subst (λ (d : Database). Shows d.trees MovedTable table) (sym b.1.0.now_is) shows))
 
 pub returns-clause-survives : goal.returns-clause-survives
-returns-clause-survives g c has =
+returns-clause-survives g c =
     let old = state g.S.Store c.args.conn.now in
     let mid = state g.S.Store c.prepare.new.conn in
     let end = state g.S.Store c.query_prepared.follows.lender-at-none in
-    still_then old mid end c.prepare.ensures.survives (quiet moved_listing moved_is old mid end c.in-Ok.statement.text (λ ready. let it = c.in-Ok.ensures.prepared ready in (it.0 ∙ c.select_of.ensures, it.1)) has (rw c.in-Err-query_prepared.is at c.query_prepared.follows.holds-at-none).survives)
+    still_then old mid end c.prepare.ensures.survives (quiet moved_listing moved_is old mid end c.in-Ok.statement.text (λ ready. let it = c.in-Ok.ensures.prepared ready in (it.0 ∙ c.select_of.ensures, it.1)) (rw c.in-Err-query_prepared.is at c.query_prepared.follows.holds-at-none).survives)
 
 pub returns-in-Ok-query_prepared-clause-clean : goal.returns-in-Ok-query_prepared-clause-clean
 returns-in-Ok-query_prepared-clause-clean g c clean =
@@ -131,7 +131,7 @@ pub returns-in-Err-clause-mode : goal.returns-in-Err-clause-mode
 returns-in-Err-clause-mode g c = c.prepare.ensures.mode
 
 pub returns-in-Err-clause-survives : goal.returns-in-Err-clause-survives
-returns-in-Err-clause-survives g c has = c.prepare.ensures.survives
+returns-in-Err-clause-survives g c = c.prepare.ensures.survives
 
 pub returns-in-Err-clause-kept : goal.returns-in-Err-clause-kept
 returns-in-Err-clause-kept g c = c.prepare.ensures.kept

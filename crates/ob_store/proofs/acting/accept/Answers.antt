@@ -4,6 +4,7 @@ use Rattle.ob_state.specs.Amounts.{amount, moves}
 use Rattle.ob_state.specs.Next.{next}
 use Rattle.ob_state.specs.Refusals.{refusal}
 use Rattle.ob_record.specs.Leading.{Records}
+use Rattle.ob_record.specs.Naming.{IsReferenced}
 use Rattle.ob_store.specs.Acting.{under}
 use Rattle.ob_store.proofs.Accepting.{answered, book_is, decided, done, failed}
 use Rattle.ob_store.proofs.acting.accept.Goals as goal
@@ -35,14 +36,15 @@ returns-in-Ok-commit_act-clause-acts g c clean b keeps same fresh =
     let records : Records b a p c.act_of-act.result = rw (c.bytes.ensures.value, plan_is) at (c.act_of-act.ensures.records b keeps.reached (sym at) p c.postings.ensures.posted) in
     let counts = c.reached_law.ensures.counts b keeps.reached in
     let law = c.reached_law.ensures.goes_on in
+    let named : IsReferenced a = (c.bytes.ensures.identifier, c.requires.valid) in
     let old = c.args.conn.now in
     let new = c.commit_act.new.conn in
     let number : b.book.accepted + 1 ≡ c.act_of-act.result.«no» = ap (λ s. s.accepted + 1) (sym at) ∙ sym c.act_of-act.ensures.«no» in
     let moved : moves b.book (next b.book command) ≡ c.new-moved.result =
     sym (ap₂ (λ s x. moves s (next s x)) at plan_is) ∙ sym c.in-Ok.ensures.plan.moved ∙ sym c.moves.ensures ∙ sym c.in-Ok-from_slice.ensures.items ∙ sym c.new-moved.ensures in (
-      answered g.S.Store old new b a p c.act_of-act.result law keeps records fresh free counts ∙ ap₂ (λ n m. Ok (record { number = n; moved = m })) number moved,
-      done g.S.Store old new b a p c.act_of-act.result law keeps records fresh free c.in-Ok-commit_act.ensures.done,
-      c.adopt.ensures.state ∙ ap₂ next at plan_is ∙ book_is g.S.Store old new b a p c.act_of-act.result law keeps records fresh free,
+      answered g.S.Store old new b a p c.act_of-act.result law keeps records fresh free named counts ∙ ap₂ (λ n m. Ok (record { number = n; moved = m })) number moved,
+      done g.S.Store old new b a p c.act_of-act.result law keeps records fresh free named c.in-Ok-commit_act.ensures.done,
+      c.adopt.ensures.state ∙ ap₂ next at plan_is ∙ book_is g.S.Store old new b a p c.act_of-act.result law keeps records fresh free named,
     )
 
 pub returns-in-Err-commit_act-clause-acts : goal.returns-in-Err-commit_act-clause-acts
@@ -55,5 +57,5 @@ returns-in-Err-commit_act-clause-acts g c clean b keeps same fresh =
     let plan_is : c.in-Ok.plan.command ≡ command = c.in-Ok.ensures.command in
     let free : refusal b.book command ≡ None = sym (ap₂ refusal at plan_is) ∙ c.in-Ok.ensures.plan.accepted in
     let records : Records b a p c.act_of-act.result = rw (c.bytes.ensures.value, plan_is) at (c.act_of-act.ensures.records b keeps.reached (sym at) p c.postings.ensures.posted) in
-    failed g.S.Store c.args.conn.now c.commit_act.new.conn b a p c.act_of-act.result c.reached_law.ensures.goes_on keeps records fresh free
+    failed g.S.Store c.args.conn.now c.commit_act.new.conn b a p c.act_of-act.result c.reached_law.ensures.goes_on keeps records fresh free (c.bytes.ensures.identifier, c.requires.valid)
     c.args.book.now.state c.decide.new.self.state c.decide.ensures.state c.in-Err-commit_act.stop c.in-Err-commit_act.ensures.faults c.in-Err-commit_act.ensures.undone c.in-Err-commit_act.ensures.either

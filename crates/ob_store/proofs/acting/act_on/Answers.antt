@@ -12,7 +12,7 @@ use Rattle.ob_store.proofs.acting.act_on.Goals as goal
 pub returns-in-Ok-New-clause-acts : goal.returns-in-Ok-New-clause-acts
 returns-in-Ok-New-clause-acts g c clean b keeps same =
     let mid : HasCleanDisk (state g.S.Store c.look_up.new.conn) = c.accept.ensures.clean clean in
-    let still : KeepsBook (state g.S.Store c.look_up.new.conn) b = record { kept = c.look_up.ensures.kept (tables_of b) keeps.kept; reached = keeps.reached } in
+    let still : KeepsBook (state g.S.Store c.look_up.new.conn) b = record { kept = c.look_up.ensures.kept (tables_of b) keeps.kept; reached = keeps.reached; valid = keeps.valid } in
     let rows = rw (c.bytes.ensures.value, c.in-Ok-New.field-0-is) at (c.in-Ok-New.ensures.found mid (tables_of b) keeps.kept) in
     c.accept.ensures.acts clean b still same (is_new c.args.reference.now b rows)
 
@@ -21,12 +21,12 @@ returns-in-Ok-Same-clause-acts g c clean b keeps same =
     let r = c.args.reference.now in
     let command = c.args.command.now in
     let mid : HasCleanDisk (state g.S.Store c.look_up.new.conn) = omega (arith, c.stored_reply.ensures.survives.clean, clean) in
-    let still : KeepsBook (state g.S.Store c.look_up.new.conn) b = record { kept = c.look_up.ensures.kept (tables_of b) keeps.kept; reached = keeps.reached } in
+    let still : KeepsBook (state g.S.Store c.look_up.new.conn) b = record { kept = c.look_up.ensures.kept (tables_of b) keeps.kept; reached = keeps.reached; valid = keeps.valid } in
     let end = c.stored_reply.ensures.kept b still in
     let rows = rw (c.bytes.ensures.value, c.deref.ensures.value, c.in-Ok.ensures.text, c.in-Ok-Same.field-0-is) at (c.in-Ok-Same.ensures.found mid (tables_of b) keeps.kept) in
     let it = is_known r b c.in-Ok-Same.«no» (body_text command) rows in
     let answered = again b r command c.in-Ok-Same.«no» it.number it.found it.there it.body_is in
-    again_acts g.S.Store c.stored_reply.new.conn c.args.book.now.state b (under r command) end (reached_act c.reached_law.ensures.goes_on b (under r command) keeps.reached)
+    again_acts g.S.Store c.stored_reply.new.conn c.args.book.now.state b (under r command) end (reached_act c.reached_law.ensures.goes_on b (under r command) keeps.reached) (c.bytes.ensures.identifier, c.body_text.ensures.valid)
     c.in-Ok-Same.«no» c.stored_reply.result c.stored_reply.ensures.faults
     (each_ok c.stored_reply.result (c.stored_reply.ensures.reply clean) (λ x f. f b still it.least it.most))
     (stays b r command c.in-Ok-Same.«no» it.number) answered same
@@ -35,7 +35,7 @@ pub returns-in-Ok-Other-clause-acts : goal.returns-in-Ok-Other-clause-acts
 returns-in-Ok-Other-clause-acts g c clean b keeps same =
     let r = c.args.reference.now in
     let command = c.args.command.now in
-    let still : KeepsBook (state g.S.Store c.look_up.new.conn) b = record { kept = c.look_up.ensures.kept (tables_of b) keeps.kept; reached = keeps.reached } in
+    let still : KeepsBook (state g.S.Store c.look_up.new.conn) b = record { kept = c.look_up.ensures.kept (tables_of b) keeps.kept; reached = keeps.reached; valid = keeps.valid } in
     let rows = rw (c.bytes.ensures.value, c.deref.ensures.value, c.in-Ok.ensures.text, c.in-Ok-Other.field-0-is) at (c.in-Ok-Other.ensures.found clean (tables_of b) keeps.kept) in
     let it = is_known r b c.in-Ok-Other.«no» rows.0 rows.2 in
     let other : body_text it.found.command ≢ body_text command = λ e. rows.1 (sym it.body_is ∙ e) in
@@ -43,6 +43,6 @@ returns-in-Ok-Other-clause-acts g c clean b keeps same =
 
 pub returns-clause-acts : goal.returns-clause-acts
 returns-clause-acts g c clean b keeps same =
-    let still : KeepsBook (state g.S.Store c.look_up.new.conn) b = record { kept = c.look_up.ensures.kept (tables_of b) keeps.kept; reached = keeps.reached } in
+    let still : KeepsBook (state g.S.Store c.look_up.new.conn) b = record { kept = c.look_up.ensures.kept (tables_of b) keeps.kept; reached = keeps.reached; valid = keeps.valid } in
     let a = under c.args.reference.now c.args.command.now in
-    fault_acts g.S.Store c.look_up.new.conn c.args.book.now.state b a still (reached_act c.reached_law.ensures.goes_on b a keeps.reached) c.in-Err-look_up.stop c.in-Err-look_up.ensures.faults
+    fault_acts g.S.Store c.look_up.new.conn c.args.book.now.state b a still (reached_act c.reached_law.ensures.goes_on b a keeps.reached) (c.bytes.ensures.identifier, c.body_text.ensures.valid) c.in-Err-look_up.stop c.in-Err-look_up.ensures.faults

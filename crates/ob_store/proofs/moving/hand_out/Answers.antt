@@ -10,13 +10,13 @@ use Rattle.ob_store.proofs.Handing.{begun_keeps, keeps_after, query_keeps, query
 use Rattle.ob_store.proofs.moving.hand_out.Goals as goal
 
 pub returns-in-Ok-query_prepared-clause-survives : goal.returns-in-Ok-query_prepared-clause-survives
-returns-in-Ok-query_prepared-clause-survives g c has =
+returns-in-Ok-query_prepared-clause-survives g c =
     let old = state g.S.Store c.args.conn.now in
     let mid = state g.S.Store c.prepare.new.self in
     let start = state g.S.Store c.in-Ok-query_prepared.rows.conn.now in
     let last = c.hand_rows.new.rows.conn.now in
     let same : last ≡ c.conn-1.given.0 = search rules in
-    let begun = query_survives old mid start c.in-Ok.statement.text c.in-Ok.ensures.ok c.prepare.ensures.survives c.in-Ok-query_prepared.ensures.survives has in
+    let begun = query_survives old mid start c.in-Ok.statement.text c.in-Ok.ensures.ok c.prepare.ensures.survives c.in-Ok-query_prepared.ensures.survives in
     subst (λ x. Survives old (state g.S.Store x) (λ _. ⊥)) same (still_then old start (state g.S.Store last) begun c.hand_rows.ensures.survives)
 
 pub returns-in-Ok-query_prepared-clause-kept : goal.returns-in-Ok-query_prepared-clause-kept
@@ -29,7 +29,7 @@ returns-in-Ok-query_prepared-clause-kept g c b keeps =
     let begun = begun_keeps old mid start c.in-Ok.statement.text c.in-Ok.ensures.ok c.prepare.ensures.survives c.in-Ok-query_prepared.ensures.survives (λ clean has.
     let early : HasCleanDisk mid = omega (arith, c.in-Ok-query_prepared.ensures.survives.clean, clean) in
     (begins g.S.Store moved_listing moved_is c.args.conn.now c.prepare.new.self c.in-Ok-query_prepared.rows.conn.now c.in-Ok.statement.text (c.in-Ok.ensures.ok early) has (c.in-Ok-query_prepared.ensures.begun clean)).1) (tables_of b) keeps.kept in
-    record { kept = subst (λ x. Keeps (state g.S.Store x) (tables_of b)) same (c.hand_rows.ensures.kept (tables_of b) begun); reached = keeps.reached }
+    record { kept = subst (λ x. Keeps (state g.S.Store x) (tables_of b)) same (c.hand_rows.ensures.kept (tables_of b) begun); reached = keeps.reached; valid = keeps.valid }
 
 pub returns-in-Ok-query_prepared-clause-hands : goal.returns-in-Ok-query_prepared-clause-hands
 returns-in-Ok-query_prepared-clause-hands g c clean b keeps =
@@ -46,14 +46,14 @@ returns-in-Ok-query_prepared-clause-hands g c clean b keeps =
     let has = (keeps.kept.settled first prepared.1.0.was_open).schema in
     let it = begins g.S.Store moved_listing moved_is c.args.conn.now c.prepare.new.self c.in-Ok-query_prepared.rows.conn.now c.in-Ok.statement.text prepared has (c.in-Ok-query_prepared.ensures.begun begun) in
     let kept = begun_keeps old mid start c.in-Ok.statement.text c.in-Ok.ensures.ok c.prepare.ensures.survives c.in-Ok-query_prepared.ensures.survives (λ _ _. it.1) (tables_of b) keeps.kept in
-    c.hand_rows.ensures.hands late b (record { kept = kept; reached = keeps.reached }) it.1.0.is_open it.0
+    c.hand_rows.ensures.hands late b (record { kept = kept; reached = keeps.reached; valid = keeps.valid }) it.1.0.is_open it.0
 
 pub returns-clause-survives : goal.returns-clause-survives
-returns-clause-survives g c has =
+returns-clause-survives g c =
     let old = state g.S.Store c.args.conn.now in
     let mid = state g.S.Store c.prepare.new.self in
     let end = state g.S.Store c.query_prepared.follows.lender-at-none in
-    query_survives old mid end c.in-Ok.statement.text c.in-Ok.ensures.ok c.prepare.ensures.survives (rw c.in-Err-query_prepared.is at c.query_prepared.follows.holds-at-none).survives has
+    query_survives old mid end c.in-Ok.statement.text c.in-Ok.ensures.ok c.prepare.ensures.survives (rw c.in-Err-query_prepared.is at c.query_prepared.follows.holds-at-none).survives
 
 pub returns-clause-kept : goal.returns-clause-kept
 returns-clause-kept g c b keeps =
@@ -64,10 +64,11 @@ returns-clause-kept g c b keeps =
     record {
       kept = query_keeps old mid end c.in-Ok.statement.text c.in-Ok.ensures.ok c.prepare.ensures.survives refused.survives (λ clean. spared_unasked mid end c.in-Ok.statement.text [] _ (refused.err clean)) (tables_of b) keeps.kept;
       reached = keeps.reached;
+      valid = keeps.valid;
     }
 
 pub returns-in-Err-clause-kept : goal.returns-in-Err-clause-kept
 returns-in-Err-clause-kept g c b keeps =
     let old = state g.S.Store c.args.conn.now in
     let mid = state g.S.Store c.prepare.new.self in
-    record { kept = keeps_after old mid c.prepare.ensures.survives (λ clean. spared_unread old mid _ [] _ (c.in-Err.ensures.err clean [])) (tables_of b) keeps.kept; reached = keeps.reached }
+    record { kept = keeps_after old mid c.prepare.ensures.survives (λ clean. spared_unread old mid _ [] _ (c.in-Err.ensures.err clean [])) (tables_of b) keeps.kept; reached = keeps.reached; valid = keeps.valid }

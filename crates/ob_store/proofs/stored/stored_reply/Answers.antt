@@ -13,11 +13,11 @@ use Rattle.ob_store.proofs.stored.stored_reply.Goals as goal
 
 pub returns-in-Ok-clause-kept : goal.returns-in-Ok-clause-kept
 returns-in-Ok-clause-kept g c b keeps =
-    record { kept = c.stored_moves.ensures.kept (tables_of b) keeps.kept; reached = keeps.reached }
+    record { kept = c.stored_moves.ensures.kept (tables_of b) keeps.kept; reached = keeps.reached; valid = keeps.valid }
 
 pub returns-in-Err-clause-kept : goal.returns-in-Err-clause-kept
 returns-in-Err-clause-kept g c b keeps =
-    record { kept = c.stored_moves.ensures.kept (tables_of b) keeps.kept; reached = keeps.reached }
+    record { kept = c.stored_moves.ensures.kept (tables_of b) keeps.kept; reached = keeps.reached; valid = keeps.valid }
 
 pub returns-in-Ok-clause-reply : goal.returns-in-Ok-clause-reply
 returns-in-Ok-clause-reply g c clean b keeps least most =
