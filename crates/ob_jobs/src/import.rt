@@ -1,14 +1,6 @@
 //! The job that acts the commands of a CSV file on a book.
-ghost use Rattle.std.specs.Prelude.{◌≡◌, IfOk, IsSome, option_map, string_bytes};
-ghost use Rattle.sqlite.specs.Held.{state};
-ghost use Rattle.sqlite.specs.State.{HasCleanDisk};
-ghost use Rattle.ob_book.specs.Acts.{ActState};
-ghost use Rattle.ob_rows.specs.Rows.{rows_of};
-ghost use Rattle.ob_stream.specs.Watching.{watched_bytes};
-ghost use Rattle.ob_store.specs.Keeping.{Ties};
-ghost use Rattle.ob_import.specs.Reports.{Imported};
-ghost use Rattle.ob_jobs.specs.Importing.{ImportsAs, import_line};
-ghost use Rattle.ob_jobs.specs.After.{TellsAfter};
+ghost use Rattle.std.specs.Prelude.{◌≡◌, IfOk, string_bytes};
+ghost use Rattle.ob_jobs.specs.Importing.{ImportOf, ImportsAs, TellsImport, import_line};
 
 use crate::tell::tell;
 use ob_base::{Fault, Stop};
@@ -33,14 +25,11 @@ pub fn run_import<R: Read, S: Alter, T: Timeline, W: Write>(
     reader: &mut Watched<R>,
     writer: &mut Watched<W>,
 ) -> Result<ImportReport, Stop>
-    ensures { TellsAfter (ImportsAs (λ done. HasCleanDisk (state S.Store keeper.new.conn) → (b : ActState)
-        → Ties S.Store keeper.old b → IsSome keeper.old.book
-        → Imported S.Store keeper.new b (option_map rows_of (watched_bytes R.remaining reader.old)) done))
-        import_line W.contents writer.old writer.new result }
+    ensures { TellsImport S.Store R.remaining W.contents keeper.old keeper.new reader.old reader.new writer.old writer.new result }
 {
-    let report = match import(alloc, reader, keeper) {
+    let report = match import_rows(alloc, keeper, reader) {
         Ok(report) => report,
-        Err(failed) => return Err(Stop::Fault(failed.fault)),
+        Err(stop) => return Err(stop),
     };
     let line = match line_of(alloc, &report) {
         Ok(line) => line,
@@ -49,6 +38,20 @@ pub fn run_import<R: Read, S: Alter, T: Timeline, W: Write>(
     match tell(writer, line.as_bytes()) {
         Ok(()) => Ok(report),
         Err(stop) => Err(stop),
+    }
+}
+
+/// The import, whose counts up to a fault aren't told.
+fn import_rows<R: Read, S: Alter, T: Timeline>(
+    alloc: Global,
+    keeper: &mut Keeper<S, T>,
+    reader: &mut Watched<R>,
+) -> Result<ImportReport, Stop>
+    ensures { ImportsAs (ImportOf S.Store R.remaining keeper.old keeper.new reader.old reader.new) result }
+{
+    match import(alloc, reader, keeper) {
+        Ok(report) => Ok(report),
+        Err(failed) => Err(Stop::Fault(failed.fault)),
     }
 }
 

@@ -7,7 +7,6 @@
 
 mod books;
 mod desk;
-mod ending;
 
 use crate::books::{Task, look_at_period, run_on_book};
 use ob_base::{Fault, Stop};
