@@ -83,8 +83,8 @@ pub fn import<R: Read, S: Alter, T: Timeline>(
     import_with_progress(alloc, reader, keeper, &mut Silent)
 }
 
-/// Imports the commands of the CSV text that a reader gives, as `import` does, and tells after each row's commit that it has
-/// acted.
+/// Imports the commands of the CSV text that a reader gives, as `import` does, and tells each row that has acted, after its
+/// commit.
 ///
 /// # Errors
 ///
@@ -139,7 +139,9 @@ fn import_gathered<S: Alter, T: Timeline, P: Progress>(
     let part = gathered.whole_part();
     progress.begin(lines_of(part));
     let mut rows = RowReader::new(alloc, part);
-    import_all(alloc, &mut rows, gathered.whole, keeper, progress)
+    let run = import_all(alloc, &mut rows, gathered.whole, keeper, progress);
+    progress.end();
+    run
 }
 
 /// How many line ends a text has.

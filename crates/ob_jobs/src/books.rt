@@ -13,7 +13,7 @@ use crate::init::run_init;
 use crate::opening::{OpenInput, OpenOutput, ServeBook};
 use crate::table::run_table;
 use ob_base::{Fault, Stop};
-use ob_import::ImportReport;
+use ob_import::{ImportReport, Progress};
 use ob_store::Keeper;
 use ob_stream::Watched;
 use ob_sweep::Timeline;
@@ -78,22 +78,24 @@ fn print_loaded<S: Alter, T: Timeline, W: Write>(
 }
 
 /// Loads a book, then opens the input, and imports what it gives, as [`run_import`]. A row that is refused leaves it unfinished.
-pub fn import_into_book<O: OpenInput, S: Alter, T: Timeline, W: Write>(
+pub fn import_into_book<O: OpenInput, S: Alter, T: Timeline, P: Progress, W: Write>(
     alloc: Global,
     keeper: &mut Keeper<S, T>,
     input: &mut O,
+    progress: &mut P,
     writer: &mut Watched<W>,
 ) -> Result<(), Unfinished>
     ensures { ImportsIntoBook S.Store O.opens O.Input.remaining W.contents keeper.old keeper.new input.old input.new
         writer.old writer.new result }
 {
-    end_of_import(import_loaded(alloc, keeper, input, writer))
+    end_of_import(import_loaded(alloc, keeper, input, progress, writer))
 }
 
-fn import_loaded<O: OpenInput, S: Alter, T: Timeline, W: Write>(
+fn import_loaded<O: OpenInput, S: Alter, T: Timeline, P: Progress, W: Write>(
     alloc: Global,
     keeper: &mut Keeper<S, T>,
     input: &mut O,
+    progress: &mut P,
     writer: &mut Watched<W>,
 ) -> Result<ImportReport, Stop>
     ensures { LoadsThen S.Store (λ mid done. ImportsInput S.Store O.opens O.Input.remaining W.contents mid keeper.new
@@ -101,16 +103,17 @@ fn import_loaded<O: OpenInput, S: Alter, T: Timeline, W: Write>(
         ((input.new ≡ input.old) × (writer.new ≡ writer.old)) keeper.old keeper.new result }
 {
     match load_book(keeper) {
-        Ok(()) => import_opened(alloc, keeper, input, writer),
+        Ok(()) => import_opened(alloc, keeper, input, progress, writer),
         Err(stop) => Err(stop),
     }
 }
 
 /// Opens the input, and imports what it gives.
-fn import_opened<O: OpenInput, S: Alter, T: Timeline, W: Write>(
+fn import_opened<O: OpenInput, S: Alter, T: Timeline, P: Progress, W: Write>(
     alloc: Global,
     keeper: &mut Keeper<S, T>,
     input: &mut O,
+    progress: &mut P,
     writer: &mut Watched<W>,
 ) -> Result<ImportReport, Stop>
     ensures { ImportsInput S.Store O.opens O.Input.remaining W.contents keeper.old keeper.new input.old input.new
@@ -119,7 +122,7 @@ fn import_opened<O: OpenInput, S: Alter, T: Timeline, W: Write>(
     match input.open() {
         Some(opened) => {
             let mut reader = Watched::new(opened);
-            run_import(alloc, keeper, &mut reader, writer)
+            run_import(alloc, keeper, &mut reader, progress, writer)
         }
         None => Err(Stop::Fault(Fault::Input)),
     }

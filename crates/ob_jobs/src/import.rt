@@ -4,7 +4,7 @@ ghost use Rattle.ob_jobs.specs.Importing.{ImportOf, ImportsAs, TellsImport, impo
 
 use crate::tell::tell;
 use ob_base::{Fault, Stop};
-use ob_import::{ImportReport, import};
+use ob_import::{ImportReport, Progress, import_with_progress};
 use ob_store::Keeper;
 use ob_stream::Watched;
 use ob_sweep::Timeline;
@@ -12,22 +12,23 @@ use sqlite::Alter;
 use std::alloc::{AllocError, Global};
 use std::io::{Read, Write};
 
-/// Acts the commands of the CSV text that a reader gives, as [`ob_import::import`], and writes `added`, how many rows added a
-/// command, `again`, how many named one that the book had, and LF; also where a row was refused, which is answered.
+/// Acts the commands of the CSV text that a reader gives, as [`ob_import::import_with_progress`], and writes `added`, how many
+/// rows added a command, `again`, how many named one that the book had, and LF; also where a row was refused, which is answered.
 ///
 /// # Errors
 ///
 /// The fault that ended the import, and then nothing is written; `Fault::Output` where the writer fails, and then the import
 /// is done.
-pub fn run_import<R: Read, S: Alter, T: Timeline, W: Write>(
+pub fn run_import<R: Read, S: Alter, T: Timeline, P: Progress, W: Write>(
     alloc: Global,
     keeper: &mut Keeper<S, T>,
     reader: &mut Watched<R>,
+    progress: &mut P,
     writer: &mut Watched<W>,
 ) -> Result<ImportReport, Stop>
     ensures { TellsImport S.Store R.remaining W.contents keeper.old keeper.new reader.old reader.new writer.old writer.new result }
 {
-    let report = match import_rows(alloc, keeper, reader) {
+    let report = match import_rows(alloc, keeper, reader, progress) {
         Ok(report) => report,
         Err(stop) => return Err(stop),
     };
@@ -42,14 +43,15 @@ pub fn run_import<R: Read, S: Alter, T: Timeline, W: Write>(
 }
 
 /// The import, whose counts up to a fault aren't told.
-fn import_rows<R: Read, S: Alter, T: Timeline>(
+fn import_rows<R: Read, S: Alter, T: Timeline, P: Progress>(
     alloc: Global,
     keeper: &mut Keeper<S, T>,
     reader: &mut Watched<R>,
+    progress: &mut P,
 ) -> Result<ImportReport, Stop>
     ensures { ImportsAs (ImportOf S.Store R.remaining keeper.old keeper.new reader.old reader.new) result }
 {
-    match import(alloc, reader, keeper) {
+    match import_with_progress(alloc, reader, keeper, progress) {
         Ok(report) => Ok(report),
         Err(failed) => Err(Stop::Fault(failed.fault)),
     }

@@ -25,5 +25,6 @@ pub use books::{
 pub use export::run_export;
 pub use import::run_import;
 pub use init::run_init;
+pub use ob_import::{Progress, Silent};
 pub use opening::{OpenInput, OpenOutput, ServeBook};
 pub use table::run_table;

@@ -3,8 +3,8 @@ use crate::host::{Input, Output, Server, Sink, Source};
 use crate::texts::OUTAGE;
 use ob_base::{Fault, Stop};
 use ob_jobs::{
-    audit_book, export_from_book, import_into_book, make_book, print_book, run_export, run_import,
-    run_table, serve_book,
+    Silent, audit_book, export_from_book, import_into_book, make_book, print_book, run_export,
+    run_import, run_table, serve_book,
 };
 use ob_store::Keeper;
 use ob_stream::Watched;
@@ -84,7 +84,7 @@ impl<S: Alter + Drop, T: Timeline> Office for Keeper<S, T> {
             }
             Ask::Import(text) => {
                 let mut input = Input { text, tried: false };
-                let run = import_into_book(alloc, self, &mut input, &mut writer);
+                let run = import_into_book(alloc, self, &mut input, &mut Silent, &mut writer);
                 heard(&run, writer, input.tried)
             }
             Ask::Export(room) => {
@@ -116,7 +116,7 @@ impl<S: Alter + Drop, T: Timeline> Office for Keeper<S, T> {
         let mut told = Watched::new(Sink::new(alloc, 100));
         let mut file = Watched::new(Sink::new(alloc, 100));
         let mut input = Watched::new(Source::new(OUTAGE));
-        let imported = run_import(alloc, self, &mut input, &mut told) == Err(REOPEN);
+        let imported = run_import(alloc, self, &mut input, &mut Silent, &mut told) == Err(REOPEN);
         let exported = run_export(alloc, self, &mut file, &mut told) == Err(REOPEN);
         let printed = run_table(self, &mut told) == Err(REOPEN);
         let silent = told.into_parts().0.taken.is_empty() && file.into_parts().0.taken.is_empty();

@@ -3,6 +3,7 @@
 //! A keeper of a file is a large type, and what holds one is proved with all of its parts. So one function opens the file and
 //! closes it, and the jobs are functions over any keeper.
 use crate::desk::Server;
+use crate::progress::Telling;
 use ob_base::{Fault, Stop};
 use ob_jobs::{
     OpenInput, OpenOutput, audit_book, export_from_book, import_into_book, make_book, print_book,
@@ -169,7 +170,13 @@ fn run_task<S: Alter, T: Timeline>(
         }
         Task::Import { input } => {
             let mut input = InputFile { rt, path: input };
-            import_into_book(alloc, keeper, &mut input, &mut writer)
+            import_into_book(
+                alloc,
+                keeper,
+                &mut input,
+                &mut Telling::new(rt),
+                &mut writer,
+            )
         }
         Task::Export { output } => {
             let mut output = OutputFile { rt, path: output };
