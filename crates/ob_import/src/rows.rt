@@ -6,6 +6,7 @@ ghost use Rattle.ob_import.specs.Imports.{after_header};
 ghost use Rattle.ob_import.specs.Reports.{HasCause, Runs};
 
 use crate::acting::act_row;
+use crate::progress::Progress;
 use crate::report::{ImportFault, ImportReport};
 use ob_base::{Fault, Refusal, Stop};
 use ob_rows::{MOST_ROWS, Row, RowReader};
@@ -17,11 +18,12 @@ use std::io::Read;
 
 /// Imports the rows of a text, its header among them. Where they aren't the whole text, the input breaks off behind the
 /// last of them.
-pub(crate) fn import_all<R: Read, S: Alter, T: Timeline>(
+pub(crate) fn import_all<R: Read, S: Alter, T: Timeline, P: Progress>(
     alloc: Global,
     rows: &mut RowReader<R>,
     whole: bool,
     keeper: &mut Keeper<S, T>,
+    progress: &mut P,
 ) -> Result<ImportReport, ImportFault>
     requires { IsSome keeper.old.book }
     ensures runs { Runs S.Store after_header keeper.old keeper.new (rows_left R.remaining rows.old) whole result }
@@ -45,15 +47,16 @@ pub(crate) fn import_all<R: Read, S: Alter, T: Timeline>(
             stopped: Some((0, Refusal::BadField(0))),
         });
     }
-    import_rows(rows, &mut row, whole, keeper)
+    import_rows(rows, &mut row, whole, keeper, progress)
 }
 
 /// Imports the rows after the header.
-fn import_rows<R: Read, S: Alter, T: Timeline>(
+fn import_rows<R: Read, S: Alter, T: Timeline, P: Progress>(
     rows: &mut RowReader<R>,
     row: &mut Row,
     whole: bool,
     keeper: &mut Keeper<S, T>,
+    progress: &mut P,
 ) -> Result<ImportReport, ImportFault>
     requires { IsSome keeper.old.book }
     ensures runs { Runs S.Store (λ rows. Some rows) keeper.old keeper.new (rows_left R.remaining rows.old) whole result }
@@ -66,7 +69,10 @@ fn import_rows<R: Read, S: Alter, T: Timeline>(
             Err(fault) => return Err(broken(tally, fault)),
         }
         match act_row(keeper, row) {
-            Ok(is_new) => tally.count(is_new),
+            Ok(is_new) => {
+                tally.count(is_new);
+                progress.acted(number);
+            }
             Err(Stop::Refused(refusal)) => return Ok(report(tally, Some((number, refusal)))),
             Err(Stop::Fault(fault)) => return Err(broken(tally, fault)),
         }

@@ -12,6 +12,7 @@ ghost use Rattle.ob_import.specs.Imports.{ImportedAgain, ImportsMakeOneThing, af
 ghost use Rattle.ob_import.specs.Reports.{HasCause, HoldsWholeRows, Imported, IsStoreFault, Runs, no_book};
 
 use crate::gather::{Gathered, gather};
+use crate::progress::{Progress, Silent};
 use crate::report::{ImportFault, ImportReport};
 use crate::rows::import_all;
 use ob_base::Fault;
@@ -51,7 +52,7 @@ pub fn import_text<S: Alter, T: Timeline>(
         return Err(unopened());
     }
     let mut rows = RowReader::new(alloc, text);
-    import_all(alloc, &mut rows, true, keeper)
+    import_all(alloc, &mut rows, true, keeper, &mut Silent)
 }
 
 /// Imports the commands of the CSV text that a reader gives, as `import_text` does. The text has at most
@@ -79,13 +80,41 @@ pub fn import<R: Read, S: Alter, T: Timeline>(
         → HoldsWholeRows S.Store keeper.new b (watched_bytes R.remaining reader.old) (watched_bytes R.remaining reader.new) e.added e.again) }
     ensures bound { IfOk result (λ r. r.stopped ≡ None → IsWithin (watched_bytes R.remaining reader.old) 268435456) }
 {
+    import_with_progress(alloc, reader, keeper, &mut Silent)
+}
+
+/// Imports the commands of the CSV text that a reader gives, as `import` does, and tells each row that has acted, after its
+/// commit.
+///
+/// # Errors
+///
+/// Those of `import`.
+pub fn import_with_progress<R: Read, S: Alter, T: Timeline, P: Progress>(
+    alloc: Global,
+    reader: &mut Watched<R>,
+    keeper: &mut Keeper<S, T>,
+    progress: &mut P,
+) -> Result<ImportReport, ImportFault>
+    ensures reopen { (keeper.old.book ≡ None) ↔ (result ≡ no_book) }
+    ensures unopened { keeper.old.book ≡ None → keeper.new ≡ keeper.old }
+    ensures imported { HasCleanDisk (state S.Store keeper.new.conn) → (b : ActState) → Ties S.Store keeper.old b
+        → IsSome keeper.old.book → Imported S.Store keeper.new b (option_map rows_of (watched_bytes R.remaining reader.old)) result }
+    ensures clean { HasCleanDisk (state S.Store keeper.new.conn) → HasCleanDisk (state S.Store keeper.old.conn) }
+    ensures dropped { IsSome keeper.old.book → (keeper.new.book ≡ None) ↔ IsStoreFault result }
+    ensures cause { IsSome keeper.old.book → IfErr result (λ e. HasCause e.fault
+        (HasJustFailed reader.new ⊎ Passes (watched_bytes R.remaining reader.old) 268435456)) }
+    ensures broken { HasCleanDisk (state S.Store keeper.new.conn) → (b : ActState) → Ties S.Store keeper.old b
+        → IsSome keeper.old.book → IfErr result (λ e. e.fault ≡ Fault.Input
+        → HoldsWholeRows S.Store keeper.new b (watched_bytes R.remaining reader.old) (watched_bytes R.remaining reader.new) e.added e.again) }
+    ensures bound { IfOk result (λ r. r.stopped ≡ None → IsWithin (watched_bytes R.remaining reader.old) 268435456) }
+{
     if keeper.book().is_none() {
         return Err(unopened());
     }
     let mut retries = Retries::new();
     whole_rows_law();
     match gather(alloc, reader, &mut retries, MOST_BYTES) {
-        Ok(gathered) => import_gathered(alloc, &gathered, keeper),
+        Ok(gathered) => import_gathered(alloc, &gathered, keeper, progress),
         Err(_) => Err(ImportFault {
             fault: Fault::OutOfMemory,
             added: 0,
@@ -95,10 +124,11 @@ pub fn import<R: Read, S: Alter, T: Timeline>(
 }
 
 /// Imports what was gathered from a reader.
-fn import_gathered<S: Alter, T: Timeline>(
+fn import_gathered<S: Alter, T: Timeline, P: Progress>(
     alloc: Global,
     gathered: &Gathered,
     keeper: &mut Keeper<S, T>,
+    progress: &mut P,
 ) -> Result<ImportReport, ImportFault>
     requires { IsSome keeper.old.book }
     ensures runs { Runs S.Store after_header keeper.old keeper.new
@@ -106,8 +136,17 @@ fn import_gathered<S: Alter, T: Timeline>(
     ensures some { gathered.now.whole ≡ false
         → IfOk result (λ _. Some (gathered_rows gathered.now.whole gathered.now.bytes.items) ≢ Some []) }
 {
-    let mut rows = RowReader::new(alloc, gathered.whole_part());
-    import_all(alloc, &mut rows, gathered.whole, keeper)
+    let part = gathered.whole_part();
+    progress.begin(lines_of(part));
+    let mut rows = RowReader::new(alloc, part);
+    let run = import_all(alloc, &mut rows, gathered.whole, keeper, progress);
+    progress.end();
+    run
+}
+
+/// How many line ends a text has.
+fn lines_of(text: &[u8]) -> u64 {
+    text.iter().filter(|byte| **byte == b'\n').count() as u64
 }
 
 /// There is no book to import into.

@@ -1,9 +1,11 @@
 //! Imports into new books, and texts that come twice.
-use crate::office::over_tables;
+use crate::office::{Heard, Office, Trial, over_a_store, over_tables};
 use crate::script::{A_DAY, Outcome, Script, Step, are_answered, are_answered_both_ways};
+use crate::sources::Source;
 use crate::texts::{ONE_NAME_TWICE, OUTAGE, TWO_NAMES};
 use ob_net::{Fault, Refusal};
-use std::alloc::AllocError;
+use std::alloc::{AllocError, Global};
+use std::process::Abort;
 
 const CHANGED: &[Step] = &[
     Step::Make(A_DAY),
@@ -27,6 +29,30 @@ const CHANGED: &[Step] = &[
 fn a_row_stops_and_is_changed(rt: HostRuntime) -> Result<(), AllocError> {
     let rows = &[1, 2, 4, 0, 0, 0, 0, 4, 0, 320];
     are_answered_both_ways(&rt, rt.alloc(), CHANGED, rows)
+}
+
+// An import of a text whose fourth row is refused, and who hears it; and once more.
+struct Hearing;
+
+impl Trial for Hearing {
+    fn run<A: Abort, O: Office>(&self, rt: &A, alloc: Global, office: &mut O) {
+        let told = Heard {
+            lines: 5,
+            last: 3,
+            rows: 3,
+            ended: true,
+        };
+        assert!(rt; office.makes(&A_DAY));
+        let text = ONE_NAME_TWICE.as_bytes();
+        assert!(rt; office.hears(alloc, Source::new(text, None)) == told);
+        assert!(rt; office.hears(alloc, Source::new(text, None)) == told);
+    }
+}
+
+#[test]
+fn who_listens_hears_each_row(rt: HostRuntime) -> Result<(), AllocError> {
+    let rows = &[1, 2, 3, 0, 0, 0, 0, 3, 0, 320];
+    over_a_store(&rt, rt.alloc(), &Hearing, rows)
 }
 
 const WITHOUT_ROWS: &[Step] = &[

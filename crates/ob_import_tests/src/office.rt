@@ -3,7 +3,7 @@ use crate::sinks::{Shelf, Sink};
 use crate::sources::Source;
 use crate::tables::has_rows;
 use ob_export::export_moves;
-use ob_import::{ImportFault, ImportReport, import, import_text};
+use ob_import::{ImportFault, ImportReport, Progress, import, import_text, import_with_progress};
 use ob_net::{Fault, Refusal, Stop, Watched};
 use ob_store::Keeper;
 use ob_sweep::{Timeline, Windowed};
@@ -31,6 +31,30 @@ impl Written {
     }
 }
 
+/// What was heard of an import: the lines of its text, the last row that acted, how many did, and whether it ended.
+#[derive(Clone, Copy, PartialEq)]
+pub struct Heard {
+    pub lines: u64,
+    pub last: u32,
+    pub rows: u32,
+    pub ended: bool,
+}
+
+impl Progress for Heard {
+    fn begin(&mut self, lines: u64) {
+        self.lines = lines;
+    }
+
+    fn acted(&mut self, row: u32) {
+        self.last = row;
+        self.rows = self.rows.wrapping_add(1);
+    }
+
+    fn end(&mut self) {
+        self.ended = true;
+    }
+}
+
 /// A book, or none, that texts are imported into and moved amounts are exported from. A test knows no more of a keeper
 /// than this: with the clauses of a keeper's calls each function that makes some is long to prove.
 pub trait Office {
@@ -48,6 +72,9 @@ pub trait Office {
 
     /// What the import of what a reader gives is answered.
     fn reads(&mut self, alloc: Global, source: Source<'_>) -> Report;
+
+    /// What is heard of the import of what a reader gives.
+    fn hears(&mut self, alloc: Global, source: Source<'_>) -> Heard;
 
     /// What an export to a writer is answered.
     fn writes(&mut self, alloc: Global, sink: Sink) -> Written;
@@ -88,6 +115,17 @@ impl<S: Alter, T: Timeline> Office for Keeper<S, T> {
 
     fn reads(&mut self, alloc: Global, source: Source<'_>) -> Report {
         import(alloc, &mut Watched::new(source), self)
+    }
+
+    fn hears(&mut self, alloc: Global, source: Source<'_>) -> Heard {
+        let mut heard = Heard {
+            lines: 0,
+            last: 0,
+            rows: 0,
+            ended: false,
+        };
+        let _ = import_with_progress(alloc, &mut Watched::new(source), self, &mut heard);
+        heard
     }
 
     fn writes(&mut self, alloc: Global, sink: Sink) -> Written {

@@ -1,36 +1,16 @@
 -- How a job ends: its work, and the text that tells it.
-use Rattle.std.proofs.Common.{◌≡◌, ◌≢◌, inl, inr, ℕ, List, Option, Some, Result, Ok, Err, refl, sym, subst}
+use Rattle.std.proofs.Common.{◌≡◌, ℕ, List, Option, Some, Result, Ok, Err, refl, sym, subst}
 use Rattle.std.specs.Bool.{⊤}
 use Rattle.ob_base.specs.declared.stop.Stop.{Stop}
 use Rattle.ob_base.specs.declared.stop.Stop.TheVariants.{Refused, Fault}
 use Rattle.ob_base.specs.declared.stop.Fault.TheVariants.{OutOfMemory, Store, Reopen, Input, Output}
 use Rattle.ob_state.specs.State.{BookState}
 use Rattle.ob_book.specs.Views.{annual_table_of_book}
-use Rattle.ob_compare.specs.Reading.{IsReadFault}
 use Rattle.ob_stream.specs.declared.watched.Watched.{Watched}
 use Rattle.ob_jobs.specs.Tabling.{HasTable, table_text}
-use Rattle.ob_jobs.specs.Telling.{Tells, Told, WritesNothing}
-
--- a reading of the store meets no fault of a writer
-pub not_output : (stop : Stop) → IsReadFault stop → stop ≢ Fault Output
-not_output (Refused refusal) it is = cc
-not_output (Fault Output) it is = elim it [ inl store ↦ elim store [ inl e ↦ cc | inr e ↦ cc ] | inr e ↦ cc ]
-not_output (Fault OutOfMemory) it is = cc
-not_output (Fault Store) it is = cc
-not_output (Fault Reopen) it is = cc
-not_output (Fault Input) it is = cc
+use Rattle.ob_jobs.specs.Telling.{Tells, Told}
 
 module _ {X W : Type 0} (Works : Result X Stop → Type 0) (text : X → List ℕ) (contents : W → Option (List ℕ)) (old new : Watched W) where
-  -- the work stopped, for another reason than the writer's
-  pub stopped : (stop : Stop) → Works (Err stop) → stop ≢ Fault Output → WritesNothing contents old new
-      → Tells Works text contents old new (Err stop)
-  stopped (Refused refusal) works other nothing = (works, nothing)
-  stopped (Fault OutOfMemory) works other nothing = (works, nothing)
-  stopped (Fault Store) works other nothing = (works, nothing)
-  stopped (Fault Reopen) works other nothing = (works, nothing)
-  stopped (Fault Input) works other nothing = (works, nothing)
-  stopped (Fault Output) works other nothing = absurd (other refl)
-
   -- the work was done, and the writer failed on its text
   pub untold : (stop : Stop) (x : X) → Works (Ok x) → Told contents old new (text x) (Err stop)
       → Tells Works text contents old new (Err stop)

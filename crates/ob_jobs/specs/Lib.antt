@@ -1,5 +1,8 @@
 pub mod Telling
 pub mod Lines
 pub mod Tabling
-pub mod Importing
 pub mod After
+pub mod Importing
+pub mod Loads
+pub mod Endings
+pub mod Books

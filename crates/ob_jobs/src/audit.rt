@@ -1,11 +1,8 @@
 //! The job that compares a book's tables with its commands.
 ghost use Rattle.std.specs.Prelude.{◌≡◌, IfOk, string_bytes};
-ghost use Rattle.sqlite.specs.Held.{state};
-ghost use Rattle.sqlite.specs.State.{HasCleanDisk};
-ghost use Rattle.ob_tables.specs.Schema.{book_schema};
-ghost use Rattle.ob_store.specs.Loading.{Audited};
+ghost use Rattle.ob_jobs.specs.After.{TellsAfter};
 ghost use Rattle.ob_jobs.specs.Lines.{audit_line};
-ghost use Rattle.ob_jobs.specs.Telling.{Tells};
+ghost use Rattle.ob_jobs.specs.Loads.{AuditOf};
 
 use crate::tell::tell;
 use ob_base::{Fault, Stop};
@@ -28,10 +25,9 @@ pub fn run_audit<S: Alter, T: Timeline, W: Write>(
     keeper: &mut Keeper<S, T>,
     writer: &mut Watched<W>,
 ) -> Result<Option<Table>, Stop>
-    ensures { Tells (λ found. HasCleanDisk (state S.Store keeper.new.conn) → keeper.old.conn.schema ≡ book_schema
-        → Audited S.Store keeper.old keeper.new found) audit_line W.contents writer.old writer.new result }
+    ensures { TellsAfter (AuditOf S.Store keeper.old keeper.new) audit_line W.contents writer.old writer.new result }
 {
-    let found = match keeper.audit() {
+    let found = match audit_tables(keeper) {
         Ok(found) => found,
         Err(stop) => return Err(stop),
     };
@@ -43,6 +39,13 @@ pub fn run_audit<S: Alter, T: Timeline, W: Write>(
         Ok(()) => Ok(found),
         Err(stop) => Err(stop),
     }
+}
+
+/// The comparison.
+fn audit_tables<S: Alter, T: Timeline>(keeper: &mut Keeper<S, T>) -> Result<Option<Table>, Stop>
+    ensures { AuditOf S.Store keeper.old keeper.new result }
+{
+    keeper.audit()
 }
 
 /// The line that tells what was found.

@@ -1,14 +1,6 @@
 //! The job that writes what a book's commands moved.
-ghost use Rattle.std.specs.Prelude.{◌≡◌, IfOk, IsSome, string_bytes};
-ghost use Rattle.sqlite.specs.Held.{state};
-ghost use Rattle.sqlite.specs.State.{HasCleanDisk};
-ghost use Rattle.ob_book.specs.Acts.{ActState};
-ghost use Rattle.ob_stream.specs.Watching.{watched_bytes};
-ghost use Rattle.ob_store.specs.Keeping.{Ties};
-ghost use Rattle.ob_export.specs.Exporting.{Exports};
-ghost use Rattle.ob_export.specs.Text.{moves_text};
-ghost use Rattle.ob_jobs.specs.Importing.{export_line};
-ghost use Rattle.ob_jobs.specs.After.{TellsAfter};
+ghost use Rattle.std.specs.Prelude.{◌≡◌, IfOk, string_bytes};
+ghost use Rattle.ob_jobs.specs.Importing.{ExportOf, TellsExport, export_line};
 
 use crate::tell::tell;
 use ob_base::{Fault, Stop};
@@ -32,12 +24,9 @@ pub fn run_export<F: Write, S: Alter, T: Timeline, W: Write>(
     file: &mut Watched<F>,
     writer: &mut Watched<W>,
 ) -> Result<u64, Stop>
-    ensures { TellsAfter (λ done. HasCleanDisk (state S.Store keeper.new.conn) → (b : ActState)
-        → Ties S.Store keeper.old b → IsSome keeper.old.book
-        → Exports F.contents S.Store keeper.old keeper.new (watched_bytes F.contents file.old) file.new b (moves_text b) done)
-        export_line W.contents writer.old writer.new result }
+    ensures { TellsExport S.Store F.contents W.contents keeper.old keeper.new file.old file.new writer.old writer.new result }
 {
-    let rows = match export_moves(alloc, keeper, file) {
+    let rows = match export_rows(alloc, keeper, file) {
         Ok(rows) => rows,
         Err(stop) => return Err(stop),
     };
@@ -49,6 +38,17 @@ pub fn run_export<F: Write, S: Alter, T: Timeline, W: Write>(
         Ok(()) => Ok(rows),
         Err(stop) => Err(stop),
     }
+}
+
+/// The export.
+fn export_rows<F: Write, S: Alter, T: Timeline>(
+    alloc: Global,
+    keeper: &mut Keeper<S, T>,
+    file: &mut Watched<F>,
+) -> Result<u64, Stop>
+    ensures { ExportOf S.Store F.contents keeper.old keeper.new file.old file.new result }
+{
+    export_moves(alloc, keeper, file)
 }
 
 /// The line that tells how many amounts were written.

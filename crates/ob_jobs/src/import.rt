@@ -1,18 +1,10 @@
 //! The job that acts the commands of a CSV file on a book.
-ghost use Rattle.std.specs.Prelude.{◌≡◌, IfOk, IsSome, option_map, string_bytes};
-ghost use Rattle.sqlite.specs.Held.{state};
-ghost use Rattle.sqlite.specs.State.{HasCleanDisk};
-ghost use Rattle.ob_book.specs.Acts.{ActState};
-ghost use Rattle.ob_rows.specs.Rows.{rows_of};
-ghost use Rattle.ob_stream.specs.Watching.{watched_bytes};
-ghost use Rattle.ob_store.specs.Keeping.{Ties};
-ghost use Rattle.ob_import.specs.Reports.{Imported};
-ghost use Rattle.ob_jobs.specs.Importing.{ImportsAs, import_line};
-ghost use Rattle.ob_jobs.specs.After.{TellsAfter};
+ghost use Rattle.std.specs.Prelude.{◌≡◌, IfOk, string_bytes};
+ghost use Rattle.ob_jobs.specs.Importing.{ImportOf, ImportsAs, TellsImport, import_line};
 
 use crate::tell::tell;
 use ob_base::{Fault, Stop};
-use ob_import::{ImportReport, import};
+use ob_import::{ImportReport, Progress, import_with_progress};
 use ob_store::Keeper;
 use ob_stream::Watched;
 use ob_sweep::Timeline;
@@ -20,27 +12,25 @@ use sqlite::Alter;
 use std::alloc::{AllocError, Global};
 use std::io::{Read, Write};
 
-/// Acts the commands of the CSV text that a reader gives, as [`ob_import::import`], and writes `added`, how many rows added a
-/// command, `again`, how many named one that the book had, and LF; also where a row was refused, which is answered.
+/// Acts the commands of the CSV text that a reader gives, as [`ob_import::import_with_progress`], and writes `added`, how many
+/// rows added a command, `again`, how many named one that the book had, and LF; also where a row was refused, which is answered.
 ///
 /// # Errors
 ///
 /// The fault that ended the import, and then nothing is written; `Fault::Output` where the writer fails, and then the import
 /// is done.
-pub fn run_import<R: Read, S: Alter, T: Timeline, W: Write>(
+pub fn run_import<R: Read, S: Alter, T: Timeline, P: Progress, W: Write>(
     alloc: Global,
     keeper: &mut Keeper<S, T>,
     reader: &mut Watched<R>,
+    progress: &mut P,
     writer: &mut Watched<W>,
 ) -> Result<ImportReport, Stop>
-    ensures { TellsAfter (ImportsAs (λ done. HasCleanDisk (state S.Store keeper.new.conn) → (b : ActState)
-        → Ties S.Store keeper.old b → IsSome keeper.old.book
-        → Imported S.Store keeper.new b (option_map rows_of (watched_bytes R.remaining reader.old)) done))
-        import_line W.contents writer.old writer.new result }
+    ensures { TellsImport S.Store R.remaining W.contents keeper.old keeper.new reader.old reader.new writer.old writer.new result }
 {
-    let report = match import(alloc, reader, keeper) {
+    let report = match import_rows(alloc, keeper, reader, progress) {
         Ok(report) => report,
-        Err(failed) => return Err(Stop::Fault(failed.fault)),
+        Err(stop) => return Err(stop),
     };
     let line = match line_of(alloc, &report) {
         Ok(line) => line,
@@ -49,6 +39,21 @@ pub fn run_import<R: Read, S: Alter, T: Timeline, W: Write>(
     match tell(writer, line.as_bytes()) {
         Ok(()) => Ok(report),
         Err(stop) => Err(stop),
+    }
+}
+
+/// The import, whose counts up to a fault aren't told.
+fn import_rows<R: Read, S: Alter, T: Timeline, P: Progress>(
+    alloc: Global,
+    keeper: &mut Keeper<S, T>,
+    reader: &mut Watched<R>,
+    progress: &mut P,
+) -> Result<ImportReport, Stop>
+    ensures { ImportsAs (ImportOf S.Store R.remaining keeper.old keeper.new reader.old reader.new) result }
+{
+    match import_with_progress(alloc, reader, keeper, progress) {
+        Ok(report) => Ok(report),
+        Err(failed) => Err(Stop::Fault(failed.fault)),
     }
 }
 

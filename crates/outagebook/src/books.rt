@@ -2,10 +2,13 @@
 //!
 //! A keeper of a file is a large type, and what holds one is proved with all of its parts. So one function opens the file and
 //! closes it, and the jobs are functions over any keeper.
-use crate::desk::serve;
-use crate::ending::{audited, ended, imported};
-use ob_base::{Fault, Refusal, Stop};
-use ob_jobs::{run_audit, run_export, run_import, run_init, run_table};
+use crate::desk::Server;
+use crate::progress::Telling;
+use ob_base::{Fault, Stop};
+use ob_jobs::{
+    OpenInput, OpenOutput, audit_book, export_from_book, import_into_book, make_book, print_book,
+    serve_book,
+};
 use ob_store::Keeper;
 use ob_stream::Watched;
 use ob_sweep::{Timeline, Windowed};
@@ -41,6 +44,18 @@ pub(crate) enum Task<'w> {
 }
 
 impl Task<'_> {
+    /// Whether the job makes the file of the book where there is none.
+    fn makes_file(&self) -> bool {
+        match self {
+            Task::Init { .. } => true,
+            Task::Import { .. }
+            | Task::Export { .. }
+            | Task::Table
+            | Task::Audit
+            | Task::Serve { .. } => false,
+        }
+    }
+
     /// Whether the job may change the book.
     fn changes(&self) -> bool {
         match self {
@@ -50,12 +65,15 @@ impl Task<'_> {
     }
 }
 
-/// Opens the file of a book, which is made where there is none, and does a job on it.
+/// Opens the file of a book, which only the job that makes a book makes where there is none, and does a job on it.
 pub(crate) fn run_on_book(
     rt: &HostRuntime,
     book: &Word,
     task: &Task<'_>,
 ) -> Result<(), Unfinished> {
+    if !task.makes_file() && !is_there(rt, book) {
+        return Err(Unfinished::Stopped(Stop::Fault(Fault::Store), None));
+    }
     let mut keeper = match keeper_of(rt, book) {
         Ok(keeper) => keeper,
         Err(stop) => return Err(Unfinished::Stopped(stop, None)),
@@ -65,6 +83,11 @@ pub(crate) fn run_on_book(
         fold(keeper);
     }
     run
+}
+
+/// Whether there is such a file, which can be read. The store makes one where there is none.
+fn is_there(rt: &HostRuntime, book: &Word) -> bool {
+    File::open(rt, book.as_str()).is_ok()
 }
 
 /// Opens the file of a book, which is made where there is none.
@@ -95,65 +118,75 @@ pub(crate) fn look_at_period(
     Ok(())
 }
 
+/// The input of an import, by its path.
+#[derive(Drop)]
+struct InputFile<'f> {
+    rt: &'f HostRuntime,
+    path: &'f Word,
+}
+
+impl OpenInput for InputFile<'_> {
+    ghost use Rattle.std.specs.Prelude.{⊤};
+
+    type Input = File;
+
+    ghost opens = { λ _ _ _. ⊤ };
+
+    fn open(&mut self) -> Option<File> {
+        File::open(self.rt, self.path.as_str()).ok()
+    }
+}
+
+/// The output of an export, by its path.
+#[derive(Drop)]
+struct OutputFile<'f> {
+    rt: &'f HostRuntime,
+    path: &'f Word,
+}
+
+impl OpenOutput for OutputFile<'_> {
+    ghost use Rattle.std.specs.Prelude.{⊤};
+
+    type Output = File;
+
+    ghost opens = { λ _ _ _. ⊤ };
+
+    fn open(&mut self) -> Option<File> {
+        File::create(self.rt, self.path.as_str()).ok()
+    }
+}
+
 fn run_task<S: Alter, T: Timeline>(
     rt: &HostRuntime,
     keeper: &mut Keeper<S, T>,
     task: &Task<'_>,
 ) -> Result<(), Unfinished> {
+    let alloc = rt.alloc();
+    let mut writer = Watched::new(io::writer(rt));
     match task {
-        Task::Init { first, days, zone } => ended(init(rt, keeper, first, *days, zone)),
-        Task::Import { input } => imported(import(rt, keeper, input)),
-        Task::Export { output } => ended(export(rt, keeper, output)),
-        Task::Table => ended(table(rt, keeper)),
-        Task::Audit => audited(run_audit(rt.alloc(), keeper, &mut Watched::new(io::writer(rt)))),
-        Task::Serve { port, streams } => ended(serve(rt, keeper, *port, *streams)),
+        Task::Init { first, days, zone } => {
+            let (first, zone) = (first.as_str().as_bytes(), zone.as_str().as_bytes());
+            make_book(keeper, first, *days, zone, &mut writer)
+        }
+        Task::Import { input } => {
+            let mut input = InputFile { rt, path: input };
+            import_into_book(
+                alloc,
+                keeper,
+                &mut input,
+                &mut Telling::new(rt),
+                &mut writer,
+            )
+        }
+        Task::Export { output } => {
+            let mut output = OutputFile { rt, path: output };
+            export_from_book(alloc, keeper, &mut output, &mut writer)
+        }
+        Task::Table => print_book(keeper, &mut writer),
+        Task::Audit => audit_book(alloc, keeper, &mut writer),
+        Task::Serve { port, streams } => {
+            let (port, streams) = (*port, *streams);
+            serve_book(keeper, &mut Server { rt, port, streams })
+        }
     }
-}
-
-/// Makes the book of a period.
-fn init<S: Alter, T: Timeline>(
-    rt: &HostRuntime,
-    keeper: &mut Keeper<S, T>,
-    first: &Word,
-    days: u16,
-    zone: &Word,
-) -> Result<(), Stop> {
-    let (first, zone) = (first.as_str().as_bytes(), zone.as_str().as_bytes());
-    run_init(keeper, first, days, zone, &mut Watched::new(io::writer(rt)))
-}
-
-/// Acts the commands of a CSV file on a book; it answers the row that was refused, and why.
-fn import<S: Alter, T: Timeline>(
-    rt: &HostRuntime,
-    keeper: &mut Keeper<S, T>,
-    input: &Word,
-) -> Result<Option<(u32, Refusal)>, Stop> {
-    keeper.load()?;
-    let Ok(file) = File::open(rt, input.as_str()) else {
-        return Err(Stop::Fault(Fault::Input));
-    };
-    let mut writer = Watched::new(io::writer(rt));
-    let report = run_import(rt.alloc(), keeper, &mut Watched::new(file), &mut writer)?;
-    Ok(report.stopped)
-}
-
-/// Writes what a book's commands moved into a CSV file, which is made anew.
-fn export<S: Alter, T: Timeline>(
-    rt: &HostRuntime,
-    keeper: &mut Keeper<S, T>,
-    output: &Word,
-) -> Result<(), Stop> {
-    keeper.load()?;
-    let Ok(file) = File::create(rt, output.as_str()) else {
-        return Err(Stop::Fault(Fault::Output));
-    };
-    let mut writer = Watched::new(io::writer(rt));
-    run_export(rt.alloc(), keeper, &mut Watched::new(file), &mut writer)?;
-    Ok(())
-}
-
-/// Prints the annual table of a book.
-fn table<S: Alter, T: Timeline>(rt: &HostRuntime, keeper: &mut Keeper<S, T>) -> Result<(), Stop> {
-    keeper.load()?;
-    run_table(keeper, &mut Watched::new(io::writer(rt)))
 }

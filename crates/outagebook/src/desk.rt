@@ -2,6 +2,7 @@
 use crate::tell_stop;
 use ob_base::{Fault, Stop};
 use ob_desk::{FaultLog, run_serve};
+use ob_jobs::ServeBook;
 use ob_store::Keeper;
 use ob_sweep::Timeline;
 use sqlite::Alter;
@@ -21,23 +22,26 @@ impl FaultLog for Complaints<'_> {
 
 /// Serves a book over HTTP at a port of 127.0.0.1, so many streams one after another, and tells at which port: with 0 it is one
 /// that was free.
-pub(crate) fn serve<S: Alter, T: Timeline>(
-    rt: &HostRuntime,
-    keeper: &mut Keeper<S, T>,
-    port: u16,
-    streams: u64,
-) -> Result<(), Stop> {
-    keeper.load()?;
-    let listener = listen(rt, port)?;
-    match run_serve(
-        rt.alloc(),
-        &listener,
-        streams,
-        keeper,
-        &mut Complaints { rt },
-    ) {
-        Ok(()) => Ok(()),
-        Err(fault) => Err(Stop::Fault(fault)),
+#[derive(Drop)]
+pub(crate) struct Server<'r> {
+    pub(crate) rt: &'r HostRuntime,
+    pub(crate) port: u16,
+    pub(crate) streams: u64,
+}
+
+impl<S: Alter, T: Timeline> ServeBook<S, T> for Server<'_> {
+    ghost use Rattle.std.specs.Prelude.{⊤};
+
+    ghost serves = { λ _ _ _ _ _. ⊤ };
+
+    fn serve(&mut self, keeper: &mut Keeper<S, T>) -> Result<(), Stop> {
+        let rt = self.rt;
+        let listener = listen(rt, self.port)?;
+        let mut log = Complaints { rt };
+        match run_serve(rt.alloc(), &listener, self.streams, keeper, &mut log) {
+            Ok(()) => Ok(()),
+            Err(fault) => Err(Stop::Fault(fault)),
+        }
     }
 }
 

@@ -7,7 +7,7 @@
 
 mod books;
 mod desk;
-mod ending;
+mod progress;
 
 use crate::books::{Task, look_at_period, run_on_book};
 use ob_base::{Fault, Stop};

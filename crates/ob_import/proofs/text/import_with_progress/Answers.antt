@@ -3,7 +3,7 @@ use Rattle.ob_stream.specs.Streams.{Passes}
 use Rattle.ob_stream.specs.Watching.{HasJustFailed, watched_bytes}
 use Rattle.ob_rows.specs.Rows.{rows_of}
 use Rattle.ob_import.proofs.Importing.{bound_by, broken_gathered, cause_by, imported_gathered, leaves_nothing}
-use Rattle.ob_import.proofs.text.import.Goals as goal
+use Rattle.ob_import.proofs.text.import_with_progress.Goals as goal
 
 pub returns-in-Ok-clause-imported : goal.returns-in-Ok-clause-imported
 returns-in-Ok-clause-imported g c clean b ties is =

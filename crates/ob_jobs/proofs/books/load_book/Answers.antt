@@ -1,0 +1,13 @@
+use Rattle.ob_jobs.proofs.books.load_book.Goals as goal
+
+pub returns : goal.returns
+returns g c =
+    let all = c.load.ensures in
+    record {
+      found = all.found;
+      dropped = all.dropped;
+      stops = all.stops;
+      clean = all.clean;
+      survives = all.survives;
+      loaded = all.loaded;
+    }

@@ -1,0 +1,77 @@
+-- What each of the program's jobs does to the book in a store, and how it ends.
+use Rattle.std.specs.Prelude.{◌≡◌, ⊤, ℕ, List, Option, Result}
+use Rattle.sqlite_trees.specs.declared.store.Store.{Ghosts}
+use Rattle.ob_base.specs.declared.stop.Stop.{Stop}
+use Rattle.ob_base.specs.declared.stop.Fault.TheVariants.{Input, Output}
+use Rattle.ob_stream.specs.declared.watched.Watched.{Watched}
+use Rattle.ob_tables.specs.declared.table.Table.{Table}
+use Rattle.ob_store.specs.Creating.{Created}
+use Rattle.ob_store.specs.Keeping.{KeeperValue}
+use Rattle.ob_import.specs.declared.report.ImportReport.{ImportReport}
+use Rattle.ob_words.specs.declared.status.Unfinished.{Unfinished}
+use Rattle.ob_jobs.specs.After.{TellsAfter}
+use Rattle.ob_jobs.specs.Endings.{audit_end, import_end, job_end}
+use Rattle.ob_jobs.specs.Importing.{TellsExport, TellsImport}
+use Rattle.ob_jobs.specs.Lines.{audit_line, created_line}
+use Rattle.ob_jobs.specs.Loads.{AuditOf, LoadsThen, OpensThen}
+use Rattle.ob_jobs.specs.Tabling.{HasTable, table_text}
+use Rattle.ob_jobs.specs.Telling.{Tells}
+
+-- the job was done or stopped so, and the run ends as this says of it
+abbrev pub EndsAs : {X : Type 0} → (Result X Stop → Result ⊤ Unfinished) → (Result X Stop → Type 0) → Result ⊤ Unfinished → Type 0
+EndsAs {X} end Works result = (done : Result X Stop) × (result ≡ end done) × Works done
+
+module _ {S : Type 0} (g : Ghosts S) where
+  -- a book is made
+  abbrev pub MakesBook : {W : Type 0} → (W → Option (List ℕ)) → KeeperValue S → KeeperValue S → List ℕ → ℕ → List ℕ
+      → Watched W → Watched W → Result ⊤ Unfinished → Type 0
+  MakesBook contents old new first days zone before after result =
+      EndsAs job_end (Tells (Created g old new first days zone) (λ _. created_line) contents before after) result
+
+  -- the tables are compared with the commands; no book is loaded
+  abbrev pub AuditsBook : {W : Type 0} → (W → Option (List ℕ)) → KeeperValue S → KeeperValue S → Watched W → Watched W
+      → Result ⊤ Unfinished → Type 0
+  AuditsBook contents old new before after result =
+      EndsAs audit_end (TellsAfter (AuditOf g old new) audit_line contents before after) result
+
+  -- the book is loaded, and its annual table is printed
+  abbrev pub PrintsBook : {W : Type 0} → (W → Option (List ℕ)) → KeeperValue S → KeeperValue S → Watched W → Watched W
+      → Result ⊤ Unfinished → Type 0
+  PrintsBook contents old new before after result =
+      EndsAs job_end (LoadsThen g
+      (λ mid done. (new ≡ mid) × Tells (HasTable mid.book) (λ _. table_text mid.book) contents before after done)
+      (after ≡ before) old new) result
+
+  -- the book is loaded, then the input is opened, and then imported
+  abbrev pub ImportsInput : {A R W : Type 0} → (A → Option R → A → Type 0) → (R → Option (List ℕ)) → (W → Option (List ℕ))
+      → KeeperValue S → KeeperValue S → A → A → Watched W → Watched W → Result ImportReport Stop → Type 0
+  ImportsInput {A} {R} opens remaining contents old new was is before after done =
+      OpensThen opens Input
+      (λ opened done. (left : Watched R) × TellsImport g remaining contents old new opened left before after done)
+      ((new ≡ old) × (after ≡ before)) was is done
+
+  abbrev pub ImportsIntoBook : {A R W : Type 0} → (A → Option R → A → Type 0) → (R → Option (List ℕ)) → (W → Option (List ℕ))
+      → KeeperValue S → KeeperValue S → A → A → Watched W → Watched W → Result ⊤ Unfinished → Type 0
+  ImportsIntoBook opens remaining contents old new was is before after result =
+      EndsAs import_end (LoadsThen g (λ mid done. ImportsInput opens remaining contents mid new was is before after done)
+      ((is ≡ was) × (after ≡ before)) old new) result
+
+  -- the book is loaded, then the output is made anew, and what the commands moved is written into it
+  abbrev pub ExportsOutput : {A F W : Type 0} → (A → Option F → A → Type 0) → (F → Option (List ℕ)) → (W → Option (List ℕ))
+      → KeeperValue S → KeeperValue S → A → A → Watched W → Watched W → Result ℕ Stop → Type 0
+  ExportsOutput {A} {F} opens filled contents old new was is before after done =
+      OpensThen opens Output
+      (λ opened done. (left : Watched F) × TellsExport g filled contents old new opened left before after done)
+      ((new ≡ old) × (after ≡ before)) was is done
+
+  abbrev pub ExportsFromBook : {A F W : Type 0} → (A → Option F → A → Type 0) → (F → Option (List ℕ)) → (W → Option (List ℕ))
+      → KeeperValue S → KeeperValue S → A → A → Watched W → Watched W → Result ⊤ Unfinished → Type 0
+  ExportsFromBook opens filled contents old new was is before after result =
+      EndsAs job_end (LoadsThen g (λ mid done. ExportsOutput opens filled contents mid new was is before after done)
+      ((is ≡ was) × (after ≡ before)) old new) result
+
+  -- the book is loaded, and then served
+  abbrev pub ServesBook : {A : Type 0} → (A → KeeperValue S → Result ⊤ Stop → KeeperValue S → A → Type 0)
+      → KeeperValue S → KeeperValue S → A → A → Result ⊤ Unfinished → Type 0
+  ServesBook serves old new was is result =
+      EndsAs job_end (LoadsThen g (λ mid done. serves was mid done new is) (is ≡ was) old new) result

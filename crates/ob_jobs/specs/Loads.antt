@@ -1,0 +1,48 @@
+-- What a job finds before it works: a book that is loaded, and an input or an output that is opened.
+use Rattle.std.specs.Prelude.{◌≡◌, ◌⊎◌, ⊤, ℕ, List, Option, Some, None, IsSome, Result, Ok, Err, IfErr, OnOk}
+use Rattle.sqlite_trees.specs.declared.store.Store.{Ghosts}
+use Rattle.sqlite.specs.Held.{state}
+use Rattle.sqlite.specs.State.{HasCleanDisk, Survives}
+use Rattle.ob_base.specs.declared.stop.Stop.{Stop}
+use Rattle.ob_base.specs.declared.stop.Stop.TheVariants.{Fault}
+use Rattle.ob_base.specs.declared.stop.Fault.{Fault as AFault}
+use Rattle.ob_compare.specs.Reading.{IsReadFault}
+use Rattle.ob_stream.specs.Watching.{watched_inner}
+use Rattle.ob_stream.specs.declared.watched.Watched.{Watched}
+use Rattle.ob_tables.specs.Schema.{book_schema}
+use Rattle.ob_tables.specs.declared.table.Table.{Table}
+use Rattle.ob_store.specs.Keeping.{IsBookAfter, KeeperValue}
+use Rattle.ob_store.specs.Loading.{Audited, Loaded}
+
+-- something was opened and this was done with it; or it could not be opened, which is answered as this fault, and nothing was done
+abbrev pub OpensThen : {A I X : Type 0} → (A → Option I → A → Type 0) → AFault → (Watched I → Result X Stop → Type 0) → Type 0
+    → A → A → Result X Stop → Type 0
+OpensThen {A} {I} opens fault Works Nothing was is done =
+    (opens was None is × (done ≡ Err (Fault fault)) × Nothing)
+    ⊎ ((opened : Watched I) × opens was (Some (watched_inner opened)) is × Works opened done)
+
+module _ {S : Type 0} (g : Ghosts S) where
+  -- a reading of the book that the tables hold: why there is none, and what then stands
+  pub record LoadOf (old new : KeeperValue S) (done : Result ⊤ Stop) : Type 0 where
+    pub found : OnOk done (IsSome new.book)
+    pub dropped : IfErr done (IsBookAfter old.book new.book)
+    pub stops : IfErr done IsReadFault
+    pub clean : HasCleanDisk (state g new.conn) → HasCleanDisk (state g old.conn)
+    pub survives : Survives (state g old.conn) (state g new.conn) (λ _. ⊥)
+    pub loaded : HasCleanDisk (state g new.conn) → old.conn.schema ≡ book_schema → Loaded g old new done
+
+  -- a comparison of the tables with the commands in them: what differs, or why there is no answer
+  pub record AuditOf (old new : KeeperValue S) (found : Result (Option Table) Stop) : Type 0 where
+    pub kept : OnOk found (new.book ≡ old.book)
+    pub dropped : IfErr found (IsBookAfter old.book new.book)
+    pub stops : IfErr found IsReadFault
+    pub clean : HasCleanDisk (state g new.conn) → HasCleanDisk (state g old.conn)
+    pub survives : Survives (state g old.conn) (state g new.conn) (λ _. ⊥)
+    pub audited : HasCleanDisk (state g new.conn) → old.conn.schema ≡ book_schema → Audited g old new found
+
+  -- the book of the tables was loaded, and then this was done over it; or none was loaded, which is answered, and nothing was done
+  abbrev pub LoadsThen : {X : Type 0} → (KeeperValue S → Result X Stop → Type 0) → Type 0 → KeeperValue S → KeeperValue S
+      → Result X Stop → Type 0
+  LoadsThen Works Nothing old new done =
+      ((stop : Stop) × LoadOf old new (Err stop) × (done ≡ Err stop) × Nothing)
+      ⊎ ((mid : KeeperValue S) × LoadOf old mid (Ok tt) × Works mid done)

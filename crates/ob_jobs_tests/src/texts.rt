@@ -1,0 +1,42 @@
+//! Texts that are imported.
+
+/// A cause, a bus, and two sections of one name.
+pub const ONE_NAME_TWICE: &'static str = "\
+kind,ref,f1,f2,f3,f4,f5,f6
+cause,R1,3,STORM,,,,
+bus,R2,BUS-A,,,,,
+section,R3,S1,1,,,,
+section,R4,S1,2,,,,
+";
+
+/// Two feeders of one bus with a tie between them, S1 and S2 behind the breaker B1 and S3 behind B2, with two, three
+/// and five customers. An hour after the start of 2024 B1 opens; ten minutes later W1 opens and the tie takes S2 over;
+/// an hour after its opening B1 closes.
+pub const OUTAGE: &'static str = "\
+kind,ref,f1,f2,f3,f4,f5,f6
+cause,N1,3,STORM,,,,
+cause,N2,4,PLANNED,,,,
+bus,N3,BUS-A,,,,,
+section,N4,S1,1,,,,
+section,N5,S2,1,,,,
+section,N6,S3,2,,,,
+device,N7,I1,GRID,BUS-A,closed,,
+device,N8,B1,BUS-A,S1,closed,,
+device,N9,W1,S1,S2,closed,,
+device,N10,B2,BUS-A,S3,closed,,
+device,N11,T1,S2,S3,open,,
+connect,N12,1,S1,1704067200,,,
+connect,N13,2,S1,1704067200,,,
+connect,N14,3,S2,1704067200,,,
+connect,N15,4,S2,1704067200,,,
+connect,N16,5,S2,1704067200,,,
+connect,N17,6,S3,1704067200,,,
+connect,N18,7,S3,1704067200,,,
+connect,N19,8,S3,1704067200,,,
+connect,N20,9,S3,1704067200,,,
+connect,N21,10,S3,1704067200,,,
+switch,N22,B1,open,1704070800,3,K1,
+switch,N23,W1,open,1704071400,3,K1,
+switch,N24,T1,close,1704071400,3,K1,
+switch,N25,B1,close,1704074400,3,K1,
+";
