@@ -1,5 +1,5 @@
 -- What is loaded from what a crash left.
-use Rattle.std.proofs.Common.{◌≡◌, ◌⊎◌, inl, inr, Option, None, Result, Ok, Err, refl, sym, subst}
+use Rattle.std.proofs.Common.{◌≡◌, ◌⊎◌, inl, inr, Result, Ok, Err, refl, subst}
 use Rattle.std.specs.Prelude.{⊤}
 use Rattle.std.specs.List.{AllByRecursion}
 use Rattle.sqlite_trees.specs.declared.store.Store.{Ghosts}
@@ -19,7 +19,7 @@ use Rattle.ob_commit.specs.Keeps.{Leaves}
 use Rattle.ob_record.specs.Naming.{IsReferenced}
 use Rattle.ob_record.specs.Reached.{IsReached, ReachedAreFew}
 use Rattle.ob_record.specs.Tables.{tables_of}
-use Rattle.ob_store.specs.Keeping.{KeeperValue, KeepsBook, KeepsEitherBook, Ties}
+use Rattle.ob_store.specs.Keeping.{KeeperValue, KeepsBook, KeepsEitherBook}
 use Rattle.ob_store.specs.Finding.{IsBookOf}
 use Rattle.ob_store.specs.Loading.{HoldsNoBook, Loaded, trees_in}
 use Rattle.ob_store.specs.Crashing.{CrashLaw, HasLoaded, OpensAfterCrash, Restores}
