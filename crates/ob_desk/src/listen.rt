@@ -1,5 +1,5 @@
 //! The streams of a listener, one after the other.
-ghost use Rattle.std.specs.Prelude.{◌≡◌, ◌↔◌, None, Err, IsSome, IfErr};
+ghost use Rattle.std.specs.Prelude.{◌≡◌, ◌↔◌, ◌⊎◌, true, None, Err, IsSome, IfErr};
 ghost use Rattle.sqlite.specs.Held.{state};
 ghost use Rattle.sqlite.specs.State.{HasCleanDisk};
 ghost use Rattle.ob_book.specs.Acts.{ActState};
@@ -41,6 +41,7 @@ pub fn run_serve<S: Alter, T: Timeline, L: FaultLog>(
     ensures unopened { keeper.old.book ≡ None → keeper.new ≡ keeper.old }
     ensures dropped { IsSome keeper.old.book → (keeper.new.book ≡ None) ↔ (result ≡ Err Fault.Store) }
     ensures reopen { result ≡ Err Fault.Reopen → keeper.old.book ≡ None }
+    ensures ends { IfErr result (λ f. (f ≡ Fault.Input) ⊎ (ends_desk f ≡ true)) }
     ensures left { HasCleanDisk (state S.Store keeper.new.conn) → (b : ActState) → Ties S.Store keeper.old b
         → IsSome keeper.old.book → IsLeft S.Store keeper.new b (fault_of result) }
 {

@@ -1,4 +1,4 @@
-use Rattle.std.proofs.Common.{None, Some, sym, ◌∙◌}
+use Rattle.std.proofs.Common.{None, Some, inr, sym, ◌∙◌}
 use Rattle.ob_desk.proofs.ListenLemmas.{kept-on, left-more, left-on}
 use Rattle.ob_desk.proofs.StandLemmas.{kept-then}
 use Rattle.ob_desk.proofs.listen.run_serve.Goals.{in-Ok-serve_connection, in-Err+else-ends_desk}
@@ -7,6 +7,9 @@ use Rattle.ob_desk.proofs.listen.run_serve.Goals as goal
 pub returns-then-ends_desk-clause-left : goal.returns-then-ends_desk-clause-left
 returns-then-ends_desk-clause-left g c =
     left-more g.S.Store c.args.keeper.now c.streams.keeper c.serve_connection.new.keeper (Some c.in-Err.fault) c.streams.invariant.kept c.in-Err.ensures.kept c.streams.invariant.left c.in-Err.ensures.left
+
+pub returns-then-ends_desk-clause-ends : goal.returns-then-ends_desk-clause-ends
+returns-then-ends_desk-clause-ends g c = inr (sym c.ends_desk.ensures ∙ c.if-ends_desk.true)
 
 pub streams-preserved : goal.streams-preserved
 streams-preserved g c =
