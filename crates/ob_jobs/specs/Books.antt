@@ -4,7 +4,6 @@ use Rattle.sqlite_trees.specs.declared.store.Store.{Ghosts}
 use Rattle.ob_base.specs.declared.stop.Stop.{Stop}
 use Rattle.ob_base.specs.declared.stop.Fault.TheVariants.{Input, Output}
 use Rattle.ob_stream.specs.declared.watched.Watched.{Watched}
-use Rattle.ob_tables.specs.declared.table.Table.{Table}
 use Rattle.ob_store.specs.Creating.{Created}
 use Rattle.ob_store.specs.Keeping.{KeeperValue}
 use Rattle.ob_import.specs.declared.report.ImportReport.{ImportReport}
