@@ -61,7 +61,7 @@ const REOPEN: Stop = Stop::Fault(Fault::Reopen);
 /// A fault of the store.
 pub const STORE: Stop = Stop::Fault(Fault::Store);
 
-fn heard(run: &Result<(), Unfinished>, writer: Watched<Sink>, tried: bool) -> Heard {
+fn ended_as(run: &Result<(), Unfinished>, writer: Watched<Sink>, tried: bool) -> Heard {
     let halt = match run {
         Err(Unfinished::Stopped(stop, row)) => Some((*stop, *row)),
         Ok(()) | Err(Unfinished::Words(_)) | Err(Unfinished::Differs) => None,
@@ -80,12 +80,12 @@ impl<S: Alter + Drop, T: Timeline> Office for Keeper<S, T> {
         match ask {
             Ask::Make(days) => {
                 let run = make_book(self, b"2024-01-01", days, b"UTC0", &mut writer);
-                heard(&run, writer, false)
+                ended_as(&run, writer, false)
             }
             Ask::Import(text) => {
                 let mut input = Input { text, tried: false };
                 let run = import_into_book(alloc, self, &mut input, &mut Silent, &mut writer);
-                heard(&run, writer, input.tried)
+                ended_as(&run, writer, input.tried)
             }
             Ask::Export(room) => {
                 let mut output = Output {
@@ -94,20 +94,20 @@ impl<S: Alter + Drop, T: Timeline> Office for Keeper<S, T> {
                     tried: false,
                 };
                 let run = export_from_book(alloc, self, &mut output, &mut writer);
-                heard(&run, writer, output.tried)
+                ended_as(&run, writer, output.tried)
             }
             Ask::Print => {
                 let run = print_book(self, &mut writer);
-                heard(&run, writer, false)
+                ended_as(&run, writer, false)
             }
             Ask::Audit => {
                 let run = audit_book(alloc, self, &mut writer);
-                heard(&run, writer, false)
+                ended_as(&run, writer, false)
             }
             Ask::Serve(free) => {
                 let mut server = Server { free, tried: false };
                 let run = serve_book(self, &mut server);
-                heard(&run, writer, server.tried)
+                ended_as(&run, writer, server.tried)
             }
         }
     }
