@@ -5,7 +5,7 @@ ghost use Rattle.ob_base.specs.Stop.{out_of_memory};
 ghost use Rattle.ob_sheet.specs.declared.Entry.{Entry as EntryOf};
 ghost use Rattle.ob_sheet.specs.ByDevice.{IsByDevice, device_of, is_until_by_device};
 ghost use Rattle.ob_sheet.specs.Order.{in_order, is_before};
-ghost use Rattle.ob_sheet.specs.Positions.{positions};
+ghost use Rattle.ob_sheet.specs.Positions.{entered};
 ghost use Rattle.ob_sheet.specs.Sheet.{AreNumbered};
 
 use crate::Entry;
@@ -133,7 +133,7 @@ pub(crate) fn positions_until(
 ) -> Result<Vec<Pos>, Stop>
     requires numbered { AreNumbered entries.now }
     requires by_device { IsByDevice entries.now by_device.now }
-    ensures positions { (e : EntryOf) → e.second ≡ second → e.«no» ≡ «no» → IfOk result (λ p. p.items ≡ positions net.now.network (take (prefix_len (λ f. not (is_before e f)) (in_order entries.now)) (in_order entries.now))) }
+    ensures positions { (e : EntryOf) → e.second ≡ second → e.«no» ≡ «no» → IfOk result (λ p. p.items ≡ entered net.now.network (take (prefix_len (λ f. not (is_before e f)) (in_order entries.now)) (in_order entries.now))) }
     ensures err { IfErr result (λ stop. stop ≡ out_of_memory) }
 {
     let mut positions = Vec::with_capacity(alloc, usize::from(net.devices()))?;
@@ -164,7 +164,7 @@ fn position_until(
     requires by_device { IsByDevice entries.now by_device.now }
     requires place { place ≡ prefix_len (is_until_by_device entries.now until.device until.second until.«no») by_device.now }
     requires device { until.device < length net.now.network.devices }
-    ensures position { (e : EntryOf) → e.second ≡ until.second → e.«no» ≡ until.«no» → slice_get (positions net.now.network (take (prefix_len (λ f. not (is_before e f)) (in_order entries.now)) (in_order entries.now))) until.device ≡ Some result }
+    ensures position { (e : EntryOf) → e.second ≡ until.second → e.«no» ≡ until.«no» → slice_get (entered net.now.network (take (prefix_len (λ f. not (is_before e f)) (in_order entries.now)) (in_order entries.now))) until.device ≡ Some result }
 {
     match last_before(entries, by_device, place, until.device) {
         Some(number) => entries[number as usize - 1].pos,

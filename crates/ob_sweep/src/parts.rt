@@ -47,7 +47,7 @@ pub fn plan_still<T: Timeline>(
     ensures device_room { net.new.device_room ≡ net.old.device_room }
     ensures searches { net.new.searches ≤ net.old.searches + 1 }
 {
-    let positions = Sheet::new(alloc).positions_before(0, net)?;
+    let positions = Sheet::new(alloc).positions_before(0, period.first_second(), net)?;
     let supplied = net.supplied(&positions)?;
     let first = period.first_second();
     Ok(Delta::still(
