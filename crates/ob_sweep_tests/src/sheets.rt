@@ -2,7 +2,7 @@
 ghost use Rattle.std.specs.Prelude.{IfOk, length};
 ghost use Rattle.ob_sheet.specs.Sheet.{NameDevices};
 
-use crate::feeders::net_of;
+use crate::feeders::{net_of, set_lives, since, until};
 use crate::sheet::sheet_of;
 use ob_net::Pos::{Closed, Opened};
 use ob_net::{Crew, Net, Pos, Refusal, Second};
@@ -69,13 +69,13 @@ fn a_late_entry_before_an_earlier_opening(rt: HostRuntime) -> Result<(), Fail> {
     Ok(())
 }
 
-// The positions before each place of the order.
+// The positions before each place of the order, whatever the devices' lives.
 fn leaves(rt: &impl Abort, sheet: &Sheet, net: &Net, rows: &[[Pos; 3]]) -> Result<(), Fail>
     requires { NameDevices (length net.now.network.devices) sheet.now.entries }
 {
     for (place, wanted) in rows.iter().enumerate() {
         assert!(rt; place <= sheet.in_order().len());
-        let positions = sheet.positions_before(place, net)?;
+        let positions = sheet.entered_before(place, net)?;
         assert!(rt; positions.as_slice() == wanted.as_slice());
     }
     Ok(())
@@ -95,6 +95,44 @@ fn positions_at_each_place(rt: HostRuntime) -> Result<(), Fail> {
             [Opened, Opened, Closed],
             [Opened, Opened, Opened],
             [Opened, Closed, Opened],
+        ],
+    )
+}
+
+// A place of the order, a second, and the positions before the one as of the other.
+fn stand(
+    rt: &impl Abort,
+    sheet: &Sheet,
+    net: &Net,
+    rows: &[(usize, Second, [Pos; 3])],
+) -> Result<(), Fail>
+    requires { NameDevices (length net.now.network.devices) sheet.now.entries }
+{
+    for (place, second, wanted) in rows {
+        assert!(rt; *place <= sheet.in_order().len());
+        let positions = sheet.positions_before(*place, *second, net)?;
+        assert!(rt; positions.as_slice() == wanted.as_slice());
+    }
+    Ok(())
+}
+
+#[test]
+fn devices_are_open_outside_their_lives(rt: HostRuntime) -> Result<(), Fail> {
+    let (mut net, sheet) = switched(rt.alloc())?;
+    set_lives(&mut net, &[("D1", until(150)), ("D2", since(120))])?;
+    assert!(rt; net.devices() == 3 && sheet.in_order().len() == 4);
+    stand(
+        &rt,
+        &sheet,
+        &net,
+        &[
+            (0, 149, [Closed, Opened, Closed]),
+            (0, 150, [Opened, Opened, Closed]),
+            (1, 149, [Closed, Opened, Closed]),
+            (1, 150, [Opened, Opened, Closed]),
+            (4, 119, [Opened, Opened, Opened]),
+            (4, 120, [Opened, Closed, Opened]),
+            (4, 400, [Opened, Closed, Opened]),
         ],
     )
 }
