@@ -21,6 +21,10 @@ mod feeders;
 #[cfg(test)]
 mod lives;
 #[cfg(test)]
+mod plain;
+#[cfg(test)]
+mod random;
+#[cfg(test)]
 mod rolls;
 #[cfg(test)]
 mod sheet;
