@@ -1,8 +1,6 @@
 //! The runs counted plainly: a walk of the network for each second that may matter, and one for each entry of it.
-ghost use Rattle.std.specs.Prelude.{◌<◌, length};
-
 use ob_net::{Net, Pos, Second};
-use ob_sheet::Sheet;
+use ob_sheet::{Entry, Sheet};
 use ob_sweep::Run;
 use std::alloc::Global;
 use std::test::Fail;
@@ -15,125 +13,122 @@ pub struct World {
     pub ends: Vec<(u16, u16)>,
 }
 
-// Whether a device is closed at a second under the entries up to it, those of this second up to a number.
-fn is_closed(net: &Net, sheet: &Sheet, device: u16, second: Second, no: u32) -> bool
-    requires { device < length net.now.network.devices }
-{
-    let mut pos = net.normal(device);
-    let mut since = 0;
-    for number in 1..13 {
-        let Some(entry) = sheet.entry(number) else {
-            break;
-        };
-        let acts = entry.second < second || entry.second == second && entry.no <= no;
-        if acts && entry.kept && entry.device == device && since <= entry.second {
-            pos = entry.pos;
-            since = entry.second;
-        }
-    }
-    pos == Pos::Closed && net.life_of(device).holds(second)
+// What is known at a second: whether each device was closed last, which nodes are supplied, and for each node the last entry of
+// this second that cut it off.
+#[derive(Drop)]
+struct Moment {
+    closed: Vec<bool>,
+    supplied: Vec<bool>,
+    cutters: Vec<Option<u32>>,
 }
 
-// The nodes that a walk of closed devices reaches from GRID at a second, under the same entries.
-fn supplied(alloc: Global, world: &World, second: Second, no: u32) -> Result<Vec<bool>, Fail> {
-    let mut closed = Vec::new(alloc);
-    for device in 0..world.net.devices() {
-        closed.push(is_closed(&world.net, &world.sheet, device, second, no))?;
+// The nodes that a walk of devices reaches from GRID at a second: of those that were closed last and are alive then.
+fn walk(alloc: Global, world: &World, closed: &[bool], second: Second) -> Result<Vec<bool>, Fail> {
+    let net = &world.net;
+    let mut joined = Vec::with_capacity(alloc, world.ends.len())?;
+    for device in 0..net.devices() {
+        if is_at(closed, device) && net.life_of(device).holds(second) {
+            let ends = world.ends.get(usize::from(device)).copied();
+            joined.push(ends.ok_or("a device")?)?;
+        }
     }
-    let mut reached = vec![in alloc; false; usize::from(world.net.nodes())]?;
+    let mut reached = vec![in alloc; false; usize::from(net.nodes())]?;
     put(&mut reached, 0, true);
-    for _ in 0..world.net.nodes() {
-        go_on(&world.ends, &closed, &mut reached);
+    for _ in 0..net.nodes() {
+        if !go_on(&joined, &mut reached) {
+            break;
+        }
     }
     Ok(reached)
 }
 
-// Goes one device further.
-fn go_on(ends: &[(u16, u16)], closed: &[bool], reached: &mut [bool]) {
-    for ((a, b), is_closed) in ends.iter().zip(closed) {
-        if *is_closed && (is_at(reached, *a) || is_at(reached, *b)) {
+// Goes one device further; whether that reached some node.
+fn go_on(joined: &[(u16, u16)], reached: &mut [bool]) -> bool {
+    let mut is_further = false;
+    for (a, b) in joined {
+        if is_at(reached, *a) != is_at(reached, *b) {
             put(reached, *a, true);
             put(reached, *b, true);
+            is_further = true;
         }
     }
+    is_further
 }
 
-fn is_at(values: &[bool], node: u16) -> bool {
-    values.get(usize::from(node)).copied().unwrap_or(false)
+fn is_at(values: &[bool], place: u16) -> bool {
+    values.get(usize::from(place)).copied().unwrap_or(false)
 }
 
-fn put<T: Copy>(values: &mut [T], node: u16, value: T) {
-    if let Some(kept) = values.get_mut(usize::from(node)) {
+fn put<T: Copy>(values: &mut [T], place: u16, value: T) {
+    if let Some(kept) = values.get_mut(usize::from(place)) {
         *kept = value;
     }
 }
 
-// Which nodes are supplied at a second, and for each the last entry of this second that cut it off.
-fn moment(
-    alloc: Global,
-    world: &World,
-    second: Second,
-) -> Result<(Vec<bool>, Vec<Option<u32>>), Fail> {
-    let nodes = world.net.nodes();
-    let mut cutters = vec![in alloc; None; usize::from(nodes)]?;
-    let mut before = supplied(alloc, world, second, 0)?;
-    for no in 1..13 {
-        if !is_of(&world.sheet, no, second) {
-            continue;
+// An entry acts.
+fn act(alloc: Global, world: &World, moment: &mut Moment, entry: &Entry) -> Result<(), Fail> {
+    put(&mut moment.closed, entry.device, entry.pos == Pos::Closed);
+    let after = walk(alloc, world, &moment.closed, entry.second)?;
+    for node in 0..world.net.nodes() {
+        if is_at(&moment.supplied, node) && !is_at(&after, node) {
+            put(&mut moment.cutters, node, Some(entry.no));
         }
-        let after = supplied(alloc, world, second, no)?;
-        for node in 0..nodes {
-            if is_at(&before, node) && !is_at(&after, node) {
-                put(&mut cutters, node, Some(no));
-            }
-        }
-        before = after;
     }
-    Ok((before, cutters))
+    moment.supplied = after;
+    Ok(())
 }
 
-fn is_of(sheet: &Sheet, no: u32, second: Second) -> bool {
-    match sheet.entry(no) {
-        Some(entry) => entry.kept && entry.second == second,
-        None => false,
+// Moves on to a second: lives turn, and then the entries of this second act in the order of their numbers.
+fn move_on(alloc: Global, world: &World, moment: &mut Moment, second: Second) -> Result<(), Fail> {
+    moment.supplied = walk(alloc, world, &moment.closed, second)?;
+    moment.cutters = vec![in alloc; None; usize::from(world.net.nodes())]?;
+    for no in 1..13 {
+        match world.sheet.entry(no) {
+            Some(entry) if entry.kept && entry.second == second => {
+                act(alloc, world, moment, &entry)?;
+            }
+            Some(_) => {}
+            None => break,
+        }
     }
+    Ok(())
 }
 
 // The run of each node without supply goes on from a second to the next one, or begins.
-fn go_through(
-    alloc: Global,
-    world: &World,
+fn lengthen(
     lists: &mut [Vec<Run>],
+    moment: &Moment,
     second: Second,
     next: Second,
 ) -> Result<(), Fail> {
-    let (supplied, cutters) = moment(alloc, world, second)?;
-    for node in 0..world.net.nodes() {
-        if let (false, Some(runs)) = (is_at(&supplied, node), lists.get_mut(usize::from(node))) {
-            let cutter = cutters.get(usize::from(node)).copied().flatten();
-            lengthen(runs, node, second, next, cutter)?;
+    for (section, runs) in (0u16..).zip(lists.iter_mut()) {
+        if is_at(&moment.supplied, section) {
+            continue;
+        }
+        match runs.last_mut() {
+            Some(run) if run.until == second => run.until = next,
+            _ => runs.push(Run {
+                section,
+                since: second,
+                until: next,
+                cutter: moment.cutters.get(usize::from(section)).copied().flatten(),
+            })?,
         }
     }
     Ok(())
 }
 
-fn lengthen(
-    runs: &mut Vec<Run>,
-    section: u16,
-    second: Second,
-    next: Second,
-    cutter: Option<u32>,
-) -> Result<(), Fail> {
-    match runs.last_mut() {
-        Some(run) if run.until == second => run.until = next,
-        _ => runs.push(Run {
-            section,
-            since: second,
-            until: next,
-            cutter,
-        })?,
+// All devices in their normal positions.
+fn normal(alloc: Global, net: &Net) -> Result<Moment, Fail> {
+    let mut closed = Vec::new(alloc);
+    for device in 0..net.devices() {
+        closed.push(net.normal(device) == Pos::Closed)?;
     }
-    Ok(())
+    Ok(Moment {
+        closed,
+        supplied: Vec::new(alloc),
+        cutters: Vec::new(alloc),
+    })
 }
 
 /// The runs of every node up to an end: the seconds rise, and nothing is entered and no life turns at others.
@@ -147,9 +142,11 @@ pub fn plain_runs(
     for _ in 0..world.net.nodes() {
         lists.push(Vec::new(alloc))?;
     }
+    let mut moment = normal(alloc, &world.net)?;
     for (place, second) in seconds.iter().enumerate() {
         let next = seconds.get(place.saturating_add(1)).copied();
-        go_through(alloc, world, &mut lists, *second, next.unwrap_or(end))?;
+        move_on(alloc, world, &mut moment, *second)?;
+        lengthen(&mut lists, &moment, *second, next.unwrap_or(end))?;
     }
     Ok(lists)
 }
