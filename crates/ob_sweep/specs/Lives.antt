@@ -44,5 +44,5 @@ kept_within entries a z = length (filter (lies_within a z) entries)
 abbrev pub life_searches : Network → List Entry → Life → Life → ℕ → ℕ → ℕ
 life_searches net entries old new a b =
     option_map_or
-        (λ first. 1 + kept_within entries first (last_lived old new a b) + turns_between net first (last_lived old new a b))
-        (first_differing old new a b) 0
+    (λ first. 1 + kept_within entries first (last_lived old new a b) + turns_between net first (last_lived old new a b))
+    (first_differing old new a b) 0
