@@ -1,0 +1,49 @@
+-- The step of the loop that passes lives: which nodes are supplied at the next second at which one turns, and the runs then.
+use Rattle.std.proofs.Common.{◌≡◌, ℕ, suc, ◌+◌, ◌<◌, ◌≤◌, List, [], ◌∷◌, None, refl, sym, ◌∙◌, ap, arith, subst, length, map, IsTrue}
+use Rattle.std.specs.List.{All, list_any}
+use Rattle.std.proofs.lemmas.List.Elements.{All-head, All-tail}
+use Rattle.ob_base.specs.Life.{turns_at}
+use Rattle.ob_base.specs.declared.Pos.{Pos}
+use Rattle.ob_net.specs.Network.{Network, as_of}
+use Rattle.ob_net.specs.declared.net.Device.{Device}
+use Rattle.ob_sheet.specs.declared.Entry.{Entry}
+use Rattle.ob_sheet.specs.Positions.{entered}
+use Rattle.ob_sweep.specs.declared.Run.{Run}
+use Rattle.ob_sweep.specs.Steps.{all_runs_until, push_all, supplied_nodes}
+use Rattle.ob_sweep.specs.Turns.{turns_between}
+use Rattle.ob_sweep.proofs.Sweeps.{AllEarlier}
+use Rattle.ob_sweep.proofs.Turning.{turns_in_parts, one_turn_more}
+use Rattle.ob_sweep.proofs.Turns.{all_runs_turn, all_runs_wait, still_earlier}
+
+-- kept entries up to a second are earlier than the next one
+pub kept_until : (t : ℕ) (set : List Entry) → All (λ e. IsTrue e.kept × (e.second ≤ t)) set → AllEarlier (t + 1) set
+kept_until t [] h = tt
+kept_until t (e ∷ es) h =
+    let at = All-head (λ (e : Entry). IsTrue e.kept × (e.second ≤ t)) e es h in
+    (at.0, omega (arith, at.1), kept_until t es (All-tail (λ (e : Entry). IsTrue e.kept × (e.second ≤ t)) e es h))
+
+-- between a second and the next one, no life turns
+abbrev pub NoneTurns : Network → ℕ → ℕ → Type 0
+NoneTurns net at next = (s : ℕ) → at ≤ s → s < next → (ps : List Pos) → as_of net.devices s ps ≡ as_of net.devices at ps
+
+-- a search more where some life turns, up to a last second
+pub counts_on : (net : Network) (from at next to n m k : ℕ) → from ≤ at → at < next → next ≤ to → IsTrue (list_any (λ (d : Device). turns_at d.life next) net.devices)
+    → m ≤ n + turns_between net from at → k ≤ m + 1 → k ≤ n + turns_between net from next
+counts_on net from at next to n m k l on up some so_far one_more = omega (arith, so_far, one_more, one_turn_more net from at next l on some)
+
+pub counts_within : (net : Network) (from at to n k : ℕ) → from ≤ at → at ≤ to → k ≤ n + turns_between net from at → k ≤ n + turns_between net from to
+counts_within net from at to n k l up so_far = omega (arith, so_far, turns_in_parts net from at to l up)
+
+-- the runs once more lives have turned
+pub passed : (net : Network) (ps : List Pos) (from at next lo hi : ℕ) (set : List Entry) → from ≤ at → at < next → next < hi → NoneTurns net at next
+    → lo ≤ from → AllEarlier (from + 1) set → ps ≡ entered net set
+    → push_all 0 (supplied_nodes net (as_of net.devices at ps)) (supplied_nodes net (as_of net.devices next ps)) next hi None (all_runs_until net set at lo hi) ≡ all_runs_until net set next lo hi
+passed net ps from at next lo hi set l on below none some early is =
+    ap (λ q. push_all 0 (supplied_nodes net (as_of net.devices at q)) (supplied_nodes net (as_of net.devices next q)) next hi None (all_runs_until net set at lo hi)) is
+    ∙ all_runs_turn net lo hi set at next on (still_earlier (from + 1) (at + 1) set (omega (arith, l)) early) (λ s a b es. none s a b (entered net es)) (omega (arith, some, l, on)) below
+
+-- and where none turns any more
+pub waited : (net : Network) (from at to next lo hi : ℕ) (set : List Entry) → from ≤ at → at ≤ to → to < next → to < hi → NoneTurns net at next
+    → lo ≤ from → AllEarlier (from + 1) set → all_runs_until net set to lo hi ≡ all_runs_until net set at lo hi
+waited net from at to next lo hi set l up past below none some early =
+    all_runs_wait net lo hi set at to up (still_earlier (from + 1) (at + 1) set (omega (arith, l)) early) (λ s a b es. none s a (omega (arith, b, past)) (entered net es)) (omega (arith, some, l)) (omega (arith, up, below))
