@@ -1,5 +1,5 @@
 -- The step of the loop that passes lives: which nodes are supplied at the next second at which one turns, and the runs then.
-use Rattle.std.proofs.Common.{◌≡◌, ℕ, suc, ◌+◌, ◌<◌, ◌≤◌, List, [], ◌∷◌, None, refl, sym, ◌∙◌, ap, arith, subst, length, map, IsTrue}
+use Rattle.std.proofs.Common.{◌≡◌, ℕ, suc, ◌+◌, ◌<◌, ◌≤◌, List, [], ◌∷◌, ◌++◌, Some, None, set, true, refl, sym, ◌∙◌, ap, arith, subst, length, map, IsTrue}
 use Rattle.std.specs.List.{All, list_any}
 use Rattle.std.proofs.lemmas.List.Elements.{All-head, All-tail}
 use Rattle.ob_base.specs.Life.{turns_at}
@@ -7,16 +7,18 @@ use Rattle.ob_base.specs.declared.Pos.{Pos}
 use Rattle.ob_net.specs.Network.{Network, as_of}
 use Rattle.ob_net.specs.declared.net.Device.{Device}
 use Rattle.ob_sheet.specs.declared.Entry.{Entry}
+use Rattle.ob_sheet.specs.Order.{is_before}
 use Rattle.ob_sheet.specs.Positions.{entered}
 use Rattle.ob_sweep.specs.declared.Run.{Run}
-use Rattle.ob_sweep.specs.Steps.{all_runs_until, push_all, supplied_nodes}
+use Rattle.ob_sweep.specs.Steps.{AreKeptBefore, AreKeptUntil, all_runs_until, push_all, supplied_nodes}
 use Rattle.ob_sweep.specs.Turns.{turns_between}
-use Rattle.ob_sweep.proofs.Sweeps.{AllEarlier}
+use Rattle.ob_sweep.proofs.Growth.{AllBefore}
+use Rattle.ob_sweep.proofs.Sweeps.{AllEarlier, all_runs_more, entered_more}
 use Rattle.ob_sweep.proofs.Turning.{turns_in_parts, one_turn_more}
 use Rattle.ob_sweep.proofs.Turns.{all_runs_turn, all_runs_wait, still_earlier}
 
 -- kept entries up to a second are earlier than the next one
-pub kept_until : (t : ℕ) (set : List Entry) → All (λ e. IsTrue e.kept × (e.second ≤ t)) set → AllEarlier (t + 1) set
+pub kept_until : (t : ℕ) (set : List Entry) → AreKeptUntil t set → AllEarlier (t + 1) set
 kept_until t [] h = tt
 kept_until t (e ∷ es) h =
     let at = All-head (λ (e : Entry). IsTrue e.kept × (e.second ≤ t)) e es h in
@@ -47,3 +49,23 @@ pub waited : (net : Network) (from at to next lo hi : ℕ) (set : List Entry) �
     → lo ≤ from → AllEarlier (from + 1) set → all_runs_until net set to lo hi ≡ all_runs_until net set at lo hi
 waited net from at to next lo hi set l up past below none some early =
     all_runs_wait net lo hi set at to up (still_earlier (from + 1) (at + 1) set (omega (arith, l)) early) (λ s a b es. none s a (omega (arith, b, past)) (entered net es)) (omega (arith, some, l)) (omega (arith, up, below))
+
+-- kept entries that come before another
+pub kept_before : (step : Entry) (set : List Entry) → AreKeptBefore step set → AllBefore step set
+kept_before step [] h = tt
+kept_before step (e ∷ es) h =
+    let at = All-head (λ (e : Entry). IsTrue e.kept × IsTrue (is_before e step)) e es h in
+    (at.0, at.1, kept_before step es (All-tail (λ (e : Entry). IsTrue e.kept × IsTrue (is_before e step)) e es h))
+
+-- the runs over an entry, once the lives up to its second have turned
+pub stepped : (net : Network) (ps : List Pos) (step : Entry) (lo hi : ℕ) (before : List Entry) → step.kept ≡ true → AreKeptBefore step before → lo ≤ step.second → step.second < hi
+    → ps ≡ entered net before
+    → push_all 0 (supplied_nodes net (as_of net.devices step.second ps)) (supplied_nodes net (as_of net.devices step.second (set ps step.device step.pos))) step.second hi (Some step.no)
+    (all_runs_until net before step.second lo hi)
+    ≡ all_runs_until net (before ++ step ∷ []) step.second lo hi
+stepped net ps step lo hi before kept come l k is =
+    ap (λ q. push_all 0 (supplied_nodes net (as_of net.devices step.second q)) (supplied_nodes net (as_of net.devices step.second (set q step.device step.pos))) step.second hi (Some step.no)
+    (all_runs_until net before step.second lo hi)) is
+    ∙ ap (λ q. push_all 0 (supplied_nodes net (as_of net.devices step.second (entered net before))) (supplied_nodes net (as_of net.devices step.second q)) step.second hi (Some step.no)
+    (all_runs_until net before step.second lo hi)) (sym (entered_more before step (kept_before step before come) net))
+    ∙ all_runs_more net before step lo hi kept (kept_before step before come) l k
