@@ -20,6 +20,7 @@ use Rattle.ob_sweep.specs.Lives.{Bounds, differ_at, first_differing, last_lived,
 use Rattle.ob_sweep.specs.Runs.{History, history, runs_between}
 use Rattle.ob_sweep.specs.Splice.{splice}
 use Rattle.ob_sweep.proofs.Differing.{none_differ, first_is, lived_is}
+use Rattle.ob_sweep.proofs.Ordered.{filter_alike}
 use Rattle.ob_sweep.proofs.Seams.{SameOutside, splice_tiles}
 use Rattle.ob_sweep.proofs.Tiles.{transfer}
 use Rattle.ob_sweep.proofs.Unique.{CutBy, tiles_are_runs, runs_tile}
@@ -130,17 +131,13 @@ module _ (net more : Network) (entries : List Entry) (v s : ℕ) (same : (set : 
   pub dead_same : (history more entries v).deenergized s ≡ (history net entries v).deenergized s
   dead_same = ap not (same (upto entries s))
 
-  cuts_same : (es : List Entry) → filter (cuts_off more entries v s) es ≡ filter (cuts_off net entries v s) es
-  cuts_same [] = refl
-  cuts_same (e ∷ es) =
-      let here : cuts_off more entries v s e ≡ cuts_off net entries v s e =
+  cuts_same : (e : Entry) → cuts_off more entries v s e ≡ cuts_off net entries v s e
+  cuts_same e =
       ap (λ b. e.kept && e.second == s && b && not (is_supplied_under more (through entries e) s v)) (same (before entries e))
-      ∙ ap (λ b. e.kept && e.second == s && is_supplied_under net (before entries e) s v && not b) (same (through entries e)) in
-      ap (λ b. cond b (e ∷ filter (cuts_off more entries v s) es) (filter (cuts_off more entries v s) es)) here
-      ∙ ap (λ r. cond (cuts_off net entries v s e) (e ∷ r) r) (cuts_same es)
+      ∙ ap (λ b. e.kept && e.second == s && is_supplied_under net (before entries e) s v && not b) (same (through entries e))
 
   pub cutter_same : (history more entries v).cutter s ≡ (history net entries v).cutter s
-  cutter_same = ap (λ q. option_map (λ (e : Entry). e.no) (greatest q)) (cuts_same entries)
+  cutter_same = ap (λ q. option_map (λ (e : Entry). e.no) (greatest q)) (filter_alike (cuts_off more entries v s) (cuts_off net entries v s) entries cuts_same)
 
 -- runs over histories that are the same second by second
 pub same_runs : (v : ℕ) (g h : History) (lo hi : ℕ) → lo ≤ hi → ((s : ℕ) → lo ≤ s → s < hi → h.deenergized s ≡ g.deenergized s)

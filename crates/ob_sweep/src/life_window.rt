@@ -1,6 +1,7 @@
 //! The window of a life that is set anew: the seconds in which it can alter the supply, and the entries of these seconds.
 ghost use Rattle.std.specs.Prelude.{◌≡◌, ◌≤◌, ◌<◌, ℕ, false, MatchOption, None, Some};
 ghost use Rattle.ob_base.specs.Life.{is_alive};
+ghost use Rattle.ob_sheet.specs.Sheet.{AreNumbered};
 ghost use Rattle.ob_sweep.specs.Lives.{differ_at, first_differing, last_lived, Bounds, HoldsFrom};
 ghost use Rattle.ob_sweep.specs.Windows.{Spans};
 
@@ -61,7 +62,7 @@ pub fn life_window(
     end: Second,
 ) -> Option<Window>
     requires some { first < end }
-    ensures { MatchOption result (first_differing old new first end ≡ None) (λ w. (first_differing old new first end ≡ Some w.first) × Spans w.first (last_lived old new first end) sheet.now.entries w) }
+    ensures { MatchOption result (first_differing old new first end ≡ None) (λ w. (first_differing old new first end ≡ Some w.first) × Spans w.first (last_lived old new first end) sheet.now.entries w × AreNumbered sheet.now.entries) }
 {
     let (since, until) = differing(old, new, first, end)?;
     let end = if until < end { until + 1 } else { end };

@@ -1,7 +1,7 @@
 use Rattle.std.proofs.Common.{◌≡◌, ◌+◌, ◌-◌, ◌<◌, ◌≤◌, refl, sym, ◌∙◌, arith}
 use Rattle.ob_sweep.specs.Lives.{last_lived}
 use Rattle.ob_sweep.proofs.Differing.{none_differ, first_is, lived_is}
-use Rattle.ob_sweep.proofs.LifeLaw.{life_runs}
+use Rattle.ob_sweep.proofs.LifePlan.{unchanged}
 use Rattle.ob_sweep.proofs.life_window.life_window.Goals.{then-until-end, else-until-end}
 use Rattle.ob_sweep.proofs.life_window.life_window.Goals as goal
 
@@ -35,4 +35,5 @@ returns c =
         through = c.places_before-2.ensures.earlier;
         later = c.places_before-2.ensures.from;
       },
+      c.places_before.ensures.numbered,
     )
