@@ -3,7 +3,6 @@ ghost use Rattle.std.specs.Prelude.{◌≡◌, ◌<◌, ◌≤◌, IfOk, OnOk, l
 ghost use Rattle.std.specs.List.{All};
 ghost use Rattle.ob_sheet.specs.Sheet.{NameDevices};
 ghost use Rattle.ob_sweep.specs.Deltas.{Fits};
-ghost use Rattle.ob_sweep.specs.Timeline.{LieBetween};
 ghost use Rattle.ob_time.specs.Calendar.{first_second_of, end_second_of};
 
 use crate::ask::{Ask, change_of, obey};
@@ -108,7 +107,6 @@ fn has_lines<T: Timeline>(
 fn days_of(alloc: Global, start: &Start<'_>) -> Result<(Net, Period, Sheet), Fail>
     ensures devices { IfOk result (λ d. NameDevices (length d.0.network.devices) d.2.entries) }
     ensures all { IfOk result (λ d. All (λ e. (first_second_of d.1 ≤ e.second) × (e.second < end_second_of d.1)) d.2.entries) }
-    ensures between { IfOk result (λ d. LieBetween (first_second_of d.1) (end_second_of d.1) d.2.entries) }
 {
     let mut net = feeders(alloc)?;
     set_lives(&mut net, start.lives)?;
@@ -127,7 +125,7 @@ fn build_on<T: Timeline>(
     wanted: &str,
 ) -> Result<(), Fail>
     requires devices { NameDevices (length net.old.network.devices) sheet.now.entries }
-    requires between { LieBetween (first_second_of period.now) (end_second_of period.now) sheet.now.entries }
+    requires all { All (λ e. (first_second_of period.now ≤ e.second) × (e.second < end_second_of period.now)) sheet.now.entries }
 {
     let timeline = T::build(alloc, net, sheet, period)?;
     assert!(rt; net.nodes() == 6 && net.searches() == searches);
@@ -199,7 +197,6 @@ pub fn planned<T: Timeline>(
 ) -> Result<(T, Delta, u128), Fail>
     requires devices { NameDevices (length net.old.network.devices) sheet.now.entries }
     requires all { All (λ e. (first_second_of period.now ≤ e.second) × (e.second < end_second_of period.now)) sheet.now.entries }
-    requires between { LieBetween (first_second_of period.now) (end_second_of period.now) sheet.now.entries }
     ensures count { IfOk result (λ p. length (T.content p.0) ≡ 1024) }
     ensures fits { IfOk result (λ p. Fits (T.content p.0) p.1) }
     ensures devices { OnOk result (NameDevices (length net.new.network.devices) sheet.now.entries) }
@@ -222,7 +219,7 @@ pub fn is_as_built<T: Timeline>(
     timeline: &T,
 ) -> Result<(), Fail>
     requires devices { NameDevices (length net.old.network.devices) sheet.now.entries }
-    requires between { LieBetween (first_second_of period.now) (end_second_of period.now) sheet.now.entries }
+    requires all { All (λ e. (first_second_of period.now ≤ e.second) × (e.second < end_second_of period.now)) sheet.now.entries }
     requires count { length (T.content timeline.now) ≡ 1024 }
 {
     let anew = T::build(alloc, net, sheet, period)?;
@@ -247,7 +244,6 @@ fn alter_on<T: Timeline>(
 ) -> Result<(), Fail>
     requires devices { NameDevices (length net.old.network.devices) sheet.old.entries }
     requires all { All (λ e. (first_second_of period.now ≤ e.second) × (e.second < end_second_of period.now)) sheet.old.entries }
-    requires between { LieBetween (first_second_of period.now) (end_second_of period.now) sheet.old.entries }
 {
     let (mut timeline, delta, searches) = planned::<T>(alloc, net, sheet, period, ask)?;
     assert!(rt; searches == wanted);

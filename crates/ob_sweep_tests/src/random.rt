@@ -1,5 +1,8 @@
 //! Changes that look random of networks whose devices have lives: after each, the runs of a timeline are those of the plain count.
-ghost use Rattle.std.specs.Prelude.{◌≡◌, ◌<◌, ◌≤◌, length};
+ghost use Rattle.std.specs.Prelude.{◌≡◌, ◌<◌, ◌≤◌, [], IfOk, OnOk, length};
+ghost use Rattle.std.specs.List.{All};
+ghost use Rattle.ob_sheet.specs.Sheet.{NameDevices};
+ghost use Rattle.ob_time.specs.Calendar.{first_second_of, end_second_of};
 
 use crate::ask::{Ask, change_of, joins, obey};
 use crate::example::planned;
@@ -104,20 +107,27 @@ impl Random {
 
 // One change: a section, a device or another life, or what the body text asks of the sheet.
 fn ask<'r>(random: &mut Random, net: &Net, body: &'r str) -> Result<Ask<'r>, Fail> {
-    match random.below(8) {
-        0 if net.nodes() == 6 => Ok(Ask::Section("S5", 3)),
-        1 if net.devices() < 10 => random.device(net.devices(), net.nodes()),
-        2 | 3 | 4 => Ok(Ask::Life(random.name(net.devices())?, random.life())),
-        _ => Ok(Ask::Sheet(body)),
+    let (nodes, devices) = (net.nodes(), net.devices());
+    let kind = random.below(8);
+    if kind == 0 && nodes == 6 {
+        return Ok(Ask::Section("S5", 3));
     }
+    if kind == 1 && devices < 10 {
+        return random.device(devices, nodes);
+    }
+    if 5 <= kind {
+        return Ok(Ask::Sheet(body));
+    }
+    let name = random.name(devices)?;
+    Ok(Ask::Life(name, random.life()))
 }
 
 // Keeps the ends of a device more.
-fn keep_ends(world: &mut World, ask: &Ask<'_>) -> Result<(), Fail> {
+fn keep_ends(net: &Net, ends: &mut Vec<(u16, u16)>, ask: &Ask<'_>) -> Result<(), Fail> {
     if let Ask::Device { a, b, .. } = ask {
-        let a = world.net.node_of(&name_of(a)?).ok_or("a node")?;
-        let b = world.net.node_of(&name_of(b)?).ok_or("a node")?;
-        world.ends.push((a, b))?;
+        let a = net.node_of(&name_of(a)?).ok_or("a node")?;
+        let b = net.node_of(&name_of(b)?).ok_or("a node")?;
+        ends.push((a, b))?;
     }
     Ok(())
 }
@@ -131,18 +141,18 @@ section S4 2
 ";
 
 // A network of five devices, on which nothing was switched.
-fn world(alloc: Global, random: &mut Random, period: &CivilDays) -> Result<World, Fail> {
-    let mut world = World {
-        net: net_of(alloc, NO_DEVICES)?,
-        sheet: Sheet::new(alloc),
-        ends: Vec::new(alloc),
-    };
+fn world(alloc: Global, random: &mut Random, period: &CivilDays) -> Result<World, Fail>
+    ensures { IfOk result (λ w. w.sheet.entries ≡ []) }
+{
+    let mut net = net_of(alloc, NO_DEVICES)?;
+    let mut ends = Vec::new(alloc);
+    let sheet = Sheet::new(alloc);
     for number in 0..5 {
         let ask = random.device(number, 6)?;
-        change_of(&mut world.net, &world.sheet, period, &ask)?;
-        keep_ends(&mut world, &ask)?;
+        change_of(&mut net, &sheet, period, &ask)?;
+        keep_ends(&net, &mut ends, &ask)?;
     }
-    Ok(world)
+    Ok(World { net, sheet, ends })
 }
 
 // The runs of each section are those of the plain count.
@@ -151,7 +161,9 @@ fn agrees<T: Timeline>(
     alloc: Global,
     world: &World,
     timeline: &T,
-) -> Result<(), Fail> {
+) -> Result<(), Fail>
+    requires { length (T.content timeline.now) ≡ 1024 }
+{
     let mut seconds = Vec::new(alloc);
     for second in (FIRST..FIRST + 22).chain(END - 6..END) {
         seconds.push(second)?;
@@ -166,42 +178,57 @@ fn agrees<T: Timeline>(
     Ok(())
 }
 
-// Takes over what is asked for.
+// Takes a change over.
 fn step<T: Timeline>(
     rt: &impl Abort,
     alloc: Global,
     random: &mut Random,
     world: &mut World,
     period: &CivilDays,
-) -> Result<(), Fail> {
+) -> Result<(), Fail>
+    requires devices { NameDevices (length world.old.net.network.devices) world.old.sheet.entries }
+    requires all { All (λ e. (first_second_of period.now ≤ e.second) × (e.second < end_second_of period.now)) world.old.sheet.entries }
+    ensures devices { OnOk result (NameDevices (length world.new.net.network.devices) world.new.sheet.entries) }
+    ensures all { OnOk result (All (λ e. (first_second_of period.now ≤ e.second) × (e.second < end_second_of period.now)) world.new.sheet.entries) }
+{
     let body = random.body(alloc, world)?;
     let ask = ask(random, &world.net, body.as_str())?;
     let (mut timeline, delta, _) = planned::<T>(alloc, &mut world.net, &world.sheet, period, &ask)?;
     timeline.adopt(delta);
     obey(&mut world.sheet, &world.net, period, &ask)?;
-    keep_ends(world, &ask)?;
+    keep_ends(&world.net, &mut world.ends, &ask)?;
     agrees(rt, alloc, world, &timeline)
 }
 
-// So many lists of eight changes.
-fn lists<T: Timeline>(rt: &impl Abort, alloc: Global, count: u64) -> Result<(), Fail> {
+// A list of eight changes.
+fn list<T: Timeline>(
+    rt: &impl Abort,
+    alloc: Global,
+    seed: u64,
+    period: &CivilDays,
+) -> Result<(), Fail> {
+    let mut random = Random { state: seed };
+    let mut world = world(alloc, &mut random, period)?;
+    for _ in 0..8 {
+        step::<T>(rt, alloc, &mut random, &mut world, period)?;
+    }
+    Ok(())
+}
+
+fn lists<T: Timeline>(rt: &impl Abort, alloc: Global) -> Result<(), Fail> {
     let period = Period::from_text(alloc, b"1970-01-02", 1, b"UTC0")?;
-    for seed in 0..count {
-        let mut random = Random { state: seed };
-        let mut world = world(alloc, &mut random, &period)?;
-        for _ in 0..8 {
-            step::<T>(rt, alloc, &mut random, &mut world, &period)?;
-        }
+    for seed in 0..300 {
+        list::<T>(rt, alloc, seed, &period)?;
     }
     Ok(())
 }
 
 #[test]
 fn runs_from_scratch_are_those_of_the_plain_count(rt: HostRuntime) -> Result<(), Fail> {
-    lists::<Scratch>(&rt, rt.alloc(), 300)
+    lists::<Scratch>(&rt, rt.alloc())
 }
 
 #[test]
 fn runs_in_windows_are_those_of_the_plain_count(rt: HostRuntime) -> Result<(), Fail> {
-    lists::<Windowed>(&rt, rt.alloc(), 300)
+    lists::<Windowed>(&rt, rt.alloc())
 }

@@ -2,7 +2,6 @@
 ghost use Rattle.std.specs.Prelude.{◌<◌, ◌≤◌, IfOk, OnOk, length};
 ghost use Rattle.std.specs.List.{All};
 ghost use Rattle.ob_sheet.specs.Sheet.{NameDevices};
-ghost use Rattle.ob_sweep.specs.Timeline.{LieBetween};
 ghost use Rattle.ob_time.specs.Calendar.{first_second_of, end_second_of};
 
 use ob_command::{Command, read_body};
@@ -16,7 +15,6 @@ use std::test::Fail;
 pub fn sheet_of(alloc: Global, net: &Net, period: &CivilDays, script: &str) -> Result<Sheet, Fail>
     ensures devices { IfOk result (λ s. NameDevices (length net.now.network.devices) s.entries) }
     ensures all { IfOk result (λ s. All (λ e. (first_second_of period.now ≤ e.second) × (e.second < end_second_of period.now)) s.entries) }
-    ensures between { IfOk result (λ s. LieBetween (first_second_of period.now) (end_second_of period.now) s.entries) }
 {
     let mut sheet = Sheet::new(alloc);
     for line in script.lines() {
