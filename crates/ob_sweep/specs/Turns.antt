@@ -1,5 +1,6 @@
 -- Beginnings and ends of lives: how many lie in an interval of seconds.
-use Rattle.std.specs.Prelude.{ℕ, ◌+◌, ◌&&◌, Bool, nat_le, nat_lt, sum, map, if◌then◌else◌}
+use Rattle.std.specs.Prelude.{ℕ, ◌+◌, ◌&&◌, Bool, nat_le, nat_lt, if◌then◌else◌}
+use Rattle.std.specs.List.{sum_by}
 use Rattle.std.specs.Option.{option_map_or}
 use Rattle.ob_base.specs.declared.life.Life.{Life}
 use Rattle.ob_net.specs.Network.{Network}
@@ -15,4 +16,4 @@ turns_of life a z =
 
 -- how many beginnings and ends of lives of the network lie there, each device's each once
 abbrev pub turns_between : Network → ℕ → ℕ → ℕ
-turns_between net a z = sum (map (λ d. turns_of d.life a z) net.devices)
+turns_between net a z = sum_by (λ d. turns_of d.life a z) net.devices
