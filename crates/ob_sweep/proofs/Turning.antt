@@ -1,10 +1,12 @@
 -- How many lives begin or end between seconds, and what the seconds between two of them leave as it was.
-use Rattle.std.proofs.Common.{◌≡◌, ℕ, ◌+◌, ◌<◌, ◌≤◌, ◌==◌, ◌||◌, inl, inr, Bool, true, false, cond, List, [], ◌∷◌, ◌++◌, Option, Some, None, refl, sym, ◌∙◌, ap, arith, map, sum, nat_lt, nat_le}
+use Rattle.std.proofs.Common.{◌≡◌, ℕ, ◌+◌, ◌<◌, ◌≤◌, ◌==◌, ◌||◌, inl, inr, Bool, true, false, cond, List, [], ◌∷◌, ◌++◌, Option, Some, None, refl, sym, ◌∙◌, ap, arith, length, map, sum, nat_lt, nat_le}
 use Rattle.std.specs.Prelude.{IsTrue}
-use Rattle.std.specs.List.{All, list_any}
+use Rattle.std.specs.List.{All, list_any, range_with_len}
 use Rattle.std.specs.Option.{option_map_or}
 use Rattle.std.proofs.lemmas.Bool.{cases_Bool, cases_lt, cond-true, cond-false, and_from, and_left, and_right, le-leb, lt-leb, lt-ltb, le-ltb, eqb-true, or_cases, false≢true}
 use Rattle.std.proofs.lemmas.List.Elements.{All-head, All-tail, All-cons}
+use Rattle.std.proofs.lemmas.List.{length-map}
+use Rattle.std.proofs.lemmas.List.FromFn.{length-range_with_len}
 use Rattle.std.proofs.lemmas.List.Sums.{sum_by-cons}
 use Rattle.ob_base.specs.Life.{turns_at}
 use Rattle.ob_base.specs.declared.life.Life.{Life}
@@ -13,11 +15,13 @@ use Rattle.ob_net.specs.declared.net.Device.{Device}
 use Rattle.ob_net.specs.Network.{Network, as_of}
 use Rattle.ob_sheet.specs.declared.Entry.{Entry}
 use Rattle.ob_sheet.specs.Order.{is_before}
-use Rattle.ob_sheet.specs.Positions.{entered}
+use Rattle.ob_sheet.specs.Positions.{entered, positions}
 use Rattle.ob_sweep.specs.Turns.{lies_behind, turns_of, turns_between}
 use Rattle.ob_sweep.proofs.Growth.{AllBefore, by_second}
 use Rattle.ob_sweep.proofs.Sweeps.{AllEarlier}
-use Rattle.ob_sweep.proofs.Turns.{IsAsAt}
+use Rattle.ob_sweep.specs.Runs.{runs_between}
+use Rattle.ob_sweep.specs.Steps.{all_runs, all_runs_until, history_until}
+use Rattle.ob_sweep.proofs.Turns.{IsAsAt, all_runs_end}
 
 -- one for a second behind a and up to z
 abbrev mark : ℕ → ℕ → ℕ → ℕ
@@ -125,3 +129,12 @@ through_earlier (f ∷ fs) e kept before =
 pub last_is_before : (es : List Entry) (e x : Entry) → AllBefore x (es ++ e ∷ []) → e.second ≤ x.second
 last_is_before [] e x before = by_second e x before.1
 last_is_before (f ∷ fs) e x before = last_is_before fs e x before.2
+
+pub length-all_runs_until : (net : Network) (set : List Entry) (t lo hi : ℕ) → length (all_runs_until net set t lo hi) ≡ length net.nodes
+length-all_runs_until net set t lo hi =
+    length-map (range_with_len 0 (length net.nodes)) (λ v. runs_between v (history_until net set t v) lo hi) ∙ length-range_with_len 0 (length net.nodes)
+
+-- up to the last second, lives have turned as far as the end
+pub all_runs_last : (net : Network) (lo hi : ℕ) (es : List Entry) (t : ℕ) → AllEarlier (t + 1) es → lo ≤ t → t + 1 ≡ hi → all_runs_until net es t lo hi ≡ all_runs net es lo hi
+all_runs_last net lo hi es t early l is =
+    sym (all_runs_end net lo hi es t early (λ s a b set. let same : s ≡ t = omega arith in ap (positions net set) same) l (omega arith))
