@@ -1,5 +1,5 @@
 -- The window of a life that is set anew: the seconds in which it can alter the supply, and how many searches it costs.
-use Rattle.std.specs.Prelude.{ℕ, ◌+◌, ◌-◌, ◌&&◌, Bool, not, min, List, Option, Some, length, slice_get, if◌then◌else◌, nat_le}
+use Rattle.std.specs.Prelude.{◌≡◌, ◌<◌, ◌≤◌, ℕ, ◌+◌, ◌-◌, ◌&&◌, Bool, true, false, not, min, List, Option, Some, length, slice_get, if◌then◌else◌, nat_le}
 use Rattle.std.specs.List.{filter}
 use Rattle.std.specs.Option.{option_map_or}
 use Rattle.ob_base.specs.Life.{is_alive}
@@ -17,6 +17,25 @@ never = record { since = 0; until = Some 0 }
 -- exactly one of the two lives holds the second
 abbrev pub differ_at : Life → Life → ℕ → Bool
 differ_at old new s = if is_alive old s then not (is_alive new s) else is_alive new s
+
+-- of the seconds from a up to b, the test holds at those from c up to d alone; there is one
+pub record HoldsFrom (test : ℕ → Bool) (a b c d : ℕ) : Type 0 where
+  pub from_a : a ≤ c
+  pub some : c < d
+  pub to_b : d ≤ b
+  pub holds : (s : ℕ) → c ≤ s → s < d → test s ≡ true
+  pub before : (s : ℕ) → a ≤ s → s < c → test s ≡ false
+  pub behind : (s : ℕ) → d ≤ s → s < b → test s ≡ false
+
+-- of the seconds from a up to b, c is the first at which the test holds, and d the one after the last
+pub record Bounds (test : ℕ → Bool) (a b c d : ℕ) : Type 0 where
+  pub from_a : a ≤ c
+  pub some : c < d
+  pub to_b : d ≤ b
+  pub first : test c ≡ true
+  pub last : test (d - 1) ≡ true
+  pub before : (s : ℕ) → a ≤ s → s < c → test s ≡ false
+  pub behind : (s : ℕ) → d ≤ s → s < b → test s ≡ false
 
 -- the seconds from a up to b, b excluded, that exactly one of the two lives holds, rising
 abbrev pub differing : Life → Life → ℕ → ℕ → List ℕ
@@ -44,5 +63,5 @@ kept_within entries a z = length (filter (lies_within a z) entries)
 abbrev pub life_searches : Network → List Entry → Life → Life → ℕ → ℕ → ℕ
 life_searches net entries old new a b =
     option_map_or
-        (λ first. 1 + kept_within entries first (last_lived old new a b) + turns_between net first (last_lived old new a b))
-        (first_differing old new a b) 0
+    (λ first. 1 + kept_within entries first (last_lived old new a b) + turns_between net first (last_lived old new a b))
+    (first_differing old new a b) 0

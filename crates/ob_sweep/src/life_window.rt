@@ -1,8 +1,7 @@
 //! The window of a life that is set anew: the seconds in which it can alter the supply, and the entries of these seconds.
-ghost use Rattle.std.specs.Prelude.{◌≡◌, ◌≤◌, ◌<◌, MatchOption, None, Some};
-ghost use Rattle.std.specs.List.{All};
-ghost use Rattle.ob_sheet.specs.Order.{in_order};
-ghost use Rattle.ob_sweep.specs.Lives.{first_differing, last_lived, never};
+ghost use Rattle.std.specs.Prelude.{◌≡◌, ◌≤◌, ◌<◌, ℕ, false, MatchOption, None, Some};
+ghost use Rattle.ob_base.specs.Life.{is_alive};
+ghost use Rattle.ob_sweep.specs.Lives.{differ_at, first_differing, last_lived, Bounds, HoldsFrom};
 ghost use Rattle.ob_sweep.specs.Windows.{Spans};
 
 use crate::window::Window;
@@ -17,7 +16,9 @@ pub const NEVER: Life = Life {
 
 /// The seconds from a first one up to an end that a life holds, as the first of them and the second after the last; none where it
 /// holds none of them.
-fn held(life: Life, first: Second, end: Second) -> Option<(Second, Second)> {
+fn held(life: Life, first: Second, end: Second) -> Option<(Second, Second)>
+    ensures { MatchOption result ((s : ℕ) → first ≤ s → s < end → is_alive life s ≡ false) (λ w. HoldsFrom (is_alive life) first end w.0 w.1) }
+{
     let since = life.since.max(first);
     let until = match life.until {
         Some(until) => until.min(end),
@@ -32,7 +33,9 @@ fn held(life: Life, first: Second, end: Second) -> Option<(Second, Second)> {
 
 /// The first second from a first one up to an end that exactly one of two lives holds, and the second after the last such one;
 /// none where both hold the same seconds.
-fn differing(old: Life, new: Life, first: Second, end: Second) -> Option<(Second, Second)> {
+fn differing(old: Life, new: Life, first: Second, end: Second) -> Option<(Second, Second)>
+    ensures { MatchOption result ((s : ℕ) → first ≤ s → s < end → differ_at old new s ≡ false) (λ w. Bounds (differ_at old new) first end w.0 w.1) }
+{
     match (held(old, first, end), held(new, first, end)) {
         (None, None) => None,
         (Some(only), None) | (None, Some(only)) => Some(only),

@@ -1,0 +1,1 @@
+-- What a sweep of a life's window is given, and what is new in the runs that it finds.
