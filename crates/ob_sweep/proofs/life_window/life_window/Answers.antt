@@ -1,7 +1,6 @@
 use Rattle.std.proofs.Common.{◌≡◌, ◌+◌, ◌-◌, ◌<◌, ◌≤◌, refl, sym, ◌∙◌, arith}
 use Rattle.ob_sweep.specs.Lives.{last_lived}
 use Rattle.ob_sweep.proofs.Differing.{none_differ, first_is, lived_is}
-use Rattle.ob_sweep.proofs.LifePlan.{unchanged}
 use Rattle.ob_sweep.proofs.life_window.life_window.Goals.{then-until-end, else-until-end}
 use Rattle.ob_sweep.proofs.life_window.life_window.Goals as goal
 
