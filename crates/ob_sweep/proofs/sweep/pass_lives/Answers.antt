@@ -1,16 +1,13 @@
-use Rattle.std.proofs.Common.{◌≡◌, ◌≤◌, ◌<◌, ◌+◌, ℕ, List, None, length, map, refl, sym, subst, ◌∙◌, ap, arith}
+use Rattle.std.proofs.Common.{◌≡◌, ◌≤◌, ◌<◌, ◌+◌, None, length, map, sym, subst, ◌∙◌, ap, arith}
 use Rattle.std.specs.Prelude.{IsTrue}
 use Rattle.std.specs.List.{list_any}
 use Rattle.ob_base.specs.Life.{turns_at}
-use Rattle.std.proofs.lemmas.List.{length-map}
-use Rattle.ob_base.specs.declared.Pos.{Pos}
 use Rattle.ob_net.specs.Network.{Network, as_of}
-use Rattle.ob_sheet.specs.declared.Entry.{Entry}
 use Rattle.ob_sheet.specs.Positions.{entered, positions}
-use Rattle.ob_sweep.specs.Steps.{all_runs_until, push_all, supplied_nodes}
-use Rattle.ob_sweep.proofs.Sweeps.{AllEarlier, length-supplied}
+use Rattle.ob_sweep.specs.Steps.{push_all, supplied_nodes}
+use Rattle.ob_sweep.proofs.Sweeps.{length-supplied}
 use Rattle.ob_sweep.proofs.Turns.{IsAsAt, still_earlier, all_runs_turn, all_runs_wait}
-use Rattle.ob_sweep.proofs.Turning.{turn_counts, is_as_at, up_to_earlier, earlier_up_to, through_earlier, last_is_before}
+use Rattle.ob_sweep.proofs.Turning.{turn_counts, up_to_earlier}
 use Rattle.ob_sweep.proofs.sweep.pass_lives.Goals as goal
 
 pub returns-then-to-next-clause-runs : goal.returns-then-to-next-clause-runs
