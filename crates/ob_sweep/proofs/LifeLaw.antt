@@ -161,15 +161,19 @@ some_bounds p (suc n) a b e =
       | inl none ↦ elim (cases_Bool (p a)) as (λ _. ((s : ℕ) → a ≤ s → s < b → p s ≡ false) ⊎ ((c : ℕ) × (d : ℕ) × Bounds p a b c d)) [
         | inl t ↦
             let whole : a ≡ a + 1 - 1 = omega arith in
-            inr (a, a + 1, record {
-              from_a = omega arith;
-              some = omega arith;
-              to_b = omega arith;
-              first = t;
-              last = ap p (sym whole) ∙ t;
-              before = λ s l h. absurd (omega arith);
-              behind = λ s l h. none s l h;
-            })
+            inr (
+              a,
+              a + 1,
+              record {
+                from_a = omega arith;
+                some = omega arith;
+                to_b = omega arith;
+                first = t;
+                last = ap p (sym whole) ∙ t;
+                before = λ s l h. absurd (omega arith);
+                behind = λ s l h. none s l h;
+              },
+            )
         | inr f ↦ inl (λ s l h. elim (cases_lt a s) as (λ _. p s ≡ false) [ inl k ↦ none s (omega arith) h | inr k ↦ let here : s ≡ a = omega arith in ap p here ∙ f ])
       ]
       | inr found ↦
@@ -177,24 +181,32 @@ some_bounds p (suc n) a b e =
           let from_a : a + 1 ≤ found.0 = x.from_a in
           let some : found.0 < found.1 = x.some in
           elim (cases_Bool (p a)) as (λ _. ((s : ℕ) → a ≤ s → s < b → p s ≡ false) ⊎ ((c : ℕ) × (d : ℕ) × Bounds p a b c d)) [
-            | inl t ↦ inr (a, found.1, record {
-              from_a = omega arith;
-              some = omega arith;
-              to_b = x.to_b;
-              first = t;
-              last = x.last;
-              before = λ s l h. absurd (omega arith);
-              behind = x.behind;
-            })
-            | inr f ↦ inr (found.0, found.1, record {
-              from_a = omega arith;
-              some = some;
-              to_b = x.to_b;
-              first = x.first;
-              last = x.last;
-              before = λ s l h. elim (cases_lt a s) as (λ _. p s ≡ false) [ inl k ↦ x.before s (omega arith) h | inr k ↦ let here : s ≡ a = omega arith in ap p here ∙ f ];
-              behind = x.behind;
-            })
+            | inl t ↦ inr (
+              a,
+              found.1,
+              record {
+                from_a = omega arith;
+                some = omega arith;
+                to_b = x.to_b;
+                first = t;
+                last = x.last;
+                before = λ s l h. absurd (omega arith);
+                behind = x.behind;
+              },
+            )
+            | inr f ↦ inr (
+              found.0,
+              found.1,
+              record {
+                from_a = omega arith;
+                some = some;
+                to_b = x.to_b;
+                first = x.first;
+                last = x.last;
+                before = λ s l h. elim (cases_lt a s) as (λ _. p s ≡ false) [ inl k ↦ x.before s (omega arith) h | inr k ↦ let here : s ≡ a = omega arith in ap p here ∙ f ];
+                behind = x.behind;
+              },
+            )
           ]
     ]
 

@@ -21,8 +21,7 @@ returns c =
     elim c.if-until-end.branch [
       | then-until-end w ↦ omega (arith, z, w.end-is, w.if-until-end, to_b)
       | else-until-end w ↦ omega (arith, z, w.end-is, w.if-until-end, to_b, some)
-    ] in
-    (
+    ] in (
       first_is old new first end c.in_ok-since.since c.in_ok-since.until x,
       record {
         first = refl;
