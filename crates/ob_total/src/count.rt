@@ -47,8 +47,7 @@ pub fn count_seconds(
     Ok(total)
 }
 
-/// How many customers are without supply at a second, under the positions that were entered up to it. Only devices
-/// that are alive then are closed.
+/// How many customers are without supply at a second, where `entered` are the positions entered up to it.
 fn count_second(
     alloc: Global,
     net: &mut Net,
@@ -63,11 +62,27 @@ fn count_second(
     ensures err { IfErr result (λ stop. stop ≡ out_of_memory) }
     ensures network { net.new.network ≡ net.old.network }
 {
+    let positions = positions_at(alloc, net, second, entered)?;
+    let supplied = net.supplied(&positions)?;
+    Ok(count_without(customers, second, &supplied))
+}
+
+/// The positions entered, but open where the device isn't alive at a second.
+fn positions_at(
+    alloc: Global,
+    net: &Net,
+    second: Second,
+    entered: &[Pos],
+) -> Result<Vec<Pos>, Stop>
+    requires { length entered.now ≡ length net.now.network.devices }
+    ensures positions { IfOk result (λ p. p.items ≡ as_of net.now.network.devices second entered.now) }
+    ensures long { IfOk result (λ p. length p.items ≡ length net.now.network.devices) }
+    ensures err { IfErr result (λ stop. stop ≡ out_of_memory) }
+{
     let mut positions = Vec::with_capacity(alloc, entered.len())?;
     positions.extend_from_slice(entered)?;
     net.open_outside_lives(second, &mut positions);
-    let supplied = net.supplied(&positions)?;
-    Ok(count_without(customers, second, &supplied))
+    Ok(positions)
 }
 
 /// How many customers are in service at a second, on a node that isn't supplied.

@@ -40,7 +40,7 @@ overflow_add-total c =
 pub loop-second-preserved : goal.loop-second-preserved
 loop-second-preserved c =
     let first = c.loop-second.auto.second in
-    let at : c.advance-place.new.entered ≡ entered c.args.net.now.network (upto c.args.sheet.now.entries c.loop-second.second) =
+    let at : c.advance-place.new.positions ≡ entered c.args.net.now.network (upto c.args.sheet.now.entries c.loop-second.second) =
     c.advance-place.ensures.at_second c.args.net.now.network (c.loop-second.invariant.before c.loop-second.second (omega arith)) c.loop-second.invariant.entered in
     let place = c.advance-place.ensures.place (c.loop-second.invariant.before c.loop-second.second (omega arith)) in
     record {
@@ -49,8 +49,8 @@ loop-second-preserved c =
       before = λ t h. let later = c.advance-place.ensures.later t (omega arith) in omega (arith, place, later);
       entered = c.advance-place.ensures.moved c.args.net.now.network c.loop-second.invariant.entered;
       small = more_fits c.loop-second.total c.in_ok-without.without c.loop-second.second c.args.span.first _ first c.loop-second.invariant.small c.in_ok-without.ensures.few c.requires.few;
-      total = second_more c.args.net.now.network c.args.sheet.now.entries c.advance-place.new.entered c.args.span.first c.loop-second.second c.loop-second.total c.in_ok-without.without c.args.customers.now first at
-          (c.in_ok-without.ensures.count ∙ ap (λ (n : Network). count_by (λ c'. is_without_supply (λ v t. not (is_supplied n (as_of n.devices c.loop-second.second c.advance-place.new.entered) v)) c' c.loop-second.second) c.args.customers.now) c.loop-second.invariant.network)
+      total = second_more c.args.net.now.network c.args.sheet.now.entries c.advance-place.new.positions c.args.span.first c.loop-second.second c.loop-second.total c.in_ok-without.without c.args.customers.now first at
+          (c.in_ok-without.ensures.count ∙ ap (λ (n : Network). count_by (λ c'. is_without_supply (λ v t. not (is_supplied n (as_of n.devices c.loop-second.second c.advance-place.new.positions) v)) c' c.loop-second.second) c.args.customers.now) c.loop-second.invariant.network)
           c.loop-second.invariant.total;
     }
 
