@@ -6,9 +6,8 @@ use Rattle.ob_base.specs.declared.stop.Stop.{Stop}
 use Rattle.ob_net.specs.Network.{Network, with_life, without_last_node}
 use Rattle.ob_sheet.specs.declared.Entry.{Entry}
 use Rattle.ob_sweep.specs.Changed.{changed, net_before, of_sheet, IsAfter, IsLastNode}
-use Rattle.ob_sweep.specs.Deltas.{IsDelta, IsDeltaTo}
+use Rattle.ob_sweep.specs.Deltas.{IsDeltaTo}
 use Rattle.ob_sweep.specs.Lives.{never}
-use Rattle.ob_sweep.specs.Runs.{history, runs_between}
 use Rattle.ob_sweep.specs.Searches.{windowed_searches}
 use Rattle.ob_sweep.specs.Timeline.{AreRuns}
 use Rattle.ob_sweep.specs.Windows.{window_searches}

@@ -1,4 +1,4 @@
-use Rattle.std.proofs.Common.{◌≡◌, ◌+◌, ◌-◌, ◌<◌, ◌≤◌, refl, sym, ◌∙◌, arith}
+use Rattle.std.proofs.Common.{◌≡◌, ◌+◌, ◌<◌, ◌≤◌, refl, arith}
 use Rattle.ob_sweep.specs.Lives.{last_lived}
 use Rattle.ob_sweep.proofs.Differing.{none_differ, first_is, lived_is}
 use Rattle.ob_sweep.proofs.life_window.life_window.Goals.{then-until-end, else-until-end}

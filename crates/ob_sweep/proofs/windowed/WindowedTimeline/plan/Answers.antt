@@ -1,4 +1,4 @@
-use Rattle.std.proofs.Common.{◌≡◌, ◌+◌, ◌-◌, ◌≤◌, Some, sym, ◌∙◌, ap, arith}
+use Rattle.std.proofs.Common.{◌≡◌, ◌+◌, ◌-◌, Some, sym, ◌∙◌, ap, arith}
 use Rattle.ob_time.specs.Calendar.{end_second_of, first_second_of}
 use Rattle.ob_sweep.specs.Changed.{changed, of_sheet}
 use Rattle.ob_sweep.specs.Windows.{window_searches}
