@@ -34,11 +34,12 @@ STYLE = """
 @media print { :root { --ink: #000000; --soft: #444444; --line: #bbbbbb; --paper: #ffffff; --card: #ffffff;
   --bar: #2b6cb0; --apart: #c2570c; --track: #eeeeee; color-scheme: light; } }
 * { box-sizing: border-box; }
-body { margin: 0 auto; max-width: 60rem; padding: 1.5rem 1rem 3rem; background: var(--paper); color: var(--ink);
+body { margin: 0 auto; max-width: 70rem; padding: 1.5rem 1rem 3rem; background: var(--paper); color: var(--ink);
   font: 16px/1.5 system-ui, "Segoe UI", Roboto, "Helvetica Neue", Arial, sans-serif; }
 h1 { font-size: 1.7rem; line-height: 1.2; margin: 0 0 .3rem; }
 h2 { font-size: 1.2rem; margin: 2.4rem 0 .3rem; }
 p { margin: .3rem 0 .7rem; }
+.whole { white-space: nowrap; }
 .soft, figcaption, .legend { color: var(--soft); }
 .tiles { display: grid; grid-template-columns: repeat(auto-fit, minmax(10.5rem, 1fr)); gap: .7rem; margin: 1rem 0; }
 .tile { background: var(--card); border: 1px solid var(--line); border-radius: .5rem; padding: .7rem .9rem; }
@@ -70,9 +71,11 @@ svg.key { display: inline-block; width: .75rem; height: .75rem; }
 details { margin: .5rem 0; }
 summary { cursor: pointer; color: var(--bar); }
 footer { margin-top: 3rem; border-top: 1px solid var(--line); padding-top: .8rem; color: var(--soft); font-size: .875rem; }
+@media screen and (min-width: 60rem) { figure svg { font-size: 10px; } svg .label { font-size: 11px; } }
 @media (max-width: 40rem) { td.code { white-space: normal; } td.long { min-width: 20rem; } figure.below svg .label { font-size: 26px; } }
-@media print { body { max-width: none; padding: 0; font-size: 10.5pt; } h2 { break-after: avoid; }
-  figure, .tile, tr { break-inside: avoid; } .wide { overflow: visible; } .columns svg { min-width: 0; }
+@media print { body { max-width: none; padding: 0 1px; font-size: 10.5pt; } h2, .legend { break-after: avoid; }
+  figure, .tile, tr { break-inside: avoid; } .tiles { grid-template-columns: repeat(4, 1fr); gap: .5rem; }
+  .tile { padding: .4rem .6rem; } .wide { overflow: visible; } .columns svg { min-width: 0; }
   details:not(.many)::details-content { content-visibility: visible; height: auto; } summary { list-style: none; color: inherit; }
   details.many:not([open]) summary::after { content: " (many: printed where they are opened on the screen)"; }
   table { font-size: 8pt; } td.code { font-size: 7pt; } th, td { padding: .15rem .3rem; } td.long { min-width: 0; } .proved, .computed { border-color: #999999; color: #444444; } }
@@ -147,14 +150,14 @@ def heading(found: Checked, name: str) -> str:
     served = quotient(book.served_seconds(), period.length)
     total = sum(amount for (dim, _), amount in book.postings.items() if dim == CAUSE)
     return f"""
-<h1>{escape(name)}: {period.days[0]} to {period.days[-1]}</h1>
+<h1>{escape(name)}: <span class="whole">{period.days[0]}</span> to <span class="whole">{period.days[-1]}</span></h1>
 <p class="soft">{len(period.days)} days, zone {escape(period.zone.text)}. P is {number(period.length)} seconds, S is
 {number(book.served_seconds())} customer-seconds in service, so {decimal(served)} customers (S / P) were served on average.
 W is {number(total)} customer-seconds without supply, or {hours(total)} customer-hours.</p>"""
 
 
 def tiles(words: Dict[str, str]) -> str:
-    """The four indices that most ask for, each with its unmarked value."""
+    """The four indices that most ask for, each with its unmarked value, which the part below explains."""
     units = {
         "SAIDI": "minutes per customer",
         "SAIFI": "interruptions per customer",
@@ -166,17 +169,22 @@ def tiles(words: Dict[str, str]) -> str:
         whole, unmarked = (words[f"{index} {name}"].split()[-1] for name in SETS)
         cells.append(
             f'<div class="tile"><span>{index}</span><b>{escape(whole)}</b><span>{unit}</span>'
-            f"<span>without marked days {escape(unmarked)}</span></div>"
+            f"<span>unmarked: {escape(unmarked)}</span></div>"
         )
     return f'<div class="tiles">{"".join(cells)}</div>'
+
+
+def meaning_text(name: str) -> str:
+    """The unit and the definition of an index; the definition is printed as a formula and stays on one line."""
+    unit, definition = figures.meaning_of(name)
+    formula = definition.replace(" x ", " \u00d7 ").replace(" - ", " \u2212 ").replace(" ", "\u00a0")
+    return f"{unit}: {formula}"
 
 
 def indices(words: Dict[str, str]) -> str:
     """Both sets, word for word."""
     names = [which[: -len(" all")] for which in words if which.endswith(" all")]
-    rows = [
-        [name, words[f"{name} all"], words[f"{name} unmarked"], ": ".join(figures.meaning_of(name))] for name in names
-    ]
+    rows = [[name, words[f"{name} all"], words[f"{name} unmarked"], meaning_text(name)] for name in names]
     return f"""
 <h2>Indices {PROVED}</h2>
 <p>The words of the program's annual table: an exact fraction in lowest terms and its three decimals. <i>Unmarked</i> leaves
@@ -401,7 +409,7 @@ period when it is accepted, and its closing gives it back, so pairs are large an
 
 FOOT = f"""
 <footer><p>{PROVED} are the words and amounts that the proved program printed and keeps: the indices of both sets, and the
-customer-seconds by cause and day. {COMPUTED} is what the tool of this page found by a sweep of its own over the book's
+customer-seconds by cause, by day and by command. {COMPUTED} is what the tool of this page found by a sweep of its own over the book's
 network, entries and customers; before it wrote anything, its customer-seconds by cause, feeder and day, its counts and all
 fifteen quotients of both sets were equal to the program's. Moments are by the clock of the book's zone.</p></footer>"""
 
