@@ -23,6 +23,7 @@ from tool import BookError, Words, add_table_words, run_job
 
 WORST = 25  # rows of the lists of what is worst
 FEW, MANY = 24, 80  # rows of a table behind a picture
+LONG = 62  # days: in a longer period the firsts of months are labelled
 PROVED = '<span class="proved" title="Printed or kept by the proved program">from the program</span>'
 COMPUTED = '<span class="computed" title="Computed by this page\'s tool from the rows of the book">computed here</span>'
 
@@ -208,7 +209,8 @@ def days_of(found: Checked) -> Days:
     for row in days.rows:
         is_marked = row["marked"] == "yes"
         mark = ", marked" if is_marked else ""
-        label, seconds = str(row["day"])[5:], int(row["customer_seconds"])
+        day, seconds = str(row["day"]), int(row["customer_seconds"])
+        label = day[5:] if len(days.rows) <= LONG or day.endswith("-01") else ""
         days.posted.append(
             Bar(label, seconds / 3_600, f"{row['day']}{mark}: {hours(seconds)} customer-hours", is_marked)
         )
