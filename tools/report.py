@@ -374,7 +374,7 @@ def worst_part(found: Checked) -> str:
     heads = ["section", "#feeder", "since", "#duration", "#customers", "#customer-seconds", "cause", "reference"]
     return f"""
 <h2>Worst interruptions {COMPUTED}</h2>
-<p>The {len(rows)} of {len(found.interruptions)} with the most customer-seconds, customers of one section with the same
+<p>The {len(rows)} of {number(len(found.interruptions))} with the most customer-seconds, customers of one section with the same
 interruption together; marked days are set apart at the left. The reference is that of the switching that cut them off.</p>
 {table(heads, rows, [book.is_marked(each.since) for each in worst])}"""
 
@@ -403,7 +403,7 @@ def late_part(found: Checked) -> str:
     most = f"The {WORST} that shifted most:" if len(works) > WORST else ""
     return f"""
 <h2>What late work moved {PROVED}</h2>
-<p>{len(works)} late switchings, corrections and withdrawals moved W by {'+' if moved > 0 else ''}{number(moved)}
+<p>{number(len(works))} late switchings, corrections and withdrawals moved W by {'+' if moved > 0 else ''}{number(moved)}
 customer-seconds in all. A switching is late where a later second had been told before it. An opening takes the rest of the
 period when it is accepted, and its closing gives it back, so pairs are large and nearly cancel. {most}</p>
 {table(heads, rows)}"""
@@ -411,9 +411,9 @@ period when it is accepted, and its closing gives it back, so pairs are large an
 
 FOOT = f"""
 <footer><p>{PROVED} are the words and amounts that the proved program printed and keeps: the indices of both sets, and the
-customer-seconds by cause, by day and by command. {COMPUTED} is what the tool of this page found by a sweep of its own over the book's
-network, entries and customers; before it wrote anything, its customer-seconds by cause, feeder and day, its counts and all
-fifteen quotients of both sets were equal to the program's. Moments are by the clock of the book's zone.</p></footer>"""
+customer-seconds by cause, by day and by command. {COMPUTED} is what the tool of this page found by a sweep of its own over
+the book's network, entries and customers; before it wrote anything, its customer-seconds by cause, feeder and day, its
+counts and all fifteen quotients of both sets were equal to the program's. Moments are by the clock of the book's zone.</p></footer>"""
 
 
 def page(found: Checked, name: str) -> str:
