@@ -68,12 +68,7 @@ fn count_second(
 }
 
 /// The positions entered, but open where the device isn't alive at a second.
-fn positions_at(
-    alloc: Global,
-    net: &Net,
-    second: Second,
-    entered: &[Pos],
-) -> Result<Vec<Pos>, Stop>
+fn positions_at(alloc: Global, net: &Net, second: Second, entered: &[Pos]) -> Result<Vec<Pos>, Stop>
     requires { length entered.now ≡ length net.now.network.devices }
     ensures positions { IfOk result (λ p. p.items ≡ as_of net.now.network.devices second entered.now) }
     ensures long { IfOk result (λ p. length p.items ≡ length net.now.network.devices) }
