@@ -53,12 +53,7 @@ fn first_run_past_its_span(rt: HostRuntime) -> Result<(), Fail> {
 }
 
 // A first run with these rows behind it.
-fn first_run_and(
-    rt: &impl Abort,
-    alloc: Global,
-    rows: &str,
-    wanted: &str,
-) -> Result<(), Fail> {
+fn first_run_and(rt: &impl Abort, alloc: Global, rows: &str, wanted: &str) -> Result<(), Fail> {
     let text = joined(alloc, FIRST_RUN, rows)?;
     says(rt, alloc, text.as_bytes(), wanted)
 }
