@@ -8,7 +8,7 @@ ghost use Rattle.ob_time.specs.Calendar.{day_count, end_second_of, first_second_
 use ob_cust::{Customer, Roll};
 use ob_index::counts::{counts, seconds_in_service};
 use ob_index::{Counts, Marks, Which};
-use ob_net::{Crew, Name, Net, Pos, Second};
+use ob_net::{Crew, Life, Name, Net, Pos, Second};
 use ob_sheet::Sheet;
 use ob_sweep::{Scratch, Timeline};
 use ob_time::{CivilDays, Period};
@@ -23,7 +23,7 @@ fn name(rt: &impl Abort, bytes: &[u8]) -> Name {
     Name::read(bytes).expect(rt, "a name")
 }
 
-// Section 1 behind device 0.
+// Section 1 behind device 0, which is always there.
 fn feeder(rt: &impl Abort, alloc: Global) -> Result<Net, Fail> {
     let mut net = Net::new(alloc)?;
     net.reserve_one()?;
@@ -31,7 +31,11 @@ fn feeder(rt: &impl Abort, alloc: Global) -> Result<Net, Fail> {
     net.reserve_one()?;
     let (grid, section) = (name(rt, b"GRID"), name(rt, b"S1"));
     assert!(rt; grid != section);
-    net.add_device(name(rt, b"I1"), grid, section, Pos::Closed)?;
+    let life = Life {
+        since: 0,
+        until: None,
+    };
+    net.add_device(name(rt, b"I1"), grid, section, Pos::Closed, life)?;
     Ok(net)
 }
 

@@ -14,6 +14,8 @@ mod fields;
 #[cfg(test)]
 mod intervals;
 #[cfg(test)]
+mod lives;
+#[cfg(test)]
 mod moments;
 #[cfg(test)]
 mod networks;

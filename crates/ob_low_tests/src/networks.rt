@@ -3,7 +3,7 @@ ghost use Rattle.std.specs.Prelude.{◌≡◌, []};
 
 use ob_command::{Command, read_body};
 use ob_net::Pos::{Closed, Opened};
-use ob_net::{Name, Net, Pos, Refusal};
+use ob_net::{Life, Name, Net, Pos, Refusal};
 use std::alloc::Global;
 use std::process::Abort;
 use std::test::Fail;
@@ -23,6 +23,12 @@ device D3 BUS-B S3 closed
 device TIE S2 S3 open
 ";
 
+// The life of a device that is always there.
+const WHOLE: Life = Life {
+    since: 0,
+    until: None,
+};
+
 // Adds the part that a body text says; why it is refused, if it is.
 fn add(net: &mut Net, body: &str) -> Result<Option<Refusal>, Fail> {
     let command = read_body(body.as_bytes()).ok_or("a command")?;
@@ -30,9 +36,10 @@ fn add(net: &mut Net, body: &str) -> Result<Option<Refusal>, Fail> {
     match command {
         Command::Bus { name } => Ok(net.add_bus(name).err()),
         Command::Section { name, feeder } => Ok(net.add_section(name, feeder.get()).err()),
-        Command::Device { name, ends, normal } => {
-            Ok(net.add_device(name, *ends.a(), *ends.b(), normal).err())
-        }
+        Command::Device { name, ends, normal } => Ok(
+            net.add_device(name, *ends.a(), *ends.b(), normal, WHOLE)
+                .err(),
+        ),
         _ => Err("no part of a network".into()),
     }
 }

@@ -48,6 +48,8 @@ fn refusals(rt: HostRuntime) {
             (Refusal::UnknownCause, 15, "UnknownCause", None),
             (Refusal::BadPeriod, 16, "BadPeriod", None),
             (Refusal::BadBook, 17, "BadBook", None),
+            (Refusal::BadLife, 18, "BadLife", None),
+            (Refusal::OldVersion(1), 19, "OldVersion", Some(1)),
         ],
     );
 }

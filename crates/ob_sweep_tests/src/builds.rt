@@ -1,10 +1,10 @@
 //! The runs that are built under a sheet.
-use crate::example::builds;
+use crate::example::{Start, builds, day};
 use std::test::Fail;
 
 #[test]
 fn nothing_is_switched(rt: HostRuntime) -> Result<(), Fail> {
-    builds(&rt, rt.alloc(), (b"1970-01-01", ""), 1, "")
+    builds(&rt, rt.alloc(), &day(&[], ""), 1, "S4 0 86400 -\n")
 }
 
 const TAKEN_OVER: &'static str = "\
@@ -16,27 +16,33 @@ switch B1 close 7200 3 K1
 
 #[test]
 fn the_tie_takes_one_section_over(rt: HostRuntime) -> Result<(), Fail> {
-    let wanted = "S1 3600 7200 1\nS2 3600 4200 1\n";
-    builds(&rt, rt.alloc(), (b"1970-01-01", TAKEN_OVER), 5, wanted)
+    let wanted = "S1 3600 7200 1\nS2 3600 4200 1\nS4 0 86400 -\n";
+    builds(&rt, rt.alloc(), &day(&[], TAKEN_OVER), 5, wanted)
 }
 
 #[test]
 fn opened_and_closed_in_one_second(rt: HostRuntime) -> Result<(), Fail> {
     let script = "switch B1 open 4000 3 K1\nswitch B1 close 4000 3 K1";
-    builds(&rt, rt.alloc(), (b"1970-01-01", script), 3, "")
+    builds(&rt, rt.alloc(), &day(&[], script), 3, "S4 0 86400 -\n")
 }
 
 #[test]
 fn closed_and_opened_in_one_second(rt: HostRuntime) -> Result<(), Fail> {
     let script = "switch B1 close 4000 3 K1\nswitch B1 open 4000 3 K1";
-    let wanted = "S1 4000 86400 2\nS2 4000 86400 2\n";
-    builds(&rt, rt.alloc(), (b"1970-01-01", script), 3, wanted)
+    let wanted = "S1 4000 86400 2\nS2 4000 86400 2\nS4 0 86400 -\n";
+    builds(&rt, rt.alloc(), &day(&[], script), 3, wanted)
 }
 
 #[test]
 fn opened_at_the_first_second(rt: HostRuntime) -> Result<(), Fail> {
     let script = "switch W1 open 0 3 K1\nswitch W1 close 1 3 K1";
-    builds(&rt, rt.alloc(), (b"1970-01-01", script), 3, "S2 0 1 1\n")
+    builds(
+        &rt,
+        rt.alloc(),
+        &day(&[], script),
+        3,
+        "S2 0 1 1\nS4 0 86400 -\n",
+    )
 }
 
 #[test]
@@ -45,9 +51,9 @@ fn opened_at_the_last_second(rt: HostRuntime) -> Result<(), Fail> {
     builds(
         &rt,
         rt.alloc(),
-        (b"1970-01-01", script),
+        &day(&[], script),
         2,
-        "S2 86399 86400 1\n",
+        "S2 86399 86400 1\nS4 0 86400 -\n",
     )
 }
 
@@ -60,8 +66,8 @@ switch B1 close 5000 3 K1
 
 #[test]
 fn supplied_and_cut_off_again_in_one_second(rt: HostRuntime) -> Result<(), Fail> {
-    let wanted = "S1 3600 5000 1\nS2 3600 5000 1\n";
-    builds(&rt, rt.alloc(), (b"1970-01-01", CUT_OFF_AGAIN), 5, wanted)
+    let wanted = "S1 3600 5000 1\nS2 3600 5000 1\nS4 0 86400 -\n";
+    builds(&rt, rt.alloc(), &day(&[], CUT_OFF_AGAIN), 5, wanted)
 }
 
 const CUT_OFF_TWICE: &'static str = "\
@@ -73,8 +79,8 @@ switch B1 open 3600 3 K1
 
 #[test]
 fn cut_off_twice_in_the_first_second(rt: HostRuntime) -> Result<(), Fail> {
-    let wanted = "S1 3600 86400 4\nS2 3600 86400 3\n";
-    builds(&rt, rt.alloc(), (b"1970-01-01", CUT_OFF_TWICE), 5, wanted)
+    let wanted = "S1 3600 86400 4\nS2 3600 86400 3\nS4 0 86400 -\n";
+    builds(&rt, rt.alloc(), &day(&[], CUT_OFF_TWICE), 5, wanted)
 }
 
 const TWO_RUNS: &'static str = "\
@@ -86,8 +92,8 @@ switch W1 close 30 3 K1
 
 #[test]
 fn two_runs_with_supply_between_them(rt: HostRuntime) -> Result<(), Fail> {
-    let wanted = "S2 10 20 1\nS2 21 30 3\n";
-    builds(&rt, rt.alloc(), (b"1970-01-01", TWO_RUNS), 5, wanted)
+    let wanted = "S2 10 20 1\nS2 21 30 3\nS4 0 86400 -\n";
+    builds(&rt, rt.alloc(), &day(&[], TWO_RUNS), 5, wanted)
 }
 
 const ENTERED_LATE: &'static str = "\
@@ -98,8 +104,8 @@ switch B1 open 3600 3 K1
 
 #[test]
 fn the_opening_is_entered_late(rt: HostRuntime) -> Result<(), Fail> {
-    let wanted = "S1 3600 4200 3\nS2 3600 4200 3\n";
-    builds(&rt, rt.alloc(), (b"1970-01-01", ENTERED_LATE), 4, wanted)
+    let wanted = "S1 3600 4200 3\nS2 3600 4200 3\nS4 0 86400 -\n";
+    builds(&rt, rt.alloc(), &day(&[], ENTERED_LATE), 4, wanted)
 }
 
 const OF_2024: &'static str = "\
@@ -115,6 +121,13 @@ S1 1704070800 1704071400 1
 S1 1704072000 1704153600 3
 S2 1704070800 1704071400 1
 S2 1704072000 1704153600 3
+S4 1704067200 1704153600 -
 ";
-    builds(&rt, rt.alloc(), (b"2024-01-01", OF_2024), 4, wanted)
+    let start = Start {
+        date: b"2024-01-01",
+        days: 1,
+        lives: &[],
+        script: OF_2024,
+    };
+    builds(&rt, rt.alloc(), &start, 4, wanted)
 }

@@ -1,5 +1,6 @@
 //! What a change of the sheet touches, its new runs, and the searches that it takes.
-use crate::example::{Effect, changes};
+use crate::ask::Ask;
+use crate::example::{Effect, Start, alters, day};
 use std::test::Fail;
 
 // From 3600 on S1 waits for its breaker, and S2 until 4200 for the tie.
@@ -14,24 +15,31 @@ switch B1 close 7200 3 K1
 fn the_first_entry(rt: HostRuntime) -> Result<(), Fail> {
     let effect = Effect {
         touched: "S3 ",
-        runs: "S3 3600 86400 1\n",
+        runs: "S3 3600 86400 1\nS4 0 86400 -\n",
     };
     let body = "switch B2 open 3600 4 K2";
-    changes(&rt, rt.alloc(), (b"1970-01-01", ""), body, (2, 2), &effect)
+    alters(
+        &rt,
+        rt.alloc(),
+        &day(&[], ""),
+        &Ask::Sheet(body),
+        (2, 2),
+        &effect,
+    )
 }
 
 #[test]
 fn entered_late_before_an_earlier_opening(rt: HostRuntime) -> Result<(), Fail> {
     let effect = Effect {
         touched: "S2 ",
-        runs: "S1 3600 7200 1\nS2 3000 4200 5\n",
+        runs: "S1 3600 7200 1\nS2 3000 4200 5\nS4 0 86400 -\n",
     };
     let body = "switch W1 open 3000 4 K2";
-    changes(
+    alters(
         &rt,
         rt.alloc(),
-        (b"1970-01-01", TAKEN_OVER),
-        body,
+        &day(&[], TAKEN_OVER),
+        &Ask::Sheet(body),
         (6, 5),
         &effect,
     )
@@ -41,14 +49,14 @@ fn entered_late_before_an_earlier_opening(rt: HostRuntime) -> Result<(), Fail> {
 fn the_closing_is_corrected_to_an_earlier_second(rt: HostRuntime) -> Result<(), Fail> {
     let effect = Effect {
         touched: "S1 ",
-        runs: "S1 3600 6600 1\nS2 3600 4200 1\n",
+        runs: "S1 3600 6600 1\nS2 3600 4200 1\nS4 0 86400 -\n",
     };
     let body = "correct 4 1 close 6600 3 K2";
-    changes(
+    alters(
         &rt,
         rt.alloc(),
-        (b"1970-01-01", TAKEN_OVER),
-        body,
+        &day(&[], TAKEN_OVER),
+        &Ask::Sheet(body),
         (5, 2),
         &effect,
     )
@@ -58,13 +66,13 @@ fn the_closing_is_corrected_to_an_earlier_second(rt: HostRuntime) -> Result<(), 
 fn the_closing_of_the_tie_is_withdrawn(rt: HostRuntime) -> Result<(), Fail> {
     let effect = Effect {
         touched: "S2 ",
-        runs: "S1 3600 7200 1\nS2 3600 86400 1\n",
+        runs: "S1 3600 7200 1\nS2 3600 86400 1\nS4 0 86400 -\n",
     };
-    changes(
+    alters(
         &rt,
         rt.alloc(),
-        (b"1970-01-01", TAKEN_OVER),
-        "withdraw 3 1",
+        &day(&[], TAKEN_OVER),
+        &Ask::Sheet("withdraw 3 1"),
         (4, 3),
         &effect,
     )
@@ -74,14 +82,14 @@ fn the_closing_of_the_tie_is_withdrawn(rt: HostRuntime) -> Result<(), Fail> {
 fn the_cause_alone_is_corrected(rt: HostRuntime) -> Result<(), Fail> {
     let effect = Effect {
         touched: "",
-        runs: "S1 3600 7200 1\nS2 3600 4200 1\n",
+        runs: "S1 3600 7200 1\nS2 3600 4200 1\nS4 0 86400 -\n",
     };
     let body = "correct 1 1 open 3600 4 K2";
-    changes(
+    alters(
         &rt,
         rt.alloc(),
-        (b"1970-01-01", TAKEN_OVER),
-        body,
+        &day(&[], TAKEN_OVER),
+        &Ask::Sheet(body),
         (5, 5),
         &effect,
     )
@@ -91,14 +99,14 @@ fn the_cause_alone_is_corrected(rt: HostRuntime) -> Result<(), Fail> {
 fn an_opening_is_corrected_to_a_closing(rt: HostRuntime) -> Result<(), Fail> {
     let effect = Effect {
         touched: "S1 S2 ",
-        runs: "",
+        runs: "S4 0 86400 -\n",
     };
     let body = "correct 1 1 close 3600 3 K2";
-    changes(
+    alters(
         &rt,
         rt.alloc(),
-        (b"1970-01-01", TAKEN_OVER),
-        body,
+        &day(&[], TAKEN_OVER),
+        &Ask::Sheet(body),
         (5, 5),
         &effect,
     )
@@ -108,13 +116,13 @@ fn an_opening_is_corrected_to_a_closing(rt: HostRuntime) -> Result<(), Fail> {
 fn the_opening_is_withdrawn(rt: HostRuntime) -> Result<(), Fail> {
     let effect = Effect {
         touched: "S1 S2 ",
-        runs: "",
+        runs: "S4 0 86400 -\n",
     };
-    changes(
+    alters(
         &rt,
         rt.alloc(),
-        (b"1970-01-01", TAKEN_OVER),
-        "withdraw 1 1",
+        &day(&[], TAKEN_OVER),
+        &Ask::Sheet("withdraw 1 1"),
         (4, 4),
         &effect,
     )
@@ -130,14 +138,14 @@ switch B1 close 7200 3 K1
 fn another_cutter_past_the_next_entry_of_the_switch(rt: HostRuntime) -> Result<(), Fail> {
     let effect = Effect {
         touched: "S2 ",
-        runs: "S1 3600 7200 1\nS2 3000 7200 4\n",
+        runs: "S1 3600 7200 1\nS2 3000 7200 4\nS4 0 86400 -\n",
     };
     let body = "switch W1 open 3000 4 K2";
-    changes(
+    alters(
         &rt,
         rt.alloc(),
-        (b"1970-01-01", WAITING),
-        body,
+        &day(&[], WAITING),
+        &Ask::Sheet(body),
         (5, 4),
         &effect,
     )
@@ -147,15 +155,15 @@ fn another_cutter_past_the_next_entry_of_the_switch(rt: HostRuntime) -> Result<(
 fn an_opening_is_corrected_past_its_closing(rt: HostRuntime) -> Result<(), Fail> {
     let effect = Effect {
         touched: "S3 ",
-        runs: "S3 5000 86400 1\n",
+        runs: "S3 5000 86400 1\nS4 0 86400 -\n",
     };
     let script = "switch B2 open 3600 3 K1\nswitch B2 close 4200 3 K1";
     let body = "correct 1 1 open 5000 3 K2";
-    changes(
+    alters(
         &rt,
         rt.alloc(),
-        (b"1970-01-01", script),
-        body,
+        &day(&[], script),
+        &Ask::Sheet(body),
         (3, 3),
         &effect,
     )
@@ -166,10 +174,17 @@ fn an_opening_is_corrected_past_its_closing(rt: HostRuntime) -> Result<(), Fail>
 fn all_sections_from_the_first_second_on(rt: HostRuntime) -> Result<(), Fail> {
     let effect = Effect {
         touched: "S1 S2 S3 ",
-        runs: "S1 0 86400 1\nS2 0 86400 1\nS3 0 86400 1\n",
+        runs: "S1 0 86400 1\nS2 0 86400 1\nS3 0 86400 1\nS4 0 86400 -\n",
     };
     let body = "switch I1 open 0 4 K2";
-    changes(&rt, rt.alloc(), (b"1970-01-01", ""), body, (2, 2), &effect)
+    alters(
+        &rt,
+        rt.alloc(),
+        &day(&[], ""),
+        &Ask::Sheet(body),
+        (2, 2),
+        &effect,
+    )
 }
 
 const TWO_FEEDERS_OUT: &'static str = "\
@@ -183,14 +198,14 @@ switch B2 close 5000 3 K1
 fn the_last_of_its_second_leaves_the_cutters_before_it(rt: HostRuntime) -> Result<(), Fail> {
     let effect = Effect {
         touched: "S1 S2 S3 ",
-        runs: "S1 4000 86400 1\nS2 4000 86400 1\nS3 4000 86400 2\n",
+        runs: "S1 4000 86400 1\nS2 4000 86400 1\nS3 4000 86400 2\nS4 0 86400 -\n",
     };
     let body = "switch I1 open 4000 4 K2";
-    changes(
+    alters(
         &rt,
         rt.alloc(),
-        (b"1970-01-01", TWO_FEEDERS_OUT),
-        body,
+        &day(&[], TWO_FEEDERS_OUT),
+        &Ask::Sheet(body),
         (6, 6),
         &effect,
     )
@@ -205,15 +220,14 @@ switch B1 close 1704074400 3 K1
 fn a_change_in_a_day_of_2024(rt: HostRuntime) -> Result<(), Fail> {
     let effect = Effect {
         touched: "S1 S2 ",
-        runs: "S1 1704070800 1704071400 1\nS2 1704070800 1704071400 1\n",
+        runs: "S1 1704070800 1704071400 1\nS2 1704070800 1704071400 1\nS4 1704067200 1704153600 -\n",
     };
     let body = "switch T1 close 1704071400 3 K2";
-    changes(
-        &rt,
-        rt.alloc(),
-        (b"2024-01-01", OF_2024),
-        body,
-        (4, 3),
-        &effect,
-    )
+    let start = Start {
+        date: b"2024-01-01",
+        days: 1,
+        lives: &[],
+        script: OF_2024,
+    };
+    alters(&rt, rt.alloc(), &start, &Ask::Sheet(body), (4, 3), &effect)
 }

@@ -1,16 +1,15 @@
-//! Examples on a timeline: what is built, and what a change of the sheet does.
-ghost use Rattle.std.specs.Prelude.{◌≡◌, ◌<◌, ◌≤◌, IfOk, length};
+//! Examples on a timeline: what is built, and what a change of the sheet or of the network does.
+ghost use Rattle.std.specs.Prelude.{◌≡◌, ◌<◌, ◌≤◌, IfOk, OnOk, length};
 ghost use Rattle.std.specs.List.{All};
 ghost use Rattle.ob_sheet.specs.Sheet.{NameDevices};
 ghost use Rattle.ob_sweep.specs.Deltas.{Fits};
-ghost use Rattle.ob_sweep.specs.Timeline.{AreRuns, LieBetween};
+ghost use Rattle.ob_sweep.specs.Timeline.{LieBetween};
 ghost use Rattle.ob_time.specs.Calendar.{first_second_of, end_second_of};
 
-use crate::change::change_by;
-use crate::feeders::{NODES, feeders};
+use crate::ask::{Ask, change_of, obey};
+use crate::feeders::{NODES, feeders, set_lives};
 use crate::sheet::sheet_of;
-use ob_command::read_body;
-use ob_net::Net;
+use ob_net::{Life, Net};
 use ob_sheet::Sheet;
 use ob_sweep::{Delta, Run, Scratch, Timeline, Windowed};
 use ob_time::{CivilDays, Period};
@@ -18,8 +17,24 @@ use std::alloc::Global;
 use std::process::Abort;
 use std::test::Fail;
 
-/// A date and the switchings of its sheet, one a line.
-pub type Script = (&'static [u8], &'static str);
+/// Some days, the lives of devices that aren't always there, and the commands of the sheet, one a line.
+#[derive(Clone, Copy)]
+pub struct Start<'r> {
+    pub date: &'static [u8],
+    pub days: u16,
+    pub lives: &'r [(&'r str, Life)],
+    pub script: &'r str,
+}
+
+/// A day in 1970, with these lives and these commands.
+pub fn day<'r>(lives: &'r [(&'r str, Life)], script: &'r str) -> Start<'r> {
+    Start {
+        date: b"1970-01-01",
+        days: 1,
+        lives,
+        script,
+    }
+}
 
 // A line for a run: its section, its first second, the one after its last, and the number of its cutter or `-`.
 fn line_of(alloc: Global, run: &Run) -> Result<String, Fail> {
@@ -44,11 +59,11 @@ fn push_lines(alloc: Global, text: &mut String, runs: &[Run]) -> Result<(), Fail
 
 // The runs of some of the network's nodes, one node after another.
 fn lines_of<T: Timeline>(alloc: Global, timeline: &T, nodes: &[u16]) -> Result<String, Fail>
-    requires { 6 ≤ length (T.content timeline.now) }
+    requires { 7 ≤ length (T.content timeline.now) }
 {
     let mut text = String::new(alloc);
     for node in nodes {
-        if *node < 6 {
+        if *node < 7 {
             push_lines(alloc, &mut text, timeline.runs_of(*node))?;
         }
     }
@@ -82,37 +97,23 @@ fn has_lines<T: Timeline>(
     nodes: &[u16],
     wanted: &str,
 ) -> Result<(), Fail>
-    requires { 6 ≤ length (T.content timeline.now) }
+    requires { 7 ≤ length (T.content timeline.now) }
 {
     let found = lines_of(alloc, timeline, nodes)?;
     assert!(rt; found.as_str() == wanted);
     Ok(())
 }
 
-// The sections S1 to S3 have these runs, and S4 one of the whole day.
-fn shows<T: Timeline>(
-    rt: &impl Abort,
-    alloc: Global,
-    timeline: &T,
-    period: &CivilDays,
-    wanted: &str,
-) -> Result<(), Fail>
-    requires { 6 ≤ length (T.content timeline.now) }
-{
-    let (first, end) = (period.first_second(), period.end_second());
-    let wanted = format!(in alloc; "{wanted}S4 {first} {end} -\n")?;
-    has_lines(rt, alloc, timeline, &[2, 3, 4, 5], wanted.as_str())
-}
-
-// The network, a day and its sheet.
-fn day_of(alloc: Global, script: Script) -> Result<(Net, Period, Sheet), Fail>
+// The network, the days and the sheet.
+fn days_of(alloc: Global, start: &Start<'_>) -> Result<(Net, Period, Sheet), Fail>
     ensures devices { IfOk result (λ d. NameDevices (length d.0.network.devices) d.2.entries) }
     ensures all { IfOk result (λ d. All (λ e. (first_second_of d.1 ≤ e.second) × (e.second < end_second_of d.1)) d.2.entries) }
     ensures between { IfOk result (λ d. LieBetween (first_second_of d.1) (end_second_of d.1) d.2.entries) }
 {
-    let net = feeders(alloc)?;
-    let period = Period::from_text(alloc, script.0, 1, b"UTC0")?;
-    let sheet = sheet_of(alloc, &net, &period, script.1)?;
+    let mut net = feeders(alloc)?;
+    set_lives(&mut net, start.lives)?;
+    let period = Period::from_text(alloc, start.date, start.days, b"UTC0")?;
+    let sheet = sheet_of(alloc, &net, &period, start.script)?;
     Ok((net, period, sheet))
 }
 
@@ -130,33 +131,33 @@ fn build_on<T: Timeline>(
 {
     let timeline = T::build(alloc, net, sheet, period)?;
     assert!(rt; net.nodes() == 6 && net.searches() == searches);
-    shows(rt, alloc, &timeline, period, wanted)
+    has_lines(rt, alloc, &timeline, &[2, 3, 4, 5, 6], wanted)
 }
 
 fn build<T: Timeline>(
     rt: &impl Abort,
     alloc: Global,
-    script: Script,
+    start: &Start<'_>,
     searches: u128,
     wanted: &str,
 ) -> Result<(), Fail> {
-    let (mut net, period, sheet) = day_of(alloc, script)?;
+    let (mut net, period, sheet) = days_of(alloc, start)?;
     build_on::<T>(rt, alloc, &mut net, &sheet, &period, searches, wanted)
 }
 
-/// Under the script the sections have these runs, which took so many searches.
+/// From this start the sections S1 to S4 have these runs, which took so many searches.
 pub fn builds(
     rt: &impl Abort,
     alloc: Global,
-    script: Script,
+    start: &Start<'_>,
     searches: u128,
     wanted: &str,
 ) -> Result<(), Fail> {
-    build::<Scratch>(rt, alloc, script, searches, wanted)?;
-    build::<Windowed>(rt, alloc, script, searches, wanted)
+    build::<Scratch>(rt, alloc, start, searches, wanted)?;
+    build::<Windowed>(rt, alloc, start, searches, wanted)
 }
 
-/// What a change is to do: the sections that it touches, and the runs of all sections after it.
+/// What a change is to do: the sections that it touches, and the runs of the sections S1 to S5 after it.
 #[derive(Drop)]
 pub struct Effect {
     pub touched: &'static str,
@@ -177,7 +178,7 @@ fn adopt<T: Timeline>(
     timeline: &mut T,
     delta: Delta,
 ) -> Result<(), Fail>
-    requires count { 6 ≤ length (T.content timeline.old) }
+    requires count { 7 ≤ length (T.content timeline.old) }
     requires fits { Fits (T.content timeline.old) delta }
     ensures count { length (T.content timeline.new) ≡ length (T.content timeline.old) }
 {
@@ -187,102 +188,100 @@ fn adopt<T: Timeline>(
     has_lines(rt, alloc, timeline, &sections, new.as_str())
 }
 
-// What the command with a body text alters.
-fn plan_asked<T: Timeline>(
+/// The runs that are built before a change that is asked for, what the change alters in them, and the searches that this took.
+/// A change of the network is made, one of the sheet isn't yet.
+pub fn planned<T: Timeline>(
+    alloc: Global,
+    net: &mut Net,
+    sheet: &Sheet,
+    period: &CivilDays,
+    ask: &Ask<'_>,
+) -> Result<(T, Delta, u128), Fail>
+    requires devices { NameDevices (length net.old.network.devices) sheet.now.entries }
+    requires all { All (λ e. (first_second_of period.now ≤ e.second) × (e.second < end_second_of period.now)) sheet.now.entries }
+    requires between { LieBetween (first_second_of period.now) (end_second_of period.now) sheet.now.entries }
+    ensures count { IfOk result (λ p. length (T.content p.0) ≡ 1024) }
+    ensures fits { IfOk result (λ p. Fits (T.content p.0) p.1) }
+    ensures devices { OnOk result (NameDevices (length net.new.network.devices) sheet.now.entries) }
+{
+    let timeline = T::build(alloc, net, sheet, period)?;
+    let change = change_of(net, sheet, period, ask)?;
+    let before = net.searches();
+    let delta = timeline.plan(net, sheet, period, &change)?;
+    let searches = net.searches().checked_sub(before).ok_or("a count")?;
+    Ok((timeline, delta, searches))
+}
+
+/// The runs of each section are those that are built anew.
+pub fn is_as_built<T: Timeline>(
+    rt: &impl Abort,
+    alloc: Global,
     net: &mut Net,
     sheet: &Sheet,
     period: &CivilDays,
     timeline: &T,
-    body: &str,
-) -> Result<Delta, Fail>
-    requires runs { AreRuns net.old.network sheet.now.entries (first_second_of period.now) (end_second_of period.now) (T.content timeline.now) }
-    requires devices { NameDevices (length net.old.network.devices) sheet.now.entries }
-    requires all { All (λ e. (first_second_of period.now ≤ e.second) × (e.second < end_second_of period.now)) sheet.now.entries }
-    requires between { LieBetween (first_second_of period.now) (end_second_of period.now) sheet.now.entries }
-    ensures fits { IfOk result (λ delta. Fits (T.content timeline.now) delta) }
-{
-    let command = read_body(body.as_bytes()).ok_or("a command")?;
-    let change = change_by(net, sheet, period, &command).ok_or("a change")?;
-    let delta = timeline.plan(net, sheet, period, &change)?;
-    Ok(delta)
-}
-
-// Plans what a command asks, which touches these sections, and takes it over.
-fn takes<T: Timeline>(
-    rt: &impl Abort,
-    alloc: Global,
-    net: &mut Net,
-    sheet: &Sheet,
-    period: &CivilDays,
-    timeline: &mut T,
-    body: &str,
-    touched: &str,
 ) -> Result<(), Fail>
-    requires runs { AreRuns net.old.network sheet.now.entries (first_second_of period.now) (end_second_of period.now) (T.content timeline.old) }
     requires devices { NameDevices (length net.old.network.devices) sheet.now.entries }
-    requires all { All (λ e. (first_second_of period.now ≤ e.second) × (e.second < end_second_of period.now)) sheet.now.entries }
     requires between { LieBetween (first_second_of period.now) (end_second_of period.now) sheet.now.entries }
-    requires count { 6 ≤ length (T.content timeline.old) }
-    ensures count { length (T.content timeline.new) ≡ length (T.content timeline.old) }
+    requires count { length (T.content timeline.now) ≡ 1024 }
 {
-    let delta = plan_asked(net, sheet, period, timeline, body)?;
-    touches(rt, alloc, &delta, touched)?;
-    adopt(rt, alloc, timeline, delta)
+    let anew = T::build(alloc, net, sheet, period)?;
+    for node in 0..net.nodes() {
+        if net.feeder_of(node).is_some() {
+            assert!(rt; timeline.runs_of(node) == anew.runs_of(node));
+        }
+    }
+    Ok(())
 }
 
-fn change_on<T: Timeline>(
+// Takes over what is asked for: so many searches, these sections are touched, and all runs are then as if built anew.
+fn alter_on<T: Timeline>(
     rt: &impl Abort,
     alloc: Global,
     net: &mut Net,
-    sheet: &Sheet,
+    sheet: &mut Sheet,
     period: &CivilDays,
-    body: &str,
-    searches: u128,
+    ask: &Ask<'_>,
+    wanted: u128,
     effect: &Effect,
 ) -> Result<(), Fail>
-    requires devices { NameDevices (length net.old.network.devices) sheet.now.entries }
-    requires all { All (λ e. (first_second_of period.now ≤ e.second) × (e.second < end_second_of period.now)) sheet.now.entries }
-    requires between { LieBetween (first_second_of period.now) (end_second_of period.now) sheet.now.entries }
+    requires devices { NameDevices (length net.old.network.devices) sheet.old.entries }
+    requires all { All (λ e. (first_second_of period.now ≤ e.second) × (e.second < end_second_of period.now)) sheet.old.entries }
+    requires between { LieBetween (first_second_of period.now) (end_second_of period.now) sheet.old.entries }
 {
-    let mut timeline = T::build(alloc, net, sheet, period)?;
-    assert!(rt; net.nodes() == 6);
-    let before = net.searches();
-    takes(
-        rt,
-        alloc,
-        net,
-        sheet,
-        period,
-        &mut timeline,
-        body,
-        effect.touched,
-    )?;
-    assert!(rt; net.searches().checked_sub(before) == Some(searches));
-    shows(rt, alloc, &timeline, period, effect.runs)
+    let (mut timeline, delta, searches) = planned::<T>(alloc, net, sheet, period, ask)?;
+    assert!(rt; searches == wanted);
+    touches(rt, alloc, &delta, effect.touched)?;
+    adopt(rt, alloc, &mut timeline, delta)?;
+    obey(sheet, net, period, ask)?;
+    has_lines(rt, alloc, &timeline, &[2, 3, 4, 5, 6], effect.runs)?;
+    is_as_built(rt, alloc, net, sheet, period, &timeline)
 }
 
-fn change<T: Timeline>(
+fn alter<T: Timeline>(
     rt: &impl Abort,
     alloc: Global,
-    script: Script,
-    body: &str,
+    start: &Start<'_>,
+    ask: &Ask<'_>,
     searches: u128,
     effect: &Effect,
 ) -> Result<(), Fail> {
-    let (mut net, period, sheet) = day_of(alloc, script)?;
-    change_on::<T>(rt, alloc, &mut net, &sheet, &period, body, searches, effect)
+    let (mut net, period, mut sheet) = days_of(alloc, start)?;
+    alter_on::<T>(
+        rt, alloc, &mut net, &mut sheet, &period, ask, searches, effect,
+    )
 }
 
-/// After the script, the command with a body text has this effect: on runs that are found from scratch by so many searches,
-/// and in windows by as many as the second number says.
-pub fn changes(
+/// From this start, what is asked for has this effect: on runs that are found from scratch by so many searches, and in windows
+/// by as many as the second number says.
+pub fn alters(
     rt: &impl Abort,
     alloc: Global,
-    script: Script,
-    body: &str,
+    start: &Start<'_>,
+    ask: &Ask<'_>,
     searches: (u128, u128),
     effect: &Effect,
 ) -> Result<(), Fail> {
-    change::<Scratch>(rt, alloc, script, body, searches.0, effect)?;
-    change::<Windowed>(rt, alloc, script, body, searches.1, effect)
+    alter::<Scratch>(rt, alloc, start, ask, searches.0, effect)?;
+    alter::<Windowed>(rt, alloc, start, ask, searches.1, effect)
 }

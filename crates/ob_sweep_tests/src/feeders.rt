@@ -1,6 +1,8 @@
-//! Networks by the body texts of commands.
+//! Networks by the body texts of commands, and lives of their devices.
+ghost use Rattle.std.specs.Prelude.{◌<◌, IfOk, length};
+
 use ob_command::{Command, read_body};
-use ob_net::Net;
+use ob_net::{Life, Name, Net, Second};
 use std::alloc::Global;
 use std::test::Fail;
 
@@ -18,8 +20,30 @@ device B2 BUS-A S3 closed
 device T1 S2 S3 open
 ";
 
-/// The nodes of the network, by number.
-pub const NODES: [&'static str; 6] = ["GRID", "BUS-A", "S1", "S2", "S3", "S4"];
+/// The nodes of the network, by number, and one that isn't there yet.
+pub const NODES: [&'static str; 7] = ["GRID", "BUS-A", "S1", "S2", "S3", "S4", "S5"];
+
+/// The life of a device that is always there.
+pub const WHOLE: Life = Life {
+    since: 0,
+    until: None,
+};
+
+/// The life from the first second on that ends at a second.
+pub fn until(second: Second) -> Life {
+    Life {
+        since: 0,
+        until: Some(second),
+    }
+}
+
+/// The life without end that begins at a second.
+pub fn since(second: Second) -> Life {
+    Life {
+        since: second,
+        until: None,
+    }
+}
 
 /// The two feeders.
 pub fn feeders(alloc: Global) -> Result<Net, Fail> {
@@ -42,9 +66,31 @@ fn add_part(net: &mut Net, command: &Command) -> Result<(), Fail> {
         Command::Bus { name } => net.add_bus(*name)?,
         Command::Section { name, feeder } => net.add_section(*name, feeder.get())?,
         Command::Device { name, ends, normal } => {
-            net.add_device(*name, *ends.a(), *ends.b(), *normal)?
+            net.add_device(*name, *ends.a(), *ends.b(), *normal, WHOLE)?
         }
         _ => return Err("no part of a network".into()),
     }
     Ok(())
+}
+
+/// Sets lives of devices anew, by the devices' names.
+pub fn set_lives(net: &mut Net, lives: &[(&str, Life)]) -> Result<(), Fail> {
+    for (name, life) in lives {
+        let device = device_of(net, name)?;
+        net.set_life(device, *life)?;
+    }
+    Ok(())
+}
+
+/// The number of the device with a name.
+pub fn device_of(net: &Net, name: &str) -> Result<u16, Fail>
+    ensures { IfOk result (λ d. d < length net.now.network.devices) }
+{
+    let name = name_of(name)?;
+    Ok(net.device_of(&name).ok_or("a device")?)
+}
+
+/// A name by its text.
+pub fn name_of(text: &str) -> Result<Name, Fail> {
+    Ok(Name::read(text.as_bytes()).ok_or("a name")?)
 }

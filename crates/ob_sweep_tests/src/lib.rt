@@ -7,6 +7,8 @@
 #![tactic(auto)]
 
 #[cfg(test)]
+mod ask;
+#[cfg(test)]
 mod builds;
 #[cfg(test)]
 mod change;
@@ -16,6 +18,12 @@ mod changes;
 mod example;
 #[cfg(test)]
 mod feeders;
+#[cfg(test)]
+mod lives;
+#[cfg(test)]
+mod plain;
+#[cfg(test)]
+mod random;
 #[cfg(test)]
 mod rolls;
 #[cfg(test)]

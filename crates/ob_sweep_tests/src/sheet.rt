@@ -1,4 +1,4 @@
-//! Switching sheets by the body texts of commands.
+//! Switching sheets by the body texts of commands: switchings, corrections and withdrawals.
 ghost use Rattle.std.specs.Prelude.{◌<◌, ◌≤◌, IfOk, OnOk, length};
 ghost use Rattle.std.specs.List.{All};
 ghost use Rattle.ob_sheet.specs.Sheet.{NameDevices};
@@ -6,13 +6,13 @@ ghost use Rattle.ob_sweep.specs.Timeline.{LieBetween};
 ghost use Rattle.ob_time.specs.Calendar.{first_second_of, end_second_of};
 
 use ob_command::{Command, read_body};
-use ob_net::Net;
+use ob_net::{Net, Second};
 use ob_sheet::Sheet;
 use ob_time::CivilDays;
 use std::alloc::Global;
 use std::test::Fail;
 
-/// The sheet on which the switchings of a script's lines are entered one after another.
+/// The sheet after the commands of a script's lines, one after another.
 pub fn sheet_of(alloc: Global, net: &Net, period: &CivilDays, script: &str) -> Result<Sheet, Fail>
     ensures devices { IfOk result (λ s. NameDevices (length net.now.network.devices) s.entries) }
     ensures all { IfOk result (λ s. All (λ e. (first_second_of period.now ≤ e.second) × (e.second < end_second_of period.now)) s.entries) }
@@ -26,31 +26,64 @@ pub fn sheet_of(alloc: Global, net: &Net, period: &CivilDays, script: &str) -> R
     Ok(sheet)
 }
 
-// Enters a switching.
-fn enter(sheet: &mut Sheet, net: &Net, period: &CivilDays, command: &Command) -> Result<(), Fail>
+/// Enters a switching, or corrects or withdraws an entry, as a command asks.
+pub fn enter(
+    sheet: &mut Sheet,
+    net: &Net,
+    period: &CivilDays,
+    command: &Command,
+) -> Result<(), Fail>
     requires devices { NameDevices (length net.now.network.devices) sheet.old.entries }
     requires all { All (λ e. (first_second_of period.now ≤ e.second) × (e.second < end_second_of period.now)) sheet.old.entries }
     ensures devices { OnOk result (NameDevices (length net.now.network.devices) sheet.new.entries) }
     ensures all { OnOk result (All (λ e. (first_second_of period.now ≤ e.second) × (e.second < end_second_of period.now)) sheet.new.entries) }
 {
-    let Command::Switch {
-        device,
-        act,
-        second,
-        cause,
-        crew,
-    } = command
-    else {
-        return Err("no switching".into());
-    };
-    let Some(device) = net.device_of(device) else {
-        return Err("no device".into());
-    };
-    let second = second.second();
-    if second < period.first_second() || period.end_second() <= second || sheet.is_full() {
-        return Err("no entry".into());
+    match command {
+        Command::Switch {
+            device,
+            act,
+            second,
+            cause,
+            crew,
+        } => {
+            let device = net.device_of(device).ok_or("a device")?;
+            let second = inside(period, second.second())?;
+            if sheet.is_full() {
+                return Err("no entry".into());
+            }
+            sheet.reserve_one()?;
+            sheet.enter(device, *act, second, cause.get(), *crew);
+        }
+        Command::Correct {
+            entry,
+            revision,
+            act,
+            second,
+            cause,
+            crew,
+        } => {
+            let second = inside(period, second.second())?;
+            sheet.correct(
+                entry.get(),
+                revision.get(),
+                *act,
+                second,
+                cause.get(),
+                *crew,
+            )?;
+        }
+        Command::Withdraw { entry, revision } => sheet.withdraw(entry.get(), revision.get())?,
+        _ => return Err("no change of the sheet".into()),
     }
-    sheet.reserve_one()?;
-    sheet.enter(device, *act, second, cause.get(), *crew);
     Ok(())
+}
+
+// A second of the period.
+fn inside(period: &CivilDays, second: Second) -> Result<Second, Fail>
+    ensures { IfOk result (λ s. (first_second_of period.now ≤ s) × (s < end_second_of period.now)) }
+{
+    if second < period.first_second() || period.end_second() <= second {
+        return Err("a second outside".into());
+    }
+    Ok(second)
 }

@@ -2,10 +2,10 @@
 ghost use Rattle.std.specs.Prelude.{IfOk, length};
 ghost use Rattle.ob_sheet.specs.Sheet.{NameDevices};
 
-use crate::feeders::net_of;
+use crate::feeders::{net_of, set_lives, since, until};
 use crate::sheet::sheet_of;
 use ob_net::Pos::{Closed, Opened};
-use ob_net::{Crew, Net, Pos, Refusal, Second};
+use ob_net::{Crew, Life, Net, Pos, Refusal, Second};
 use ob_sheet::{Entry, Sheet};
 use ob_time::Period;
 use std::alloc::Global;
@@ -27,11 +27,12 @@ switch D1 close 100 7 CREW-1
 switch D3 open 200 7 CREW-1
 ";
 
-// The devices, and their sheet.
-fn switched(alloc: Global) -> Result<(Net, Sheet), Fail>
+// The devices with these lives, and their sheet.
+fn switched(alloc: Global, lives: &[(&str, Life)]) -> Result<(Net, Sheet), Fail>
     ensures { IfOk result (λ s. NameDevices (length s.0.network.devices) s.1.entries) }
 {
-    let net = net_of(alloc, DEVICES)?;
+    let mut net = net_of(alloc, DEVICES)?;
+    set_lives(&mut net, lives)?;
     let period = Period::from_text(alloc, b"1970-01-01", 1, b"UTC0")?;
     let sheet = sheet_of(alloc, &net, &period, ENTRIES)?;
     Ok((net, sheet))
@@ -51,7 +52,7 @@ fn is_in_order(rt: &impl Abort, sheet: &Sheet, numbers: &[u32]) {
 
 #[test]
 fn a_late_entry_before_an_earlier_opening(rt: HostRuntime) -> Result<(), Fail> {
-    let (_, sheet) = switched(rt.alloc())?;
+    let (_, sheet) = switched(rt.alloc(), &[])?;
     assert!(rt; sheet.len() == 4 && !sheet.is_full());
     is_in_order(&rt, &sheet, &[3, 1, 4, 2]);
     let late = Entry {
@@ -69,13 +70,13 @@ fn a_late_entry_before_an_earlier_opening(rt: HostRuntime) -> Result<(), Fail> {
     Ok(())
 }
 
-// The positions before each place of the order.
+// The positions before each place of the order, whatever the devices' lives.
 fn leaves(rt: &impl Abort, sheet: &Sheet, net: &Net, rows: &[[Pos; 3]]) -> Result<(), Fail>
     requires { NameDevices (length net.now.network.devices) sheet.now.entries }
 {
     for (place, wanted) in rows.iter().enumerate() {
         assert!(rt; place <= sheet.in_order().len());
-        let positions = sheet.positions_before(place, net)?;
+        let positions = sheet.entered_before(place, net)?;
         assert!(rt; positions.as_slice() == wanted.as_slice());
     }
     Ok(())
@@ -83,7 +84,7 @@ fn leaves(rt: &impl Abort, sheet: &Sheet, net: &Net, rows: &[[Pos; 3]]) -> Resul
 
 #[test]
 fn positions_at_each_place(rt: HostRuntime) -> Result<(), Fail> {
-    let (net, sheet) = switched(rt.alloc())?;
+    let (net, sheet) = switched(rt.alloc(), &[])?;
     assert!(rt; net.devices() == 3 && sheet.in_order().len() == 4);
     leaves(
         &rt,
@@ -95,6 +96,44 @@ fn positions_at_each_place(rt: HostRuntime) -> Result<(), Fail> {
             [Opened, Opened, Closed],
             [Opened, Opened, Opened],
             [Opened, Closed, Opened],
+        ],
+    )
+}
+
+// A place of the order, a second, and the positions before the one as of the other.
+fn stand(
+    rt: &impl Abort,
+    sheet: &Sheet,
+    net: &Net,
+    rows: &[(usize, Second, [Pos; 3])],
+) -> Result<(), Fail>
+    requires { NameDevices (length net.now.network.devices) sheet.now.entries }
+{
+    for (place, second, wanted) in rows {
+        assert!(rt; *place <= sheet.in_order().len());
+        let positions = sheet.positions_before(*place, *second, net)?;
+        assert!(rt; positions.as_slice() == wanted.as_slice());
+    }
+    Ok(())
+}
+
+#[test]
+fn devices_are_open_outside_their_lives(rt: HostRuntime) -> Result<(), Fail> {
+    let lives = [("D1", until(150)), ("D2", since(120))];
+    let (net, sheet) = switched(rt.alloc(), &lives)?;
+    assert!(rt; net.devices() == 3 && sheet.in_order().len() == 4);
+    stand(
+        &rt,
+        &sheet,
+        &net,
+        &[
+            (0, 149, [Closed, Opened, Closed]),
+            (0, 150, [Opened, Opened, Closed]),
+            (1, 149, [Closed, Opened, Closed]),
+            (1, 150, [Opened, Opened, Closed]),
+            (4, 119, [Opened, Opened, Opened]),
+            (4, 120, [Opened, Closed, Opened]),
+            (4, 400, [Opened, Closed, Opened]),
         ],
     )
 }
@@ -114,7 +153,7 @@ fn moves_on(rt: &impl Abort, sheet: &Sheet, rows: &[(Second, usize, [Pos; 3])])
 
 #[test]
 fn positions_move_on_to_a_second(rt: HostRuntime) -> Result<(), Fail> {
-    let (net, sheet) = switched(rt.alloc())?;
+    let (net, sheet) = switched(rt.alloc(), &[])?;
     assert!(rt; net.devices() == 3);
     moves_on(
         &rt,
@@ -151,7 +190,7 @@ fn are_refused(rt: &impl Abort, sheet: &mut Sheet, crew: Crew, rows: &[(u32, u32
 
 #[test]
 fn entries_are_corrected_and_withdrawn(rt: HostRuntime) -> Result<(), Fail> {
-    let (_, mut sheet) = switched(rt.alloc())?;
+    let (_, mut sheet) = switched(rt.alloc(), &[])?;
     revise(&rt, &mut sheet, crew()?);
     let corrected = Entry {
         no: 4,
@@ -169,7 +208,7 @@ fn entries_are_corrected_and_withdrawn(rt: HostRuntime) -> Result<(), Fail> {
 
 #[test]
 fn revisions_are_refused(rt: HostRuntime) -> Result<(), Fail> {
-    let (_, mut sheet) = switched(rt.alloc())?;
+    let (_, mut sheet) = switched(rt.alloc(), &[])?;
     let crew = crew()?;
     revise(&rt, &mut sheet, crew);
     are_refused(

@@ -1,0 +1,132 @@
+//! One change that is asked for, of the sheet or of the network.
+ghost use Rattle.std.specs.Prelude.{◌≡◌, ◌<◌, ◌≤◌, IfOk, OnOk, length};
+ghost use Rattle.std.specs.List.{All};
+ghost use Rattle.ob_sheet.specs.Sheet.{NameDevices};
+ghost use Rattle.ob_sweep.specs.Changed.{changed, net_before, Applies, IsAfter};
+ghost use Rattle.ob_sweep.specs.Timeline.{LieBetween};
+ghost use Rattle.ob_time.specs.Calendar.{first_second_of, end_second_of};
+
+use crate::change::change_by;
+use crate::feeders::{device_of, name_of};
+use crate::sheet::enter;
+use ob_command::read_body;
+use ob_net::{Life, Net, Pos};
+use ob_sheet::Sheet;
+use ob_sweep::Change;
+use ob_time::CivilDays;
+use std::test::Fail;
+
+/// One change that is asked for.
+#[derive(Clone, Copy)]
+pub enum Ask<'r> {
+    /// Of the sheet, by the body text of a command.
+    Sheet(&'r str),
+    /// A bus more.
+    Bus(&'r str),
+    /// A section more, with its home feeder.
+    Section(&'r str, u8),
+    /// A device more, by its name and those of its ends.
+    Device([&'r str; 3], Pos, Life),
+    /// Another life of a device.
+    Life(&'r str, Life),
+}
+
+/// The change that is asked for. One of the network is made at once, one of the sheet isn't yet.
+pub fn change_of(
+    net: &mut Net,
+    sheet: &Sheet,
+    period: &CivilDays,
+    ask: &Ask<'_>,
+) -> Result<Change, Fail>
+    requires devices { NameDevices (length net.old.network.devices) sheet.now.entries }
+    requires all { All (λ e. (first_second_of period.now ≤ e.second) × (e.second < end_second_of period.now)) sheet.now.entries }
+    ensures before { IfOk result (λ c. net_before c net.new.network ≡ net.old.network) }
+    ensures after { IfOk result (λ c. IsAfter c net.new.network) }
+    ensures applies { IfOk result (λ c. Applies c sheet.now.entries) }
+    ensures named { OnOk result (NameDevices (length net.new.network.devices) sheet.now.entries) }
+    ensures devices { IfOk result (λ c. NameDevices (length net.new.network.devices) (changed c sheet.now.entries)) }
+    ensures between { IfOk result (λ c. LieBetween (first_second_of period.now) (end_second_of period.now) (changed c sheet.now.entries)) }
+{
+    match *ask {
+        Ask::Sheet(body) => {
+            let command = read_body(body.as_bytes()).ok_or("a command")?;
+            Ok(change_by(net, sheet, period, &command).ok_or("a change")?)
+        }
+        Ask::Bus(name) => bus_more(net, name),
+        Ask::Section(name, feeder) => section_more(net, name, feeder),
+        Ask::Device(device, normal, life) => device_more(net, device, normal, life),
+        Ask::Life(name, life) => other_life(net, name, life),
+    }
+}
+
+fn bus_more(net: &mut Net, name: &str) -> Result<Change, Fail>
+    ensures before { IfOk result (λ c. net_before c net.new.network ≡ net.old.network) }
+    ensures after { IfOk result (λ c. IsAfter c net.new.network) }
+    ensures devices { OnOk result (net.new.network.devices ≡ net.old.network.devices) }
+{
+    let name = name_of(name)?;
+    net.reserve_one()?;
+    net.add_bus(name)?;
+    Ok(Change::Bus)
+}
+
+fn section_more(net: &mut Net, name: &str, feeder: u8) -> Result<Change, Fail>
+    ensures before { IfOk result (λ c. net_before c net.new.network ≡ net.old.network) }
+    ensures after { IfOk result (λ c. IsAfter c net.new.network) }
+    ensures devices { OnOk result (net.new.network.devices ≡ net.old.network.devices) }
+{
+    let name = name_of(name)?;
+    if feeder == 0 {
+        return Err("no feeder".into());
+    }
+    net.reserve_one()?;
+    net.add_section(name, feeder)?;
+    Ok(Change::Section { feeder })
+}
+
+fn device_more(net: &mut Net, device: [&str; 3], normal: Pos, life: Life) -> Result<Change, Fail>
+    ensures before { IfOk result (λ c. net_before c net.new.network ≡ net.old.network) }
+    ensures after { IfOk result (λ c. IsAfter c net.new.network) }
+    ensures more { OnOk result (length net.old.network.devices ≤ length net.new.network.devices) }
+{
+    let (a, b) = (name_of(device[1])?, name_of(device[2])?);
+    if a == b {
+        return Err("one end".into());
+    }
+    let number = net.devices();
+    net.reserve_one()?;
+    net.add_device(name_of(device[0])?, a, b, normal, life)?;
+    Ok(Change::Joined {
+        device: number,
+        life,
+    })
+}
+
+fn other_life(net: &mut Net, name: &str, life: Life) -> Result<Change, Fail>
+    ensures before { IfOk result (λ c. net_before c net.new.network ≡ net.old.network) }
+    ensures after { IfOk result (λ c. IsAfter c net.new.network) }
+    ensures count { OnOk result (length net.new.network.devices ≡ length net.old.network.devices) }
+{
+    let device = device_of(net, name)?;
+    let old = net.life_of(device);
+    net.set_life(device, life)?;
+    Ok(Change::Lived {
+        device,
+        old,
+        new: life,
+    })
+}
+
+/// Makes the change of the sheet that is asked for.
+pub fn obey(sheet: &mut Sheet, net: &Net, period: &CivilDays, ask: &Ask<'_>) -> Result<(), Fail>
+    requires devices { NameDevices (length net.now.network.devices) sheet.old.entries }
+    requires all { All (λ e. (first_second_of period.now ≤ e.second) × (e.second < end_second_of period.now)) sheet.old.entries }
+    ensures devices { OnOk result (NameDevices (length net.now.network.devices) sheet.new.entries) }
+    ensures all { OnOk result (All (λ e. (first_second_of period.now ≤ e.second) × (e.second < end_second_of period.now)) sheet.new.entries) }
+{
+    let Ask::Sheet(body) = *ask else {
+        return Ok(());
+    };
+    let command = read_body(body.as_bytes()).ok_or("a command")?;
+    enter(sheet, net, period, &command)
+}
