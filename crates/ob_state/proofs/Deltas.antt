@@ -6,10 +6,6 @@ use Rattle.ob_net.specs.Network.{Network}
 use Rattle.ob_sweep.specs.declared.Run.{Run}
 use Rattle.ob_sweep.specs.Deltas.{new_runs, sections_of, Fits, IsDelta}
 use Rattle.ob_sweep.specs.Timeline.{runs_at, IsSection}
-use Rattle.ob_sweep.specs.Runs.{history}
-use Rattle.ob_time.specs.Calendar.{first_second_of, end_second_of}
-use Rattle.ob_post.specs.SectionAmounts.{LieWithin}
-use Rattle.ob_post.specs.SectionLaws.{RunsLieWithin}
 use Rattle.ob_state.specs.State.{BookState}
 use Rattle.ob_state.specs.States.{AreRunsOf}
 

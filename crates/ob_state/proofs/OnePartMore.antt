@@ -1,5 +1,5 @@
 -- One part more in the network: what stays, what it moves, and what leads to the runs with it.
-use Rattle.std.proofs.Common.{◌≡◌, ◌∙◌, sym, ap, ap₂, subst, refl, ℕ, ◌+◌, ◌-◌, ◌<◌, ◌==◌, ◌&&◌, Bool, true, false, cond, get_or, List, [], ◌∷◌, ◌++◌, length, map, take, sum_by, Option, Some, None, IsSome, slice_get, inl, inr, length-append, arith, is_some, unwrap_or}
+use Rattle.std.proofs.Common.{◌≡◌, ◌∙◌, sym, ap, ap₂, subst, refl, ℕ, ◌+◌, ◌-◌, ◌<◌, ◌==◌, ◌&&◌, Bool, true, false, cond, get_or, List, [], ◌∷◌, ◌++◌, length, take, sum_by, Option, Some, None, IsSome, slice_get, inl, inr, length-append, arith, is_some, unwrap_or}
 use Rattle.std.specs.List.{All, AllPairs, Contains}
 use Rattle.std.specs.Option.{option_and_then, option_map_or}
 use Rattle.std.proofs.lemmas.Bool.{cases_eq, cases_lt, eq-eqb, false≢true}
@@ -13,17 +13,15 @@ use Rattle.ob_net.specs.declared.net.Node.{Node}
 use Rattle.ob_base.specs.declared.stop.Refusal.{Refusal}
 use Rattle.ob_base.specs.declared.stop.Refusal.TheVariants.{Full, NameTaken}
 use Rattle.ob_net.specs.declared.TheConstants.{MOST_NODES}
-use Rattle.ob_net.specs.Network.{IsNetwork, JoinsTwo, home_feeder, node_of, node_refusal, with_device, with_node}
+use Rattle.ob_net.specs.Network.{IsNetwork, home_feeder, node_of, node_refusal, with_device, with_node}
 use Rattle.ob_base.specs.Seconds.{seconds}
 use Rattle.ob_net.specs.Walk.{is_supplied}
 use Rattle.ob_sheet.specs.Supply.{is_deenergized}
 use Rattle.ob_cust.specs.declared.Customer.{Customer}
 use Rattle.ob_cust.specs.WithoutSupply.{is_without_supply}
 use Rattle.ob_sweep.specs.declared.Run.{Run}
-use Rattle.ob_sweep.specs.Changed.{IsAfter, IsLastNode}
 use Rattle.ob_sweep.specs.Deltas.{sections_of, IsDelta}
 use Rattle.ob_sweep.specs.Timeline.{IsSection, runs_at}
-use Rattle.ob_sweep.specs.declared.change.Change.TheVariants.{Joined}
 use Rattle.ob_time.specs.Calendar.{day_count}
 use Rattle.ob_post.specs.CustomerSeconds.{Days, has_key}
 use Rattle.ob_post.specs.SectionLaws.{AreOnSections, ByRuns}
@@ -32,7 +30,7 @@ use Rattle.ob_post.specs.declared.Dim.TheVariants.{Cause, Feeder, Day}
 use Rattle.ob_posting.specs.declared.posting.Posting.{Posting}
 use Rattle.ob_state.specs.Amounts.{amount, days_of_book}
 use Rattle.ob_posting.specs.Balances.{Balances}
-use Rattle.ob_state.specs.Effects.{amount_of_first, amount_of_node, amount_of_nodes, with_network, without_device, without_node}
+use Rattle.ob_state.specs.Effects.{amount_of_first, amount_of_node, amount_of_nodes, with_network, without_device}
 use Rattle.ob_state.specs.Retimings.{runs_in}
 use Rattle.ob_state.specs.Refusals.{first, if_full, if_sealed}
 use Rattle.ob_state.specs.State.{BookState}
@@ -134,26 +132,6 @@ module _ (b : BookState) (node : Node) where
         | inr past ↦ first.empty v (omega (arith, past)) ∙ sym (second.empty v (omega (arith, past)))
       ]
 
-  all_but_one : length more.network.nodes - 1 ≡ length b.network.nodes
-  all_but_one = omega (arith, length-append b.network.nodes (node ∷ []))
-
-  -- the node is the last one, and no device joins it
-  pub free_node : IsNetwork b.network → All (JoinsTwo (length more.network.nodes - 1)) more.network.devices
-  free_node ok = subst (λ n. All (JoinsTwo n) b.network.devices) (sym all_but_one) ok.joins
-
-  pub last_node : IsNetwork b.network → IsLastNode more.network node.feeder
-  last_node ok = record {
-    some = omega (arith, length-append b.network.nodes (node ∷ []));
-    feeder = ap (home_feeder more.network) all_but_one ∙ ap (option_and_then (λ (n : Node). n.feeder)) (get_new b.network.nodes);
-    free = free_node ok;
-  }
-
-  -- it is taken back
-  pub node_taken_back : without_node more ≡ b
-  node_taken_back =
-      ap (λ (ns : List Node). record b { network = record b.network { nodes = ns } })
-      (ap (λ n. take n more.network.nodes) all_but_one ∙ take-append_seam b.network.nodes (node ∷ []))
-
 -- ---- a device more, where b is the state with it
 module _ (b : BookState) where
   abbrev was : BookState
@@ -193,14 +171,3 @@ taken_back b name a z normal =
     let one : length devices - 1 ≡ length b.network.devices = omega (arith, length-append b.network.devices (devices_end b name a z normal)) in
     ap (λ (ds : List Device). record b { network = record b.network { devices = ds } })
     (ap (λ n. take n devices) one ∙ take-append_seam b.network.devices (devices_end b name a z normal))
-
-map_pushed : {X Y : Type 0} (f : X → Y) (xs : List X) (x : X) → slice_get (map f (xs ++ x ∷ [])) (length xs) ≡ Some (f x)
-map_pushed f [] x = refl
-map_pushed f (y ∷ xs) x = map_pushed f xs x
-
--- a network with a device more is one after it has joined
-pub device_joined : (b : BookState) (name a z : List ℕ) (normal : Pos) → IsAfter (Joined (length b.network.devices) whole_life) (with_device b.network name a z normal whole_life)
-device_joined b name a z normal = (
-  length-append b.network.devices (devices_end b name a z normal),
-  map_pushed (λ (d : Device). d.life) b.network.devices (record { name = name; a = unwrap_or (node_of b.network a) 0; b = unwrap_or (node_of b.network z) 0; normal = normal; life = whole_life }),
-)

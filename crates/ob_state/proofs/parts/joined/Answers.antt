@@ -1,7 +1,5 @@
 use Rattle.std.proofs.Common.{◌≡◌, ◌∙◌, sym, ap, subst, arith}
-use Rattle.ob_net.specs.Network.{Network}
-use Rattle.ob_sweep.specs.Deltas.{IsDelta}
-use Rattle.ob_time.specs.Calendar.{day_count}
+use Rattle.ob_time.specs.Calendar.{Calendar, day_count}
 use Rattle.ob_post.specs.Moved.{moves_by}
 use Rattle.ob_post.specs.MoveLaws.{change_from}
 use Rattle.ob_state.specs.Amounts.{amount}
@@ -18,7 +16,8 @@ pub moves-requires : goal.moves-requires
 moves-requires g c =
     let b = c.args.state.now.state in
     let posting = c.in_ok-posting.posting in
-    let balances : Balances (day_count b.period) posting (amount (without_device b)) (amount b) = ? in
+    let balances : Balances (day_count b.period) posting (amount (without_device b)) (amount b) =
+    subst (λ (s : BookState). Balances (day_count s.period) posting (amount (without_device s)) (amount s)) c.planned.ensures.state c.in_ok-posting.ensures.posted in
     let sound = c.accepted.ensures.sound in
     let ok : IsOfSmall (day_count b.period) posting = record {
       old = amount (without_device b);
@@ -27,7 +26,23 @@ moves-requires g c =
       small_new = small b c.total_laws.ensures.amounts sound.period sound.roll.few;
       balances = balances;
     } in
-    ?
+    let inside : c.state.inside.period ≡ b.period = ap (λ (s : BookValue). s.state.period) c.state.view_is ∙ ap (λ (s : BookState). s.period) c.planned.ensures.state in
+    rw c.deref.ensures (record { small = subst (λ (p : Calendar). IsOfSmall (day_count p) posting) (sym inside) ok })
 
 pub returns-clause-effect : goal.returns-clause-effect
-returns-clause-effect g c = ?
+returns-clause-effect g c =
+    let b = c.args.state.now.state in
+    let was = without_device b in
+    let posting = c.in_ok-posting.posting in
+    let delta = c.in_ok-delta.delta in
+    let lists = g.T.Timeline.content c.args.timeline.now in
+    let balances : Balances (day_count b.period) posting (amount was) (amount b) =
+    subst (λ (s : BookState). Balances (day_count s.period) posting (amount (without_device s)) (amount s)) c.planned.ensures.state c.in_ok-posting.ensures.posted in
+    let inside : c.state.inside.period ≡ b.period = ap (λ (s : BookValue). s.state.period) c.state.view_is ∙ ap (λ (s : BookState). s.period) c.planned.ensures.state in
+    let at = subst (λ (p : Calendar). Balances (day_count p) posting (amount was) (amount b)) (sym inside) balances in
+    record {
+      moved = (rw c.deref.ensures at c.in_ok-moves.ensures.moves) (amount was) (amount b) at ∙ ap (λ (p : Calendar). moves_by (change_from (amount was) (amount b)) (day_count p)) inside;
+      retiming = λ other are.
+          let given = delta_of_other was b.network lists other delta (runs_in b) c.requires.runs are (λ v s. s) c.in_ok-delta.ensures.fits c.in_ok-delta.ensures.delta in
+          (omega arith, are.count, given.0, given.1);
+    }
