@@ -1,7 +1,9 @@
 //! One change that is asked for, of the sheet or of the network.
-ghost use Rattle.std.specs.Prelude.{◌≡◌, ◌<◌, ◌≤◌, IfOk, OnOk, length};
+ghost use Rattle.std.specs.Prelude.{◌≡◌, ◌<◌, ◌≤◌, List, IfOk, OnOk, length};
 ghost use Rattle.std.specs.List.{All};
+ghost use Rattle.ob_net.specs.Network.{IsNetwork};
 ghost use Rattle.ob_sheet.specs.Sheet.{NameDevices};
+ghost use Rattle.ob_sheet.specs.declared.Entry.{Entry as AnEntry};
 ghost use Rattle.ob_sweep.specs.Changed.{changed, net_before, Applies, IsAfter};
 ghost use Rattle.ob_sweep.specs.Timeline.{LieBetween};
 ghost use Rattle.ob_time.specs.Calendar.{first_second_of, end_second_of};
@@ -10,7 +12,7 @@ use crate::change::change_by;
 use crate::feeders::{device_of, name_of};
 use crate::sheet::enter;
 use ob_command::read_body;
-use ob_net::{Life, Net, Pos};
+use ob_net::{Life, MOST_NODES, Net, Pos};
 use ob_sheet::Sheet;
 use ob_sweep::Change;
 use ob_time::CivilDays;
@@ -26,9 +28,26 @@ pub enum Ask<'r> {
     /// A section more, with its home feeder.
     Section(&'r str, u8),
     /// A device more, by its name and those of its ends.
-    Device([&'r str; 3], Pos, Life),
+    Device {
+        name: &'r str,
+        a: &'r str,
+        b: &'r str,
+        normal: Pos,
+        life: Life,
+    },
     /// Another life of a device.
     Life(&'r str, Life),
+}
+
+/// A device more, by its name and those of its ends.
+pub fn joins<'r>(device: [&'r str; 3], normal: Pos, life: Life) -> Ask<'r> {
+    Ask::Device {
+        name: device[0],
+        a: device[1],
+        b: device[2],
+        normal,
+        life,
+    }
 }
 
 /// The change that is asked for. One of the network is made at once, one of the sheet isn't yet.
@@ -47,38 +66,74 @@ pub fn change_of(
     ensures devices { IfOk result (λ c. NameDevices (length net.new.network.devices) (changed c sheet.now.entries)) }
     ensures between { IfOk result (λ c. LieBetween (first_second_of period.now) (end_second_of period.now) (changed c sheet.now.entries)) }
 {
+    if let Ask::Sheet(body) = *ask {
+        let command = read_body(body.as_bytes()).ok_or("a command")?;
+        return Ok(change_by(net, sheet, period, &command).ok_or("a change")?);
+    }
+    let change = change_network(net, ask)?;
+    Ok(change)
+}
+
+// Makes the change of the network that is asked for.
+fn change_network(net: &mut Net, ask: &Ask<'_>) -> Result<Change, Fail>
+    ensures before { IfOk result (λ c. net_before c net.new.network ≡ net.old.network) }
+    ensures after { IfOk result (λ c. IsAfter c net.new.network) }
+    ensures applies { (entries : List AnEntry) → IfOk result (λ c. Applies c entries) }
+    ensures sheet { (entries : List AnEntry) → IfOk result (λ c. changed c entries ≡ entries) }
+    ensures more { OnOk result (length net.old.network.devices ≤ length net.new.network.devices) }
+{
     match *ask {
-        Ask::Sheet(body) => {
-            let command = read_body(body.as_bytes()).ok_or("a command")?;
-            Ok(change_by(net, sheet, period, &command).ok_or("a change")?)
-        }
         Ask::Bus(name) => bus_more(net, name),
         Ask::Section(name, feeder) => section_more(net, name, feeder),
-        Ask::Device(device, normal, life) => device_more(net, device, normal, life),
+        Ask::Device {
+            name,
+            a,
+            b,
+            normal,
+            life,
+        } => device_more(net, [name, a, b], normal, life),
         Ask::Life(name, life) => other_life(net, name, life),
+        Ask::Sheet(_) => Err("no change of the network".into()),
     }
 }
 
+fn is_not_full(net: &Net) -> Result<(), Fail>
+    ensures { IsNetwork net.now.network }
+{
+    if usize::from(net.nodes()) == MOST_NODES {
+        return Err("a full network".into());
+    }
+    Ok(())
+}
+
+#[tactic(auto, using(crate::proofs::Grown::last_node))]
 fn bus_more(net: &mut Net, name: &str) -> Result<Change, Fail>
     ensures before { IfOk result (λ c. net_before c net.new.network ≡ net.old.network) }
     ensures after { IfOk result (λ c. IsAfter c net.new.network) }
-    ensures devices { OnOk result (net.new.network.devices ≡ net.old.network.devices) }
+    ensures applies { (entries : List AnEntry) → IfOk result (λ c. Applies c entries) }
+    ensures sheet { (entries : List AnEntry) → IfOk result (λ c. changed c entries ≡ entries) }
+    ensures more { OnOk result (length net.old.network.devices ≤ length net.new.network.devices) }
 {
     let name = name_of(name)?;
+    is_not_full(net)?;
     net.reserve_one()?;
     net.add_bus(name)?;
     Ok(Change::Bus)
 }
 
+#[tactic(auto, using(crate::proofs::Grown::last_node))]
 fn section_more(net: &mut Net, name: &str, feeder: u8) -> Result<Change, Fail>
     ensures before { IfOk result (λ c. net_before c net.new.network ≡ net.old.network) }
     ensures after { IfOk result (λ c. IsAfter c net.new.network) }
-    ensures devices { OnOk result (net.new.network.devices ≡ net.old.network.devices) }
+    ensures applies { (entries : List AnEntry) → IfOk result (λ c. Applies c entries) }
+    ensures sheet { (entries : List AnEntry) → IfOk result (λ c. changed c entries ≡ entries) }
+    ensures more { OnOk result (length net.old.network.devices ≤ length net.new.network.devices) }
 {
     let name = name_of(name)?;
     if feeder == 0 {
         return Err("no feeder".into());
     }
+    is_not_full(net)?;
     net.reserve_one()?;
     net.add_section(name, feeder)?;
     Ok(Change::Section { feeder })
@@ -87,6 +142,8 @@ fn section_more(net: &mut Net, name: &str, feeder: u8) -> Result<Change, Fail>
 fn device_more(net: &mut Net, device: [&str; 3], normal: Pos, life: Life) -> Result<Change, Fail>
     ensures before { IfOk result (λ c. net_before c net.new.network ≡ net.old.network) }
     ensures after { IfOk result (λ c. IsAfter c net.new.network) }
+    ensures applies { (entries : List AnEntry) → IfOk result (λ c. Applies c entries) }
+    ensures sheet { (entries : List AnEntry) → IfOk result (λ c. changed c entries ≡ entries) }
     ensures more { OnOk result (length net.old.network.devices ≤ length net.new.network.devices) }
 {
     let (a, b) = (name_of(device[1])?, name_of(device[2])?);
@@ -102,10 +159,13 @@ fn device_more(net: &mut Net, device: [&str; 3], normal: Pos, life: Life) -> Res
     })
 }
 
+#[tactic(auto, using(crate::proofs::Grown::life_before, crate::proofs::Grown::life_after, crate::proofs::Grown::as_many))]
 fn other_life(net: &mut Net, name: &str, life: Life) -> Result<Change, Fail>
     ensures before { IfOk result (λ c. net_before c net.new.network ≡ net.old.network) }
     ensures after { IfOk result (λ c. IsAfter c net.new.network) }
-    ensures count { OnOk result (length net.new.network.devices ≡ length net.old.network.devices) }
+    ensures applies { (entries : List AnEntry) → IfOk result (λ c. Applies c entries) }
+    ensures sheet { (entries : List AnEntry) → IfOk result (λ c. changed c entries ≡ entries) }
+    ensures more { OnOk result (length net.old.network.devices ≤ length net.new.network.devices) }
 {
     let device = device_of(net, name)?;
     let old = net.life_of(device);

@@ -1,8 +1,8 @@
 //! The change of a sheet that a command makes.
-ghost use Rattle.std.specs.Prelude.{◌≤◌, ◌<◌, IfSome, IsFalse, length};
+ghost use Rattle.std.specs.Prelude.{◌≡◌, ◌≤◌, ◌<◌, IfSome, IsFalse, length};
 ghost use Rattle.std.specs.List.{All};
 ghost use Rattle.ob_sheet.specs.Sheet.{NameDevices};
-ghost use Rattle.ob_sweep.specs.Changed.{changed, Applies};
+ghost use Rattle.ob_sweep.specs.Changed.{changed, net_before, Applies, IsAfter};
 ghost use Rattle.ob_sweep.specs.Timeline.{LieBetween};
 ghost use Rattle.ob_time.specs.Calendar.{first_second_of, end_second_of};
 
@@ -25,6 +25,8 @@ struct Act {
 pub fn change_by(net: &Net, sheet: &Sheet, period: &CivilDays, command: &Command) -> Option<Change>
     requires devices { NameDevices (length net.now.network.devices) sheet.now.entries }
     requires all { All (λ e. (first_second_of period.now ≤ e.second) × (e.second < end_second_of period.now)) sheet.now.entries }
+    ensures before { IfSome result (λ c. net_before c net.now.network ≡ net.now.network) }
+    ensures after { IfSome result (λ c. IsAfter c net.now.network) }
     ensures applies { IfSome result (λ c. Applies c sheet.now.entries) }
     ensures devices { IfSome result (λ c. NameDevices (length net.now.network.devices) (changed c sheet.now.entries)) }
     ensures between { IfSome result (λ c. LieBetween (first_second_of period.now) (end_second_of period.now) (changed c sheet.now.entries)) }
@@ -76,6 +78,8 @@ fn entered(net: &Net, sheet: &Sheet, period: &CivilDays, device: u16, act: &Act)
     requires device { device < length net.now.network.devices }
     requires devices { NameDevices (length net.now.network.devices) sheet.now.entries }
     requires all { All (λ e. (first_second_of period.now ≤ e.second) × (e.second < end_second_of period.now)) sheet.now.entries }
+    ensures before { IfSome result (λ c. net_before c net.now.network ≡ net.now.network) }
+    ensures after { IfSome result (λ c. IsAfter c net.now.network) }
     ensures applies { IfSome result (λ c. Applies c sheet.now.entries) }
     ensures devices { IfSome result (λ c. NameDevices (length net.now.network.devices) (changed c sheet.now.entries)) }
     ensures between { IfSome result (λ c. LieBetween (first_second_of period.now) (end_second_of period.now) (changed c sheet.now.entries)) }
@@ -98,6 +102,8 @@ fn entered(net: &Net, sheet: &Sheet, period: &CivilDays, device: u16, act: &Act)
 fn corrected(net: &Net, sheet: &Sheet, period: &CivilDays, no: u32, act: &Act) -> Option<Change>
     requires devices { NameDevices (length net.now.network.devices) sheet.now.entries }
     requires all { All (λ e. (first_second_of period.now ≤ e.second) × (e.second < end_second_of period.now)) sheet.now.entries }
+    ensures before { IfSome result (λ c. net_before c net.now.network ≡ net.now.network) }
+    ensures after { IfSome result (λ c. IsAfter c net.now.network) }
     ensures applies { IfSome result (λ c. Applies c sheet.now.entries) }
     ensures devices { IfSome result (λ c. NameDevices (length net.now.network.devices) (changed c sheet.now.entries)) }
     ensures between { IfSome result (λ c. LieBetween (first_second_of period.now) (end_second_of period.now) (changed c sheet.now.entries)) }
@@ -122,6 +128,8 @@ fn corrected(net: &Net, sheet: &Sheet, period: &CivilDays, no: u32, act: &Act) -
 fn withdrawn(net: &Net, sheet: &Sheet, period: &CivilDays, no: u32) -> Option<Change>
     requires devices { NameDevices (length net.now.network.devices) sheet.now.entries }
     requires all { All (λ e. (first_second_of period.now ≤ e.second) × (e.second < end_second_of period.now)) sheet.now.entries }
+    ensures before { IfSome result (λ c. net_before c net.now.network ≡ net.now.network) }
+    ensures after { IfSome result (λ c. IsAfter c net.now.network) }
     ensures applies { IfSome result (λ c. Applies c sheet.now.entries) }
     ensures devices { IfSome result (λ c. NameDevices (length net.now.network.devices) (changed c sheet.now.entries)) }
     ensures between { IfSome result (λ c. LieBetween (first_second_of period.now) (end_second_of period.now) (changed c sheet.now.entries)) }

@@ -1,5 +1,5 @@
 //! What a change of the network touches where devices have lives, the new runs, and the searches that it takes.
-use crate::ask::Ask;
+use crate::ask::{Ask, joins};
 use crate::example::{Effect, Start, alters, builds, day};
 use crate::feeders::{WHOLE, since, until};
 use ob_net::Life;
@@ -49,7 +49,7 @@ fn a_device_joins_in_an_outage(rt: HostRuntime) -> Result<(), Fail> {
         touched: "S1 ",
         runs: "S1 3600 5000 1\nS2 3600 4200 1\nS4 0 86400 -\n",
     };
-    let ask = Ask::Device(["X1", "BUS-A", "S1"], Closed, since(5000));
+    let ask = joins(["X1", "BUS-A", "S1"], Closed, since(5000));
     alters(
         &rt,
         rt.alloc(),
@@ -171,7 +171,7 @@ fn a_device_takes_the_place_of_another(rt: HostRuntime) -> Result<(), Fail> {
     };
     let lives = [("B1", until(4000))];
     let start = day(&lives, "");
-    let ask = Ask::Device(["X1", "BUS-A", "S1"], Closed, since(4000));
+    let ask = joins(["X1", "BUS-A", "S1"], Closed, since(4000));
     alters(&rt, rt.alloc(), &start, &ask, (2, 1), &effect)
 }
 
@@ -303,21 +303,21 @@ const NOTHING_SWITCHED: Effect = Effect {
 #[test]
 fn a_device_joins_where_nothing_was_switched(rt: HostRuntime) -> Result<(), Fail> {
     let start = day(&[], "");
-    let ask = Ask::Device(["X1", "BUS-A", "S1"], Closed, since(5000));
+    let ask = joins(["X1", "BUS-A", "S1"], Closed, since(5000));
     alters(&rt, rt.alloc(), &start, &ask, (2, 1), &NOTHING_SWITCHED)
 }
 
 #[test]
 fn a_device_joins_behind_the_period(rt: HostRuntime) -> Result<(), Fail> {
     let start = day(&[], "");
-    let ask = Ask::Device(["X1", "BUS-A", "S4"], Closed, since(86400));
+    let ask = joins(["X1", "BUS-A", "S4"], Closed, since(86400));
     alters(&rt, rt.alloc(), &start, &ask, (1, 0), &NOTHING_SWITCHED)
 }
 
 #[test]
 fn an_open_device_joins(rt: HostRuntime) -> Result<(), Fail> {
     let start = day(&[], "");
-    let ask = Ask::Device(["X1", "BUS-A", "S4"], Opened, WHOLE);
+    let ask = joins(["X1", "BUS-A", "S4"], Opened, WHOLE);
     alters(&rt, rt.alloc(), &start, &ask, (1, 1), &NOTHING_SWITCHED)
 }
 
@@ -333,7 +333,7 @@ fn a_device_joins_where_its_end_was_cut_off_for_a_year(rt: HostRuntime) -> Resul
         lives: &[],
         script: "",
     };
-    let ask = Ask::Device(["X1", "S3", "S4"], Closed, since(1_704_072_200));
+    let ask = joins(["X1", "S3", "S4"], Closed, since(1_704_072_200));
     alters(&rt, rt.alloc(), &start, &ask, (2, 1), &effect)
 }
 

@@ -1,7 +1,7 @@
 //! Changes that look random of networks whose devices have lives: after each, the runs of a timeline are those of the plain count.
 ghost use Rattle.std.specs.Prelude.{◌≡◌, ◌<◌, ◌≤◌, length};
 
-use crate::ask::{Ask, change_of, obey};
+use crate::ask::{Ask, change_of, joins, obey};
 use crate::example::planned;
 use crate::feeders::{NODES, name_of, net_of};
 use crate::plain::{World, plain_runs};
@@ -75,7 +75,7 @@ impl Random {
         let a = NODES.get(a as usize).ok_or("a node")?;
         let b = NODES.get(b as usize).ok_or("a node")?;
         let normal = if self.below(4) == 0 { Opened } else { Closed };
-        Ok(Ask::Device([*name, *a, *b], normal, self.life()))
+        Ok(joins([*name, *a, *b], normal, self.life()))
     }
 
     // The name of one of so many devices.
@@ -114,7 +114,7 @@ fn ask<'r>(random: &mut Random, net: &Net, body: &'r str) -> Result<Ask<'r>, Fai
 
 // Keeps the ends of a device more.
 fn keep_ends(world: &mut World, ask: &Ask<'_>) -> Result<(), Fail> {
-    if let Ask::Device([_, a, b], _, _) = ask {
+    if let Ask::Device { a, b, .. } = ask {
         let a = world.net.node_of(&name_of(a)?).ok_or("a node")?;
         let b = world.net.node_of(&name_of(b)?).ok_or("a node")?;
         world.ends.push((a, b))?;
