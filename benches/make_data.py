@@ -89,7 +89,8 @@ def add_outages(text, rng, ties):
 def small_text(seed):
     """A text that `total` takes, with what is seldom in a book: meshed networks, devices side by
     side, several switchings in one second and at the span's first and last one, switchings that
-    change nothing, services inside the span, at its bounds or outside, and any order of entry."""
+    change nothing, services and lives inside the span, at its bounds or outside, lives that are set
+    anew, switchings outside them, and any order of entry, devices behind switchings among them."""
     rng = random.Random(seed)
     text = Text()
     length = rng.choice([1, 2, 3, 10, 60, 1_000])
@@ -97,9 +98,13 @@ def small_text(seed):
     end = first + length
     text.add("span", first, end)
     names, sections = add_nodes(text, rng)
-    devices = add_devices(text, rng, names)
+    devices = [f"D_{number}" for number in range(rng.randint(0, 2 * len(names)))]
+    for name in devices:
+        text.add("device", name, *device(rng, names, first, end))
     later = [("connect", customer) for customer in connections(rng, sections, first, end)]
     later += [("switch", entry) for entry in switchings(rng, devices, first, end)]
+    later += [("life", (rng.choice(devices), *life(rng, first, end))) for _ in devices[: rng.randrange(9)]]
+    later += [("device", (f"LATE_{n}", *device(rng, names, first, end))) for n in range(rng.choice([0, 0, 1, 2]))]
     rng.shuffle(later)
     for kind, fields in later:
         text.add(kind, *fields)
@@ -119,13 +124,17 @@ def add_nodes(text, rng):
     return names, sections
 
 
-def add_devices(text, rng, names):
-    devices = []
-    for number in range(rng.randint(0, 2 * len(names))):
-        devices.append(f"D_{number}")
-        a, b = rng.sample(names, 2)
-        text.add("device", devices[-1], a, b, rng.choice(["open", "closed", "closed"]))
-    return devices
+def device(rng, names, first, end):
+    """The fields of a device behind its name; in most of them the life is left out."""
+    a, b = rng.sample(names, 2)
+    since, until = life(rng, first, end) if rng.random() < 0.4 else ("", "")
+    return a, b, rng.choice(["open", "closed", "closed"]), since, until
+
+
+def life(rng, first, end):
+    """The two fields of a life, either of which may be empty; one may be a second of switchings."""
+    since, until = (rng.choice(["", (first + end) // 2, near(rng, first, end)]) for _ in range(2))
+    return since, until if until != "" and until > int(since or "0") else ""
 
 
 def connections(rng, sections, first, end):
@@ -139,7 +148,7 @@ def connections(rng, sections, first, end):
 
 
 def switchings(rng, devices, first, end):
-    for _ in range(rng.randint(0, 16) if devices else 0):
+    for _ in range(rng.randint(0, 24) if devices else 0):
         second = rng.choice([first, end - 1, rng.randrange(first, end), (first + end) // 2])
         yield rng.choice(devices), rng.choice(["open", "close"]), second, rng.randint(1, 63), "K1"
 

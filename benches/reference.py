@@ -1,9 +1,9 @@
 """An independent model of `outagebook total`.
 
-It reads the same text and adds up, for each stretch of seconds between two switchings, the seconds
-that each customer in service has no closed path to GRID. It shares nothing with the program: that
-one looks at every second and joins nodes into trees, this one goes from switching to switching and
-walks from GRID breadth first.
+It reads the same text and adds up, for each stretch of seconds in which nothing is switched and no
+device's life begins or ends, the seconds that each customer in service has no closed path to GRID.
+It shares nothing with the program: that one looks at every second and joins nodes into trees, this
+one goes from change to change and walks from GRID breadth first.
 
 A text that `total` refuses is no input of the model: it may then fail in any way.
 
@@ -26,6 +26,7 @@ class Book:
         self.sections = set()
         self.devices = {}  # name: (node, node)
         self.normal = {}  # name: is it closed
+        self.lives = {}  # name: (since, until or None)
         self.customers = {}  # number: (section, since, until or None)
         self.entries = []  # (second, number, device, is it closed from then on)
 
@@ -45,6 +46,9 @@ def read_book(data):
         elif kind == "device":
             book.devices[f[0]] = (f[1], f[2])
             book.normal[f[0]] = f[3] == "closed"
+            book.lives[f[0]] = read_life(f[4], f[5])
+        elif kind == "life":
+            book.lives[f[0]] = read_life(f[1], f[2])
         elif kind == "connect":
             book.customers[int(f[0])] = (f[1], int(f[2]), int(f[3]) if f[3] else None)
         elif kind == "switch":
@@ -54,11 +58,21 @@ def read_book(data):
     return book
 
 
+def read_life(since, until):
+    """The life that two fields say: from 0 on, or without end, where they are empty."""
+    return int(since or "0"), int(until) if until else None
+
+
+def is_alive(life, second):
+    since, until = life
+    return since <= second and (until is None or second < until)
+
+
 def reached_from_grid(devices, closed):
-    """The nodes to which closed devices lead from GRID."""
+    """The nodes to which closed devices lead from GRID, where `closed` are the names of these."""
     neighbours = defaultdict(list)
     for name, (a, b) in devices.items():
-        if closed[name]:
+        if name in closed:
             neighbours[a].append(b)
             neighbours[b].append(a)
     reached = {GRID}
@@ -71,16 +85,25 @@ def reached_from_grid(devices, closed):
     return reached
 
 
-def stretches(book):
-    """For each stretch of seconds without a switching: its first second, its end, the positions."""
+def bounds_of(book):
+    """The seconds of the span, its end among them, at which something may change, in order."""
     first, end = book.span
-    closed = dict(book.normal)
-    bounds = sorted({first, end} | {second for second, _, _, _ in book.entries})
+    seconds = {second for second, _, _, _ in book.entries}
+    for since, until in book.lives.values():
+        seconds |= {since} if until is None else {since, until}
+    return sorted({first, end} | {second for second in seconds if first < second < end})
+
+
+def stretches(book):
+    """For each stretch of seconds without a change: its first second, its end, the closed devices."""
+    conducts = dict(book.normal)
+    bounds = bounds_of(book)
     entries = deque(sorted(book.entries))
     for begin, next_bound in zip(bounds, bounds[1:]):
         while entries and entries[0][0] <= begin:
             _, _, device, is_closed = entries.popleft()
-            closed[device] = is_closed
+            conducts[device] = is_closed
+        closed = {name for name in conducts if conducts[name] and is_alive(book.lives[name], begin)}
         yield begin, next_bound, closed
 
 

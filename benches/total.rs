@@ -28,6 +28,7 @@ struct Book {
     nodes: HashMap<String, usize>,
     devices: HashMap<String, usize>,
     ends: Vec<(u16, u16)>,
+    lives: Vec<(u64, u64)>,
     closed: Vec<u8>,
     customers: Vec<Customer>,
     entries: Vec<Entry>,
@@ -56,15 +57,13 @@ impl Book {
                 self.ends
                     .push((self.nodes[f[1]] as u16, self.nodes[f[2]] as u16));
                 self.closed.push(u8::from(f[3] == "closed"));
+                self.lives.push(life(f[4], f[5]));
             }
+            "life" => self.lives[self.devices[f[0]]] = life(f[1], f[2]),
             "connect" => self.customers.push(Customer {
                 section: self.nodes[f[1]],
                 since: second(f[2]),
-                until: if f[3].is_empty() {
-                    u64::MAX
-                } else {
-                    second(f[3])
-                },
+                until: end(f[3]),
             }),
             "switch" => self.entries.push(Entry {
                 second: second(f[2]),
@@ -77,6 +76,7 @@ impl Book {
 
     fn customer_seconds(mut self) -> u64 {
         let lists = Lists::new(self.nodes.len(), self.ends.iter().copied());
+        let mut alive = self.closed.clone();
         let mut queue = Vec::new();
         let mut entries = self.entries.iter().peekable();
         let mut total = 0;
@@ -84,7 +84,11 @@ impl Book {
             while let Some(entry) = entries.next_if(|entry| entry.second <= second) {
                 self.closed[entry.device] = entry.closed;
             }
-            let reached = lists.reached(&self.closed, &mut queue);
+            for (device, (since, until)) in self.lives.iter().enumerate() {
+                let lives = *since <= second && second < *until;
+                alive[device] = self.closed[device] & u8::from(lives);
+            }
+            let reached = lists.reached(&alive, &mut queue);
             let without = |customer: &&Customer| {
                 customer.since <= second && second < customer.until && !reached[customer.section]
             };
@@ -96,6 +100,19 @@ impl Book {
 
 fn second(text: &str) -> u64 {
     text.parse().unwrap()
+}
+
+fn end(text: &str) -> u64 {
+    if text.is_empty() {
+        u64::MAX
+    } else {
+        second(text)
+    }
+}
+
+fn life(since: &str, until: &str) -> (u64, u64) {
+    let since = if since.is_empty() { 0 } else { second(since) };
+    (since, end(until))
 }
 
 fn main() -> io::Result<()> {

@@ -10,6 +10,7 @@ WIDTH, HEIGHT = 760, 230
 LEFT, RIGHT, TOP, BOTTOM = 52, 8, 22, 26
 BAR_WIDTH, BAR_STEP = 760, 50
 MOST_WIDTH = 40  # of a column
+MOST_LABELS = 14  # below columns
 
 
 @dataclass(frozen=True)
@@ -36,12 +37,13 @@ def nice_step(most: float, ticks: int = 4) -> float:
 
 
 def number_text(value: float) -> str:
-    """A number of an axis without needless zeros."""
-    return f"{value:,.10g}"
+    """A number of an axis without needless zeros, its thousands apart."""
+    return f"{value:,.10g}".replace(",", "\u202f")
 
 
 def columns(bars: Sequence[Bar], caption: str, unit: str) -> str:
-    """Columns side by side over an axis of numbers; labels where there is room, a mark above those that are set apart."""
+    """Columns side by side over an axis of numbers; of those that have a label as many as there is room for are labelled,
+    and those that are set apart have a mark above."""
     most = max([bar.value for bar in bars], default=0) or 1.0
     step = nice_step(most)
     top = step * max(1, -(-most // step))
@@ -55,7 +57,8 @@ def columns(bars: Sequence[Bar], caption: str, unit: str) -> str:
         parts.append(
             f'<text class="tick" x="{LEFT - 6}" y="{y + 4:.1f}" text-anchor="end">{number_text(tick * step)}</text>'
         )
-    every = max(1, -(-len(bars) // 14))
+    labelled = [place for place, bar in enumerate(bars) if bar.label]
+    shown = set(labelled[:: max(1, -(-len(labelled) // MOST_LABELS))])
     for place, bar in enumerate(bars):
         x = LEFT + slot * place
         bar_height = height * bar.value / top
@@ -70,7 +73,7 @@ def columns(bars: Sequence[Bar], caption: str, unit: str) -> str:
             center, tip = x + slot / 2, TOP + height - bar_height - 3
             parts.append(f'<path class="apart" d="M{center - 4:.1f} {tip - 7:.1f}h8l-4 7z"/>')
         parts.append("</g>")
-        if place % every == 0 and bar.label:
+        if place in shown:
             parts.append(
                 f'<text class="tick" x="{x + slot / 2:.1f}" y="{HEIGHT - 8}" text-anchor="middle">{escape(bar.label)}</text>'
             )

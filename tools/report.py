@@ -23,6 +23,7 @@ from tool import BookError, Words, add_table_words, run_job
 
 WORST = 25  # rows of the lists of what is worst
 FEW, MANY = 24, 80  # rows of a table behind a picture
+LONG = 62  # days: in a longer period the firsts of months are labelled
 PROVED = '<span class="proved" title="Printed or kept by the proved program">from the program</span>'
 COMPUTED = '<span class="computed" title="Computed by this page\'s tool from the rows of the book">computed here</span>'
 
@@ -34,11 +35,12 @@ STYLE = """
 @media print { :root { --ink: #000000; --soft: #444444; --line: #bbbbbb; --paper: #ffffff; --card: #ffffff;
   --bar: #2b6cb0; --apart: #c2570c; --track: #eeeeee; color-scheme: light; } }
 * { box-sizing: border-box; }
-body { margin: 0 auto; max-width: 60rem; padding: 1.5rem 1rem 3rem; background: var(--paper); color: var(--ink);
+body { margin: 0 auto; max-width: 70rem; padding: 1.5rem 1rem 3rem; background: var(--paper); color: var(--ink);
   font: 16px/1.5 system-ui, "Segoe UI", Roboto, "Helvetica Neue", Arial, sans-serif; }
 h1 { font-size: 1.7rem; line-height: 1.2; margin: 0 0 .3rem; }
 h2 { font-size: 1.2rem; margin: 2.4rem 0 .3rem; }
 p { margin: .3rem 0 .7rem; }
+.whole { white-space: nowrap; }
 .soft, figcaption, .legend { color: var(--soft); }
 .tiles { display: grid; grid-template-columns: repeat(auto-fit, minmax(10.5rem, 1fr)); gap: .7rem; margin: 1rem 0; }
 .tile { background: var(--card); border: 1px solid var(--line); border-radius: .5rem; padding: .7rem .9rem; }
@@ -70,9 +72,11 @@ svg.key { display: inline-block; width: .75rem; height: .75rem; }
 details { margin: .5rem 0; }
 summary { cursor: pointer; color: var(--bar); }
 footer { margin-top: 3rem; border-top: 1px solid var(--line); padding-top: .8rem; color: var(--soft); font-size: .875rem; }
+@media screen and (min-width: 60rem) { figure svg { font-size: 10px; } svg .label { font-size: 11px; } }
 @media (max-width: 40rem) { td.code { white-space: normal; } td.long { min-width: 20rem; } figure.below svg .label { font-size: 26px; } }
-@media print { body { max-width: none; padding: 0; font-size: 10.5pt; } h2 { break-after: avoid; }
-  figure, .tile, tr { break-inside: avoid; } .wide { overflow: visible; } .columns svg { min-width: 0; }
+@media print { body { max-width: none; padding: 0 1px; font-size: 10.5pt; } h2, .legend { break-after: avoid; }
+  figure, .tile, tr { break-inside: avoid; } .tiles { grid-template-columns: repeat(4, 1fr); gap: .5rem; }
+  .tile { padding: .4rem .6rem; } .wide { overflow: visible; } .columns svg { min-width: 0; }
   details:not(.many)::details-content { content-visibility: visible; height: auto; } summary { list-style: none; color: inherit; }
   details.many:not([open]) summary::after { content: " (many: printed where they are opened on the screen)"; }
   table { font-size: 8pt; } td.code { font-size: 7pt; } th, td { padding: .15rem .3rem; } td.long { min-width: 0; } .proved, .computed { border-color: #999999; color: #444444; } }
@@ -147,14 +151,14 @@ def heading(found: Checked, name: str) -> str:
     served = quotient(book.served_seconds(), period.length)
     total = sum(amount for (dim, _), amount in book.postings.items() if dim == CAUSE)
     return f"""
-<h1>{escape(name)}: {period.days[0]} to {period.days[-1]}</h1>
+<h1>{escape(name)}: <span class="whole">{period.days[0]}</span> to <span class="whole">{period.days[-1]}</span></h1>
 <p class="soft">{len(period.days)} days, zone {escape(period.zone.text)}. P is {number(period.length)} seconds, S is
 {number(book.served_seconds())} customer-seconds in service, so {decimal(served)} customers (S / P) were served on average.
 W is {number(total)} customer-seconds without supply, or {hours(total)} customer-hours.</p>"""
 
 
 def tiles(words: Dict[str, str]) -> str:
-    """The four indices that most ask for, each with its unmarked value."""
+    """The four indices that most ask for, each with its unmarked value, which the part below explains."""
     units = {
         "SAIDI": "minutes per customer",
         "SAIFI": "interruptions per customer",
@@ -166,17 +170,22 @@ def tiles(words: Dict[str, str]) -> str:
         whole, unmarked = (words[f"{index} {name}"].split()[-1] for name in SETS)
         cells.append(
             f'<div class="tile"><span>{index}</span><b>{escape(whole)}</b><span>{unit}</span>'
-            f"<span>without marked days {escape(unmarked)}</span></div>"
+            f"<span>unmarked: {escape(unmarked)}</span></div>"
         )
     return f'<div class="tiles">{"".join(cells)}</div>'
+
+
+def meaning_text(name: str) -> str:
+    """The unit and the definition of an index; the definition is printed as a formula and stays on one line."""
+    unit, definition = figures.meaning_of(name)
+    formula = definition.replace(" x ", " \u00d7 ").replace(" - ", " \u2212 ").replace(" ", "\u00a0")
+    return f"{unit}: {formula}"
 
 
 def indices(words: Dict[str, str]) -> str:
     """Both sets, word for word."""
     names = [which[: -len(" all")] for which in words if which.endswith(" all")]
-    rows = [
-        [name, words[f"{name} all"], words[f"{name} unmarked"], ": ".join(figures.meaning_of(name))] for name in names
-    ]
+    rows = [[name, words[f"{name} all"], words[f"{name} unmarked"], meaning_text(name)] for name in names]
     return f"""
 <h2>Indices {PROVED}</h2>
 <p>The words of the program's annual table: an exact fraction in lowest terms and its three decimals. <i>Unmarked</i> leaves
@@ -200,7 +209,8 @@ def days_of(found: Checked) -> Days:
     for row in days.rows:
         is_marked = row["marked"] == "yes"
         mark = ", marked" if is_marked else ""
-        label, seconds = str(row["day"])[5:], int(row["customer_seconds"])
+        day, seconds = str(row["day"]), int(row["customer_seconds"])
+        label = day[5:] if len(days.rows) <= LONG or day.endswith("-01") else ""
         days.posted.append(
             Bar(label, seconds / 3_600, f"{row['day']}{mark}: {hours(seconds)} customer-hours", is_marked)
         )
@@ -364,7 +374,7 @@ def worst_part(found: Checked) -> str:
     heads = ["section", "#feeder", "since", "#duration", "#customers", "#customer-seconds", "cause", "reference"]
     return f"""
 <h2>Worst interruptions {COMPUTED}</h2>
-<p>The {len(rows)} of {len(found.interruptions)} with the most customer-seconds, customers of one section with the same
+<p>The {len(rows)} of {number(len(found.interruptions))} with the most customer-seconds, customers of one section with the same
 interruption together; marked days are set apart at the left. The reference is that of the switching that cut them off.</p>
 {table(heads, rows, [book.is_marked(each.since) for each in worst])}"""
 
@@ -393,7 +403,7 @@ def late_part(found: Checked) -> str:
     most = f"The {WORST} that shifted most:" if len(works) > WORST else ""
     return f"""
 <h2>What late work moved {PROVED}</h2>
-<p>{len(works)} late switchings, corrections and withdrawals moved W by {'+' if moved > 0 else ''}{number(moved)}
+<p>{number(len(works))} late switchings, corrections and withdrawals moved W by {'+' if moved > 0 else ''}{number(moved)}
 customer-seconds in all. A switching is late where a later second had been told before it. An opening takes the rest of the
 period when it is accepted, and its closing gives it back, so pairs are large and nearly cancel. {most}</p>
 {table(heads, rows)}"""
@@ -401,9 +411,9 @@ period when it is accepted, and its closing gives it back, so pairs are large an
 
 FOOT = f"""
 <footer><p>{PROVED} are the words and amounts that the proved program printed and keeps: the indices of both sets, and the
-customer-seconds by cause and day. {COMPUTED} is what the tool of this page found by a sweep of its own over the book's
-network, entries and customers; before it wrote anything, its customer-seconds by cause, feeder and day, its counts and all
-fifteen quotients of both sets were equal to the program's. Moments are by the clock of the book's zone.</p></footer>"""
+customer-seconds by cause, by day and by command. {COMPUTED} is what the tool of this page found by a sweep of its own over
+the book's network, entries and customers; before it wrote anything, its customer-seconds by cause, feeder and day, its
+counts and all fifteen quotients of both sets were equal to the program's. Moments are by the clock of the book's zone.</p></footer>"""
 
 
 def page(found: Checked, name: str) -> str:

@@ -1,6 +1,7 @@
 -- The worked feeder with a tie, at a hundredth of its times: 100 seconds, B1 open at 36, W1 open and T1 closed at 42,
 -- B1 closed at 72. S1, where two customers are, is without supply from 36 up to 72; S2, where three are, until 42.
 use Rattle.std.proofs.Common.{◌≡◌, ℕ, List, [], ◌∷◌, refl, Option, Some, None, true, codes}
+use Rattle.ob_base.specs.Life.{whole_life}
 use Rattle.ob_base.specs.declared.Pos.{Pos}
 use Rattle.ob_base.specs.declared.Pos.TheVariants.{Opened, Closed}
 use Rattle.ob_net.specs.declared.net.Node.{Node}
@@ -21,7 +22,7 @@ abbrev node : List ℕ → Option ℕ → Node
 node name feeder = record { name = name; feeder = feeder }
 
 abbrev device : List ℕ → ℕ → ℕ → Pos → Device
-device name a b normal = record { name = name; a = a; b = b; normal = normal }
+device name a b normal = record { name = name; a = a; b = b; normal = normal; life = whole_life }
 
 abbrev net : Network
 net = record {

@@ -15,7 +15,7 @@ use Rattle.ob_sheet.specs.Sheet.{AreNumbered}
 use Rattle.ob_sweep.specs.Changed.{changed, Applies}
 use Rattle.ob_sweep.specs.declared.Run.{Run}
 use Rattle.ob_sweep.specs.declared.change.Change.{Change}
-use Rattle.ob_sweep.specs.declared.change.Change.TheVariants.{Entered, Corrected, Withdrawn}
+use Rattle.ob_sweep.specs.declared.change.Change.TheVariants.{Entered, Corrected, Withdrawn, Bus, Section, Joined, Lived}
 use Rattle.ob_post.specs.CauseLaws.{EnteredCause, ChangedCause, SameCause}
 use Rattle.ob_post.specs.SectionAmounts.{run_cause}
 use Rattle.ob_posting.specs.Causes.{BeginAtCutters, StayBut}
@@ -91,7 +91,7 @@ corrected_stay entries old new runs r by_change ok cut some rising range search 
     ∙ ap (λ b. cond b new.cause (run_cause entries run))
     (not_cut entries old run.cutter run.since ok.0.on (elsewhere runs old.second r k d some rising range search l ne) (cut k d l))
 
--- an entry that is new or withdrawn changes no cause
+-- an entry that is new or withdrawn changes no cause, nor does a change of the network
 pub others_stay : (change : Change) (entries : List Entry) (runs : List Run) → EnteredCause → ChangedCause → SameCause → ((old new : Entry) → change ≡ Corrected old new → ⊥) → Applies change entries → AreNumbered entries
     → BeginAtCutters entries runs → StayBut None entries (changed change entries) runs
 others_stay (Entered e) entries runs by_new by_change same other ok numbered cut = λ k d l ne.
@@ -99,3 +99,7 @@ others_stay (Entered e) entries runs by_new by_change same other ok numbered cut
 others_stay (Corrected old new) entries runs by_new by_change same other ok numbered cut = absurd (other old new refl)
 others_stay (Withdrawn e) entries runs by_new by_change same other ok numbered cut = λ k d l ne.
     cause_stays (Withdrawn e) entries (get_or runs k d) by_new by_change same ok numbered tt (cutter_known entries (get_or runs k d).cutter (get_or runs k d).since numbered (cut k d l))
+others_stay Bus entries runs by_new by_change same other ok numbered cut = λ k d l ne. refl
+others_stay (Section feeder) entries runs by_new by_change same other ok numbered cut = λ k d l ne. refl
+others_stay (Joined device life) entries runs by_new by_change same other ok numbered cut = λ k d l ne. refl
+others_stay (Lived device old new) entries runs by_new by_change same other ok numbered cut = λ k d l ne. refl

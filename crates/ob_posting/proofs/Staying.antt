@@ -1,4 +1,4 @@
--- A change of the sheet that gives no entry another cause leaves runs the causes that they had.
+-- A change that gives no entry another cause leaves runs the causes that they had.
 use Rattle.std.proofs.Common.{◌≡◌, ◌∙◌, ap, refl, ℕ, ◌+◌, ◌≤◌, nat_eq, false, cond, List, length, Option, Some, None, arith}
 use Rattle.std.specs.Option.{IfSome, option_eq}
 use Rattle.std.proofs.lemmas.Bool.{ne_eqb}
@@ -8,7 +8,7 @@ use Rattle.ob_sheet.specs.Sheet.{AreNumbered}
 use Rattle.ob_sweep.specs.Changed.{changed, Applies}
 use Rattle.ob_sweep.specs.declared.Run.{Run}
 use Rattle.ob_sweep.specs.declared.change.Change.{Change}
-use Rattle.ob_sweep.specs.declared.change.Change.TheVariants.{Entered, Corrected, Withdrawn}
+use Rattle.ob_sweep.specs.declared.change.Change.TheVariants.{Entered, Corrected, Withdrawn, Bus, Section, Joined, Lived}
 use Rattle.ob_post.specs.CauseLaws.{EnteredCause, ChangedCause, SameCause, cause_with}
 use Rattle.ob_post.specs.SectionAmounts.{run_cause}
 use Rattle.ob_posting.specs.Causes.{KeepsCause}
@@ -28,3 +28,7 @@ cause_stays (Corrected old new) entries r by_new by_change same ok numbered keep
     ∙ same entries old.«no» old r ok.0.on
 cause_stays (Withdrawn e) entries r by_new by_change same ok numbered keeps cut =
     by_change entries e.«no» withdrawn e r (λ d h. h) ok.on ∙ same entries e.«no» e r ok.on
+cause_stays Bus entries r by_new by_change same ok numbered keeps cut = refl
+cause_stays (Section feeder) entries r by_new by_change same ok numbered keeps cut = refl
+cause_stays (Joined device life) entries r by_new by_change same ok numbered keeps cut = refl
+cause_stays (Lived device old new) entries r by_new by_change same ok numbered keeps cut = refl

@@ -1,4 +1,4 @@
--- The causes of runs, before a change of the sheet and after it.
+-- The causes of runs, before a change and after it.
 use Rattle.std.specs.Prelude.{◌≡◌, ◌≢◌, ℕ, ◌<◌, List, Option, Some, IfSome, length, option_map, slice_index_or, ⊤}
 use Rattle.std.specs.List.{All}
 use Rattle.ob_sheet.specs.declared.Entry.{Entry}
@@ -6,7 +6,7 @@ use Rattle.ob_sheet.specs.Order.{entry_of}
 use Rattle.ob_sheet.specs.Sheet.{AreNumbered}
 use Rattle.ob_sweep.specs.Changed.{changed, Applies}
 use Rattle.ob_sweep.specs.declared.change.Change.{Change}
-use Rattle.ob_sweep.specs.declared.change.Change.TheVariants.{Entered, Corrected, Withdrawn}
+use Rattle.ob_sweep.specs.declared.change.Change.TheVariants.{Entered, Corrected, Withdrawn, Bus, Section, Joined, Lived}
 use Rattle.ob_sweep.specs.declared.Run.{Run}
 use Rattle.ob_post.specs.SectionAmounts.{run_cause}
 
@@ -15,6 +15,10 @@ abbrev pub KeepsCause : Change → Type 0
 KeepsCause (Entered e) = ⊤
 KeepsCause (Corrected old new) = new.cause ≡ old.cause
 KeepsCause (Withdrawn e) = ⊤
+KeepsCause Bus = ⊤
+KeepsCause (Section feeder) = ⊤
+KeepsCause (Joined device life) = ⊤
+KeepsCause (Lived device old new) = ⊤
 
 -- each run that an entry cut off begins at the second of the entry with that number
 abbrev pub BeginAtCutters : List Entry → List Run → Type 0

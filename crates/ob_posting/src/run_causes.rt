@@ -16,7 +16,7 @@ use ob_sheet::{Entry, Sheet};
 use ob_sweep::{Change, Run};
 use std::alloc::Global;
 
-/// The cause that a run has under a sheet; 0 where nothing cut it off.
+/// The cause that a run has under a sheet; 0 where no entry cut the section off, as where the end of a life did.
 pub fn cause_before(sheet: &Sheet, run: &Run) -> u8
     ensures { result ≡ run_cause sheet.now.entries run.now }
 {
@@ -26,7 +26,7 @@ pub fn cause_before(sheet: &Sheet, run: &Run) -> u8
     }
 }
 
-/// The cause that a run has once a sheet has changed.
+/// The cause that a run has after a change.
 pub fn cause_after(sheet: &Sheet, change: &Change, run: &Run) -> u8
     requires applies { Applies change.now sheet.now.entries }
     requires numbered { AreNumbered sheet.now.entries }
@@ -37,10 +37,13 @@ pub fn cause_after(sheet: &Sheet, change: &Change, run: &Run) -> u8
         Change::Entered(entry) => cause_with(sheet, &entry, run),
         Change::Corrected { new, .. } => cause_with(sheet, &new, run),
         Change::Withdrawn(_) => cause_before(sheet, run),
+        Change::Bus | Change::Section { .. } | Change::Joined { .. } | Change::Lived { .. } => {
+            cause_before(sheet, run)
+        }
     }
 }
 
-/// The place of the one run that may have another cause once a sheet has changed: a corrected entry's
+/// The place of the one run that may have another cause after a change: a corrected entry's
 /// run begins at the entry's second.
 pub fn recaused(runs: &[Run], change: &Change) -> Option<usize>
     requires some { All (λ r. r.since < r.until) runs.now }
@@ -70,7 +73,7 @@ pub fn causes_before(alloc: Global, sheet: &Sheet, runs: &[Run]) -> Result<Vec<u
     Ok(causes)
 }
 
-/// The causes that runs have once a sheet has changed.
+/// The causes that runs have after a change.
 pub fn causes_after(
     alloc: Global,
     sheet: &Sheet,

@@ -12,6 +12,7 @@ use Rattle.ob_base.specs.declared.Pos.{Pos}
 use Rattle.ob_base.specs.declared.stop.Refusal.TheVariants.{NameTaken}
 use Rattle.ob_net.specs.Network.{Network, IsNetwork, with_node, with_device, node_of, device_of, section_of}
 use Rattle.ob_net.specs.declared.net.Node.{Node as NetNode}
+use Rattle.ob_base.specs.Life.{whole_life}
 use Rattle.ob_net.specs.declared.net.Device.{Device as NetDevice}
 use Rattle.ob_sheet.specs.declared.Entry.{Entry as SheetEntry}
 use Rattle.ob_sheet.specs.Order.{entry_of}
@@ -94,7 +95,7 @@ lead_section b name feeder id last = record {
 pub lead_device : (b : BookState) (name : Bor (List ℕ)) (ends : EndNames) (normal : Pos) (id u v : ℕ) → id ≡ length b.network.devices → node_of b.network ends.a ≡ Some u → node_of b.network ends.b ≡ Some v
     → LeadsParts b (next b (commands.Device name.now ends normal)) (AddDevice id name u v normal)
 lead_device b name ends normal id u v last first second =
-    let device : NetDevice = record { name = name.now; a = unwrap_or (node_of b.network ends.a) 0; b = unwrap_or (node_of b.network ends.b) 0; normal = normal } in
+    let device : NetDevice = record { name = name.now; a = unwrap_or (node_of b.network ends.a) 0; b = unwrap_or (node_of b.network ends.b) 0; normal = normal; life = whole_life } in
     let row = device_row id name.now u v normal in
     let rows = numbered row_of_device 0 b.network.devices in
     let is : row_of_device id device ≡ row = rw (first, second) refl in
@@ -104,7 +105,7 @@ lead_device b name ends normal id u v last first second =
       small = tt;
       needs = λ t have. tt;
       parts = λ t have.
-          devices_part b (b.accepted + 1) (λ rows. rows ++ row ∷ []) t have (with_device b.network name.now ends.a ends.b normal) refl
+          devices_part b (b.accepted + 1) (λ rows. rows ++ row ∷ []) t have (with_device b.network name.now ends.a ends.b normal whole_life) refl
           (row_joins (t Device) rows _ row have.devices (IsPermutation-same _ _ (sym anew)));
     }
 

@@ -1,7 +1,7 @@
 -- The status of a reply, RFC 9110, section 15.
 use Rattle.std.specs.Prelude.{ℕ, Option, Some, None}
 use Rattle.ob_base.specs.declared.stop.Refusal.{Refusal}
-use Rattle.ob_base.specs.declared.stop.Refusal.TheVariants.{BadField, UnknownName, NameTaken, Sealed, OutOfPeriod, UnknownEntry, Stale, Withdrawn, UnknownCustomer, BadService, RefConflict, Full, MarkedAlready, NotMarked, UnknownCause, BadPeriod, BadBook}
+use Rattle.ob_base.specs.declared.stop.Refusal.TheVariants.{BadField, UnknownName, NameTaken, Sealed, OutOfPeriod, UnknownEntry, Stale, Withdrawn, UnknownCustomer, BadService, RefConflict, Full, MarkedAlready, NotMarked, UnknownCause, BadPeriod, BadBook, BadLife, OldVersion}
 use Rattle.ob_replies.specs.declared.status.Status.{Status}
 use Rattle.ob_replies.specs.declared.status.Status.TheVariants as statuses
 
@@ -38,6 +38,8 @@ refusal_status NotMarked = statuses.Conflict
 refusal_status UnknownCause = statuses.UnprocessableEntity
 refusal_status BadPeriod = statuses.UnprocessableEntity
 refusal_status BadBook = statuses.UnprocessableEntity
+refusal_status BadLife = statuses.UnprocessableEntity
+refusal_status (OldVersion version) = statuses.UnprocessableEntity
 
 -- of an import, which a refusal at a row may have stopped
 abbrev pub report_status : Option (ℕ × Refusal) → Status

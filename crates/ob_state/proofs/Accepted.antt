@@ -2,18 +2,18 @@
 use Rattle.std.proofs.Common.{◌≡◌, ◌∙◌, sym, subst, refl, ℕ, ◌+◌, ◌<◌, ◌≤◌, ◌==◌, ◌||◌, Bool, true, false, not, cond, nat_lt, nat_le, is_some, is_none, IsSome, List, [], ◌∷◌, length, Option, Some, None, inl, inr, arith}
 use Rattle.std.specs.List.{All, find}
 use Rattle.std.specs.Option.{option_and_then, IfSome}
-use Rattle.std.proofs.lemmas.Bool.{cases_eq, cases_Bool, eq-eqb, ne_eqb, eqb-true, lt-ltb, false≢true}
+use Rattle.std.proofs.lemmas.Bool.{cases_eq, cases_Bool, eq-eqb, eqb-true, lt-ltb, false≢true}
 use Rattle.std.proofs.lemmas.Bool.Decides.{nat_tests}
 use Rattle.std.proofs.lemmas.List.Elements.{All-head, All-tail}
-use Rattle.ob_net.specs.Network.{Network, home_feeder, node_of, device_of, section_of}
+use Rattle.ob_net.specs.Network.{Network, home_feeder, device_of, section_of}
 use Rattle.ob_sheet.specs.declared.Entry.{Entry}
 use Rattle.ob_sheet.specs.Order.{entry_of}
-use Rattle.ob_sheet.specs.Revisions.{revision_refusal, entry_refusal}
+use Rattle.ob_sheet.specs.Revisions.{revision_refusal}
 use Rattle.ob_cust.specs.declared.Customer.{Customer}
 use Rattle.ob_cust.specs.declared.TheConstants.{MOST_CUSTOMERS}
 use Rattle.ob_cust.specs.Roll.{connect_refusal, with_customer, is_bad_service, has_number, ends_too_early}
 use Rattle.ob_time.specs.Calendar.{Calendar, first_second_of, end_second_of}
-use Rattle.ob_command.specs.declared.command.Command.TheVariants.{Connect, Revise, Switch, Correct, Withdraw}
+use Rattle.ob_command.specs.declared.command.Command.TheVariants.{Connect, Revise, Switch, Correct}
 use Rattle.ob_base.specs.declared.Pos.{Pos}
 use Rattle.ob_base.specs.declared.stop.Refusal.{Refusal}
 use Rattle.ob_base.specs.declared.stop.Refusal.TheVariants.{UnknownName, OutOfPeriod, Full}

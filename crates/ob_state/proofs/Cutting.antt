@@ -46,7 +46,7 @@ second_is : (net : Network) (entries : List Entry) (v s : ℕ) (e : Entry) → c
 second_is net entries v s e h =
     elim (cases_eq e.second s) as (λ _. e.second ≡ s) [
       | inl same ↦ same
-      | inr other ↦ absurd (false≢true (sym (fails e.kept (e.second == s) (is_supplied_under net (before entries e) v) (not (is_supplied_under net (through entries e) v)) (ne_eqb e.second s other)) ∙ h))
+      | inr other ↦ absurd (false≢true (sym (fails e.kept (e.second == s) (is_supplied_under net (before entries e) s v) (not (is_supplied_under net (through entries e) s v)) (ne_eqb e.second s other)) ∙ h))
     ]
 
 cut_at : (net : Network) (entries : List Entry) (v s : ℕ) → AreNumbered entries → IfSome (cutter_at net entries v s) (λ n. option_map (λ (e : Entry). e.second) (entry_of entries n) ≡ Some s)

@@ -6,10 +6,6 @@ use Rattle.ob_net.specs.Network.{Network}
 use Rattle.ob_sweep.specs.declared.Run.{Run}
 use Rattle.ob_sweep.specs.Deltas.{new_runs, sections_of, Fits, IsDelta}
 use Rattle.ob_sweep.specs.Timeline.{runs_at, IsSection}
-use Rattle.ob_sweep.specs.Runs.{history}
-use Rattle.ob_time.specs.Calendar.{first_second_of, end_second_of}
-use Rattle.ob_post.specs.SectionAmounts.{LieWithin}
-use Rattle.ob_post.specs.SectionLaws.{RunsLieWithin}
 use Rattle.ob_state.specs.State.{BookState}
 use Rattle.ob_state.specs.States.{AreRunsOf}
 
@@ -21,20 +17,23 @@ untouched (w ∷ ws) v h =
     let rest : Contains (sections_of ws) v → ⊥ = λ at. h (suc at.0, (let l = at.1 in omega arith), at.2) in
     cond-false (w.0 == v) (Some w.1) (new_runs ws v) (ne_eqb w.0 v other) ∙ untouched ws v rest
 
+-- a delta from lists is one from any lists that hold the same for each section
+pub delta_of_same : (net : Network) (one other : List (List Run)) (delta : List (ℕ × List Run)) (now : ℕ → List Run) → length one ≡ length other
+    → ((v : ℕ) → IsSection net v → runs_at one v ≡ runs_at other v) → Fits one delta → IsDelta net delta one now → Fits other delta × IsDelta net delta other now
+delta_of_same net one other delta now long same fits is = (
+  subst (λ (n : ℕ). All (λ (v : ℕ). v < n) (sections_of delta)) long fits,
+  record {
+    sections = is.sections;
+    named = λ v rs e. let named = is.named v rs e in (named.0, λ q. named.1 (q ∙ sym (same v (is.sections v rs e))));
+    others = λ v s e. is.others v s e ∙ same v s;
+  },
+)
+
 -- a delta from the lists that hold a state's runs is one from any lists that hold them, where the sections are the state's
 pub delta_of_other : (b : BookState) (net : Network) (one other : List (List Run)) (delta : List (ℕ × List Run)) (now : ℕ → List Run) → AreRunsOf b one → AreRunsOf b other
     → ((v : ℕ) → IsSection net v → IsSection b.network v) → Fits one delta → IsDelta net delta one now → Fits other delta × IsDelta net delta other now
-delta_of_other b net one other delta now first second old fits is = (
-  subst (λ (n : ℕ). All (λ (v : ℕ). v < n) (sections_of delta)) (first.places ∙ sym second.places) fits,
-  record {
-    sections = is.sections;
-    named = λ v rs e.
-        let s = old v (is.sections v rs e) in
-        let named = is.named v rs e in
-        (named.0, λ same. named.1 (same ∙ second.defined v s ∙ sym (first.defined v s)));
-    others = λ v s e. let o = old v s in is.others v s e ∙ first.defined v o ∙ sym (second.defined v o);
-  },
-)
+delta_of_other b net one other delta now first second old fits is =
+    delta_of_same net one other delta now (first.places ∙ sym second.places) (λ v s. let o = old v s in first.defined v o ∙ sym (second.defined v o)) fits is
 
 -- the same of a state with the same network, with a list for each node
 pub delta_of_any : (b : BookState) (one other : List (List Run)) (delta : List (ℕ × List Run)) (now : ℕ → List Run) → AreRunsOf b one → AreRunsOf b other → Fits one delta → IsDelta b.network delta one now

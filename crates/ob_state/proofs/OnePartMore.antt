@@ -6,6 +6,7 @@ use Rattle.std.proofs.lemmas.Bool.{cases_eq, cases_lt, eq-eqb, false≢true}
 use Rattle.std.proofs.Math.Seq.{take-append_seam}
 use Rattle.std.proofs.lemmas.List.Elements.{All-head, All-tail}
 use Rattle.std.proofs.lemmas.List.Sums.{sum_by-cons}
+use Rattle.ob_base.specs.Life.{whole_life}
 use Rattle.ob_base.specs.declared.Pos.{Pos}
 use Rattle.ob_net.specs.declared.net.Device.{Device}
 use Rattle.ob_net.specs.declared.net.Node.{Node}
@@ -20,7 +21,7 @@ use Rattle.ob_cust.specs.declared.Customer.{Customer}
 use Rattle.ob_cust.specs.WithoutSupply.{is_without_supply}
 use Rattle.ob_sweep.specs.declared.Run.{Run}
 use Rattle.ob_sweep.specs.Deltas.{sections_of, IsDelta}
-use Rattle.ob_sweep.specs.Timeline.{IsSection}
+use Rattle.ob_sweep.specs.Timeline.{IsSection, runs_at}
 use Rattle.ob_time.specs.Calendar.{day_count}
 use Rattle.ob_post.specs.CustomerSeconds.{Days, has_key}
 use Rattle.ob_post.specs.SectionLaws.{AreOnSections, ByRuns}
@@ -123,6 +124,14 @@ module _ (b : BookState) (node : Node) where
         related = λ v section r. are.related v (old v section) r;
       }
 
+  -- lists that hold a state's runs hold the same for each section that there is with the node
+  pub same_lists : (one other : List (List Run)) → AreRunsOf b one → AreRunsOf b other → (v : ℕ) → IsSection more.network v → runs_at one v ≡ runs_at other v
+  same_lists one other first second v section =
+      elim (cases_lt v (length b.network.nodes)) as (λ _. runs_at one v ≡ runs_at other v) [
+        | inl l ↦ (let s = subst IsSome (old_feeder v l) section in first.defined v s ∙ sym (second.defined v s))
+        | inr past ↦ first.empty v (omega (arith, past)) ∙ sym (second.empty v (omega (arith, past)))
+      ]
+
 -- ---- a device more, where b is the state with it
 module _ (b : BookState) where
   abbrev was : BookState
@@ -153,12 +162,12 @@ module _ (b : BookState) where
 
 -- the new device
 abbrev devices_end : BookState → List ℕ → List ℕ → List ℕ → Pos → List Device
-devices_end b name a z normal = record { name = name; a = unwrap_or (node_of b.network a) 0; b = unwrap_or (node_of b.network z) 0; normal = normal } ∷ []
+devices_end b name a z normal = record { name = name; a = unwrap_or (node_of b.network a) 0; b = unwrap_or (node_of b.network z) 0; normal = normal; life = whole_life } ∷ []
 
 -- a device that was added last is taken back
-pub taken_back : (b : BookState) (name a z : List ℕ) (normal : Pos) → without_device (with_network b (with_device b.network name a z normal)) ≡ b
+pub taken_back : (b : BookState) (name a z : List ℕ) (normal : Pos) → without_device (with_network b (with_device b.network name a z normal whole_life)) ≡ b
 taken_back b name a z normal =
-    let devices : List Device = (with_device b.network name a z normal).devices in
+    let devices : List Device = (with_device b.network name a z normal whole_life).devices in
     let one : length devices - 1 ≡ length b.network.devices = omega (arith, length-append b.network.devices (devices_end b name a z normal)) in
     ap (λ (ds : List Device). record b { network = record b.network { devices = ds } })
     (ap (λ n. take n devices) one ∙ take-append_seam b.network.devices (devices_end b name a z normal))

@@ -1,14 +1,11 @@
 -- One section's runs posted anew, in a state and in the one that a command leads to.
 use Rattle.std.proofs.Common.{◌≡◌, ◌∙◌, sym, ap, ℕ, ◌+◌, List, length, Some, Result}
 use Rattle.std.specs.Result.{OnOk}
-use Rattle.std.specs.Bool.{Decides}
-use Rattle.std.proofs.Common.{rules}
 use Rattle.ob_net.specs.Network.{home_feeder}
 use Rattle.ob_base.specs.declared.stop.Stop.{Stop}
 use Rattle.ob_sheet.specs.declared.Entry.{Entry}
 use Rattle.ob_sweep.specs.Timeline.{runs_at}
 use Rattle.ob_sweep.specs.declared.Run.{Run}
-use Rattle.ob_sweep.specs.contracts.RunPartialEq.TheImpl as same
 use Rattle.ob_time.specs.Calendar.{day_count, days_of}
 use Rattle.ob_post.specs.SectionAmounts.{amount_of_runs}
 use Rattle.ob_post.specs.SectionLaws.{AreOnSections, ByRuns}

@@ -1,7 +1,7 @@
 -- Words of the functions that find what a command moves: the amounts of parts of a state.
 use Rattle.std.specs.Prelude.{◌≡◌, ℕ, List, [], ◌∷◌}
 use Rattle.std.specs.List.{sum_by, range_with_len}
-use Rattle.ob_net.specs.Network.{Network, without_last_device}
+use Rattle.ob_net.specs.Network.{Network, without_last_device, without_last_node}
 use Rattle.ob_cust.specs.declared.Customer.{Customer}
 use Rattle.ob_sheet.specs.declared.Entry.{Entry}
 use Rattle.ob_post.specs.CustomerSeconds.{customer_seconds_by}
@@ -48,6 +48,10 @@ with_entries b entries = record b { entries = entries }
 abbrev pub BalancesFirst : BookState → List Entry → ℕ → Posting → Type 0
 BalancesFirst b entries n posting =
     Balances (day_count b.period) posting (amount_of_first b n) (amount_of_first (with_entries b entries) n)
+
+-- the state without the node that was added last
+abbrev pub without_node : BookState → BookState
+without_node b = with_network b (without_last_node b.network)
 
 -- the state without the device that was added last
 abbrev pub without_device : BookState → BookState

@@ -1,5 +1,6 @@
 -- What an accepted command changes.
 use Rattle.std.specs.Prelude.{ℕ, ◌+◌, List, [], ◌∷◌, ◌++◌, Option, Some, None, is_none, set, unwrap_or, if◌then◌else◌}
+use Rattle.ob_base.specs.Life.{whole_life}
 use Rattle.ob_net.specs.Network.{with_node, with_device, device_of, section_of}
 use Rattle.ob_sheet.specs.Sheet.{new_entry}
 use Rattle.ob_sheet.specs.Revisions.{change_entry, corrected, withdrawn}
@@ -22,7 +23,7 @@ abbrev pub changed : BookState → Command → BookState
 changed b (Cause code name) = record b { causes = set b.causes code (Some name) }
 changed b (Bus name) = record b { network = with_node b.network (record { name = name; feeder = None }) }
 changed b (Section name feeder) = record b { network = with_node b.network (record { name = name; feeder = Some feeder }) }
-changed b (Device name ends normal) = record b { network = with_device b.network name ends.a ends.b normal }
+changed b (Device name ends normal) = record b { network = with_device b.network name ends.a ends.b normal whole_life }
 changed b (Connect customer section since until) =
     record b { customers = with_customer (record { «no» = customer; section = unwrap_or (section_of b.network section) 0; since = since; until = until }) b.customers }
 changed b (Revise customer since until) = record b { customers = with_service customer since until b.customers }

@@ -1,5 +1,6 @@
 -- Why a command isn't accepted: the first of its kind's refusals that has a cause, and then the full book.
 use Rattle.std.specs.Prelude.{ℕ, ◌==◌, ◌||◌, Bool, not, nat_le, nat_lt, List, [], ◌∷◌, ◌++◌, Option, Some, None, is_none, if◌then◌else◌, length}
+use Rattle.ob_base.specs.Life.{whole_life}
 use Rattle.ob_base.specs.declared.stop.Refusal.{Refusal}
 use Rattle.ob_base.specs.declared.stop.Refusal.TheVariants.{UnknownName, NameTaken, Sealed, OutOfPeriod, Full, UnknownCause}
 use Rattle.ob_net.specs.Network.{Network, node_refusal, device_refusal, device_of, section_of}
@@ -60,7 +61,7 @@ abbrev pub refusals : BookState → Command → List (Option Refusal)
 refusals b (Cause code name) = refuse_if (has_cause b.causes code || has_cause_name b.causes name) NameTaken ∷ []
 refusals b (Bus name) = if_sealed b.entries ∷ node_refusal b.network name ∷ []
 refusals b (Section name feeder) = if_sealed b.entries ∷ node_refusal b.network name ∷ []
-refusals b (Device name ends normal) = if_sealed b.entries ∷ device_refusal b.network name ends.a ends.b ∷ []
+refusals b (Device name ends normal) = if_sealed b.entries ∷ device_refusal b.network name ends.a ends.b whole_life ∷ []
 refusals b (Connect customer section since until) = connect_refusal_on (section_of b.network section) b.customers customer since until ∷ []
 refusals b (Revise customer since until) = revise_refusal b.customers customer since until ∷ []
 refusals b (Switch device act second cause crew) =

@@ -2,9 +2,15 @@
 ghost use Rattle.std.specs.Prelude.{◌≡◌};
 
 use crate::state::State;
-use ob_base::{Crew, Name, Pos, Second};
+use ob_base::{Crew, Life, Name, Pos, Second};
 use ob_command::{CauseCode, CivilDate, Command, Ends, FeederNumber, Moment, Serial};
 use ob_cust::Customer;
+
+/// The life of each device that a command adds.
+pub(crate) const WHOLE_LIFE: Life = Life {
+    since: 0,
+    until: None,
+};
 
 /// The end of a service as a second.
 pub fn end_of(until: Option<Moment>) -> Option<Second>
@@ -96,8 +102,8 @@ impl State {
         }
     }
 
-    // Adds a section that isn't refused.
-    fn add_section(&mut self, name: Name, feeder: FeederNumber)
+    /// Adds a section that isn't refused.
+    pub(crate) fn add_section(&mut self, name: Name, feeder: FeederNumber)
         requires accepted { refusal_to self.old.state (Section name feeder) ≡ None }
         requires room { 0 < self.old.room }
         ensures state { self.new.state ≡ changed self.old.state (Section name feeder) }
@@ -117,7 +123,7 @@ impl State {
     {
         if self
             .net
-            .add_device(name, *ends.a(), *ends.b(), normal)
+            .add_device(name, *ends.a(), *ends.b(), normal, WHOLE_LIFE)
             .is_err()
         {
             unreachable!();

@@ -47,7 +47,7 @@ pub fn effect_of<T: Timeline>(
             retiming: Retiming::Same,
         }),
         Command::Bus { .. } => Ok(with_bus(alloc, state)),
-        Command::Section { .. } => with_section(alloc, state),
+        Command::Section { name, feeder } => { with_section(alloc, state, timeline, name, feeder) }
         Command::Device { name, ends, normal } => {
             with_device(alloc, state, timeline, name, ends, normal)
         }

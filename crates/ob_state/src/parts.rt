@@ -1,7 +1,8 @@
 //! What one more part of the network moves.
-ghost use Rattle.std.specs.Prelude.{◌≡◌, ◌+◌, ◌≤◌, ◌<◌, ℕ, List, [], None, IfOk, IfErr, IsSome, OnOk, length};
+ghost use Rattle.std.specs.Prelude.{◌≡◌, ◌+◌, ◌≤◌, ◌<◌, ℕ, List, None, IfOk, IfErr, IfSome, IsSome, OnOk, length};
 ghost use Rattle.ob_base.specs.Stop.{out_of_memory};
-ghost use Rattle.ob_sweep.specs.Deltas.{new_runs, IsDelta};
+ghost use Rattle.ob_sweep.specs.Changed.{changed, net_before, Applies, IsAfter};
+ghost use Rattle.ob_sweep.specs.Deltas.{new_runs, Fits, IsDelta};
 ghost use Rattle.ob_time.specs.Calendar.{day_count};
 ghost use Rattle.ob_post.specs.declared.Dim.{Dim as Dimension};
 ghost use Rattle.ob_state.specs.Amounts.{amount};
@@ -10,16 +11,18 @@ ghost use Rattle.ob_state.specs.Refusals.{refusal};
 ghost use Rattle.ob_state.specs.Next.{next};
 ghost use Rattle.ob_state.specs.Retimings.{runs_in};
 ghost use Rattle.ob_posting.specs.Balances.{Balances, together};
-ghost use Rattle.ob_state.specs.Effects.{IsEffect, amount_of_node, without_device};
+ghost use Rattle.ob_state.specs.Effects.{IsEffect, amount_of_node, with_network, without_device};
+ghost use Rattle.ob_state.specs.Searches.{most_searches};
 
+use crate::change::WHOLE_LIFE;
 use crate::effect::Effect;
 use crate::retiming::Retiming;
 use crate::state::State;
-use ob_base::{Name, Pos, Stop};
-use ob_command::{Command, Ends};
+use ob_base::{Life, Name, Pos, Stop};
+use ob_command::{Command, Ends, FeederNumber};
 use ob_post::laws::{section_laws, total_laws};
 use ob_posting::Posting;
-use ob_sweep::{Delta, Timeline, plan_section, plan_still};
+use ob_sweep::{Change, Delta, Timeline};
 use std::alloc::Global;
 
 /// The effect of a bus that isn't refused: no section's runs change.
@@ -35,16 +38,32 @@ pub fn with_bus(alloc: Global, state: &State) -> Effect
 }
 
 /// The effect of a section that isn't refused: it has runs, and no customers yet. The error is that memory was refused.
-pub fn with_section(alloc: Global, state: &State) -> Result<Effect, Stop>
-    ensures effect { (name : List ℕ) (feeder : ℕ) → refusal state.now.state (Command.Section name feeder) ≡ None
-        → IfOk result (IsEffect state.now.state (next state.now.state (Command.Section name feeder))) }
+pub fn with_section<T: Timeline>(
+    alloc: Global,
+    state: &mut State,
+    timeline: &T,
+    name: Name,
+    feeder: FeederNumber,
+) -> Result<Effect, Stop>
+    requires accepted { refusal state.old.state (Command.Section name feeder) ≡ None }
+    requires runs { AreRunsOf state.old.state (T.content timeline.now) }
+    ensures effect { IfOk result (IsEffect state.old.state (next state.old.state (Command.Section name feeder))) }
     ensures err { IfErr result (λ stop. stop ≡ out_of_memory) }
+    ensures state { state.new.state ≡ state.old.state }
+    ensures searches { IfSome (most_searches T.bound state.old.state (Command.Section name feeder))
+        (λ most. state.new.searches ≤ state.old.searches + most) }
 {
+    state.reserve_one()?;
     let _ = state.accepted();
-    let delta = plan_section(alloc, &state.net, &state.period)?;
+    state.add_section(name, feeder);
+    let change = Change::Section {
+        feeder: feeder.get(),
+    };
+    let delta = planned(state, timeline, &change);
+    state.take_back_node();
     Ok(Effect {
         moves: Vec::new(alloc),
-        retiming: Retiming::By(delta),
+        retiming: Retiming::By(delta?),
     })
 }
 
@@ -62,33 +81,60 @@ pub fn with_device<T: Timeline>(
     ensures effect { IfOk result (IsEffect state.old.state (next state.old.state (Command.Device name ends normal))) }
     ensures err { IfErr result (λ stop. stop ≡ out_of_memory) }
     ensures state { state.new.state ≡ state.old.state }
-    ensures searches { state.new.searches ≤ state.old.searches + 1 }
+    ensures searches { IfSome (most_searches T.bound state.old.state (Command.Device name ends normal))
+        (λ most. state.new.searches ≤ state.old.searches + most) }
 {
     state.reserve_one()?;
     let _ = state.accepted();
+    let device = state.net.devices();
     state.add_device(name, ends, normal);
-    let effect = joined(alloc, state, timeline);
+    let effect = joined(alloc, state, timeline, device, WHOLE_LIFE);
     state.take_back_device();
     effect
 }
 
 // The effect of the device that was added last, where a timeline holds the runs without it.
-fn joined<T: Timeline>(alloc: Global, state: &mut State, timeline: &T) -> Result<Effect, Stop>
-    requires unswitched { state.old.state.entries ≡ [] }
+fn joined<T: Timeline>(
+    alloc: Global,
+    state: &mut State,
+    timeline: &T,
+    device: u16,
+    life: Life,
+) -> Result<Effect, Stop>
+    requires after { IsAfter (Change.Joined device life) state.old.state.network }
     requires runs { AreRunsOf (without_device state.old.state) (T.content timeline.now) }
     ensures effect { IfOk result (IsEffect (without_device state.old.state) state.old.state) }
     ensures err { IfErr result (λ stop. stop ≡ out_of_memory) }
     ensures state { state.new.state ≡ state.old.state }
-    ensures searches { state.new.searches ≤ state.old.searches + 1 }
+    ensures searches { state.new.searches ≤ state.old.searches
+        + T.bound state.old.state.network state.old.state.entries state.old.state.period (Change.Joined device life) }
 {
     total_laws();
     let _ = state.accepted();
-    let delta = plan_still(alloc, timeline, &mut state.net, &state.period)?;
+    let delta = planned(state, timeline, &Change::Joined { device, life })?;
     let posting = posted(alloc, state, timeline, &delta)?;
     Ok(Effect {
         moves: posting.moves(&state.period)?,
         retiming: Retiming::By(delta),
     })
+}
+
+// What the part of the network that was added last alters, where a timeline holds the runs without it.
+fn planned<T: Timeline>(state: &mut State, timeline: &T, change: &Change) -> Result<Delta, Stop>
+    requires part { changed change.now state.old.state.entries ≡ state.old.state.entries }
+    requires applies { Applies change.now state.old.state.entries }
+    requires after { IsAfter change.now state.old.state.network }
+    requires runs { AreRunsOf (with_network state.old.state (net_before change.now state.old.state.network))
+        (T.content timeline.now) }
+    ensures delta { IfOk result (λ delta. IsDelta state.old.state.network delta (T.content timeline.now)
+        (runs_in state.old.state)) }
+    ensures fits { IfOk result (λ delta. Fits (T.content timeline.now) delta) }
+    ensures err { IfErr result (λ stop. stop ≡ out_of_memory) }
+    ensures state { state.new.state ≡ state.old.state }
+    ensures searches { state.new.searches ≤ state.old.searches
+        + T.bound state.old.state.network state.old.state.entries state.old.state.period change.now }
+{
+    timeline.plan(&mut state.net, &state.sheet, &state.period, change)
 }
 
 // What is posted for the device that was added last: the runs of the sections that it touches.

@@ -29,6 +29,7 @@ fn is_bad_service(since: Moment, until: Option<Moment>) -> bool
 impl State {
     ghost use Rattle.std.specs.Prelude.{◌≡◌, [], ◌∷◌};
     ghost use Rattle.jiff.specs.Words.{epoch_day};
+    ghost use Rattle.ob_base.specs.Life.{whole_life};
     ghost use Rattle.ob_net.specs.Network.{device_refusal, node_refusal};
     ghost use Rattle.ob_sheet.specs.Revisions.{revision_refusal};
     ghost use Rattle.ob_time.specs.Calendar.{day_on};
@@ -114,7 +115,7 @@ impl State {
 
     fn refuse_device(&self, name: &Name, ends: Ends) -> Option<Refusal>
         ensures { result ≡ first (if_sealed self.now.state.entries
-            ∷ device_refusal self.now.state.network name.now ends.a ends.b ∷ []) }
+            ∷ device_refusal self.now.state.network name.now ends.a ends.b whole_life ∷ []) }
     {
         let unknown = self.net.node_of(ends.a()).is_none() || self.net.node_of(ends.b()).is_none();
         let full = usize::from(self.net.devices()) == MOST_DEVICES;

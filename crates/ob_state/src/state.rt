@@ -38,12 +38,12 @@ impl Model for State {
 }
 
 impl State {
-    ghost use Rattle.std.specs.Prelude.{◌≡◌, ◌<◌, ◌-◌, IfOk, IfErr, OnOk, IfSome, length};
+    ghost use Rattle.std.specs.Prelude.{◌≡◌, ◌<◌, ◌-◌, IfOk, IfErr, OnOk, IfSome, IsSome, length};
     ghost use Rattle.std.specs.List.{All};
     ghost use Rattle.ob_base.specs.Stop.{out_of_memory};
-    ghost use Rattle.ob_net.specs.Network.{section_of};
+    ghost use Rattle.ob_net.specs.Network.{section_of, home_feeder, without_last_node, JoinsTwo};
     ghost use Rattle.ob_state.specs.State.{empty_book, cause_name_of};
-    ghost use Rattle.ob_state.specs.Effects.{without_device};
+    ghost use Rattle.ob_state.specs.Effects.{without_device, without_node};
     ghost use Rattle.ob_state.specs.States.{AreRunsOf, IsSoundState};
 
     /// A new book's state.
@@ -157,6 +157,17 @@ impl State {
         ensures room { self.new.room ≡ self.old.room }
     {
         T::build(alloc, &mut self.net, &self.sheet, &self.period)
+    }
+
+    /// Takes back the node that was added last, which no device joins and of which there is no customer.
+    pub(crate) fn take_back_node(&mut self)
+        requires some { 1 < length self.old.state.network.nodes }
+        requires free { All (JoinsTwo (length self.old.state.network.nodes - 1)) self.old.state.network.devices }
+        requires customers { All (λ c. IsSome (home_feeder (without_last_node self.old.state.network) c.section)) self.old.state.customers }
+        ensures state { self.new.state ≡ without_node self.old.state }
+        ensures searches { self.new.searches ≡ self.old.searches }
+    {
+        self.net.take_back_node();
     }
 
     /// Takes back the device that was added last, of which there is no entry.

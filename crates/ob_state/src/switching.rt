@@ -4,7 +4,7 @@ ghost use Rattle.ob_base.specs.Stop.{out_of_memory};
 ghost use Rattle.ob_sheet.specs.Order.{entry_of};
 ghost use Rattle.ob_sheet.specs.Revisions.{corrected as corrected_entry, revision_refusal};
 ghost use Rattle.ob_sheet.specs.Sheet.{new_entry};
-ghost use Rattle.ob_sweep.specs.Changed.{changed, Applies};
+ghost use Rattle.ob_sweep.specs.Changed.{changed, of_sheet, Applies};
 ghost use Rattle.ob_sweep.specs.Deltas.{new_runs, IsDelta};
 ghost use Rattle.ob_time.specs.Calendar.{day_count};
 ghost use Rattle.ob_state.specs.Amounts.{amount, moves};
@@ -168,6 +168,7 @@ fn switched<T: Timeline>(
     change: &Change,
 ) -> Result<Effect, Stop>
     requires runs { AreRunsOf state.old.state (T.content timeline.now) }
+    requires of_sheet { IsSome (of_sheet change.now) }
     requires applies { Applies change.now state.old.state.entries }
     requires changed { IsBookState (with_entries state.old.state (changed change.now state.old.state.entries)) }
     ensures effect { IfOk result (IsEffect state.old.state (with_entries state.old.state

@@ -11,7 +11,7 @@ use Rattle.sqlite_catalog.proofs.ReadLemmas.{read_once, reads}
 use Rattle.ob_base.specs.declared.stop.Stop.{Stop}
 use Rattle.ob_base.specs.declared.stop.Stop.TheVariants.{Refused, Fault}
 use Rattle.ob_base.specs.declared.stop.Refusal.{Refusal}
-use Rattle.ob_base.specs.declared.stop.Refusal.TheVariants.{BadField, UnknownName, NameTaken, Sealed, OutOfPeriod, UnknownEntry, Stale, Withdrawn, UnknownCustomer, BadService, RefConflict, Full, MarkedAlready, NotMarked, UnknownCause, BadPeriod, BadBook}
+use Rattle.ob_base.specs.declared.stop.Refusal.TheVariants.{BadField, UnknownName, NameTaken, Sealed, OutOfPeriod, UnknownEntry, Stale, Withdrawn, UnknownCustomer, BadService, RefConflict, Full, MarkedAlready, NotMarked, UnknownCause, BadPeriod, BadBook, BadLife, OldVersion}
 use Rattle.ob_book.specs.Acts.{ActState}
 use Rattle.ob_tables.specs.Schema.{book_schema}
 use Rattle.ob_tables.specs.declared.table.Table.TheVariants.{Meta, Command}
@@ -64,6 +64,8 @@ module _ {R : Type 0} (h : Ghosts R) (keeper new : KeeperValue R) (Is : ActState
   not_refused UnknownCause loaded = loaded
   not_refused BadPeriod loaded = loaded
   not_refused BadBook loaded = not_none loaded.0
+  not_refused BadLife loaded = loaded
+  not_refused (OldVersion version) loaded = loaded
 
   -- a load finds this book, since the tables are of no other
   has_loaded : (r : Result ⊤ Stop) → Loaded h keeper new r → HasLoaded h Is new r

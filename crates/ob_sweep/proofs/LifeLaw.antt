@@ -1,8 +1,8 @@
 -- What the runs owe to lives: where two lives of a device hold the same second, the supply is the same then.
-use Rattle.std.proofs.Common.{◌≡◌, ℕ, zero, suc, ◌+◌, ◌-◌, ◌<◌, ◌≤◌, ◌==◌, ◌&&◌, ◌||◌, ◌⊎◌, inl, inr, nat_le, Bool, true, false, not, cond, min, List, [], ◌∷◌, Option, Some, None, length, map, take, slice_get, refl, sym, ◌∙◌, ap, arith, subst}
-use Rattle.std.specs.List.{filter, enumerate_from}
+use Rattle.std.proofs.Common.{◌≡◌, ℕ, zero, suc, ◌+◌, ◌-◌, ◌<◌, ◌≤◌, ◌==◌, ◌&&◌, ◌||◌, ◌⊎◌, inl, inr, nat_le, Bool, true, false, not, cond, min, List, [], ◌∷◌, Option, Some, None, length, map, take, slice_get, refl, sym, ◌∙◌, ap, arith}
+use Rattle.std.specs.List.{enumerate_from}
 use Rattle.std.specs.Option.{option_map, option_map_or}
-use Rattle.std.proofs.lemmas.Bool.{cases_Bool, cases_lt, cond-true, cond-false, le-ltb, and_right, false≢true}
+use Rattle.std.proofs.lemmas.Bool.{cases_Bool, cases_lt, le-ltb, and_right, false≢true}
 use Rattle.ob_base.specs.Life.{is_alive}
 use Rattle.ob_base.specs.declared.life.Life.{Life}
 use Rattle.ob_base.specs.declared.Pos.{Pos}
@@ -15,13 +15,13 @@ use Rattle.ob_sheet.specs.declared.Entry.{Entry}
 use Rattle.ob_sheet.specs.Order.{before, through, greatest, upto}
 use Rattle.ob_sheet.specs.Positions.{entered, position_of}
 use Rattle.ob_sheet.specs.Supply.{is_supplied_under}
-use Rattle.ob_sweep.specs.Cutters.{cuts_off, cutter_at}
+use Rattle.ob_sweep.specs.Cutters.{cuts_off}
 use Rattle.ob_sweep.specs.Lives.{Bounds, differ_at, first_differing, last_lived, never}
 use Rattle.ob_sweep.specs.Runs.{History, history, runs_between}
 use Rattle.ob_sweep.specs.Splice.{splice}
 use Rattle.ob_sweep.proofs.Differing.{none_differ, first_is, lived_is}
 use Rattle.ob_sweep.proofs.Ordered.{filter_alike}
-use Rattle.ob_sweep.proofs.Seams.{SameOutside, splice_tiles}
+use Rattle.ob_sweep.proofs.Seams.{splice_tiles}
 use Rattle.ob_sweep.proofs.Tiles.{transfer}
 use Rattle.ob_sweep.proofs.Unique.{CutBy, tiles_are_runs, runs_tile}
 
@@ -161,15 +161,19 @@ some_bounds p (suc n) a b e =
       | inl none ↦ elim (cases_Bool (p a)) as (λ _. ((s : ℕ) → a ≤ s → s < b → p s ≡ false) ⊎ ((c : ℕ) × (d : ℕ) × Bounds p a b c d)) [
         | inl t ↦
             let whole : a ≡ a + 1 - 1 = omega arith in
-            inr (a, a + 1, record {
-              from_a = omega arith;
-              some = omega arith;
-              to_b = omega arith;
-              first = t;
-              last = ap p (sym whole) ∙ t;
-              before = λ s l h. absurd (omega arith);
-              behind = λ s l h. none s l h;
-            })
+            inr (
+              a,
+              a + 1,
+              record {
+                from_a = omega arith;
+                some = omega arith;
+                to_b = omega arith;
+                first = t;
+                last = ap p (sym whole) ∙ t;
+                before = λ s l h. absurd (omega arith);
+                behind = λ s l h. none s l h;
+              },
+            )
         | inr f ↦ inl (λ s l h. elim (cases_lt a s) as (λ _. p s ≡ false) [ inl k ↦ none s (omega arith) h | inr k ↦ let here : s ≡ a = omega arith in ap p here ∙ f ])
       ]
       | inr found ↦
@@ -177,24 +181,32 @@ some_bounds p (suc n) a b e =
           let from_a : a + 1 ≤ found.0 = x.from_a in
           let some : found.0 < found.1 = x.some in
           elim (cases_Bool (p a)) as (λ _. ((s : ℕ) → a ≤ s → s < b → p s ≡ false) ⊎ ((c : ℕ) × (d : ℕ) × Bounds p a b c d)) [
-            | inl t ↦ inr (a, found.1, record {
-              from_a = omega arith;
-              some = omega arith;
-              to_b = x.to_b;
-              first = t;
-              last = x.last;
-              before = λ s l h. absurd (omega arith);
-              behind = x.behind;
-            })
-            | inr f ↦ inr (found.0, found.1, record {
-              from_a = omega arith;
-              some = some;
-              to_b = x.to_b;
-              first = x.first;
-              last = x.last;
-              before = λ s l h. elim (cases_lt a s) as (λ _. p s ≡ false) [ inl k ↦ x.before s (omega arith) h | inr k ↦ let here : s ≡ a = omega arith in ap p here ∙ f ];
-              behind = x.behind;
-            })
+            | inl t ↦ inr (
+              a,
+              found.1,
+              record {
+                from_a = omega arith;
+                some = omega arith;
+                to_b = x.to_b;
+                first = t;
+                last = x.last;
+                before = λ s l h. absurd (omega arith);
+                behind = x.behind;
+              },
+            )
+            | inr f ↦ inr (
+              found.0,
+              found.1,
+              record {
+                from_a = omega arith;
+                some = some;
+                to_b = x.to_b;
+                first = x.first;
+                last = x.last;
+                before = λ s l h. elim (cases_lt a s) as (λ _. p s ≡ false) [ inl k ↦ x.before s (omega arith) h | inr k ↦ let here : s ≡ a = omega arith in ap p here ∙ f ];
+                behind = x.behind;
+              },
+            )
           ]
     ]
 

@@ -1,6 +1,6 @@
 -- What the sweep of a life's window is given, and what is new in the runs that it finds.
-use Rattle.std.proofs.Common.{◌≡◌, ◌≢◌, ℕ, suc, ◌+◌, ◌-◌, ◌<◌, ◌≤◌, ◌==◌, ◌&&◌, nat_le, inl, inr, Bool, true, false, not, List, [], ◌∷◌, ◌++◌, Option, Some, None, length, map, take, drop, slice_get, refl, sym, ◌∙◌, ap, arith, subst, append_assoc, IsTrue}
-use Rattle.std.specs.List.{All, AllPairs, AllByRecursion, Contains, filter}
+use Rattle.std.proofs.Common.{◌≡◌, ℕ, suc, ◌+◌, ◌-◌, ◌<◌, ◌≤◌, ◌==◌, ◌&&◌, nat_le, inl, inr, Bool, true, false, not, List, [], ◌∷◌, ◌++◌, Option, Some, None, length, map, take, drop, slice_get, refl, sym, ◌∙◌, ap, arith, subst, append_assoc, IsTrue}
+use Rattle.std.specs.List.{All, AllByRecursion, Contains, filter}
 use Rattle.std.specs.Prelude.{◌↔◌}
 use Rattle.std.specs.Option.{option_map, option_map_or}
 use Rattle.std.proofs.lemmas.Bool.{cases_eq, and_right, lt-leb, le-ltb, lt-ltb, ne_eqb}
@@ -12,11 +12,11 @@ use Rattle.ob_net.specs.Network.{Network, with_life, without_last_device}
 use Rattle.ob_sheet.proofs.Ordered.{in_order_greatest, in_order_rises, rising_pairs}
 use Rattle.ob_sheet.proofs.Sorting.{IsInOrder}
 use Rattle.ob_sheet.specs.declared.Entry.{Entry}
-use Rattle.ob_sheet.specs.Order.{before, through, greatest, in_order, is_before, upto}
+use Rattle.ob_sheet.specs.Order.{before, through, greatest, in_order, is_before}
 use Rattle.ob_sheet.specs.Sheet.{AreNumbered, NameDevices}
 use Rattle.ob_sheet.specs.Supply.{is_supplied_under}
 use Rattle.ob_sweep.specs.Cutters.{cuts_off}
-use Rattle.ob_sweep.specs.Deltas.{IsDelta, new_runs}
+use Rattle.ob_sweep.specs.Deltas.{IsDelta}
 use Rattle.ob_sweep.specs.Lives.{first_differing, kept_within, last_lived, life_searches, never}
 use Rattle.ob_sweep.specs.Runs.{IsRun, history, runs_between}
 use Rattle.ob_sweep.specs.Splice.{splice}

@@ -69,8 +69,12 @@ parts_of : (ds : List Device) (a m z : ℕ) → a ≤ m → m ≤ z
 parts_of [] a m z l k = omega arith
 parts_of (d ∷ ds) a m z l k =
     omega (
-      arith, turns_parts d.life a m z l k, parts_of ds a m z l k, sum_by-cons (λ (d : Device). turns_of d.life a m) d ds,
-      sum_by-cons (λ (d : Device). turns_of d.life m z) d ds, sum_by-cons (λ (d : Device). turns_of d.life a z) d ds
+      arith,
+      turns_parts d.life a m z l k,
+      parts_of ds a m z l k,
+      sum_by-cons (λ (d : Device). turns_of d.life a m) d ds,
+      sum_by-cons (λ (d : Device). turns_of d.life m z) d ds,
+      sum_by-cons (λ (d : Device). turns_of d.life a z) d ds,
     )
 
 pub turns_in_parts : (net : Network) (a m z : ℕ) → a ≤ m → m ≤ z → turns_between net a m + turns_between net m z ≤ turns_between net a z

@@ -5,12 +5,12 @@ use Rattle.std.proofs.lemmas.List.{length-map}
 use Rattle.std.proofs.lemmas.List.Elements.{recursion_from_All}
 use Rattle.std.proofs.lemmas.List.FromFn.{get_or-map-range_with_len, length-range_with_len, length-enumerate_from, sum_by-map-range_with_len_more}
 use Rattle.std.proofs.lemmas.List.Sums.{sum_by-cons}
-use Rattle.ob_net.specs.Network.{Network}
+use Rattle.ob_net.specs.Network.{Network, as_of}
 use Rattle.ob_base.specs.Seconds.{seconds}
 use Rattle.ob_net.specs.Walk.{is_supplied}
 use Rattle.ob_base.specs.declared.Pos.{Pos}
 use Rattle.ob_sheet.specs.Order.{upto}
-use Rattle.ob_sheet.specs.Positions.{position_of, positions as positions_under}
+use Rattle.ob_sheet.specs.Positions.{position_of, entered as entered_under}
 use Rattle.ob_sheet.specs.Supply.{is_deenergized}
 use Rattle.ob_sheet.specs.declared.Entry.{Entry}
 use Rattle.ob_cust.specs.Service.{in_service}
@@ -61,22 +61,22 @@ sum_more g a s within =
 pub none_yet : (D : ℕ → ℕ → Bool) (a : ℕ) (customers : List Customer) → 0 ≡ seconds_without_supply D (seconds a a) customers
 none_yet D a customers = let e : a - a ≡ 0 = omega arith in rw e refl
 
--- the total over one second more
-pub second_more : (net : Network) (entries : List Entry) (positions : List Pos) (a s total n : ℕ) (customers : List Customer) → a ≤ s
-    → positions ≡ positions_under net (upto entries s)
-    → n ≡ count_by (λ c. is_without_supply (λ v t. not (is_supplied net positions v)) c s) customers
+-- the total over one second more, where the devices that aren't alive at it are open
+pub second_more : (net : Network) (entries : List Entry) (entered : List Pos) (a s total n : ℕ) (customers : List Customer) → a ≤ s
+    → entered ≡ entered_under net (upto entries s)
+    → n ≡ count_by (λ c. is_without_supply (λ v t. not (is_supplied net (as_of net.devices s entered) v)) c s) customers
     → total ≡ seconds_without_supply (is_deenergized net entries) (seconds a s) customers
     → total + n ≡ seconds_without_supply (is_deenergized net entries) (seconds a (s + 1)) customers
-second_more net entries positions a s total n customers within at count so_far =
+second_more net entries entered a s total n customers within at count so_far =
     let here : n ≡ count_by (λ c. is_without_supply (is_deenergized net entries) c s) customers =
-    count ∙ ap (λ (p : List Pos). count_by (λ c. is_without_supply (λ v t. not (is_supplied net p v)) c s) customers) at in
+    count ∙ ap (λ (p : List Pos). count_by (λ c. is_without_supply (λ v t. not (is_supplied net (as_of net.devices s p) v)) c s) customers) at in
     ap (λ (k : ℕ). k + n) so_far
     ∙ ap (λ (k : ℕ). seconds_without_supply (is_deenergized net entries) (seconds a s) customers + k) here
     ∙ sym (sum_more (λ t. count_by (λ c. is_without_supply (is_deenergized net entries) c t) customers) a s within)
 
 -- a position for each device
-pub positions_long : (net : Network) (set : List Entry) → length (positions_under net set) ≡ length net.devices
-positions_long net set = length-map (enumerate_from 0 net.devices) (λ d. position_of set d.0 d.1) ∙ length-enumerate_from 0 net.devices
+pub entered_long : (net : Network) (set : List Entry) → length (entered_under net set) ≡ length net.devices
+entered_long net set = length-map (enumerate_from 0 net.devices) (λ d. position_of set d.0 d.1) ∙ length-enumerate_from 0 net.devices
 
 -- the totals fit, since spans are short and customers are few
 pub fits : (total n s a e long : ℕ) → total ≤ (s - a) * MOST_CUSTOMERS → n ≤ long → long ≤ MOST_CUSTOMERS → s < e → e < a + 2 ^ 25 → total + n < 2 ^ 64

@@ -1,4 +1,5 @@
 pub mod Counting
+pub mod Lives
 pub mod Sections
 pub mod TotalLaws
 pub mod Unused

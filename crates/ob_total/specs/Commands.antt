@@ -6,7 +6,7 @@ use Rattle.ob_base.specs.Identifier.{identifier_in}
 use Rattle.ob_base.specs.declared.stop.Refusal.{Refusal}
 use Rattle.ob_base.specs.declared.stop.Refusal.TheVariants.{BadField}
 use Rattle.ob_total.specs.declared.command.Command.{Command}
-use Rattle.ob_total.specs.declared.command.Command.TheVariants.{Cause, Bus, Section, Device, Connect, Switch}
+use Rattle.ob_total.specs.declared.command.Command.TheVariants.{Cause, Bus, Section, Device, Life, Connect, Switch}
 use Rattle.ob_total.specs.declared.command.Kind.{Kind}
 use Rattle.ob_total.specs.declared.command.Kind.TheVariants as kinds
 use Rattle.ob_total.specs.declared.command.Span.{Span}
@@ -53,12 +53,25 @@ section_of f1 f2 rest =
 abbrev pub other_node_in : List ℕ → List ℕ → Option (List ℕ)
 other_node_in a text = option_and_then (λ b. if bytes_eq a b then None else Some b) (identifier_in 24 text)
 
-abbrev pub device_of : List ℕ → List ℕ → List ℕ → List ℕ → List (List ℕ) → Result Command Refusal
-device_of f1 f2 f3 f4 rest =
+-- the beginning of a life: an empty text is 0
+abbrev pub since_in : List ℕ → Option ℕ
+since_in [] = Some 0
+since_in (byte ∷ bytes) = unix_second_in (byte ∷ bytes)
+
+abbrev pub device_of : List ℕ → List ℕ → List ℕ → List ℕ → List ℕ → List ℕ → Result Command Refusal
+device_of f1 f2 f3 f4 f5 f6 =
     with_field 3 (identifier_in 24 f1) (λ name.
     with_field 4 (identifier_in 24 f2) (λ a.
     with_field 5 (other_node_in a f3) (λ b.
-    with_field 6 (normal_in f4) (λ normal. with_unused 7 rest (Ok (Device name a b normal))))))
+    with_field 6 (normal_in f4) (λ normal.
+    with_field 7 (since_in f5) (λ since.
+    with_field 8 (until_in unix_second_in f6) (λ until. Ok (Device name a b normal (record { since = since; until = until }))))))))
+
+abbrev pub life_of : List ℕ → List ℕ → List ℕ → List (List ℕ) → Result Command Refusal
+life_of f1 f2 f3 rest =
+    with_field 3 (identifier_in 24 f1) (λ name.
+    with_field 4 (since_in f2) (λ since.
+    with_field 5 (until_in unix_second_in f3) (λ until. with_unused 6 rest (Ok (Life name (record { since = since; until = until }))))))
 
 abbrev pub connect_of : List ℕ → List ℕ → List ℕ → List ℕ → List (List ℕ) → Result Command Refusal
 connect_of f1 f2 f3 f4 rest =
@@ -82,6 +95,7 @@ kind_in text =
     else if bytes_eq text (codes "bus") then Some kinds.Bus
     else if bytes_eq text (codes "section") then Some kinds.Section
     else if bytes_eq text (codes "device") then Some kinds.Device
+    else if bytes_eq text (codes "life") then Some kinds.Life
     else if bytes_eq text (codes "connect") then Some kinds.Connect
     else if bytes_eq text (codes "switch") then Some kinds.Switch
     else None
@@ -91,7 +105,8 @@ abbrev pub command_by : Kind → List ℕ → List ℕ → List ℕ → List ℕ
 command_by kinds.Cause f1 f2 f3 f4 f5 f6 = cause_of f1 f2 (f3 ∷ f4 ∷ f5 ∷ f6 ∷ [])
 command_by kinds.Bus f1 f2 f3 f4 f5 f6 = bus_of f1 (f2 ∷ f3 ∷ f4 ∷ f5 ∷ f6 ∷ [])
 command_by kinds.Section f1 f2 f3 f4 f5 f6 = section_of f1 f2 (f3 ∷ f4 ∷ f5 ∷ f6 ∷ [])
-command_by kinds.Device f1 f2 f3 f4 f5 f6 = device_of f1 f2 f3 f4 (f5 ∷ f6 ∷ [])
+command_by kinds.Device f1 f2 f3 f4 f5 f6 = device_of f1 f2 f3 f4 f5 f6
+command_by kinds.Life f1 f2 f3 f4 f5 f6 = life_of f1 f2 f3 (f4 ∷ f5 ∷ f6 ∷ [])
 command_by kinds.Connect f1 f2 f3 f4 f5 f6 = connect_of f1 f2 f3 f4 (f5 ∷ f6 ∷ [])
 command_by kinds.Switch f1 f2 f3 f4 f5 f6 = switch_of f1 f2 f3 f4 f5 (f6 ∷ [])
 
@@ -106,7 +121,8 @@ abbrev pub IsCommand : Command → Type 0
 IsCommand Cause = Unit {0}
 IsCommand (Bus name) = Unit {0}
 IsCommand (Section name feeder) = 1 ≤ feeder
-IsCommand (Device name a b normal) = a ≢ b
+IsCommand (Device name a b normal life) = a ≢ b
+IsCommand (Life name life) = Unit {0}
 IsCommand (Connect customer section since until) = Unit {0}
 IsCommand (Switch device pos second cause crew) = Unit {0}
 

@@ -2,10 +2,10 @@
 ghost use Rattle.std.specs.Prelude.{◌≡◌, ◌≢◌, ◌≤◌, ◌<◌, ◌+◌, [], ◌∷◌, length, map, IfOk, IfSome};
 ghost use Rattle.ob_base.specs.Fields.{unix_second_in, until_in};
 ghost use Rattle.ob_rows.specs.RowFields.{fields_in};
-ghost use Rattle.ob_total.specs.Commands.{IsCommand, IsSpan, with_unused, span_end_in, span_of, cause_of, bus_of, section_of, device_of, other_node_in, connect_of, switch_of, kind_in, command_by, command_of};
+ghost use Rattle.ob_total.specs.Commands.{IsCommand, IsSpan, with_unused, span_end_in, span_of, cause_of, bus_of, section_of, device_of, other_node_in, since_in, life_of, connect_of, switch_of, kind_in, command_by, command_of};
 
 use ob_base::{
-    Crew, LAST_SECOND, Name, Pos, Ref, Refusal, Second, read_act, read_cause, read_feeder,
+    Crew, LAST_SECOND, Life, Name, Pos, Ref, Refusal, Second, read_act, read_cause, read_feeder,
     read_normal, read_serial, read_unix_second, read_until,
 };
 use ob_rows::{Row, RowFields};
@@ -24,6 +24,7 @@ pub enum Kind {
     Bus,
     Section,
     Device,
+    Life,
     Connect,
     Switch,
 }
@@ -37,8 +38,10 @@ pub enum Command {
     Bus(Name),
     /// A section and its home feeder.
     Section(Name, u8),
-    /// A device, its two nodes and its normal position.
-    Device(Name, Name, Name, Pos),
+    /// A device, its two nodes, its normal position and its life.
+    Device(Name, Name, Name, Pos, Life),
+    /// The life that a device has from now on in the place of the one that it had.
+    Life(Name, Life),
     /// A customer's number, section and service.
     Connect(u32, Name, Second, Option<Second>),
     /// A device's position from a second on, with cause and crew.
@@ -94,6 +97,7 @@ fn command_of_fields(row: &RowFields<'_>) -> Result<Command, Refusal>
         Kind::Bus => read_bus(row),
         Kind::Section => read_section(row),
         Kind::Device => read_device(row),
+        Kind::Life => read_life(row),
         Kind::Connect => read_connect(row),
         Kind::Switch => read_switch(row),
     }
@@ -110,6 +114,8 @@ fn read_kind(text: &[u8]) -> Option<Kind>
         Some(Kind::Section)
     } else if text == b"device".as_slice() {
         Some(Kind::Device)
+    } else if text == b"life".as_slice() {
+        Some(Kind::Life)
     } else if text == b"connect".as_slice() {
         Some(Kind::Connect)
     } else if text == b"switch".as_slice() {
@@ -168,14 +174,16 @@ fn read_section(row: &RowFields<'_>) -> Result<Command, Refusal>
 }
 
 fn read_device(row: &RowFields<'_>) -> Result<Command, Refusal>
-    ensures command { result ≡ device_of row.now.f1.now row.now.f2.now row.now.f3.now row.now.f4.now (row.now.f5.now ∷ row.now.f6.now ∷ []) }
+    ensures command { result ≡ device_of row.now.f1.now row.now.f2.now row.now.f3.now row.now.f4.now row.now.f5.now row.now.f6.now }
     ensures valid { IfOk result IsCommand }
 {
     let name = Name::read(row.f1).ok_or(Refusal::BadField(3))?;
     let a = Name::read(row.f2).ok_or(Refusal::BadField(4))?;
     let b = read_other_node(&a, row.f3).ok_or(Refusal::BadField(5))?;
     let normal = read_normal(row.f4).ok_or(Refusal::BadField(6))?;
-    complete(Command::Device(name, a, b, normal), 7, &[row.f5, row.f6])
+    let since = read_since(row.f5).ok_or(Refusal::BadField(7))?;
+    let until = read_end(row.f6).ok_or(Refusal::BadField(8))?;
+    Ok(Command::Device(name, a, b, normal, Life { since, until }))
 }
 
 /// The second node of a device, which isn't the first.
@@ -188,6 +196,31 @@ fn read_other_node(a: &Name, text: &[u8]) -> Option<Name>
         None
     } else {
         Some(b)
+    }
+}
+
+fn read_life(row: &RowFields<'_>) -> Result<Command, Refusal>
+    ensures command { result ≡ life_of row.now.f1.now row.now.f2.now row.now.f3.now (row.now.f4.now ∷ row.now.f5.now ∷ row.now.f6.now ∷ []) }
+    ensures valid { IfOk result IsCommand }
+{
+    let name = Name::read(row.f1).ok_or(Refusal::BadField(3))?;
+    let since = read_since(row.f2).ok_or(Refusal::BadField(4))?;
+    let until = read_end(row.f3).ok_or(Refusal::BadField(5))?;
+    complete(
+        Command::Life(name, Life { since, until }),
+        6,
+        &[row.f4, row.f5, row.f6],
+    )
+}
+
+/// The beginning of a life as Unix seconds, 0 where it isn't named.
+fn read_since(text: &[u8]) -> Option<Second>
+    ensures { result ≡ since_in text.now }
+{
+    if text.is_empty() {
+        Some(0)
+    } else {
+        read_unix_second(text)
     }
 }
 
@@ -206,7 +239,7 @@ fn read_connect(row: &RowFields<'_>) -> Result<Command, Refusal>
     )
 }
 
-/// An end of service as Unix seconds, or none.
+/// An end of a life or a service as Unix seconds, or none.
 fn read_end(text: &[u8]) -> Option<Option<Second>>
     ensures { result ≡ until_in unix_second_in text.now }
 {

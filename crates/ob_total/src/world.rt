@@ -3,7 +3,7 @@ ghost use Rattle.std.specs.Prelude.{◌≡◌};
 
 use crate::command::{Command, Span};
 use crate::count::count_seconds;
-use ob_base::{Crew, Name, Pos, Refusal, Second, Stop};
+use ob_base::{Crew, Life, Name, Pos, Refusal, Second, Stop};
 use ob_cust::{Customer, Roll};
 use ob_net::Net;
 use ob_sheet::{MOST_ENTRIES, Sheet};
@@ -62,7 +62,8 @@ impl World {
             Command::Cause => Ok(()),
             Command::Bus(name) => self.add_bus(name),
             Command::Section(name, feeder) => self.add_section(name, feeder),
-            Command::Device(name, a, b, normal) => self.add_device(name, a, b, normal),
+            Command::Device(name, a, b, normal, life) => self.add_device(name, a, b, normal, life),
+            Command::Life(device, life) => self.set_life(device, life),
             Command::Connect(number, section, since, until) => {
                 self.connect(number, section, since, until)
             }
@@ -77,33 +78,23 @@ impl World {
         ensures total { IfOk result (λ n. n ≡ customer_seconds_of self.old) }
         ensures err { IfErr result (λ stop. stop ≡ out_of_memory) }
     {
-        let mut positions = self.sheet.positions_before(0, &self.net)?;
+        let mut entered = self.sheet.entered_before(0, &self.net)?;
+        let alloc = *entered.allocator();
         let customers = self.roll.customers();
         count_seconds(
+            alloc,
             &mut self.net,
             &self.sheet,
             customers,
             self.span,
-            &mut positions,
+            &mut entered,
         )
-    }
-
-    fn refuse_if_sealed(&self) -> Result<(), Refusal>
-        ensures open { OnOk result (self.now.entries ≡ []) }
-        ensures sealed { IfErr result (λ refusal. (refusal ≡ Refusal.Sealed) × (0 < length self.now.entries)) }
-    {
-        if self.sheet.len() == 0 {
-            Ok(())
-        } else {
-            Err(Refusal::Sealed)
-        }
     }
 
     fn add_bus(&mut self, name: Name) -> Result<(), Stop>
         ensures said { StepsAs result self.new (next self.old (Command.Bus name)) }
         ensures err { OnErr result (self.new ≡ self.old) }
     {
-        self.refuse_if_sealed()?;
         self.net.reserve_one()?;
         self.net.add_bus(name)?;
         Ok(())
@@ -114,20 +105,36 @@ impl World {
         ensures said { StepsAs result self.new (next self.old (Command.Section name feeder)) }
         ensures err { OnErr result (self.new ≡ self.old) }
     {
-        self.refuse_if_sealed()?;
         self.net.reserve_one()?;
         self.net.add_section(name, feeder)?;
         Ok(())
     }
 
-    fn add_device(&mut self, name: Name, a: Name, b: Name, normal: Pos) -> Result<(), Stop>
+    fn add_device(
+        &mut self,
+        name: Name,
+        a: Name,
+        b: Name,
+        normal: Pos,
+        life: Life,
+    ) -> Result<(), Stop>
         requires { a ≢ b }
-        ensures said { StepsAs result self.new (next self.old (Command.Device name a b normal)) }
+        ensures said { StepsAs result self.new (next self.old (Command.Device name a b normal life)) }
         ensures err { OnErr result (self.new ≡ self.old) }
     {
-        self.refuse_if_sealed()?;
         self.net.reserve_one()?;
-        self.net.add_device(name, a, b, normal)?;
+        self.net.add_device(name, a, b, normal, life)?;
+        Ok(())
+    }
+
+    fn set_life(&mut self, device: Name, life: Life) -> Result<(), Stop>
+        ensures said { StepsAs result self.new (next self.old (Command.Life device life)) }
+        ensures err { OnErr result (self.new ≡ self.old) }
+    {
+        let Some(device) = self.net.device_of(&device) else {
+            return Err(Stop::Refused(Refusal::UnknownName));
+        };
+        self.net.set_life(device, life)?;
         Ok(())
     }
 

@@ -111,6 +111,15 @@ device,A1,B1,GRID,S1,close,, => refused 1 BadField 6 row 2
 device,A1,B1,GRID,S1,,, => refused 1 BadField 6 row 2
 device,A1,B1,GRID,S1,open,x, => refused 1 BadField 7 row 2
 device,A1,B1,GRID,S1,open,,x => refused 1 BadField 8 row 2
+device,A1,B1,GRID,S1,open,x,x => refused 1 BadField 7 row 2
+device,A1,B1,GRID,S1,open,000000000001, => refused 1 BadField 7 row 2
+device,A1,B1,GRID,S1,open,100000000000, => refused 1 BadField 7 row 2
+device,A1,B1,GRID,S1,open,-, => refused 1 BadField 7 row 2
+device,A1,B1,GRID,S1,open,,000000000001 => refused 1 BadField 8 row 2
+device,A1,B1,GRID,S1,open,,100000000000 => refused 1 BadField 8 row 2
+device,A1,B1,GRID,S1,open,5,- => refused 1 BadField 8 row 2
+device,A1,B1,S1,S1,open,x,x => refused 1 BadField 5 row 2
+device,A1,B1,GRID,S1,x,x, => refused 1 BadField 6 row 2
 connect,A1,0,S1,0,,, => refused 1 BadField 3 row 2
 connect,A1,4294967296,S1,0,,, => refused 1 BadField 3 row 2
 connect,A1,00000000001,S1,0,,, => refused 1 BadField 3 row 2
@@ -140,4 +149,33 @@ switch,A1,B1,open,150,3,K1,x => refused 1 BadField 8 row 2
 #[test]
 fn columns_of_devices_and_customers(rt: HostRuntime) -> Result<(), Fail> {
     script(&rt, rt.alloc(), SPAN, DEVICES_AND_CUSTOMERS)
+}
+
+const LIVES: &'static str = "\
+life,A1,b1,,,,, => refused 1 BadField 3 row 2
+life,A1,,,,,, => refused 1 BadField 3 row 2
+life,A1,b1,x,x,,, => refused 1 BadField 3 row 2
+life,A1,B1,x,,,, => refused 1 BadField 4 row 2
+life,A1,B1,-,,,, => refused 1 BadField 4 row 2
+life,A1,B1,000000000001,,,, => refused 1 BadField 4 row 2
+life,A1,B1,100000000000,,,, => refused 1 BadField 4 row 2
+life,A1,B1,x,x,x,, => refused 1 BadField 4 row 2
+life,A1,B1,,x,,, => refused 1 BadField 5 row 2
+life,A1,B1,5,-,,, => refused 1 BadField 5 row 2
+life,A1,B1,,000000000001,,, => refused 1 BadField 5 row 2
+life,A1,B1,,100000000000,,, => refused 1 BadField 5 row 2
+life,A1,B1,5,5,x,, => refused 1 BadField 6 row 2
+life,A1,B1,,,,x, => refused 1 BadField 7 row 2
+life,A1,B1,,,,,x => refused 1 BadField 8 row 2
+lives,A1,B1,,,,, => refused 1 BadField 1 row 2
+# Fields that can be read: the name comes next, and then the order of the seconds.
+life,A1,B1,,,,, => refused 2 UnknownName row 2
+life,A1,B1,5,4,,, => refused 2 UnknownName row 2
+device,A1,B1,GRID,S1,open,5,4 => refused 2 UnknownName row 2
+section,A1,S1,1,,,,;device,A2,B1,GRID,S1,open,00000000005,99999999999;life,A3,B1,00000000005,99999999999,,, => W 0
+";
+
+#[test]
+fn columns_of_lives(rt: HostRuntime) -> Result<(), Fail> {
+    script(&rt, rt.alloc(), SPAN, LIVES)
 }

@@ -11,6 +11,8 @@ mod commands;
 #[cfg(test)]
 mod limits;
 #[cfg(test)]
+mod lives;
+#[cfg(test)]
 mod rows;
 #[cfg(test)]
 mod script;

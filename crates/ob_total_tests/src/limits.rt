@@ -64,6 +64,8 @@ W 0
 device,A,X,GRID,S1,open,, => refused 12 Full 2048 row 2053
 device,A,D9,GRID,S1,open,, => refused 3 NameTaken row 2053
 device,A,X,GRID,NONE,open,, => refused 2 UnknownName row 2053
+device,A,X,GRID,S1,open,7,7 => refused 18 BadLife row 2053
+life,A,D9,7,8,,, => W 0
 ";
 
 // FEEDER has two of them.

@@ -52,6 +52,28 @@ fn first_run_past_its_span(rt: HostRuntime) -> Result<(), Fail> {
     )
 }
 
+// A first run with these rows behind it.
+fn first_run_and(rt: &impl Abort, alloc: Global, rows: &str, wanted: &str) -> Result<(), Fail> {
+    let text = joined(alloc, FIRST_RUN, rows)?;
+    says(rt, alloc, text.as_bytes(), wanted)
+}
+
+// The tie is taken down at 6000, for three customers' 4,000 seconds; then it stands again.
+#[test]
+fn first_run_without_its_tie(rt: HostRuntime) -> Result<(), Fail> {
+    let ends = "life,L1,T1,,6000,,,\n";
+    let stands_again = "life,L1,T1,,6000,,,\nlife,L2,T1,,,,,\n";
+    first_run_and(&rt, rt.alloc(), ends, "W 21000")?;
+    first_run_and(&rt, rt.alloc(), stands_again, "W 9000")
+}
+
+// Another device to the first section stands from 5000 on: its two customers have supply 2,200 seconds earlier.
+#[test]
+fn first_run_with_one_device_more(rt: HostRuntime) -> Result<(), Fail> {
+    let joins = "device,N1,X1,BUS-A,S1,closed,5000,\n";
+    first_run_and(&rt, rt.alloc(), joins, "W 4600")
+}
+
 // Runs over texts say this.
 fn say(rt: &impl Abort, alloc: Global, table: &[(&[u8], &str)]) -> Result<(), Fail> {
     for (text, wanted) in table {

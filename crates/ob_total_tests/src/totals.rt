@@ -2,8 +2,8 @@
 use crate::script::{joined, script};
 use std::test::Fail;
 
-// Two sections one behind the other, with one customer and two, and a tie from the bus to the second.
-const TIED: &'static str = "\
+/// Two sections one behind the other, with one customer and two, and a tie from the bus to the second.
+pub const TIED: &'static str = "\
 span,A0,0,100,,,,
 bus,A1,BUS-A,,,,,
 section,A2,S1,1,,,,

@@ -24,6 +24,12 @@ returns-in-Cause-clause-effect g c =
       ]
     ]
 
+pub returns-in-Section-clause-searches : goal.returns-in-Section-clause-searches
+returns-in-Section-clause-searches g c = rw c.in-Section.is c.with_section.ensures.searches
+
+pub returns-in-Device-clause-searches : goal.returns-in-Device-clause-searches
+returns-in-Device-clause-searches g c = rw c.in-Device.is c.with_device.ensures.searches
+
 pub returns-in-Switch-clause-searches : goal.returns-in-Switch-clause-searches
 returns-in-Switch-clause-searches g c = rw c.in-Switch.is c.entered.ensures.searches
 

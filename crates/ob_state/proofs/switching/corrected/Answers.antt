@@ -2,7 +2,8 @@ use Rattle.std.proofs.Common.{◌≡◌, ◌∙◌, sym, ap, subst, refl, ℕ, �
 use Rattle.std.proofs.lemmas.Result.{IfOk-weaker}
 use Rattle.ob_sheet.specs.Order.{entry_of}
 use Rattle.ob_sheet.specs.Revisions.{change_entry, corrected}
-use Rattle.ob_sweep.specs.Changed.{changed, Applies, IsKeptOn}
+use Rattle.ob_sweep.specs.Changed.{changed, Applies}
+use Rattle.ob_sweep.specs.SheetChanges.{IsKeptOn}
 use Rattle.ob_sweep.specs.declared.change.Change.{Change}
 use Rattle.ob_sweep.specs.declared.change.Change.TheVariants.{Corrected}
 use Rattle.ob_state.specs.States.{IsBookState}

@@ -6,14 +6,27 @@ use Rattle.ob_sheet.specs.declared.Entry.{Entry}
 use Rattle.ob_sweep.specs.Changed.{changed}
 use Rattle.ob_sweep.specs.Deltas.{IsDelta}
 use Rattle.ob_sweep.specs.Runs.{history, runs_between}
+use Rattle.ob_sweep.specs.Timeline.{AreRuns}
 use Rattle.ob_time.specs.Calendar.{first_second_of, end_second_of}
 use Rattle.ob_state.specs.Amounts.{moves}
 use Rattle.ob_state.specs.Effects.{with_entries}
 use Rattle.ob_state.specs.Retimings.{runs_in}
 use Rattle.ob_state.specs.State.{BookState}
-use Rattle.ob_state.specs.States.{BookValue, book_state}
+use Rattle.ob_state.specs.States.{AreRunsOf, BookValue, book_state}
+use Rattle.ob_state.proofs.Changing.{any_network, same_network}
 use Rattle.ob_state.proofs.Deltas.{delta_of_any}
 use Rattle.ob_state.proofs.switching.switched.Goals as goal
+
+pub plan-requires-clause-runs : goal.plan-requires-clause-runs
+plan-requires-clause-runs g c =
+    let i = c.state.inside in
+    let lists = g.T.Timeline.content c.args.timeline.now in
+    let runs = subst (λ (s : BookValue). AreRunsOf s.state lists) (sym c.state.view_is) c.requires.runs in
+    rw c.deref.ensures
+    (subst (λ (n : Network). AreRuns n i.sheet.entries (first_second_of i.period) (end_second_of i.period) lists) (sym (same_network c.args.change.now i.net.network c.requires.of_sheet)) runs)
+
+pub plan-requires-clause-after : goal.plan-requires-clause-after
+plan-requires-clause-after g c = any_network c.args.change.now c.state.inside.net.network c.requires.of_sheet
 
 pub plan-requires-clause-between : goal.plan-requires-clause-between
 plan-requires-clause-between g c =

@@ -1,7 +1,6 @@
-use Rattle.std.proofs.Common.{◌≡◌, ◌+◌, ◌-◌, ◌<◌, ◌≤◌, refl, sym, ◌∙◌, arith}
+use Rattle.std.proofs.Common.{◌≡◌, ◌+◌, ◌<◌, ◌≤◌, refl, arith}
 use Rattle.ob_sweep.specs.Lives.{last_lived}
 use Rattle.ob_sweep.proofs.Differing.{none_differ, first_is, lived_is}
-use Rattle.ob_sweep.proofs.LifePlan.{unchanged}
 use Rattle.ob_sweep.proofs.life_window.life_window.Goals.{then-until-end, else-until-end}
 use Rattle.ob_sweep.proofs.life_window.life_window.Goals as goal
 
@@ -22,8 +21,7 @@ returns c =
     elim c.if-until-end.branch [
       | then-until-end w ↦ omega (arith, z, w.end-is, w.if-until-end, to_b)
       | else-until-end w ↦ omega (arith, z, w.end-is, w.if-until-end, to_b, some)
-    ] in
-    (
+    ] in (
       first_is old new first end c.in_ok-since.since c.in_ok-since.until x,
       record {
         first = refl;

@@ -1,8 +1,8 @@
--- The total over the seconds so far, and the positions that the entries before the place leave.
+-- The total over the seconds so far, and what the entries before the place entered.
 use Rattle.std.proofs.Common.{◌≡◌, ◌-◌, ◌*◌, ◌≤◌, ℕ, length, take}
 use Rattle.ob_base.specs.Seconds.{seconds}
 use Rattle.ob_sheet.specs.Order.{in_order, upto}
-use Rattle.ob_sheet.specs.Positions.{positions}
+use Rattle.ob_sheet.specs.Positions.{entered}
 use Rattle.ob_sheet.specs.Supply.{is_deenergized}
 use Rattle.ob_cust.specs.WithoutSupply.{seconds_without_supply}
 use Rattle.ob_cust.specs.declared.TheConstants.{MOST_CUSTOMERS}
@@ -13,7 +13,7 @@ invariant-loop-second l = record {
   network : l.net.network ≡ l.fn.net.network;
   place : l.place ≤ length (in_order l.sheet.entries);
   before : (t : ℕ) → l.second ≤ t → l.place ≤ length (upto l.sheet.entries t);
-  positions : l.positions ≡ positions l.fn.net.network (take l.place (in_order l.sheet.entries));
+  entered : l.entered ≡ entered l.fn.net.network (take l.place (in_order l.sheet.entries));
   small : l.total ≤ (l.second - l.fn.span.first) * MOST_CUSTOMERS;
   total : l.total ≡ seconds_without_supply (is_deenergized l.fn.net.network l.sheet.entries) (seconds l.fn.span.first l.second) l.customers;
 }
