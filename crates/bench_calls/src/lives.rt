@@ -92,8 +92,10 @@ fn live_one(made: &mut Made, timeline: &mut Windowed, device: u16, life: Life) -
         old,
         new: life,
     };
-    let delta = timeline.plan(&mut made.net, &made.sheet, &made.year, &change);
-    timeline.adopt(delta.ok()?);
+    let Ok(delta) = timeline.plan(&mut made.net, &made.sheet, &made.year, &change) else {
+        return None;
+    };
+    timeline.adopt(delta);
     Some(())
 }
 
