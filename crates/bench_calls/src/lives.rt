@@ -11,8 +11,8 @@ use std::alloc::Global;
 
 /// Makes a network, a sheet and the year by `make`, and their runs by `Windowed::build`. Then, for each place of `lived`, it gives
 /// that device the life that begins and ends so many seconds after the year's first one, without end where `until` is `u32::MAX`:
-/// planned by its window, and adopted. It answers the seconds in the runs of all sections then, and writes how many searches of
-/// the network the lives took.
+/// planned by its window, and adopted. It answers the seconds in the runs of all sections then, and writes into `searches`, at the
+/// place of each life, how often the network was searched for it.
 ///
 /// It answers 0 where memory is refused, where lists of one kind differ in length, where they say no network, no sheet over these
 /// days or no life of a device, or where the sum doesn't fit.
@@ -29,11 +29,11 @@ pub extern "C" fn bench_lives(
     lived: &[u16],
     since: &[u32],
     until: &[u32],
-    searches: &mut u64,
+    searches: &mut [u64],
 ) -> u64
     ensures { (result ≡ 0) ⊎ AddsUpLives nodes from.now to.now closed.now devices.now closes.now seconds.now lived.now since.now until.now result }
 {
-    if lived.len() != since.len() || lived.len() != until.len() {
+    if lived.len() != since.len() || lived.len() != until.len() || lived.len() != searches.len() {
         return 0;
     }
     let Some(mut made) = make(alloc, nodes, from, to, closed, devices, closes, seconds) else {
@@ -42,28 +42,27 @@ pub extern "C" fn bench_lives(
     let Ok(mut timeline) = Windowed::build(alloc, &mut made.net, &made.sheet, &made.year) else {
         return 0;
     };
-    let before = made.net.searches();
-    let Some(()) = live(&mut made, &mut timeline, lived, since, until) else {
+    let Some(()) = live(&mut made, &mut timeline, lived, since, until, searches) else {
         return 0;
     };
-    let more = made.net.searches().saturating_sub(before);
-    *searches = u64::try_from(more).unwrap_or(u64::MAX);
     match seconds_of_sections(&timeline, made.net.nodes()) {
         Some(sum) => sum,
         None => 0,
     }
 }
 
-/// Gives one device after the other its life, in the network and in its runs.
+/// Gives one device after the other its life, in the network and in its runs, and writes how often the network was searched for each.
 fn live(
     made: &mut Made,
     timeline: &mut Windowed,
     lived: &[u16],
     since: &[u32],
     until: &[u32],
+    searches: &mut [u64],
 ) -> Option<()>
     requires sinces { length lived.now ≡ length since.now }
     requires untils { length lived.now ≡ length until.now }
+    requires places { length lived.now ≡ length searches.old }
     requires runs { HasRuns (case_of made.old.net.network made.old.sheet.entries made.old.year) timeline.old }
     ensures case { IfSome result (λ _. case_of made.new.net.network made.new.sheet.entries made.new.year ≡ with_lives (case_of made.old.net.network made.old.sheet.entries made.old.year) lived.now since.now until.now) }
     ensures runs { IfSome result (λ _. HasRuns (case_of made.new.net.network made.new.sheet.entries made.new.year) timeline.new) }
@@ -71,7 +70,10 @@ fn live(
     let first = made.year.first_second();
     for place in 0..lived.len() {
         let life = life_from(first, since[place], until[place])?;
+        let before = made.net.searches();
         live_one(made, timeline, lived[place], life)?;
+        let more = made.net.searches().saturating_sub(before);
+        searches[place] = u64::try_from(more).unwrap_or(u64::MAX);
     }
     Some(())
 }

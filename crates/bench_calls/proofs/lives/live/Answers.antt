@@ -1,4 +1,4 @@
-use Rattle.std.proofs.Common.{◌≡◌, ◌∙◌, ℕ, ap, arith, get_or, sym, take}
+use Rattle.std.proofs.Common.{◌≡◌, ◌∙◌, ℕ, ap, arith, get_or, length, rules, sym, take}
 use Rattle.ob_base.specs.declared.life.Life.{Life}
 use Rattle.ob_time.specs.Calendar.{Calendar, first_second_of}
 use Rattle.bench_calls.specs.Builds.{Case, case_of}
@@ -19,6 +19,7 @@ loop-place-preserved c =
     let life : c.in_ok-life.life ≡ life_from (first_second_of m.year) (get_or since at 0) (get_or until at 0) =
     c.in_ok-life.ensures ∙ ap (λ (s : ℕ). life_from s (get_or since at 0) (get_or until at 0)) first in
     record {
+      places = search rules;
       first = ap (λ (x : Case). x.year) c.in_ok-live_one.ensures.case ∙ c.loop-place.invariant.first;
       case =
           c.in_ok-live_one.ensures.case
