@@ -1,5 +1,5 @@
 -- What the runs add up to once devices have other lives.
-use Rattle.std.specs.Prelude.{◌≡◌, ℕ, ◌+◌, ◌==◌, List, [], ◌∷◌, Some, None, if◌then◌else◌, length}
+use Rattle.std.specs.Prelude.{◌≡◌, ℕ, ◌+◌, ◌==◌, List, ◌∷◌, Some, None, if◌then◌else◌, length}
 use Rattle.ob_base.specs.declared.life.Life.{Life}
 use Rattle.ob_net.specs.Network.{with_life}
 use Rattle.ob_sheet.specs.Sheet.{NameDevices}

@@ -1,6 +1,6 @@
-use Rattle.std.proofs.Common.{◌≡◌, ◌∙◌, ap, inr, length}
+use Rattle.std.proofs.Common.{◌≡◌, ◌∙◌, ap, inr}
 use Rattle.ob_net.specs.Network.{Network}
-use Rattle.ob_time.specs.Calendar.{Calendar, end_second_of, first_second_of}
+use Rattle.ob_time.specs.Calendar.{end_second_of, first_second_of}
 use Rattle.ob_sweep.specs.Timeline.{AreRuns}
 use Rattle.bench_calls.specs.Builds.{case_of, seconds_in_lists, year_seconds}
 use Rattle.bench_calls.specs.Lives.{HasRuns, with_lives}

@@ -1,6 +1,6 @@
-use Rattle.std.proofs.Common.{◌≡◌, ◌∙◌, ℕ, ap, arith, get_or, length, rules, sym, take}
+use Rattle.std.proofs.Common.{◌≡◌, ◌∙◌, ℕ, ap, arith, get_or, rules, sym, take}
 use Rattle.ob_base.specs.declared.life.Life.{Life}
-use Rattle.ob_time.specs.Calendar.{Calendar, first_second_of}
+use Rattle.ob_time.specs.Calendar.{first_second_of}
 use Rattle.bench_calls.specs.Builds.{Case, case_of}
 use Rattle.bench_calls.specs.Lives.{life_from, with_lives, with_one_life}
 use Rattle.bench_calls.proofs.Lived.{lives_more}

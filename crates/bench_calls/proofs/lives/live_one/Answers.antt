@@ -1,6 +1,6 @@
-use Rattle.std.proofs.Common.{rules, ◌≡◌, ◌∙◌, ap, arith, subst, length}
-use Rattle.ob_net.specs.Network.{Network, with_life, with_life_at}
-use Rattle.ob_time.specs.Calendar.{Calendar, first_second_of, end_second_of}
+use Rattle.std.proofs.Common.{rules, ◌≡◌, ◌∙◌, arith}
+use Rattle.ob_net.specs.Network.{with_life}
+use Rattle.ob_time.specs.Calendar.{first_second_of, end_second_of}
 use Rattle.ob_sweep.specs.Deltas.{IsDeltaTo}
 use Rattle.ob_sweep.specs.Timeline.{AreRuns}
 use Rattle.bench_calls.specs.Builds.{case_of}
