@@ -72,7 +72,7 @@ fn proved(case: &Case, rounds: u32) -> u64 {
 /// section that isn't reached.
 fn plain(case: &Case) -> u64 {
     let mut sum = 0;
-    case.stretches(|since, until, reached| {
+    case.stretches(&case.whole_lives(), |since, until, reached| {
         let dark = reached.iter().filter(|&&is| !is).count() as u64;
         sum += dark * u64::from(until - since);
     });

@@ -5,6 +5,8 @@ use crate::numbers::Numbers;
 
 /// The seconds of 366 days.
 pub const YEAR: usize = 366 * 86_400;
+/// The end of a life that has none.
+pub const NO_END: u32 = u32::MAX;
 
 /// A network, its devices by their two ends and 1 for each that is normally closed, and a sheet of
 /// switchings, in the order in which they are entered.
@@ -22,6 +24,19 @@ pub struct Switching {
     pub device: u16,
     pub closes: bool,
     pub second: u32,
+}
+
+/// The seconds of the year in which a device is there, up to `until`, or without end where that is `NO_END`.
+#[derive(Clone, Copy)]
+pub struct Life {
+    pub since: u32,
+    pub until: u32,
+}
+
+impl Life {
+    fn holds(&self, second: u32) -> bool {
+        self.since <= second && (second < self.until || self.until == NO_END)
+    }
 }
 
 impl Case {
@@ -84,25 +99,52 @@ impl Case {
         self.sheet.iter().map(|entry| entry.second).collect()
     }
 
-    /// The stretches between one switching and the next, each with its first second, its end and the nodes
-    /// that are supplied in it, by a breadth-first search each.
-    pub fn stretches(&self, mut each: impl FnMut(u32, u32, &[bool])) {
+    /// Devices that are always there.
+    pub fn whole_lives(&self) -> Vec<Life> {
+        vec![
+            Life {
+                since: 0,
+                until: NO_END,
+            };
+            self.closed.len()
+        ]
+    }
+
+    /// The stretches from one second to the next at which a device is switched or its life begins or ends, each with its
+    /// first second, its end and the nodes that are supplied in it, by a breadth-first search each. A device is open outside
+    /// its life.
+    pub fn stretches(&self, lives: &[Life], mut each: impl FnMut(u32, u32, &[bool])) {
         let ends = self.from.iter().copied().zip(self.to.iter().copied());
         let lists = Lists::new(self.nodes, ends);
-        let mut closed = self.closed.clone();
+        let mut entered = self.closed.clone();
         let mut queue = Vec::new();
         let mut sheet = self.sheet.clone();
         sheet.sort_by_key(|switching| switching.second);
+        let mut rest = sheet.iter().peekable();
         let mut since = 0;
-        for switching in sheet {
-            if since < switching.second {
-                each(since, switching.second, &lists.reached(&closed, &mut queue));
-                since = switching.second;
+        for cut in cuts(&sheet, lives) {
+            if since < cut {
+                let alive = lives.iter().map(|life| u8::from(life.holds(since)));
+                let closed: Vec<u8> = entered.iter().zip(alive).map(|(a, b)| a & b).collect();
+                each(since, cut, &lists.reached(&closed, &mut queue));
+                since = cut;
             }
-            closed[usize::from(switching.device)] = u8::from(switching.closes);
+            while let Some(switching) = rest.next_if(|switching| switching.second == cut) {
+                entered[usize::from(switching.device)] = u8::from(switching.closes);
+            }
         }
-        each(since, YEAR as u32, &lists.reached(&closed, &mut queue));
     }
+}
+
+/// The seconds of the year at which a device is switched or its life begins or ends, rising, and the year's end.
+fn cuts(sheet: &[Switching], lives: &[Life]) -> Vec<u32> {
+    let mut cuts: Vec<u32> = sheet.iter().map(|switching| switching.second).collect();
+    cuts.extend(lives.iter().flat_map(|life| [life.since, life.until]));
+    cuts.retain(|&cut| cut < YEAR as u32);
+    cuts.push(YEAR as u32);
+    cuts.sort_unstable();
+    cuts.dedup();
+    cuts
 }
 
 fn switching(device: usize, closes: bool, second: usize) -> Switching {

@@ -190,7 +190,7 @@ type Dark = Vec<Vec<(u32, u32)>>;
 
 fn dark(case: &Case) -> Dark {
     let mut dark = vec![Vec::new(); case.nodes];
-    case.stretches(|since, until, reached| {
+    case.stretches(&case.whole_lives(), |since, until, reached| {
         for (stretches, reached) in dark.iter_mut().zip(reached) {
             if !reached {
                 stretches.push((since, until));

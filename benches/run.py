@@ -29,6 +29,7 @@ WORKED = DATA / "worked"
 SEARCH = DATA / "search"
 BUILD = DATA / "build"
 COUNTS = DATA / "counts"
+LIVES = DATA / "lives"
 YEAR = DATA / "year"
 PYTHON_YEAR = BENCHES / "year.py"
 PLAIN_TOTAL = DATA / "total"
@@ -39,6 +40,9 @@ TOTAL_RUNS = 5
 SHEETS = [5_000, 10_000, 20_000]
 BUILD_CALLS = 7
 BUILD_TURNS = 5
+LIVED_SHEETS = [5_000, 20_000]
+LIFE_CALLS = 3
+LIFE_TURNS = 2
 ROLLS = [(5_300, 50_000), (5_300, 100_000), (10_700, 100_000)]
 COUNT_CALLS = 11
 COUNT_TURNS = 3
@@ -70,7 +74,7 @@ def build():
     library = ["-L", LIBRARY, "-l", "static=bench_calls"]
     c_library = ["-L", toolchain / "c", "-l", "static=libc_c"]
     programs = [("worked.rs", WORKED), ("search.rs", SEARCH), ("build.rs", BUILD)]
-    programs += [("counts.rs", COUNTS), ("year.rs", YEAR)]
+    programs += [("counts.rs", COUNTS), ("lives.rs", LIVES), ("year.rs", YEAR)]
     for source, program in programs:
         run_tool([*rustc, BENCHES / source, "-o", program, *library, *c_library], ROOT)
     run_tool([*rustc, BENCHES / "total.rs", "-o", PLAIN_TOTAL], ROOT)
@@ -118,6 +122,29 @@ def show_builds():
         first = first or (least, peak)
         columns = [f"{entries:,}", f"{entries + 1:,}", f"{median(makings):.3f}", f"{median(builds):.3f}"]
         columns += [f"{least:.3f}", f"{least / first[0]:.2f}", f"{peak:.1f}", f"{peak / first[1]:.2f}"]
+        print(f"| {' | '.join(columns)} |")
+
+
+def measure_lives(entries):
+    """What a process prints: the seconds of all lives and of one, the mean and the greatest searches of joining and of leaving,
+    and the peak in MB."""
+    words = [LIVES, str(entries), str(LIFE_CALLS)]
+    done = subprocess.run(words, stdout=subprocess.PIPE, text=True)
+    if done.returncode:
+        sys.exit(1)
+    _, all_lives, one, *searches, peak, _ = map(float, done.stdout.split("\t"))
+    return all_lives, one, searches, peak / 1024
+
+
+def show_lives():
+    """The table of devices that join and leave within a year, each time the least of several medians; the sizes take turns."""
+    turns = [[measure_lives(entries) for entries in LIVED_SHEETS] for _ in range(LIFE_TURNS)]
+    print("| Entries | all lives, s | one, ms | searches of one that joins | at most | of one that leaves | at most | peak, MB |")
+    print("|---|---|---|---|---|---|---|---|")
+    for entries, measured in zip(LIVED_SHEETS, zip(*turns)):
+        all_lives, ones, searches, peaks = zip(*measured)
+        columns = [f"{entries:,}", f"{min(all_lives):.2f}", f"{min(ones) * 1e3:.1f}"]
+        columns += [f"{count:,.0f}" for count in searches[0]] + [f"{median(peaks):.1f}"]
         print(f"| {' | '.join(columns)} |")
 
 
@@ -375,6 +402,7 @@ PARTS = {
     "searches": show_searches,
     "builds": lambda _: show_builds(),
     "counts": lambda _: show_counts(),
+    "lives": lambda _: show_lives(),
     "year": measure_a_year,
 }
 

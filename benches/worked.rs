@@ -59,6 +59,30 @@ unsafe extern "C" {
         marked_len: usize,
         rounds: u32,
     ) -> u64;
+
+    fn bench_lives(
+        nodes: u16,
+        from: *const u16,
+        from_len: usize,
+        to: *const u16,
+        to_len: usize,
+        closed: *const u8,
+        closed_len: usize,
+        devices: *const u16,
+        devices_len: usize,
+        closes: *const u8,
+        closes_len: usize,
+        seconds: *const u32,
+        seconds_len: usize,
+        lived: *const u16,
+        lived_len: usize,
+        since: *const u32,
+        since_len: usize,
+        until: *const u32,
+        until_len: usize,
+        searches: *mut u64,
+        searches_len: usize,
+    ) -> u64;
 }
 
 /// GRID, 1, 2 and 3 in a ring with a chord from GRID to 2.
@@ -231,11 +255,69 @@ fn counts(cases: &mut Cases) {
     cases.check("an end too few", figures(&[1], &[0], &[], &[]), 0);
 }
 
+/// The seconds without supply in the chain once devices have these lives, where 3 is cut off from 10 to 110 and device 3, which
+/// supplies it too, is closed at 20.
+fn lived(devices: &[u16], since: &[u32], until: &[u32], searches: &mut [u64]) -> u64 {
+    let (switched, closes, seconds) = ([2_u16, 3, 2], [0_u8, 1, 1], [10_u32, 20, 110]);
+    unsafe {
+        bench_lives(
+            4,
+            FROM.as_ptr(),
+            FROM.len(),
+            TO.as_ptr(),
+            TO.len(),
+            CHAIN.as_ptr(),
+            CHAIN.len(),
+            switched.as_ptr(),
+            switched.len(),
+            closes.as_ptr(),
+            closes.len(),
+            seconds.as_ptr(),
+            seconds.len(),
+            devices.as_ptr(),
+            devices.len(),
+            since.as_ptr(),
+            since.len(),
+            until.as_ptr(),
+            until.len(),
+            searches.as_mut_ptr(),
+            searches.len(),
+        )
+    }
+}
+
+/// Where devices are always there, 3 is without supply from 10 to 20.
+fn lives(cases: &mut Cases) {
+    let none = u32::MAX;
+    cases.check("no other life", lived(&[], &[], &[], &mut []), 10);
+    let sum = lived(&[3], &[40], &[60], &mut [0]);
+    cases.check("closed within its life alone", sum, 30 + 50);
+    let sum = lived(&[0], &[5], &[none], &mut [0]);
+    cases.check("GRID is joined at 5", sum, 3 * 5 + 10);
+    let sum = lived(&[3], &[0], &[LAST], &mut [0]);
+    cases.check("a life ends at the last second", sum, 10);
+    let mut searches = [0; 2];
+    let sum = lived(&[3, 3], &[40, 0], &[60, none], &mut searches);
+    cases.check("a life and the whole one again", sum, 10);
+    cases.check("searches of a life", u64::from(searches[0] > 0), 1);
+    let sum = lived(&[3], &[LAST + 1], &[none], &mut [0]);
+    cases.check("a life after the year", sum, 100);
+    let sum = lived(&[0], &[5], &[5], &mut [0]);
+    cases.check("a life without a second", sum, 0);
+    let sum = lived(&[5], &[0], &[none], &mut [0]);
+    cases.check("a life of another device", sum, 0);
+    let sum = lived(&[3], &[40], &[], &mut [0]);
+    cases.check("a life's end too few", sum, 0);
+    let sum = lived(&[3], &[40], &[60], &mut []);
+    cases.check("a place for searches too few", sum, 0);
+}
+
 fn main() -> ExitCode {
     let mut cases = Cases { wrong: 0 };
     searches(&mut cases);
     builds(&mut cases);
     counts(&mut cases);
+    lives(&mut cases);
     if cases.wrong == 0 {
         ExitCode::SUCCESS
     } else {
