@@ -373,6 +373,18 @@ fn a_run_goes_on_where_a_life_ends(rt: HostRuntime) -> Result<(), Fail> {
     alters(&rt, rt.alloc(), &day(&[], WAITING), &ask, (4, 2), &effect)
 }
 
+// Until 6000 the new device supplies S3 past its open breaker.
+#[test]
+fn cut_off_by_the_end_of_a_life_and_no_more_by_an_opening(rt: HostRuntime) -> Result<(), Fail> {
+    let start = day(&[], "switch B2 open 5000 4 K1");
+    let effect = Effect {
+        touched: "S3 ",
+        runs: "S3 6000 86400 -\nS4 0 86400 -\n",
+    };
+    let ask = joins(["X1", "BUS-A", "S3"], Closed, until(6000));
+    alters(&rt, rt.alloc(), &start, &ask, (3, 3), &effect)
+}
+
 #[test]
 fn closed_before_its_life_begins(rt: HostRuntime) -> Result<(), Fail> {
     let effect = Effect {

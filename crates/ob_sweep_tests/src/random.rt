@@ -17,7 +17,7 @@ use std::alloc::Global;
 use std::process::Abort;
 use std::test::Fail;
 
-// The seconds of 1970-01-02. Entries lie and lives turn within the first 21 of them and the last 6, or outside the day.
+// The seconds of 1970-01-02. Entries lie and lives turn within the first 9 of them and the last 3, or outside the day.
 const FIRST: Second = 86_400;
 
 const END: Second = 172_800;
@@ -47,9 +47,9 @@ impl Random {
         requires { outside ≤ 3 }
     {
         if self.below(4) == 0 {
-            END - 6 + self.below(6 + outside)
+            END - 3 + self.below(3 + outside)
         } else {
-            FIRST - outside + self.below(21 + outside)
+            FIRST - outside + self.below(9 + outside)
         }
     }
 
@@ -165,7 +165,7 @@ fn agrees<T: Timeline>(
     requires { length (T.content timeline.now) ≡ 1024 }
 {
     let mut seconds = Vec::new(alloc);
-    for second in (FIRST..FIRST + 22).chain(END - 6..END) {
+    for second in (FIRST..FIRST + 10).chain(END - 3..END) {
         seconds.push(second)?;
     }
     let lists = plain_runs(alloc, world, &seconds, END)?;
@@ -200,7 +200,7 @@ fn step<T: Timeline>(
     agrees(rt, alloc, world, &timeline)
 }
 
-// A list of eight changes.
+// A list of twelve changes.
 fn list<T: Timeline>(
     rt: &impl Abort,
     alloc: Global,
@@ -209,7 +209,7 @@ fn list<T: Timeline>(
 ) -> Result<(), Fail> {
     let mut random = Random { state: seed };
     let mut world = world(alloc, &mut random, period)?;
-    for _ in 0..8 {
+    for _ in 0..12 {
         step::<T>(rt, alloc, &mut random, &mut world, period)?;
     }
     Ok(())
