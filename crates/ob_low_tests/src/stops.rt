@@ -29,7 +29,6 @@ fn refusals(rt: HostRuntime) {
             (Refusal::BadField(7), 1, "BadField", Some(7)),
             (Refusal::UnknownName, 2, "UnknownName", None),
             (Refusal::NameTaken, 3, "NameTaken", None),
-            (Refusal::Sealed, 4, "Sealed", None),
             (Refusal::OutOfPeriod, 5, "OutOfPeriod", None),
             (Refusal::UnknownEntry, 6, "UnknownEntry", None),
             (
