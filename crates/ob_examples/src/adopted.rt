@@ -1,7 +1,8 @@
-//! The timeline of a book adopts each change of the sheet: the book keeps no other one in its place.
+//! The timeline of a book adopts each change of the sheet and of the network: the book keeps no other one in its place.
 use crate::counting::Counting;
 use crate::example::act_on;
 use crate::feeders::{OUTAGE, TWO_FEEDERS};
+use crate::lives::{BREAKER_GONE, JOINS_IN_OUTAGE, OPENED_IN_ITS_LAST_SECOND, TIE_GOES};
 use crate::runs::{OPENED_BEFORE, RELABELLED};
 use ob_book::Book;
 use ob_command::read_body;
@@ -90,4 +91,36 @@ fn a_run_that_goes_on_past_the_next_entry(rt: HostRuntime) -> Result<(), Fail> {
 fn a_closing_withdrawn(rt: HostRuntime) -> Result<(), Fail> {
     let line = "withdraw 3 1 => cause 3 246600, feeder 1 246600, day 0 246600";
     adopts_after(&rt, rt.alloc(), OUTAGE, line)
+}
+
+// On the two feeders each line of two scripts is adopted once, and for the last script the book searches its network so often at
+// most.
+fn adopts_by(
+    rt: &impl Abort,
+    alloc: Global,
+    first: &str,
+    then: &str,
+    most: u128,
+) -> Result<(), Fail> {
+    let mut book = counting_book(alloc)?;
+    adopts_both(rt, alloc, &mut book, first, "")?;
+    let before = book.net().searches();
+    adopts(rt, alloc, &mut book, then)?;
+    assert!(rt; book.net().searches().saturating_sub(before) <= most);
+    Ok(())
+}
+
+#[test]
+fn the_tie_goes_while_it_supplies(rt: HostRuntime) -> Result<(), Fail> {
+    adopts_by(&rt, rt.alloc(), OUTAGE, TIE_GOES, 3)
+}
+
+#[test]
+fn a_tie_joins_after_an_outage_began(rt: HostRuntime) -> Result<(), Fail> {
+    adopts_by(&rt, rt.alloc(), OUTAGE, JOINS_IN_OUTAGE, 3)
+}
+
+#[test]
+fn opened_in_the_last_second_of_its_life(rt: HostRuntime) -> Result<(), Fail> {
+    adopts_by(&rt, rt.alloc(), BREAKER_GONE, OPENED_IN_ITS_LAST_SECOND, 4)
 }

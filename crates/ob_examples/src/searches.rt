@@ -1,6 +1,7 @@
-//! How often the network is searched for a change of the sheet that comes late.
+//! How often the network is searched for a change of the sheet that comes late, and for one of the network.
 use crate::example::Example;
 use crate::feeders::{OUTAGE, two_feeders};
+use crate::lives::{BREAKER_GONE, JOINS_IN_OUTAGE, OPENED_IN_ITS_LAST_SECOND, TIE_GOES};
 use std::alloc::Global;
 use std::process::Abort;
 use std::test::Fail;
@@ -41,6 +42,35 @@ fn for_a_run_that_goes_on_past_the_next_entry(rt: HostRuntime) -> Result<(), Fai
 fn for_a_closing_withdrawn(rt: HostRuntime) -> Result<(), Fail> {
     let line = "withdraw 3 1 => cause 3 246600, feeder 1 246600, day 0 246600";
     takes(&rt, rt.alloc(), OUTAGE, line, 4)
+}
+
+#[test]
+fn for_an_opening_in_the_last_second_of_a_life(rt: HostRuntime) -> Result<(), Fail> {
+    takes(&rt, rt.alloc(), BREAKER_GONE, OPENED_IN_ITS_LAST_SECOND, 4)
+}
+
+// After the outage: at the end of the tie's life or the beginning of a device's, and at the entry after it. Where no life of a
+// second of the period changes, nowhere.
+const OF_THE_NETWORK: &'static [(&'static str, u128)] = &[
+    (TIE_GOES, 3),
+    (JOINS_IN_OUTAGE, 3),
+    ("device X1 BUS-A S1 closed 1704153600 -", 0),
+    ("life T1 0 -", 0),
+    ("life T1 1704067200 1704153600", 0),
+    ("bus BUS-B", 0),
+    ("section S9 9", 0),
+];
+
+fn take_each(rt: &impl Abort, alloc: Global, lines: &[(&str, u128)]) -> Result<(), Fail> {
+    for (line, most) in lines {
+        takes(rt, alloc, OUTAGE, line, *most)?;
+    }
+    Ok(())
+}
+
+#[test]
+fn for_a_change_of_the_network(rt: HostRuntime) -> Result<(), Fail> {
+    take_each(&rt, rt.alloc(), OF_THE_NETWORK)
 }
 
 // Every hundred seconds B2 opens, and closes fifty seconds later, 500 times.

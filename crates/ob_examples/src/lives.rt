@@ -1,0 +1,169 @@
+//! Devices that join and leave within the period: they are open outside their lives.
+use crate::feeders::{after_outage, shows, shows_after_outage, two_feeders};
+use std::alloc::Global;
+use std::process::Abort;
+use std::test::Fail;
+
+/// After the outage: the tie goes while it supplies S2, which no entry has cut off then.
+pub const TIE_GOES: &'static str =
+    "life T1 0 1704073200 => cause 0 241200, feeder 1 241200, day 0 241200";
+
+#[test]
+fn the_tie_goes_while_it_supplies(rt: HostRuntime) -> Result<(), Fail> {
+    shows_after_outage(&rt, rt.alloc(), TIE_GOES, 250_200)
+}
+
+/// After the outage: a tie that joins after the outage began, and takes S1 over.
+pub const JOINS_IN_OUTAGE: &'static str =
+    "device X1 BUS-A S1 closed 1704072200 - => cause 3 -4400, feeder 1 -4400, day 0 -4400";
+
+#[test]
+fn a_tie_that_joins_after_an_outage_began(rt: HostRuntime) -> Result<(), Fail> {
+    let quotients = &[(1, 2), (23, 3), (46, 3), (1, 1), (4_297, 4_320), (1, 2)];
+    after_outage(&rt, rt.alloc())?.show_quotients(&rt, JOINS_IN_OUTAGE, 4_600, quotients)
+}
+
+/// The breaker of S3 goes, and is told to open in the second in which it is gone.
+pub const BREAKER_GONE: &'static str = "\
+life B2 0 1704070800 => cause 0 414000, feeder 2 414000, day 0 414000
+switch B2 open 1704070800 4 K1
+";
+
+/// After that: it opens in its last second, so that this opening is what cuts S3 off.
+pub const OPENED_IN_ITS_LAST_SECOND: &'static str =
+    "switch B2 open 1704070799 4 K1 => cause 0 -414000, cause 4 414005, feeder 2 5, day 0 5";
+
+#[test]
+fn opened_where_its_life_ends_and_before(rt: HostRuntime) -> Result<(), Fail> {
+    let mut example = two_feeders(&rt, rt.alloc(), 1)?;
+    example.take(&rt, BREAKER_GONE)?;
+    example.show(&rt, OPENED_IN_ITS_LAST_SECOND, 414_005)
+}
+
+// What is acted after the outage, and the total that it leaves.
+const AFTER_OUTAGE: &'static [(&'static str, u64)] = &[
+    (TIE_STAYS, 9_000),
+    (PARTS_JOIN, 9_000),
+    (CLOSED_BEFORE_ITS_LIFE, 9_000),
+];
+
+// The tie goes while it supplies, and stays after all.
+const TIE_STAYS: &'static str = "\
+life T1 0 1704073200 => cause 0 241200, feeder 1 241200, day 0 241200
+life T1 0 - => cause 0 -241200, feeder 1 -241200, day 0 -241200
+";
+
+// A bus and a section more move nothing; a customer of the section waits for the device that joins it to the bus, whose life is
+// then set twice.
+const PARTS_JOIN: &'static str = "\
+bus BUS-B
+section S9 9
+connect 11 S9 1704067200 - => cause 0 86400, feeder 9 86400, day 0 86400
+device X9 BUS-A S9 closed 1704070800 - => cause 0 -82800, feeder 9 -82800, day 0 -82800
+life X9 1704070800 1704074400 => cause 0 79200, feeder 9 79200, day 0 79200
+life X9 0 - => cause 0 -82800, feeder 9 -82800, day 0 -82800
+";
+
+// An entry closes X1 before it joins, so that it is closed from its first second on. Then it goes before the breaker is closed
+// again, and no entry has cut S1 off. Without its closing it never supplied S1.
+const CLOSED_BEFORE_ITS_LIFE: &'static str = "\
+device X1 BUS-A S1 open 1704072200 -
+switch X1 close 1704071200 3 K1 => cause 3 -4400, feeder 1 -4400, day 0 -4400
+life X1 1704072200 1704073200 => cause 0 2400, feeder 1 2400, day 0 2400
+withdraw 5 1 => cause 0 -2400, cause 3 4400, feeder 1 2000, day 0 2000
+";
+
+fn are_shown_after_outage(
+    rt: &impl Abort,
+    alloc: Global,
+    stories: &[(&str, u64)],
+) -> Result<(), Fail> {
+    for (script, total) in stories {
+        shows_after_outage(rt, alloc, script, *total)?;
+    }
+    Ok(())
+}
+
+#[test]
+fn lives_after_an_outage(rt: HostRuntime) -> Result<(), Fail> {
+    are_shown_after_outage(&rt, rt.alloc(), AFTER_OUTAGE)
+}
+
+// What is acted on the two feeders over so many days, and the total that it leaves.
+const FROM_THE_START: &'static [(u16, &'static str, u64)] = &[
+    (1, OPENED_AS_IT_JOINS, 18_000),
+    (1, SET_AGAIN_AND_AGAIN, 414_000),
+    (1, TAKES_THE_PLACE, 412_000),
+    (1, CONNECTED, 412_000),
+    (1, AT_THE_BOUNDS, 0),
+    (2, OVER_MIDNIGHT, 0),
+];
+
+// S3 waits for its breaker, which is opened in the second in which it joins: the run goes on, and it began with the period. With
+// the breaker there from the start, its opening is what cuts S3 off.
+const OPENED_AS_IT_JOINS: &'static str = "\
+life B2 1704070800 - => cause 0 18000, feeder 2 18000, day 0 18000
+switch B2 open 1704070800 4 K1 => cause 0 414000, feeder 2 414000, day 0 414000
+switch B2 close 1704074400 4 K1 => cause 0 -396000, feeder 2 -396000, day 0 -396000
+life B2 0 - => cause 0 -36000, cause 4 18000, feeder 2 -18000, day 0 -18000
+";
+
+// A breaker that was opened: its life begins after the opening, ends after it, with it, and one second behind it.
+const SET_AGAIN_AND_AGAIN: &'static str = "\
+switch B1 open 1704070800 3 K1 => cause 3 414000, feeder 1 414000, day 0 414000
+life B1 1704072200 - => cause 0 432000, cause 3 -414000, feeder 1 18000, day 0 18000
+life B1 0 1704072200 => cause 0 -432000, cause 3 414000, feeder 1 -18000, day 0 -18000
+life B1 0 1704070800 => cause 0 414000, cause 3 -414000
+life B1 0 1704070801 => cause 0 -414000, cause 3 414000
+";
+
+// A device takes the place of another in one second, then a little later, then goes together with it.
+const TAKES_THE_PLACE: &'static str = "\
+life B1 0 1704071200 => cause 0 412000, feeder 1 412000, day 0 412000
+device X1 BUS-A S1 closed 1704071200 - => cause 0 -412000, feeder 1 -412000, day 0 -412000
+life X1 1704072200 - => cause 0 5000, feeder 1 5000, day 0 5000
+life X1 0 1704071200 => cause 0 407000, feeder 1 407000, day 0 407000
+";
+
+// A customer of a section whose breaker is gone; its service gets an end, and then ends as the breaker goes.
+const CONNECTED: &'static str = "\
+life B1 0 1704071200 => cause 0 412000, feeder 1 412000, day 0 412000
+connect 11 S1 1704072200 - => cause 0 81400, feeder 1 81400, day 0 81400
+revise 11 1704072200 1704072800 => cause 0 -80800, feeder 1 -80800, day 0 -80800
+revise 11 1704067200 1704071200 => cause 0 -600, feeder 1 -600, day 0 -600
+";
+
+// Lives that end with the period or a second before, that begin with it or a second later, and that lie outside it.
+const AT_THE_BOUNDS: &'static str = "\
+life B2 0 1704153600
+life B2 0 1704153599 => cause 0 5, feeder 2 5, day 0 5
+life B2 1704067200 - => cause 0 -5, feeder 2 -5, day 0 -5
+life B2 1704067201 - => cause 0 5, feeder 2 5, day 0 5
+life B2 1704153600 1704153601 => cause 0 431995, feeder 2 431995, day 0 431995
+life B2 0 1
+life B2 0 1
+life B2 0 - => cause 0 -432000, feeder 2 -432000, day 0 -432000
+";
+
+// A life that ends on the first day, and one that begins on the second.
+const OVER_MIDNIGHT: &'static str = "\
+life B2 0 1704153000 => cause 0 435000, feeder 2 435000, day 0 3000, day 1 432000
+life B2 1704154800 - => cause 0 3000, feeder 2 3000, day 0 429000, day 1 -426000
+life B2 0 - => cause 0 -438000, feeder 2 -438000, day 0 -432000, day 1 -6000
+";
+
+fn are_shown(
+    rt: &impl Abort,
+    alloc: Global,
+    stories: &[(u16, &str, u64)],
+) -> Result<(), Fail> {
+    for (days, script, total) in stories {
+        shows(rt, alloc, *days, script, *total)?;
+    }
+    Ok(())
+}
+
+#[test]
+fn lives_from_the_start(rt: HostRuntime) -> Result<(), Fail> {
+    are_shown(&rt, rt.alloc(), FROM_THE_START)
+}
