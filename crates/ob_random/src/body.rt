@@ -2,8 +2,8 @@
 use crate::refusal::day_of;
 use crate::text::{Cell, put_cells};
 use ob_book::Command;
-use ob_command::{CauseCode, CivilDate, Ends, Moment, Serial};
-use ob_net::{Crew, Name, Pos};
+use ob_command::{CauseCode, CivilDate, Moment, Serial};
+use ob_net::{Crew, Pos};
 use std::alloc::Global;
 use std::test::Fail;
 
@@ -41,28 +41,49 @@ fn put_part(alloc: Global, text: &mut Vec<u8>, command: &Command) -> Result<(), 
             let feeder = Cell::Number(u64::from(feeder.get()));
             put_cells(alloc, text, &[word(b"section"), word(name.bytes()), feeder])
         }
-        Command::Device { name, ends, normal } => put_device(alloc, text, name, ends, *normal),
+        Command::Device { .. } | Command::Life { .. } => put_device(alloc, text, command),
         _ => Ok(()),
     }
 }
 
-fn put_device(
-    alloc: Global,
-    text: &mut Vec<u8>,
-    name: &Name,
-    ends: &Ends,
-    normal: Pos,
-) -> Result<(), Fail> {
-    let normal = match normal {
-        Pos::Opened => word(b"open"),
-        Pos::Closed => word(b"closed"),
-    };
-    let (a, b) = (word(ends.a().bytes()), word(ends.b().bytes()));
-    put_cells(
-        alloc,
-        text,
-        &[word(b"device"), word(name.bytes()), a, b, normal],
-    )
+// A device, or its life anew.
+fn put_device(alloc: Global, text: &mut Vec<u8>, command: &Command) -> Result<(), Fail> {
+    match command {
+        Command::Device {
+            name,
+            ends,
+            normal,
+            since,
+            until,
+        } => {
+            let (a, b) = (word(ends.a().bytes()), word(ends.b().bytes()));
+            let (since, until) = (second(*since), end(*until));
+            let cells = &[
+                word(b"device"),
+                word(name.bytes()),
+                a,
+                b,
+                normally(*normal),
+                since,
+                until,
+            ];
+            put_cells(alloc, text, cells)
+        }
+        Command::Life {
+            device,
+            since,
+            until,
+        } => {
+            let cells = &[
+                word(b"life"),
+                word(device.bytes()),
+                second(*since),
+                end(*until),
+            ];
+            put_cells(alloc, text, cells)
+        }
+        _ => Ok(()),
+    }
 }
 
 // A customer's service.
@@ -181,6 +202,14 @@ fn date_text(date: CivilDate) -> &'static [u8] {
 
 fn word(text: &[u8]) -> Cell<'_> {
     Cell::Word(text)
+}
+
+// A normal position.
+fn normally(normal: Pos) -> Cell<'static> {
+    match normal {
+        Pos::Opened => Cell::Word(b"open"),
+        Pos::Closed => Cell::Word(b"closed"),
+    }
 }
 
 // What an entry does.

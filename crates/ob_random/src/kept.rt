@@ -1,5 +1,5 @@
 //! The lists, under references, by a keeper over a store in memory: it answers each command as the plain lists do, and
-//! again where it is told again; another keeper loads the same book from its tables and goes on, and the ten tables then
+//! again where it is told again; another keeper loads the same book from its tables and goes on, and the eleven tables then
 //! have the rows of the plain lists.
 use crate::compare::{has_figures, has_posted};
 use crate::draw::command;

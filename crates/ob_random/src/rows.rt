@@ -1,4 +1,4 @@
-//! The rows of the ten tables, as the plain lists have them.
+//! The rows of the eleven tables, as the plain lists have them.
 use crate::count::{Counted, KEYS};
 use crate::plain::{Plain, PlainCustomer};
 use crate::text::{Cell, put_row};
@@ -19,12 +19,13 @@ pub fn rows_of(alloc: Global, told: &Told) -> Result<Vec<u8>, Fail> {
     Ok(text)
 }
 
-// The period, causes, nodes and devices.
+// The period, causes, nodes, and devices with their lives.
 fn put_parts(alloc: Global, text: &mut Vec<u8>, plain: &Plain) -> Result<(), Fail> {
-    text.extend_from_slice(b"1 1 1970-01-02 2 UTC0\n")?;
+    text.extend_from_slice(b"1 2 1970-01-02 2 UTC0\n")?;
     put_causes(alloc, text, plain)?;
     put_nodes(alloc, text, plain)?;
-    put_devices(alloc, text, plain)
+    put_devices(alloc, text, plain)?;
+    put_lives(alloc, text, plain)
 }
 
 // Customers, entries and marks.
@@ -75,6 +76,14 @@ fn put_devices(alloc: Global, text: &mut Vec<u8>, plain: &Plain) -> Result<(), F
     Ok(())
 }
 
+fn put_lives(alloc: Global, text: &mut Vec<u8>, plain: &Plain) -> Result<(), Fail> {
+    for (id, device) in plain.devices.iter().enumerate() {
+        let (since, until) = (Cell::Number(device.since), end(device.until));
+        put_row(alloc, text, &[place(id), since, until])?;
+    }
+    Ok(())
+}
+
 // The lists number customers from 1 to 6.
 fn put_customers(alloc: Global, text: &mut Vec<u8>, plain: &Plain) -> Result<(), Fail> {
     for no in 1..7u32 {
@@ -92,13 +101,9 @@ fn put_customer(
     no: u32,
     customer: &PlainCustomer,
 ) -> Result<(), Fail> {
-    let until = if customer.until == Second::MAX {
-        Cell::Word(b"-")
-    } else {
-        Cell::Number(customer.until)
-    };
-    let (no, since) = (Cell::Number(u64::from(no)), Cell::Number(customer.since));
-    put_row(alloc, text, &[no, place(customer.node), since, until])
+    let (since, until) = (Cell::Number(customer.since), end(customer.until));
+    let (no, section) = (Cell::Number(u64::from(no)), place(customer.node));
+    put_row(alloc, text, &[no, section, since, until])
 }
 
 fn put_entries(alloc: Global, text: &mut Vec<u8>, plain: &Plain) -> Result<(), Fail> {
@@ -186,6 +191,15 @@ fn dimension(dim: Dim) -> Cell<'static> {
 
 fn place(at: usize) -> Cell<'static> {
     Cell::Number(at as u64)
+}
+
+// The end of a service or of a life.
+fn end(until: Second) -> Cell<'static> {
+    if until == Second::MAX {
+        Cell::Word(b"-")
+    } else {
+        Cell::Number(until)
+    }
 }
 
 fn flag(is_set: bool) -> Cell<'static> {

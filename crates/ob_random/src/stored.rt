@@ -1,4 +1,4 @@
-//! What stands in the ten tables of a book, by queries.
+//! What stands in the eleven tables of a book, by queries.
 use sqlite::{Alter, Connection, Row};
 use std::alloc::Global;
 use std::test::Fail;
@@ -9,6 +9,7 @@ const QUERIES: &'static [&'static str] = &[
     "SELECT code || ' ' || name FROM cause ORDER BY code",
     "SELECT id || ' ' || name || ' ' || kind || ' ' || feeder FROM node ORDER BY id",
     "SELECT id || ' ' || name || ' ' || a || ' ' || b || ' ' || normal FROM device ORDER BY id",
+    "SELECT device || ' ' || since || ' ' || coalesce(until, '-') FROM life ORDER BY device",
     "SELECT id || ' ' || section || ' ' || since || ' ' || coalesce(until, '-') FROM customer \
      ORDER BY id",
     "SELECT id || ' ' || rev || ' ' || device || ' ' || pos || ' ' || second || ' ' || cause || ' ' \
