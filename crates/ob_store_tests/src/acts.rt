@@ -1,9 +1,9 @@
 //! Commands under references: what each is answered, and what the tables hold in the end.
-use crate::books::{ends, outage, take, two_feeders};
+use crate::books::{ends, outage, reopened, take, two_feeders};
 use crate::office::{InMemory, Office};
 use crate::scripts::{
-    APART, CONNECTED, CORRECTED, OPENED_AGAIN, OPENED_BEFORE, OUTAGE, REFUSED, RELABELLED,
-    WITHDRAWN,
+    APART, BREAKER_GONE, CONNECTED, CORRECTED, JOINS_IN_OUTAGE, OPENED_AGAIN, OPENED_BEFORE, OUTAGE,
+    PARTS_JOIN, REFUSED, RELABELLED, TIE_STAYS, WITHDRAWN,
 };
 use crate::texts::stored_text;
 use ob_net::Stop;
@@ -23,62 +23,87 @@ const STORIES: &'static [Story] = &[
     Story {
         first: OUTAGE,
         then: "",
-        rows: &[1, 3, 5, 5, 10, 4, 0, 25, 9, 320],
+        rows: &[1, 3, 5, 5, 5, 10, 4, 0, 25, 9, 320],
         total: 9_000,
     },
     // An opening that is entered late.
     Story {
         first: OUTAGE,
         then: OPENED_BEFORE,
-        rows: &[1, 3, 5, 5, 10, 5, 0, 26, 13, 320],
+        rows: &[1, 3, 5, 5, 5, 10, 5, 0, 26, 13, 320],
         total: 10_800,
     },
     // A correction, told again.
     Story {
         first: OUTAGE,
         then: CORRECTED,
-        rows: &[1, 3, 5, 5, 10, 4, 0, 26, 12, 320],
+        rows: &[1, 3, 5, 5, 5, 10, 4, 0, 26, 12, 320],
         total: 7_800,
     },
     // A withdrawal.
     Story {
         first: OUTAGE,
         then: WITHDRAWN,
-        rows: &[1, 3, 5, 5, 10, 4, 0, 26, 12, 320],
+        rows: &[1, 3, 5, 5, 5, 10, 4, 0, 26, 12, 320],
         total: 255_600,
     },
     // Refusals, which leave the tables.
     Story {
         first: OUTAGE,
         then: REFUSED,
-        rows: &[1, 3, 5, 5, 10, 4, 0, 27, 9, 320],
+        rows: &[1, 3, 5, 5, 5, 10, 4, 0, 27, 9, 320],
         total: 9_000,
     },
     // Runs of several openings.
     Story {
         first: RELABELLED,
         then: "",
-        rows: &[1, 3, 5, 5, 10, 4, 0, 25, 10, 320],
+        rows: &[1, 3, 5, 5, 5, 10, 4, 0, 25, 10, 320],
         total: 19_800,
     },
     Story {
         first: OPENED_AGAIN,
         then: "",
-        rows: &[1, 3, 5, 5, 10, 4, 0, 25, 12, 320],
+        rows: &[1, 3, 5, 5, 5, 10, 4, 0, 25, 12, 320],
         total: 7_000,
     },
     // Customers without supply.
     Story {
         first: CONNECTED,
         then: "",
-        rows: &[1, 3, 5, 5, 11, 2, 0, 26, 15, 320],
+        rows: &[1, 3, 5, 5, 5, 11, 2, 0, 26, 15, 320],
         total: 19_800,
     },
     Story {
         first: APART,
         then: "",
-        rows: &[1, 3, 6, 5, 11, 0, 0, 23, 3, 320],
+        rows: &[1, 3, 6, 5, 5, 11, 0, 0, 23, 3, 320],
         total: 86_400,
+    },
+    // Lives, and parts that join when something was switched.
+    Story {
+        first: OUTAGE,
+        then: TIE_STAYS,
+        rows: &[1, 3, 5, 5, 5, 10, 4, 0, 27, 15, 320],
+        total: 9_000,
+    },
+    Story {
+        first: OUTAGE,
+        then: JOINS_IN_OUTAGE,
+        rows: &[1, 3, 5, 6, 6, 10, 4, 0, 26, 12, 320],
+        total: 4_600,
+    },
+    Story {
+        first: BREAKER_GONE,
+        then: "",
+        rows: &[1, 3, 5, 5, 5, 10, 2, 0, 24, 7, 320],
+        total: 414_005,
+    },
+    Story {
+        first: OUTAGE,
+        then: PARTS_JOIN,
+        rows: &[1, 3, 7, 6, 6, 11, 4, 0, 30, 18, 320],
+        total: 91_800,
     },
 ];
 
@@ -100,6 +125,58 @@ fn are_told<O: Office>(rt: &impl Abort, alloc: Global, stories: &[Story]) -> Res
 #[test]
 fn commands_and_what_they_leave(rt: HostRuntime) -> Result<(), Stop> {
     are_told::<InMemory>(&rt, rt.alloc(), STORIES)
+}
+
+// What is told on the two feeders, which row of lives that leaves, and how many whole lives.
+type Lived = (&'static str, &'static str, i64);
+
+const LIVED: &'static [Lived] = &[
+    (
+        "N22 life T1 0 1704073200 => 22",
+        "SELECT count(*) FROM life WHERE device = 4 AND since = 0 AND until = 1704073200",
+        4,
+    ),
+    (
+        "N22 life T1 0 1704073200 => 22\nN23 life T1 0 - => 23",
+        "SELECT count(*) FROM life WHERE device = 4 AND since = 0 AND until IS NULL",
+        5,
+    ),
+    (
+        "N22 life W1 1704072200 - => 22: cause 0 15000, feeder 1 15000, day 0 15000",
+        "SELECT count(*) FROM life WHERE device = 2 AND since = 1704072200 AND until IS NULL",
+        4,
+    ),
+    (
+        "N22 device X1 BUS-A S1 closed 1704072200 1704073200 => 22",
+        "SELECT count(*) FROM life WHERE device = 5 AND since = 1704072200 AND until = 1704073200",
+        5,
+    ),
+];
+
+// The lines of a script leave a row that a query finds, and so many whole lives.
+fn leaves_lives<O: Office>(rt: &impl Abort, alloc: Global, case: &Lived) -> Result<(), Stop> {
+    let (script, sql, whole) = *case;
+    let mut office: O = two_feeders(rt, alloc)?;
+    take(rt, alloc, &mut office, script)?;
+    let queries = &[
+        sql,
+        "SELECT count(*) FROM life WHERE since = 0 AND until IS NULL",
+    ];
+    let found = reopened(rt, alloc, office)?.finds(alloc, queries)?;
+    assert!(rt; found.as_slice() == [1, whole].as_slice(), "{script}");
+    Ok(())
+}
+
+fn leave_lives<O: Office>(rt: &impl Abort, alloc: Global, cases: &[Lived]) -> Result<(), Stop> {
+    for case in cases {
+        leaves_lives::<O>(rt, alloc, case)?;
+    }
+    Ok(())
+}
+
+#[test]
+fn lives_in_the_tables(rt: HostRuntime) -> Result<(), Stop> {
+    leave_lives::<InMemory>(&rt, rt.alloc(), LIVED)
 }
 
 // These are the stored replies.

@@ -1,6 +1,6 @@
 //! Tables that are no book's: which of them the audit names, and that they aren't loaded.
 use crate::books::{outage, take};
-use crate::office::{BAD_BOOK, InMemory, Office};
+use crate::office::{BAD_BOOK, InMemory, OLD_VERSION, Office};
 use ob_net::Stop;
 use std::alloc::Global;
 use std::process::Abort;
@@ -44,6 +44,11 @@ const CHANGED: &'static [Case] = &[
     ("UPDATE node SET feeder = 2 WHERE name = 'S1'", "node"),
     ("UPDATE device SET a = b, b = a WHERE name = 'T1'", "device"),
     (
+        "UPDATE life SET until = 1704153600 WHERE device = 4",
+        "life",
+    ),
+    ("UPDATE life SET since = 1 WHERE device = 0", "life"),
+    (
         "UPDATE customer SET until = 1704153600 WHERE id = 1",
         "customer",
     ),
@@ -69,11 +74,13 @@ const MORE_OR_LESS: &'static [Case] = &[
         "node",
     ),
     ("DELETE FROM device WHERE name = 'I1'", "device"),
+    ("DELETE FROM life WHERE device = 4", "life"),
+    ("INSERT INTO life (device, since) VALUES (5, 0)", "life"),
     ("DELETE FROM customer WHERE id = 10", "customer"),
     ("DELETE FROM entry WHERE id = 4", "entry"),
     ("INSERT INTO mark (day, engineer) VALUES (1, 'E1')", "mark"),
     ("DELETE FROM cmd WHERE id = 26", "mark"),
-    ("DELETE FROM cmd WHERE id = 20", "BadBook"),
+    ("DELETE FROM cmd WHERE id = 20", "customer"),
     (
         "INSERT INTO moved (cmd, dim, k, delta) VALUES (26, 1, 3, 5)",
         "moved",
@@ -81,9 +88,16 @@ const MORE_OR_LESS: &'static [Case] = &[
     ("DELETE FROM posting WHERE dim = 1 AND k = 63", "posting"),
 ];
 
-// Headings and commands of no book.
+// Another heading of the same period, and commands under other numbers.
+const RENAMED: &'static [Case] = &[
+    ("UPDATE meta SET version = 3", "meta"),
+    ("UPDATE meta SET id = 2", "meta"),
+    ("UPDATE meta SET id = 2, version = 3", "meta"),
+    ("UPDATE cmd SET id = 27 WHERE id = 26", "cmd"),
+];
+
+// Headings and commands of no book, and tables that aren't there.
 const NO_BOOK: &'static [Case] = &[
-    ("UPDATE meta SET version = 2", "BadBook"),
     ("UPDATE meta SET day0 = '2024-1-1'", "BadBook"),
     ("UPDATE meta SET days = 65537", "BadBook"),
     ("UPDATE meta SET zone = 'NOWHERE/AT/ALL'", "BadBook"),
@@ -92,8 +106,9 @@ const NO_BOOK: &'static [Case] = &[
         "UPDATE cmd SET body = 'cause 3  STORM' WHERE id = 1",
         "BadBook",
     ),
-    ("UPDATE cmd SET id = 27 WHERE id = 26", "BadBook"),
     ("DROP TABLE mark", "BadBook"),
+    ("DROP TABLE life", "BadBook"),
+    ("DROP TABLE life; UPDATE meta SET version = 3", "BadBook"),
 ];
 
 // The first of several tables is named.
@@ -117,7 +132,7 @@ fn are_found<O: Office>(rt: &impl Abort, alloc: Global, cases: &[Case]) -> Resul
 }
 
 fn all_are_found<O: Office>(rt: &impl Abort, alloc: Global) -> Result<(), Stop> {
-    for cases in [CHANGED, MORE_OR_LESS, NO_BOOK, SEVERAL] {
+    for cases in [CHANGED, MORE_OR_LESS, RENAMED, NO_BOOK, SEVERAL] {
         are_found::<O>(rt, alloc, cases)?;
     }
     Ok(())
@@ -126,6 +141,37 @@ fn all_are_found<O: Office>(rt: &impl Abort, alloc: Global) -> Result<(), Stop> 
 #[test]
 fn tables_that_are_changed(rt: HostRuntime) -> Result<(), Stop> {
     all_are_found::<InMemory>(&rt, rt.alloc())
+}
+
+// What is done to the tables, so that they are of version 1, whatever else stands in them.
+const OLD: &'static [&'static str] = &[
+    "UPDATE meta SET version = 1",
+    "UPDATE meta SET id = 2, version = 1, days = 0",
+    "DROP TABLE life; UPDATE meta SET version = 1",
+    "DROP TABLE posting; UPDATE meta SET version = 1",
+    "DELETE FROM cmd; UPDATE meta SET version = 1",
+];
+
+// After this statement audit and load name the version.
+fn is_old<O: Office>(rt: &impl Abort, alloc: Global, sql: &str) -> Result<(), Stop> {
+    let marked: O = marked(rt, alloc)?;
+    let mut office = marked.changed(alloc, sql)?;
+    assert!(rt; office.audits() == "OldVersion", "{sql}");
+    assert!(rt; office.loads() == OLD_VERSION, "{sql}");
+    assert!(rt; !office.has_book());
+    Ok(())
+}
+
+fn are_old<O: Office>(rt: &impl Abort, alloc: Global, cases: &[&str]) -> Result<(), Stop> {
+    for sql in cases {
+        is_old::<O>(rt, alloc, sql)?;
+    }
+    Ok(())
+}
+
+#[test]
+fn tables_of_version_one(rt: HostRuntime) -> Result<(), Stop> {
+    are_old::<InMemory>(&rt, rt.alloc(), OLD)
 }
 
 // A database that is made by some statements holds no book.

@@ -47,10 +47,10 @@ pub fn take<O: Office>(
     Ok(())
 }
 
-// What the book shows, and the stored replies of its commands, of which there are fewer than thirty.
+// What the book shows, and the stored replies of its commands, of which there are fewer than forty.
 fn shown<O: Office>(alloc: Global, office: &mut O) -> Result<Vec<u8>, Stop> {
     let mut text = office.shows()?;
-    for no in 0..30 {
+    for no in 0..40 {
         let reply = stored_text(alloc, &office.replies(no))?;
         text.extend_from_slice(reply.as_bytes())?;
     }
@@ -70,11 +70,13 @@ fn loads<O: Office>(
     Ok(())
 }
 
-/// A keeper that loads the same tables, and then shows the same book and the same replies.
+/// A keeper that loads the same tables, and then shows the same book, the same lives and the same replies.
 pub fn reopened<O: Office>(rt: &impl Abort, alloc: Global, mut office: O) -> Result<O, Stop> {
     let shown = shown(alloc, &mut office)?;
+    let lives = office.lives(alloc)?;
     let mut again = office.changed(alloc, "")?;
     loads(rt, alloc, &mut again, &shown)?;
+    assert!(rt; again.lives(alloc)? == lives);
     Ok(again)
 }
 
@@ -91,8 +93,8 @@ pub fn ends<O: Office>(
     leaves(rt, alloc, reopened(rt, alloc, office)?, rows, total)
 }
 
-/// Gives the keeper up; the tables then have so many rows: the period, causes, nodes, devices, customers, entries, marked days,
-/// commands, moves, amounts. The amounts of each dimension add up to the total, and each is what the commands moved under its key.
+/// Gives the keeper up; the tables then have so many rows: the period, causes, nodes, devices, lives, customers, entries, marked
+/// days, commands, moves, amounts. The amounts of each dimension add up to the total, and each is what the commands moved under its key.
 pub fn leaves<O: Office>(
     rt: &impl Abort,
     alloc: Global,
@@ -101,8 +103,8 @@ pub fn leaves<O: Office>(
     total: i64,
 ) -> Result<(), Stop> {
     let found = office.finds(alloc, QUERIES)?;
-    assert!(rt; found.get(..10) == Some(rows));
-    assert!(rt; found.get(10..) == Some([total, total, total, 0].as_slice()));
+    assert!(rt; found.get(..11) == Some(rows));
+    assert!(rt; found.get(11..) == Some([total, total, total, 0].as_slice()));
     Ok(())
 }
 
@@ -112,6 +114,7 @@ const QUERIES: &'static [&'static str] = &[
     "SELECT count(*) FROM cause",
     "SELECT count(*) FROM node",
     "SELECT count(*) FROM device",
+    "SELECT count(*) FROM life",
     "SELECT count(*) FROM customer",
     "SELECT count(*) FROM entry",
     "SELECT count(*) FROM mark",

@@ -20,7 +20,7 @@ fn is_made_once<O: Office>(rt: &impl Abort, alloc: Global) -> Result<(), Stop> {
     let mut again = office.changed(alloc, "")?;
     is_refused(rt, &mut again);
     assert!(rt; !again.has_book());
-    leaves(rt, alloc, again, &[1, 3, 5, 5, 10, 0, 0, 21, 0, 320], 0)
+    leaves(rt, alloc, again, &[1, 3, 5, 5, 5, 10, 0, 0, 21, 0, 320], 0)
 }
 
 #[test]
@@ -41,7 +41,7 @@ fn has_no_periods<O: Office>(
         assert!(rt; !office.has_book());
     }
     office.makes(b"2024-01-01", 366, b"UTC0")?;
-    leaves(rt, alloc, office, &[1, 1, 1, 0, 0, 0, 0, 0, 0, 685], 0)
+    leaves(rt, alloc, office, &[1, 1, 1, 0, 0, 0, 0, 0, 0, 0, 685], 0)
 }
 
 #[test]

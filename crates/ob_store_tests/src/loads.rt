@@ -1,7 +1,9 @@
 //! Books that are loaded: commands go on, and a book stays where the tables turn into those of none.
 use crate::books::{ends, outage, reopened, take};
-use crate::office::{BAD_BOOK, InMemory, Office};
-use crate::scripts::{CORRECTED, OPENED_BEFORE, REFUSED, WITHDRAWN};
+use crate::office::{BAD_BOOK, InMemory, OLD_VERSION, Office};
+use crate::scripts::{
+    CORRECTED, JOINS_IN_OUTAGE, OPENED_BEFORE, PARTS_JOIN, REFUSED, TIE_STAYS, WITHDRAWN,
+};
 use ob_net::Stop;
 use std::alloc::Global;
 use std::process::Abort;
@@ -24,11 +26,19 @@ type Told = (&'static str, &'static [i64], i64);
 
 const TOLD: &'static [Told] = &[
     // Changes of entries that were loaded.
-    (CORRECTED, &[1, 3, 5, 5, 10, 4, 0, 26, 12, 320], 7_800),
-    (WITHDRAWN, &[1, 3, 5, 5, 10, 4, 0, 26, 12, 320], 255_600),
+    (CORRECTED, &[1, 3, 5, 5, 5, 10, 4, 0, 26, 12, 320], 7_800),
+    (WITHDRAWN, &[1, 3, 5, 5, 5, 10, 4, 0, 26, 12, 320], 255_600),
     // New commands.
-    (OPENED_BEFORE, &[1, 3, 5, 5, 10, 5, 0, 26, 13, 320], 10_800),
-    (REFUSED, &[1, 3, 5, 5, 10, 4, 0, 27, 9, 320], 9_000),
+    (OPENED_BEFORE, &[1, 3, 5, 5, 5, 10, 5, 0, 26, 13, 320], 10_800),
+    (REFUSED, &[1, 3, 5, 5, 5, 10, 4, 0, 27, 9, 320], 9_000),
+    // Lives, and parts that join.
+    (TIE_STAYS, &[1, 3, 5, 5, 5, 10, 4, 0, 27, 15, 320], 9_000),
+    (
+        JOINS_IN_OUTAGE,
+        &[1, 3, 5, 6, 6, 10, 4, 0, 26, 12, 320],
+        4_600,
+    ),
+    (PARTS_JOIN, &[1, 3, 7, 6, 6, 11, 4, 0, 30, 18, 320], 91_800),
 ];
 
 fn go_on<O: Office>(rt: &impl Abort, alloc: Global, told: &[Told]) -> Result<(), Stop> {
@@ -44,31 +54,47 @@ fn commands_in_a_loaded_book(rt: HostRuntime) -> Result<(), Stop> {
 }
 
 // The heading's row, but while there are 26 commands it is of another version.
-const HEADING: &'static str =
-    "DROP TABLE meta; CREATE VIEW meta AS SELECT 1 AS id, CASE max(id) WHEN 26 THEN 2 ELSE 1 END \
+const OTHER_VERSION: &'static str =
+    "DROP TABLE meta; CREATE VIEW meta AS SELECT 1 AS id, CASE max(id) WHEN 26 THEN 3 ELSE 2 END \
+     AS version, '2024-01-01' AS day0, 1 AS days, 'UTC0' AS zone FROM cmd";
+
+// The same, but then it is of version 1.
+const VERSION_ONE: &'static str =
+    "DROP TABLE meta; CREATE VIEW meta AS SELECT 1 AS id, CASE max(id) WHEN 26 THEN 1 ELSE 2 END \
      AS version, '2024-01-01' AS day0, 1 AS days, 'UTC0' AS zone FROM cmd";
 
 // The outage, loaded under such a heading.
-fn headed<O: Office>(rt: &impl Abort, alloc: Global) -> Result<O, Stop> {
+fn headed<O: Office>(rt: &impl Abort, alloc: Global, heading: &str) -> Result<O, Stop> {
     let outage: O = outage(rt, alloc)?;
-    let mut office = outage.changed(alloc, HEADING)?;
+    let mut office = outage.changed(alloc, heading)?;
     office.loads()?;
     Ok(office)
 }
 
-// The tables are no book's, and the keeper goes on with the one that it has.
-fn stays<O: Office>(rt: &impl Abort, office: &mut O) -> Result<(), Stop> {
+// The tables are audited and loaded as this, and the keeper goes on with the book that it has.
+fn stays<O: Office>(
+    rt: &impl Abort,
+    office: &mut O,
+    audited: &str,
+    loaded: &Result<(), Stop>,
+) -> Result<(), Stop> {
     let shown = office.shows()?;
-    assert!(rt; office.audits() == "BadBook");
-    assert!(rt; office.loads() == BAD_BOOK);
+    assert!(rt; office.audits() == audited);
+    assert!(rt; office.loads() == *loaded);
     assert!(rt; office.shows()? == shown);
     Ok(())
 }
 
-fn keeps_its_book<O: Office>(rt: &impl Abort, alloc: Global) -> Result<(), Stop> {
-    let mut office: O = headed(rt, alloc)?;
+fn keeps_its_book<O: Office>(
+    rt: &impl Abort,
+    alloc: Global,
+    heading: &str,
+    audited: &str,
+    loaded: &Result<(), Stop>,
+) -> Result<(), Stop> {
+    let mut office: O = headed(rt, alloc, heading)?;
     take(rt, alloc, &mut office, CORRECTED)?;
-    stays(rt, &mut office)?;
+    stays(rt, &mut office, audited, loaded)?;
     take(rt, alloc, &mut office, CORRECTED)?;
     take(rt, alloc, &mut office, "N27 mark 2024-01-01 E1 => 27")?;
     reopened(rt, alloc, office)?;
@@ -77,5 +103,10 @@ fn keeps_its_book<O: Office>(rt: &impl Abort, alloc: Global) -> Result<(), Stop>
 
 #[test]
 fn a_book_stays(rt: HostRuntime) -> Result<(), Stop> {
-    keeps_its_book::<InMemory>(&rt, rt.alloc())
+    keeps_its_book::<InMemory>(&rt, rt.alloc(), OTHER_VERSION, "meta", &BAD_BOOK)
+}
+
+#[test]
+fn a_book_stays_over_an_old_version(rt: HostRuntime) -> Result<(), Stop> {
+    keeps_its_book::<InMemory>(&rt, rt.alloc(), VERSION_ONE, "OldVersion", &OLD_VERSION)
 }

@@ -1,7 +1,7 @@
 //! What a test knows of a keeper.
 use ob_book::Book;
 use ob_command::{Command, read_body};
-use ob_net::{Fault, Ref, Refusal, Stop};
+use ob_net::{Fault, Life, Ref, Refusal, Stop};
 use ob_store::{Keeper, Reply};
 use ob_sweep::{Timeline, Windowed};
 use sqlite::{Alter, Connection, Error, MemStore};
@@ -9,6 +9,9 @@ use std::alloc::Global;
 
 /// The tables are no book's.
 pub const BAD_BOOK: Result<(), Stop> = Err(Stop::Refused(Refusal::BadBook));
+
+/// The tables are those of a book of version 1.
+pub const OLD_VERSION: Result<(), Stop> = Err(Stop::Refused(Refusal::OldVersion(1)));
 
 /// A call that needs a book, where there is none.
 const REOPEN: Stop = Stop::Fault(Fault::Reopen);
@@ -38,6 +41,9 @@ pub trait Office: Drop {
 
     /// The totals, the indices and the annual table of the book.
     fn shows(&self) -> Result<Vec<u8>, Stop>;
+
+    /// The lives of the book's devices, by number; none without a book.
+    fn lives(&self, alloc: Global) -> Result<Vec<Life>, Stop>;
 
     /// Whether it has a book.
     fn has_book(&self) -> bool;
@@ -89,6 +95,15 @@ fn texts<T: Timeline>(book: &Book<T>) -> Result<Vec<u8>, Stop> {
     text.extend_from_slice(&book.indices_text()?)?;
     text.extend_from_slice(&book.annual_text()?)?;
     Ok(text)
+}
+
+// The lives of a book's devices, by number.
+fn lives_of<T: Timeline>(alloc: Global, book: &Book<T>) -> Result<Vec<Life>, Stop> {
+    let mut lives = Vec::new(alloc);
+    for device in 0..book.net().devices() {
+        lives.push(book.net().life_of(device))?;
+    }
+    Ok(lives)
 }
 
 fn number<S: Alter>(conn: &mut Connection<S>, sql: &str) -> Result<i64, Error> {
@@ -147,6 +162,13 @@ impl<S: Blank, T: Timeline> Office for Keeper<S, T> {
         match self.book() {
             Some(book) => texts(book),
             None => Err(REOPEN),
+        }
+    }
+
+    fn lives(&self, alloc: Global) -> Result<Vec<Life>, Stop> {
+        match self.book() {
+            Some(book) => lives_of(alloc, book),
+            None => Ok(Vec::new(alloc)),
         }
     }
 

@@ -89,9 +89,45 @@ N22 section S9 9 => 22
 N23 connect 11 S9 1704067200 - => 23: cause 0 86400, feeder 9 86400, day 0 86400
 ";
 
+/// After the outage: the tie goes while it supplies S2, told twice, and stays after all.
+pub const TIE_STAYS: &'static str = "\
+N26 life T1 0 1704073200 => 26: cause 0 241200, feeder 1 241200, day 0 241200
+N26 life T1 0 1704073200 => 26: cause 0 241200, feeder 1 241200, day 0 241200
+N27 life T1 0 - => 27: cause 0 -241200, feeder 1 -241200, day 0 -241200
+N26 life T1 0 - => no: 11 RefConflict 26
+";
+
+/// After the outage: a tie that joins after the outage began takes S1 over.
+pub const JOINS_IN_OUTAGE: &'static str = "\
+N26 device X1 BUS-A S1 closed 1704072200 - => 26: cause 3 -4400, feeder 1 -4400, day 0 -4400
+N26 device X1 BUS-A S1 closed 0 - => no: 11 RefConflict 26
+";
+
+/// The breaker of S3 goes; it opens in the second in which it is gone, and then in the second before.
+pub const BREAKER_GONE: &'static str = "\
+N22 life B2 0 1704070800 => 22: cause 0 414000, feeder 2 414000, day 0 414000
+N23 switch B2 open 1704070800 4 K1 => 23
+N24 switch B2 open 1704070799 4 K1 => 24: cause 0 -414000, cause 4 414005, feeder 2 5, day 0 5
+";
+
+/// After the outage: parts join, and the life of one is set anew.
+pub const PARTS_JOIN: &'static str = "\
+N26 bus BUS-B => 26
+N27 section S9 9 => 27
+N28 connect 11 S9 1704067200 - => 28: cause 0 86400, feeder 9 86400, day 0 86400
+N29 device X9 BUS-A S9 closed 1704070800 - => 29: cause 0 -82800, feeder 9 -82800, day 0 -82800
+N30 life X9 1704070800 1704074400 => 30: cause 0 79200, feeder 9 79200, day 0 79200
+";
+
 /// After the outage: commands that are refused. Their reference stays free, and the first that is accepted takes it.
 pub const REFUSED: &'static str = "\
-N26 bus BUS-B => no: 4 Sealed
+N26 bus BUS-A => no: 3 NameTaken
+N26 section S1 2 => no: 3 NameTaken
+N26 device B2 BUS-A S9 closed 1704067210 1704067210 => no: 2 UnknownName
+N26 device B2 BUS-A S3 closed 1704067210 1704067210 => no: 3 NameTaken
+N26 device X1 BUS-A S3 closed 1704067210 1704067210 => no: 18 BadLife
+N26 life X9 1704067210 1704067210 => no: 2 UnknownName
+N26 life B2 1704067210 1704067210 => no: 18 BadLife
 N26 switch X9 open 1704070800 3 K1 => no: 2 UnknownName
 N26 switch B1 open 1704070800 9 K1 => no: 15 UnknownCause
 N26 switch B1 open 1704153600 3 K1 => no: 5 OutOfPeriod
