@@ -1,7 +1,7 @@
 //! Reading single fields: what a row may spell freely has one spelling in a body.
 ghost use Rattle.std.specs.Prelude.{◌≡◌};
 ghost use Rattle.ob_base.specs.Fields.{cause_in, feeder_in, serial_in, unix_second_in};
-ghost use Rattle.ob_command.specs.Spellings.{end_as, is_misspelled, leads_zero, number_as, no_end, IsMomentAs};
+ghost use Rattle.ob_command.specs.Spellings.{end_as, start_as, is_misspelled, leads_zero, number_as, no_end, IsMomentAs};
 ghost use Rattle.ob_command.specs.declared.spelling.Spelling.TheVariants.{Body};
 
 use crate::{CauseCode, FeederNumber, Moment, Serial};
@@ -11,10 +11,10 @@ use ob_base::read_unix_second;
 #[derive(Clone, Copy)]
 pub(crate) enum Spelling {
     /// As in a row or a JSON member: numbers may have leading zeros, a moment is Unix seconds or a
-    /// civil moment, and no end of service is an empty field.
+    /// civil moment, and an empty field is no end of a service or a life, or a life's beginning at 0.
     Free,
     /// As in a body text: numbers have no leading zeros, a moment is Unix seconds, and no end of
-    /// service is `-`.
+    /// a service or a life is `-`.
     Body,
 }
 
@@ -55,7 +55,22 @@ impl Spelling {
         }
     }
 
-    /// The end of service that a text is, which as a moment is `moment`.
+    /// The beginning of a life that a text is, which as a moment is `moment`: where it may be empty, it is then 0.
+    pub(crate) fn start_of(self, text: &[u8], moment: Option<Moment>) -> Option<Moment>
+        ensures { result ≡ start_as self text.now moment }
+    {
+        match self {
+            Spelling::Free => {
+                if text.is_empty() {
+                    return Moment::new(0);
+                }
+                moment
+            }
+            Spelling::Body => moment,
+        }
+    }
+
+    /// The end of a service or a life that a text is, which as a moment is `moment`.
     pub(crate) fn end_of(self, text: &[u8], moment: Option<Moment>) -> Option<Option<Moment>>
         ensures { result ≡ end_as self text.now moment }
     {
