@@ -152,7 +152,10 @@ impl Book {
             ["cause", ..] => {}
             ["bus", name] => self.add_node(name, None),
             ["section", name, feeder] => self.add_node(name, Some(feeder.parse().ok()?)),
-            ["device", name, a, b, normal] => self.add_device(name, a, b, normal == "closed")?,
+            // Every device of the years that it reads has a whole life.
+            ["device", name, a, b, normal, "0", "-"] => {
+                self.add_device(name, a, b, normal == "closed")?;
+            }
             ["connect", number, section, since, until] => {
                 let section = *self.node_of.get(section)?;
                 self.connect(number.parse().ok()?, section, service(since, until)?);
