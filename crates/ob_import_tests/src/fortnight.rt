@@ -20,6 +20,6 @@ const STEPS: &[Step] = &[
 // The annual tables and the moves of the fortnight, before and after its corrections, are those that stand beside it.
 #[test]
 fn the_sample_fortnight(rt: HostRuntime) -> Result<(), AllocError> {
-    let rows = &[1, 9, 10, 11, 33, 33, 1, 100, 234, 333];
+    let rows = &[1, 9, 10, 11, 11, 33, 33, 1, 100, 234, 333];
     are_answered(&rt, rt.alloc(), STEPS, rows)
 }
