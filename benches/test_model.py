@@ -345,7 +345,7 @@ class Examples(unittest.TestCase):
         """The table and the moves that stand beside the sample fortnight, and its amounts by hand."""
         examples = Path(__file__).resolve().parent.parent / "examples"
         book = Book(Period("2025-03-24", 14, "CET-1CEST,M3.5.0,M10.5.0/3"))
-        for name, added in [("fortnight", 97), ("corrections", 3)]:
+        for name, added in [("fortnight", 102), ("corrections", 3)]:
             self.assertEqual(book.import_text((examples / f"{name}.csv").read_bytes()), (added, 0, None))
             for lines, file in [(book.table_lines(), "table.txt"), (book.moves_lines(), "moves.csv")]:
                 self.assertEqual("".join(f"{line}\n" for line in lines), (examples / f"{name}.{file}").read_text())
@@ -467,10 +467,10 @@ BY_HAND = {
     (1, 1): 2 * 31_500 + 14 * 6_300,
     (1, 2): 13 * 1_880 + 5 * 11_390,
     (1, 3): 13 * 40,
-    (1, 4): 2 * 8_070,
+    (1, 4): 2 * 2_190,
     (1, 5): 3 * 4_500 + 3 * 2_400,
     (1, 6): 8 * 9_000 + 3 * 240,
-    (1, 7): 13 * 680,
+    (1, 7): 15 * 680,
     (1, 8): 8 * 3_120,
 }
 HEADER = "kind,ref,f1,f2,f3,f4,f5,f6\n"
