@@ -160,6 +160,8 @@ class Text:
         for _ in range(self.rng.randint(0, 30)):
             if self.rng.random() < 0.15 and self.state.devices:
                 self.draw_flurry()
+            elif self.rng.random() < 0.05:
+                self.draw_joining()
             else:
                 self.draw_command()
 
@@ -171,6 +173,20 @@ class Text:
         begin = rng.choice([0, 1])
         for act in (["open", "close"] * 3)[begin : begin + rng.randint(2, 4)]:
             self.add("switch", device, act, second, rng.choice(sorted(state.causes)[1:]), "K2")
+
+    def draw_joining(self):
+        """A device to a new section that joins in the period, opened before it does, and closed later in some."""
+        rng, state = self.rng, self.state
+        period, name = state.period, f"D{len(state.devices)}"
+        opened, joins, closed = sorted(rng.randrange(period.first, period.end) for _ in range(3))
+        node = f"N{len(state.feeders)}"
+        self.add("section", node, rng.choice([1, 2, 3]))
+        self.add("connect", 100 + len(state.feeders), node, 0, "")
+        self.add("device", name, "GRID", node, "closed", joins, "")
+        cause = sorted(state.causes)[-1]
+        self.add("switch", name, "open", opened, cause, "K3")
+        if rng.random() < 0.5:
+            self.add("switch", name, "close", closed, cause, "K3")
 
     def draw_command(self):
         rng, state = self.rng, self.state
