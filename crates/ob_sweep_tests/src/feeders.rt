@@ -60,6 +60,16 @@ pub fn net_of(alloc: Global, script: &str) -> Result<Net, Fail> {
     Ok(net)
 }
 
+fn life_from(since: Moment, until: Option<Moment>) -> Life {
+    Life {
+        since: since.second(),
+        until: match until {
+            Some(until) => Some(until.second()),
+            None => None,
+        },
+    }
+}
+
 fn add_part(net: &mut Net, command: &Command) -> Result<(), Fail> {
     net.reserve_one()?;
     match command {
@@ -72,9 +82,7 @@ fn add_part(net: &mut Net, command: &Command) -> Result<(), Fail> {
             since,
             until,
         } => {
-            let since = since.second();
-            let until = until.map(Moment::second);
-            let life = Life { since, until };
+            let life = life_from(*since, *until);
             net.add_device(*name, *ends.a(), *ends.b(), *normal, life)?
         }
         _ => return Err("no part of a network".into()),
