@@ -152,11 +152,7 @@ life B2 1704154800 - => cause 0 3000, feeder 2 3000, day 0 429000, day 1 -426000
 life B2 0 - => cause 0 -438000, feeder 2 -438000, day 0 -432000, day 1 -6000
 ";
 
-fn are_shown(
-    rt: &impl Abort,
-    alloc: Global,
-    stories: &[(u16, &str, u64)],
-) -> Result<(), Fail> {
+fn are_shown(rt: &impl Abort, alloc: Global, stories: &[(u16, &str, u64)]) -> Result<(), Fail> {
     for (days, script, total) in stories {
         shows(rt, alloc, *days, script, *total)?;
     }

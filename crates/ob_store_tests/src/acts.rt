@@ -2,8 +2,8 @@
 use crate::books::{ends, outage, reopened, take, two_feeders};
 use crate::office::{InMemory, Office};
 use crate::scripts::{
-    APART, BREAKER_GONE, CONNECTED, CORRECTED, JOINS_IN_OUTAGE, OPENED_AGAIN, OPENED_BEFORE, OUTAGE,
-    PARTS_JOIN, REFUSED, RELABELLED, TIE_STAYS, WITHDRAWN,
+    APART, BREAKER_GONE, CONNECTED, CORRECTED, JOINS_IN_OUTAGE, OPENED_AGAIN, OPENED_BEFORE,
+    OUTAGE, PARTS_JOIN, REFUSED, RELABELLED, TIE_STAYS, WITHDRAWN,
 };
 use crate::texts::stored_text;
 use ob_net::Stop;

@@ -73,9 +73,12 @@ const MORE_OR_LESS: &'static [Case] = &[
         "INSERT INTO node (id, name, kind, feeder) VALUES (9, 'S9', 2, 9)",
         "node",
     ),
-    ("DELETE FROM device WHERE name = 'I1'", "device"),
+    (
+        "DELETE FROM life WHERE device = 0; DELETE FROM device WHERE name = 'I1'",
+        "device",
+    ),
     ("DELETE FROM life WHERE device = 4", "life"),
-    ("INSERT INTO life (device, since) VALUES (5, 0)", "life"),
+    ("DELETE FROM life", "life"),
     ("DELETE FROM customer WHERE id = 10", "customer"),
     ("DELETE FROM entry WHERE id = 4", "entry"),
     ("INSERT INTO mark (day, engineer) VALUES (1, 'E1')", "mark"),
@@ -149,7 +152,7 @@ const OLD: &'static [&'static str] = &[
     "UPDATE meta SET id = 2, version = 1, days = 0",
     "DROP TABLE life; UPDATE meta SET version = 1",
     "DROP TABLE posting; UPDATE meta SET version = 1",
-    "DELETE FROM cmd; UPDATE meta SET version = 1",
+    "DELETE FROM moved; DELETE FROM cmd; UPDATE meta SET version = 1",
 ];
 
 // After this statement audit and load name the version.
