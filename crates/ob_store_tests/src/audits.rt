@@ -94,8 +94,11 @@ const MORE_OR_LESS: &'static [Case] = &[
 // Another heading of the same period, and commands under other numbers.
 const RENAMED: &'static [Case] = &[
     ("UPDATE meta SET version = 3", "meta"),
-    ("UPDATE meta SET id = 2", "meta"),
-    ("UPDATE meta SET id = 2, version = 3", "meta"),
+    (
+        "DROP TABLE meta; CREATE VIEW meta AS SELECT 2 AS id, 2 AS version, '2024-01-01' AS day0, \
+         1 AS days, 'UTC0' AS zone FROM mark",
+        "meta",
+    ),
     ("UPDATE cmd SET id = 27 WHERE id = 26", "cmd"),
 ];
 
@@ -107,6 +110,11 @@ const NO_BOOK: &'static [Case] = &[
     ("UPDATE cmd SET ref = 'N 1' WHERE id = 1", "BadBook"),
     (
         "UPDATE cmd SET body = 'cause 3  STORM' WHERE id = 1",
+        "BadBook",
+    ),
+    (
+        "DROP TABLE meta; CREATE VIEW meta AS SELECT 1 AS id, 1 AS version, '2024-01-01' AS day0, \
+         1 AS days, 'UTC0' AS zone FROM cause",
         "BadBook",
     ),
     ("DROP TABLE mark", "BadBook"),
@@ -149,7 +157,7 @@ fn tables_that_are_changed(rt: HostRuntime) -> Result<(), Stop> {
 // What is done to the tables, so that they are of version 1, whatever else stands in them.
 const OLD: &'static [&'static str] = &[
     "UPDATE meta SET version = 1",
-    "UPDATE meta SET id = 2, version = 1, days = 0",
+    "UPDATE meta SET version = 1, days = 0, zone = 'NOWHERE/AT/ALL'",
     "DROP TABLE life; UPDATE meta SET version = 1",
     "DROP TABLE posting; UPDATE meta SET version = 1",
     "DELETE FROM moved; DELETE FROM cmd; UPDATE meta SET version = 1",
