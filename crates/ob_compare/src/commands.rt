@@ -1,5 +1,5 @@
 //! The commands, read back from the rows of their table.
-ghost use Rattle.std.specs.Prelude.{◌≡◌, ◌≢◌, ◌↔◌, false, List, [], Some, IsTrue, IfOk, IfErr, OnOk};
+ghost use Rattle.std.specs.Prelude.{◌≡◌, ◌≢◌, ◌↔◌, pos, false, List, [], Some, IsTrue, IfOk, IfErr, OnOk};
 ghost use Rattle.sqlite.specs.Order.{Row as ARow};
 ghost use Rattle.sqlite.specs.Tree.{rowid};
 ghost use Rattle.sqlite.specs.Held.{state};
@@ -89,6 +89,13 @@ fn next_filed<S: Alter>(rows: &mut Rows<'_, S>, last: Option<i64>) -> Result<Nex
     }
 }
 
+/// Whether numbers that count from 1 so far, or don't, do with one more, where this is due.
+fn goes_on_counting(counted: bool, number: i64, due: u32) -> bool
+    ensures { IsTrue result ↔ (IsTrue counted × (number ≡ pos due)) }
+{
+    counted && number == i64::from(due)
+}
+
 /// The commands that the rows hold.
 fn filed_rows<S: Alter>(alloc: Global, rows: &mut Rows<'_, S>) -> Result<Option<Commands>, Stop>
     ensures same_reference { rows.new.conn.ghost_name ≡ rows.old.conn.ghost_name }
@@ -113,7 +120,7 @@ fn filed_rows<S: Alter>(alloc: Global, rows: &mut Rows<'_, S>) -> Result<Option<
         match next_filed(rows, last)? {
             Next::Higher(number, filed) => {
                 commands.push(filed)?;
-                counted = counted && number == i64::from(at + 1);
+                counted = goes_on_counting(counted, number, at + 1);
                 last = Some(number);
             }
             Next::Other => return Ok(None),
