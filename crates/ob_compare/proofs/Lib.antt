@@ -19,4 +19,4 @@ mod Texts
 pub mod Silent
 mod RowNumbers
 mod NumberQuery
-mod Ends
+mod SameEnds
