@@ -1,6 +1,7 @@
 -- The rows of nodes, devices and lives.
-use Rattle.std.proofs.Common.{◌≡◌, ℕ, List, [], ◌∷◌, Option, ap}
+use Rattle.std.proofs.Common.{◌≡◌, ℕ, List, [], ◌∷◌, Option}
 use Rattle.std.specs.Prelude.{◌==◌, is_some, unwrap_or, if◌then◌else◌}
+use Rattle.sqlite.specs.declared.types.Value.{Value}
 use Rattle.sqlite.specs.declared.types.Value.TheVariants.{Text}
 use Rattle.ob_base.specs.declared.Pos.{Pos}
 use Rattle.ob_base.specs.declared.life.Life.{Life}
@@ -19,5 +20,6 @@ pub device_columns : (id : ℕ) (x : Device) (name : List ℕ) (a b position : �
     → ◌≡◌ {A = Columns} (number id ∷ Text name ∷ number a ∷ number b ∷ number position ∷ []) (row_of_device id x)
 device_columns id x name a b position normal name_is a_is b_is position_is normal_is = rw (position_is, normal_is, name_is, a_is, b_is)
 
-pub life_columns : (id : ℕ) (x : Device) (life : Life) → life ≡ x.life → ◌≡◌ {A = Columns} (number id ∷ number life.since ∷ number_or_null life.until ∷ []) (row_of_life id x)
-life_columns id x life is = ap (λ (l : Life). number id ∷ number l.since ∷ number_or_null l.until ∷ []) is
+pub life_columns : (id : ℕ) (x : Device) (life : Life) (end : Value) → end ≡ number_or_null life.until → life ≡ x.life
+    → ◌≡◌ {A = Columns} (number id ∷ number life.since ∷ end ∷ []) (row_of_life id x)
+life_columns id x life end end_is is = rw (end_is, is)
