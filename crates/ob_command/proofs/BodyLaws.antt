@@ -22,10 +22,10 @@ use Rattle.ob_time.specs.Moment.{IsDateText}
 use Rattle.ob_command.specs.Ranges.{EndNames, end_names, IsCauseCode, IsFeederNumber, IsSerial, IsMoment, IsCivilDate}
 use Rattle.ob_command.specs.Commands.{BodiesDiffer, act_text, normal_text, until_text, words, body_text, AreEndsOfDevice, IsName, IsCrew, IsEnd, IsCommand}
 use Rattle.ob_command.specs.Spellings.{crew_in, end_as, ends_from, ends_in, name_in, number_as, Gives}
-use Rattle.ob_command.specs.Fields.{cause_of, section_of, device_of, connect_of, revise_of, switch_of, correct_of, withdraw_of, mark_of, unmark_of, kind_in, with_field, with_unused, AreFieldsOf, IsOfKind}
+use Rattle.ob_command.specs.Fields.{cause_of, section_of, device_of, life_of, connect_of, revise_of, switch_of, correct_of, withdraw_of, mark_of, unmark_of, kind_in, with_field, with_unused, AreFieldsOf, IsOfKind}
 use Rattle.ob_command.specs.Splits.{seven_texts, words_in}
 use Rattle.ob_command.specs.declared.command.Command.{Command}
-use Rattle.ob_command.specs.declared.command.Command.TheVariants.{Cause, Bus, Section, Device, Connect, Revise, Switch, Correct, Withdraw, Mark, Unmark}
+use Rattle.ob_command.specs.declared.command.Command.TheVariants.{Cause, Bus, Section, Device, Life, Connect, Revise, Switch, Correct, Withdraw, Mark, Unmark}
 use Rattle.ob_command.specs.declared.fields.Fields.{Fields}
 use Rattle.ob_command.specs.declared.kind.Kind.{Kind}
 use Rattle.ob_command.specs.declared.kind.Kind.TheVariants as kinds
@@ -95,8 +95,10 @@ words-are : (c : Command) → IsCommand c → AreWords (words c) × (length (wor
 words-are (Cause code name) h = (((omega arith, refl), (code-word code h.0, (name-word name h.1, tt))), omega arith)
 words-are (Bus name) h = (((omega arith, refl), (name-word name h, tt)), omega arith)
 words-are (Section name feeder) h = (((omega arith, refl), (name-word name h.0, (feeder-word feeder h.1, tt))), omega arith)
-words-are (Device name ends normal) h =
-    (((omega arith, refl), (name-word name h.0, (name-word ends.a h.1.0, (name-word ends.b h.1.1, (normal-word normal, tt))))), omega arith)
+words-are (Device name ends normal since until) h =
+    (((omega arith, refl), (name-word name h.0, (name-word ends.a h.1.0, (name-word ends.b h.1.1, (normal-word normal, (moment-word since h.2, (until-word until h.3, tt))))))), omega arith)
+words-are (Life device since until) h =
+    (((omega arith, refl), (name-word device h.0, (moment-word since h.1, (until-word until h.2, tt)))), omega arith)
 words-are (Connect customer section since until) h =
     (((omega arith, refl), (serial-word customer h.0, (name-word section h.1, (moment-word since h.2, (until-word until h.3, tt))))), omega arith)
 words-are (Revise customer since until) h =
@@ -113,7 +115,8 @@ joined : (c : Command) → left (words c) ≡ Some (body_text c)
 joined (Cause code name) = refl
 joined (Bus name) = refl
 joined (Section name feeder) = refl
-joined (Device name ends normal) = refl
+joined (Device name ends normal since until) = refl
+joined (Life device since until) = refl
 joined (Connect customer section since until) = refl
 joined (Revise customer since until) = refl
 joined (Switch device act second cause crew) = refl
@@ -184,11 +187,22 @@ section-value : (name : List ℕ) (feeder : ℕ) → IsCommand (Section name fee
 section-value name feeder h =
     ap₂ (λ o p. with_field 3 o (λ x. with_field 4 p (λ y. Ok (Section x y)))) (name-reading.back name h.0) (feeder-reading.back feeder h.1)
 
-device-value : (name : List ℕ) (ends : EndNames) (normal : Pos) → IsCommand (Device name ends normal) → device_of name ends.a ends.b (normal_text normal) ([] ∷ [] ∷ []) ≡ Ok (Device name ends normal)
-device-value name ends normal h =
-    ap₂ (λ o p. with_field 3 o (λ x. with_field 4 p (λ a. with_field 5 (ends_from a ends.b) (λ y. with_field 6 (normal_in (normal_text normal)) (λ z. Ok (Device x y z))))))
+device-value : (name : List ℕ) (ends : EndNames) (normal : Pos) (since : ℕ) (until : Option ℕ) → IsCommand (Device name ends normal since until)
+    → device_of name ends.a ends.b (normal_text normal) (second_in (decimal since)) (end_as Body (until_text until) (second_in (until_text until))) ≡ Ok (Device name ends normal since until)
+device-value name ends normal since until h =
+    ap₂ (λ o p. with_field 3 o (λ x. with_field 4 p (λ a. with_field 5 (ends_from a ends.b) (λ y. with_field 6 (normal_in (normal_text normal)) (λ z.
+    with_field 7 (second_in (decimal since)) (λ s. with_field 8 (end_as Body (until_text until) (second_in (until_text until))) (λ u. Ok (Device x y z s u))))))))
     (name-reading.back name h.0) (name-reading.back ends.a h.1.0)
-    ∙ ap₂ (λ o p. with_field 5 o (λ y. with_field 6 p (λ z. Ok (Device name y z)))) (ends-back ends h.1) (normal-reading.back normal tt)
+    ∙ ap₂ (λ o p. with_field 5 o (λ y. with_field 6 p (λ z.
+    with_field 7 (second_in (decimal since)) (λ s. with_field 8 (end_as Body (until_text until) (second_in (until_text until))) (λ u. Ok (Device name y z s u))))))
+    (ends-back ends h.1) (normal-reading.back normal tt)
+    ∙ ap₂ (λ o p. with_field 7 o (λ s. with_field 8 p (λ u. Ok (Device name ends normal s u)))) (moment-reading.back since h.2) (until-reading.back until h.3)
+
+life-value : (device : List ℕ) (since : ℕ) (until : Option ℕ) → IsCommand (Life device since until)
+    → life_of device (second_in (decimal since)) (end_as Body (until_text until) (second_in (until_text until))) ([] ∷ [] ∷ [] ∷ []) ≡ Ok (Life device since until)
+life-value device since until h =
+    rw (name-reading.back device h.0) (rw (moment-reading.back since h.1)
+    (ap (λ o. with_field 5 o (λ to. Ok (Life device since to))) (until-reading.back until h.2)))
 
 withdraw-value : (entry revision : ℕ) → IsCommand (Withdraw entry revision) → withdraw_of Body (decimal entry) (decimal revision) ([] ∷ [] ∷ [] ∷ [] ∷ []) ≡ Ok (Withdraw entry revision)
 withdraw-value entry revision h =
@@ -207,7 +221,10 @@ made : (c : Command) → IsCommand c → IsSeven (padded 7 (words c)) (Ok c)
 made (Cause code name) h = sym (cause-value code name h)
 made (Bus name) h = sym (ap (λ o. with_field 3 o (λ x. Ok (Bus x))) (name-reading.back name h))
 made (Section name feeder) h = sym (section-value name feeder h)
-made (Device name ends normal) h = sym (device-value name ends normal h)
+made (Device name ends normal since until) h =
+    (second_in (decimal since), second_in (until_text until), refl, refl, sym (device-value name ends normal since until h))
+made (Life device since until) h =
+    (second_in (decimal since), second_in (until_text until), refl, refl, sym (life-value device since until h))
 made (Connect customer section since until) h =
     (second_in (decimal since), second_in (until_text until), refl, refl, sym (connect-value customer section since until h))
 made (Revise customer since until) h = (second_in (decimal since), second_in (until_text until), refl, refl, sym (revise-value customer since until h))
@@ -222,7 +239,10 @@ back : (c : Command) (r : Result Command Refusal) → IsCommand c → IsSeven (p
 back (Cause code name) r h is = is ∙ cause-value code name h
 back (Bus name) r h is = is ∙ ap (λ o. with_field 3 o (λ x. Ok (Bus x))) (name-reading.back name h)
 back (Section name feeder) r h is = is ∙ section-value name feeder h
-back (Device name ends normal) r h is = is ∙ device-value name ends normal h
+back (Device name ends normal since until) r h is =
+    is.4 ∙ ap₂ (λ a b. device_of name ends.a ends.b (normal_text normal) a (end_as Body (until_text until) b)) is.2 is.3 ∙ device-value name ends normal since until h
+back (Life device since until) r h is =
+    is.4 ∙ ap₂ (λ a b. life_of device a (end_as Body (until_text until) b) ([] ∷ [] ∷ [] ∷ [])) is.2 is.3 ∙ life-value device since until h
 back (Connect customer section since until) r h is =
     is.4 ∙ ap₂ (λ a b. connect_of Body (decimal customer) section a (end_as Body (until_text until) b) ([] ∷ [] ∷ [])) is.2 is.3 ∙ connect-value customer section since until h
 back (Revise customer since until) r h is =
@@ -258,6 +278,7 @@ kind_text kinds.Cause = codes "cause"
 kind_text kinds.Bus = codes "bus"
 kind_text kinds.Section = codes "section"
 kind_text kinds.Device = codes "device"
+kind_text kinds.Life = codes "life"
 kind_text kinds.Connect = codes "connect"
 kind_text kinds.Revise = codes "revise"
 kind_text kinds.Switch = codes "switch"
@@ -276,10 +297,11 @@ kind-found : (text : List ℕ) (k : Kind) → kind_in text ≡ Some k → text �
 kind-found text k e =
     one-kind text (codes "cause") kinds.Cause k _ e refl (λ e. one-kind text (codes "bus") kinds.Bus k _ e refl (λ e.
     one-kind text (codes "section") kinds.Section k _ e refl (λ e. one-kind text (codes "device") kinds.Device k _ e refl (λ e.
+    one-kind text (codes "life") kinds.Life k _ e refl (λ e.
     one-kind text (codes "connect") kinds.Connect k _ e refl (λ e. one-kind text (codes "revise") kinds.Revise k _ e refl (λ e.
     one-kind text (codes "switch") kinds.Switch k _ e refl (λ e. one-kind text (codes "correct") kinds.Correct k _ e refl (λ e.
     one-kind text (codes "withdraw") kinds.Withdraw k _ e refl (λ e. one-kind text (codes "mark") kinds.Mark k _ e refl (λ e.
-    one-kind text (codes "unmark") kinds.Unmark k None e refl (λ e. absurd (cc))))))))))))
+    one-kind text (codes "unmark") kinds.Unmark k None e refl (λ e. absurd (cc)))))))))))))
 
 -- the command has these texts
 abbrev IsOfTexts : Kind → List ℕ → List ℕ → List ℕ → List ℕ → List ℕ → List ℕ → Command → Type 0
@@ -322,16 +344,29 @@ found kinds.Section f1 f2 f3 f4 f5 f6 c is =
     let y = feeder-reading.found f2 b.0 b.1 in
     subst (IsOfTexts kinds.Section f1 f2 f3 f4 f5 f6) u.1 ((x.0, y.0), texts _ f1 f2 f3 f4 f5 f6 _ _ _ _ _ _ x.1 y.1 u.0.0 u.0.1.0 u.0.1.1.0 u.0.1.1.1.0)
 found kinds.Device f1 f2 f3 f4 f5 f6 c is =
-    let a = with-Ok 3 _ _ c (sym is) in
+    let a = with-Ok 3 _ _ c (sym is.4) in
     let b = with-Ok 4 _ _ c a.2 in
     let d = with-Ok 5 _ _ c b.2 in
     let g = with-Ok 6 _ _ c d.2 in
-    let u = unused-Ok 7 (f5 ∷ f6 ∷ []) (Device a.0 d.0 g.0) c g.2 in
+    let m = with-Ok 7 _ _ c g.2 in
+    let n = with-Ok 8 _ _ c m.2 in
+    let u = same-ok (Device a.0 d.0 g.0 m.0 n.0) c n.2 in
     let x = name-reading.found f1 a.0 a.1 in
     let y = name-reading.found f2 b.0 b.1 in
     let z = ends-found b.0 f3 d.0 y.0 d.1 in
     let w = normal-reading.found f4 g.0 g.1 in
-    subst (IsOfTexts kinds.Device f1 f2 f3 f4 f5 f6) u.1 ((x.0, z.0), texts _ f1 f2 f3 f4 f5 f6 _ _ _ _ _ _ x.1 (y.1 ∙ z.1) z.2 w.1 u.0.0 u.0.1.0)
+    let q = moment-reading.found f5 m.0 (sym is.2 ∙ m.1) in
+    let v = until-reading.found f6 n.0 (ap (λ o. end_as Body f6 o) (sym is.3) ∙ n.1) in
+    subst (IsOfTexts kinds.Device f1 f2 f3 f4 f5 f6) u ((x.0, z.0, q.0, v.0), texts _ f1 f2 f3 f4 f5 f6 _ _ _ _ _ _ x.1 (y.1 ∙ z.1) z.2 w.1 q.1 v.1)
+found kinds.Life f1 f2 f3 f4 f5 f6 c is =
+    let a = with-Ok 3 _ _ c (sym is.4) in
+    let d = with-Ok 4 _ _ c a.2 in
+    let g = with-Ok 5 _ _ c d.2 in
+    let u = unused-Ok 6 (f4 ∷ f5 ∷ f6 ∷ []) (Life a.0 d.0 g.0) c g.2 in
+    let x = name-reading.found f1 a.0 a.1 in
+    let z = moment-reading.found f2 d.0 (sym is.2 ∙ d.1) in
+    let w = until-reading.found f3 g.0 (ap (λ o. end_as Body f3 o) (sym is.3) ∙ g.1) in
+    subst (IsOfTexts kinds.Life f1 f2 f3 f4 f5 f6) u.1 ((x.0, z.0, w.0), texts _ f1 f2 f3 f4 f5 f6 _ _ _ _ _ _ x.1 z.1 w.1 u.0.0 u.0.1.0 u.0.1.1.0)
 found kinds.Connect f1 f2 f3 f4 f5 f6 c is =
     let a = with-Ok 3 _ _ c (sym is.4) in
     let b = with-Ok 4 _ _ c a.2 in

@@ -1,5 +1,5 @@
 -- Worked examples of rows.
-use Rattle.std.proofs.Common.{refl, inl, inr, [], ◌∷◌, Some, Ok, Err, codes, arith}
+use Rattle.std.proofs.Common.{refl, inl, inr, [], ◌∷◌, Some, Ok, Err, codes, arith, None}
 use Rattle.ob_base.specs.declared.stop.Refusal.TheVariants.{BadField}
 use Rattle.ob_base.specs.declared.Pos.TheVariants.{Opened}
 use Rattle.ob_time.specs.Moment.{IsSecondText}
@@ -20,8 +20,18 @@ a_name_too_long = (Err (BadField 4), refl, refl)
 seven_fields : IsRow (codes "cause" ∷ codes "R1" ∷ codes "3" ∷ codes "STORM" ∷ [] ∷ [] ∷ [] ∷ []) (Err (BadField 0))
 seven_fields = refl
 
+-- an empty text names none
+no_second : Gives IsSecondText [] None
+no_second s = (
+  λ e. absurd (cc),
+  λ h. elim h [
+    | inl unix ↦ absurd (cc)
+    | inr civil ↦ absurd (omega (arith, civil.long))
+  ],
+)
+
 ends_that_are_one : IsRow (codes "device" ∷ codes "R1" ∷ codes "X1" ∷ codes "S1" ∷ codes "S1" ∷ codes "open" ∷ [] ∷ [] ∷ []) (Err (BadField 5))
-ends_that_are_one = (Err (BadField 5), refl, refl)
+ends_that_are_one = (Err (BadField 5), (None, None, no_second, no_second, refl), refl)
 
 an_unknown_kind : IsRow (codes "fuse" ∷ [] ∷ [] ∷ [] ∷ [] ∷ [] ∷ [] ∷ [] ∷ []) (Err (BadField 1))
 an_unknown_kind = refl

@@ -4,8 +4,8 @@ use Rattle.ob_base.specs.Identifier.{identifier_in}
 use Rattle.ob_base.specs.declared.stop.Refusal.{Refusal}
 use Rattle.ob_base.specs.declared.stop.Refusal.TheVariants.{BadField}
 use Rattle.ob_time.specs.Moment.{IsDateText, IsSecondText}
-use Rattle.ob_command.specs.Fields.{connect_of, revise_of, switch_of, correct_of, mark_of, unmark_of, kind_in, referred, AreFieldsOf, IsOfKind, IsReferred, RowsSayOneThing}
-use Rattle.ob_command.specs.Spellings.{end_as, Gives, IsMomentAs}
+use Rattle.ob_command.specs.Fields.{connect_of, device_of, life_of, revise_of, switch_of, correct_of, mark_of, unmark_of, kind_in, referred, AreFieldsOf, IsOfKind, IsReferred, RowsSayOneThing}
+use Rattle.ob_command.specs.Spellings.{end_as, start_as, Gives, IsMomentAs}
 use Rattle.ob_command.specs.declared.command.Command.{Command}
 use Rattle.ob_command.specs.declared.kind.Kind.{Kind}
 use Rattle.ob_command.specs.declared.kind.Kind.TheVariants as kinds
@@ -26,7 +26,10 @@ fields-one : (s : Spelling) (k : Kind) (f1 f2 f3 f4 f5 f6 : List ℕ) (a b : Res
 fields-one s kinds.Cause f1 f2 f3 f4 f5 f6 a b x y = x ∙ sym y
 fields-one s kinds.Bus f1 f2 f3 f4 f5 f6 a b x y = x ∙ sym y
 fields-one s kinds.Section f1 f2 f3 f4 f5 f6 a b x y = x ∙ sym y
-fields-one s kinds.Device f1 f2 f3 f4 f5 f6 a b x y = x ∙ sym y
+fields-one s kinds.Device f1 f2 f3 f4 f5 f6 a b x y =
+    x.4 ∙ ap₂ (λ m n. device_of f1 f2 f3 f4 (start_as s f5 m) (end_as s f6 n)) (moment-one s f5 x.0 y.0 x.2 y.2) (moment-one s f6 x.1 y.1 x.3 y.3) ∙ sym y.4
+fields-one s kinds.Life f1 f2 f3 f4 f5 f6 a b x y =
+    x.4 ∙ ap₂ (λ m n. life_of f1 (start_as s f2 m) (end_as s f3 n) (f4 ∷ f5 ∷ f6 ∷ [])) (moment-one s f2 x.0 y.0 x.2 y.2) (moment-one s f3 x.1 y.1 x.3 y.3) ∙ sym y.4
 fields-one s kinds.Connect f1 f2 f3 f4 f5 f6 a b x y =
     x.4 ∙ ap₂ (λ m n. connect_of s f1 f2 m (end_as s f4 n) (f5 ∷ f6 ∷ [])) (moment-one s f3 x.0 y.0 x.2 y.2) (moment-one s f4 x.1 y.1 x.3 y.3) ∙ sym y.4
 fields-one s kinds.Revise f1 f2 f3 f4 f5 f6 a b x y =

@@ -7,9 +7,9 @@ use Rattle.ob_base.specs.Identifier.{identifier_in}
 use Rattle.ob_base.specs.declared.stop.Refusal.{Refusal}
 use Rattle.ob_base.specs.declared.stop.Refusal.TheVariants.{BadField}
 use Rattle.ob_time.specs.Moment.{IsDateText}
-use Rattle.ob_command.specs.Spellings.{crew_in, end_as, ends_from, name_in, number_as, Gives, IsMomentAs}
+use Rattle.ob_command.specs.Spellings.{crew_in, end_as, ends_from, name_in, number_as, start_as, Gives, IsMomentAs}
 use Rattle.ob_command.specs.declared.command.Command.{Command}
-use Rattle.ob_command.specs.declared.command.Command.TheVariants.{Cause, Bus, Section, Device, Connect, Revise, Switch, Correct, Withdraw, Mark, Unmark}
+use Rattle.ob_command.specs.declared.command.Command.TheVariants.{Cause, Bus, Section, Device, Life, Connect, Revise, Switch, Correct, Withdraw, Mark, Unmark}
 use Rattle.ob_command.specs.declared.kind.Kind.{Kind}
 use Rattle.ob_command.specs.declared.kind.Kind.TheVariants as kinds
 use Rattle.ob_command.specs.declared.spelling.Spelling.{Spelling}
@@ -22,6 +22,7 @@ kind_in text =
     else if bytes_eq text (codes "bus") then Some kinds.Bus
     else if bytes_eq text (codes "section") then Some kinds.Section
     else if bytes_eq text (codes "device") then Some kinds.Device
+    else if bytes_eq text (codes "life") then Some kinds.Life
     else if bytes_eq text (codes "connect") then Some kinds.Connect
     else if bytes_eq text (codes "revise") then Some kinds.Revise
     else if bytes_eq text (codes "switch") then Some kinds.Switch
@@ -55,12 +56,20 @@ abbrev pub section_of : Spelling → List ℕ → List ℕ → List (List ℕ) �
 section_of s f1 f2 rest =
     with_field 3 (name_in f1) (λ name. with_field 4 (number_as s feeder_in f2) (λ feeder. with_unused 5 rest (Ok (Section name feeder))))
 
-abbrev pub device_of : List ℕ → List ℕ → List ℕ → List ℕ → List (List ℕ) → Result Command Refusal
-device_of f1 f2 f3 f4 rest =
+abbrev pub device_of : List ℕ → List ℕ → List ℕ → List ℕ → Option ℕ → Option (Option ℕ) → Result Command Refusal
+device_of f1 f2 f3 f4 since until =
     with_field 3 (name_in f1) (λ name.
     with_field 4 (name_in f2) (λ a.
     with_field 5 (ends_from a f3) (λ ends.
-    with_field 6 (normal_in f4) (λ normal. with_unused 7 rest (Ok (Device name ends normal))))))
+    with_field 6 (normal_in f4) (λ normal.
+    with_field 7 since (λ from.
+    with_field 8 until (λ to. Ok (Device name ends normal from to)))))))
+
+abbrev pub life_of : List ℕ → Option ℕ → Option (Option ℕ) → List (List ℕ) → Result Command Refusal
+life_of f1 since until rest =
+    with_field 3 (name_in f1) (λ device.
+    with_field 4 since (λ from.
+    with_field 5 until (λ to. with_unused 6 rest (Ok (Life device from to)))))
 
 abbrev pub connect_of : Spelling → List ℕ → List ℕ → Option ℕ → Option (Option ℕ) → List (List ℕ) → Result Command Refusal
 connect_of s f1 f2 since until rest =
@@ -110,7 +119,12 @@ abbrev pub AreFieldsOf : Spelling → Kind → List ℕ → List ℕ → List �
 AreFieldsOf s kinds.Cause f1 f2 f3 f4 f5 f6 r = r ≡ cause_of s f1 f2 (f3 ∷ f4 ∷ f5 ∷ f6 ∷ [])
 AreFieldsOf s kinds.Bus f1 f2 f3 f4 f5 f6 r = r ≡ bus_of f1 (f2 ∷ f3 ∷ f4 ∷ f5 ∷ f6 ∷ [])
 AreFieldsOf s kinds.Section f1 f2 f3 f4 f5 f6 r = r ≡ section_of s f1 f2 (f3 ∷ f4 ∷ f5 ∷ f6 ∷ [])
-AreFieldsOf s kinds.Device f1 f2 f3 f4 f5 f6 r = r ≡ device_of f1 f2 f3 f4 (f5 ∷ f6 ∷ [])
+AreFieldsOf s kinds.Device f1 f2 f3 f4 f5 f6 r =
+    (since : Option ℕ) × (until : Option ℕ) × IsMomentAs s f5 since × IsMomentAs s f6 until
+    × (r ≡ device_of f1 f2 f3 f4 (start_as s f5 since) (end_as s f6 until))
+AreFieldsOf s kinds.Life f1 f2 f3 f4 f5 f6 r =
+    (since : Option ℕ) × (until : Option ℕ) × IsMomentAs s f2 since × IsMomentAs s f3 until
+    × (r ≡ life_of f1 (start_as s f2 since) (end_as s f3 until) (f4 ∷ f5 ∷ f6 ∷ []))
 AreFieldsOf s kinds.Connect f1 f2 f3 f4 f5 f6 r =
     (since : Option ℕ) × (until : Option ℕ) × IsMomentAs s f3 since × IsMomentAs s f4 until × (r ≡ connect_of s f1 f2 since (end_as s f4 until) (f5 ∷ f6 ∷ []))
 AreFieldsOf s kinds.Revise f1 f2 f3 f4 f5 f6 r =

@@ -41,6 +41,12 @@ no_end Body = codes "-"
 abbrev pub end_as : Spelling → List ℕ → Option ℕ → Option (Option ℕ)
 end_as spelling text moment = if bytes_eq text (no_end spelling) then Some None else option_map (λ s. Some s) moment
 
+-- the beginning of a life of this text, which as a moment is `moment`: in a row an empty text is 0
+abbrev pub start_as : Spelling → List ℕ → Option ℕ → Option ℕ
+start_as Free [] moment = Some 0
+start_as Free (byte ∷ bytes) moment = moment
+start_as Body text moment = moment
+
 -- the name of a node, a device or a cause
 abbrev pub name_in : List ℕ → Option (List ℕ)
 name_in text = identifier_in 24 text

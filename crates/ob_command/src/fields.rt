@@ -1,7 +1,7 @@
 //! Reading a command from its six fields, by its kind. The leftmost bad column is refused.
 ghost use Rattle.std.specs.Prelude.{◌≡◌, ◌<◌, ◌+◌, [], ◌∷◌, length, map, Ok};
-ghost use Rattle.ob_command.specs.Fields.{bus_of, cause_of, connect_of, correct_of, device_of, mark_of, revise_of, section_of, switch_of, unmark_of, with_unused, withdraw_of, AreFieldsOf};
-ghost use Rattle.ob_command.specs.Spellings.{end_as, ends_from};
+ghost use Rattle.ob_command.specs.Fields.{bus_of, cause_of, connect_of, correct_of, device_of, life_of, mark_of, revise_of, section_of, switch_of, unmark_of, with_unused, withdraw_of, AreFieldsOf};
+ghost use Rattle.ob_command.specs.Spellings.{end_as, ends_from, start_as};
 
 use crate::kind::Kind;
 use crate::spelling::Spelling;
@@ -41,7 +41,16 @@ pub(crate) fn read_fields(
         Kind::Cause => cause(spelling, fields),
         Kind::Bus => bus(fields),
         Kind::Section => section(spelling, fields),
-        Kind::Device => device(fields),
+        Kind::Device => {
+            let since = spelling.read_moment(fields.f5);
+            let until = spelling.read_moment(fields.f6);
+            device(spelling, fields, since, until)
+        }
+        Kind::Life => {
+            let since = spelling.read_moment(fields.f2);
+            let until = spelling.read_moment(fields.f3);
+            life(spelling, fields, since, until)
+        }
         Kind::Connect => {
             let since = spelling.read_moment(fields.f3);
             let until = spelling.read_moment(fields.f4);
@@ -97,17 +106,56 @@ fn section(spelling: Spelling, fields: &Fields<'_>) -> Result<Command, Refusal>
     )
 }
 
-fn device(fields: &Fields<'_>) -> Result<Command, Refusal>
-    ensures { result ≡ device_of fields.now.f1.now fields.now.f2.now fields.now.f3.now fields.now.f4.now (fields.now.f5.now ∷ fields.now.f6.now ∷ []) }
+fn device(
+    spelling: Spelling,
+    fields: &Fields<'_>,
+    since: Option<Moment>,
+    until: Option<Moment>,
+) -> Result<Command, Refusal>
+    ensures { result ≡ device_of fields.now.f1.now fields.now.f2.now fields.now.f3.now fields.now.f4.now (start_as spelling fields.now.f5.now since) (end_as spelling fields.now.f6.now until) }
 {
     let name = Name::read(fields.f1).ok_or(Refusal::BadField(3))?;
     let a = Name::read(fields.f2).ok_or(Refusal::BadField(4))?;
     let ends = read_ends(a, fields.f3).ok_or(Refusal::BadField(5))?;
     let normal = read_normal(fields.f4).ok_or(Refusal::BadField(6))?;
+    let since = spelling
+        .start_of(fields.f5, since)
+        .ok_or(Refusal::BadField(7))?;
+    let until = spelling
+        .end_of(fields.f6, until)
+        .ok_or(Refusal::BadField(8))?;
+    Ok(Command::Device {
+        name,
+        ends,
+        normal,
+        since,
+        until,
+    })
+}
+
+fn life(
+    spelling: Spelling,
+    fields: &Fields<'_>,
+    since: Option<Moment>,
+    until: Option<Moment>,
+) -> Result<Command, Refusal>
+    ensures { result ≡ life_of fields.now.f1.now (start_as spelling fields.now.f2.now since) (end_as spelling fields.now.f3.now until) (fields.now.f4.now ∷ fields.now.f5.now ∷ fields.now.f6.now ∷ []) }
+{
+    let device = Name::read(fields.f1).ok_or(Refusal::BadField(3))?;
+    let since = spelling
+        .start_of(fields.f2, since)
+        .ok_or(Refusal::BadField(4))?;
+    let until = spelling
+        .end_of(fields.f3, until)
+        .ok_or(Refusal::BadField(5))?;
     complete(
-        Command::Device { name, ends, normal },
-        7,
-        &[fields.f5, fields.f6],
+        Command::Life {
+            device,
+            since,
+            until,
+        },
+        6,
+        &[fields.f4, fields.f5, fields.f6],
     )
 }
 

@@ -9,6 +9,7 @@ pub(crate) enum Kind {
     Bus,
     Section,
     Device,
+    Life,
     Connect,
     Revise,
     Switch,
@@ -31,6 +32,8 @@ impl Kind {
             Some(Kind::Section)
         } else if text == b"device".as_slice() {
             Some(Kind::Device)
+        } else if text == b"life".as_slice() {
+            Some(Kind::Life)
         } else if text == b"connect".as_slice() {
             Some(Kind::Connect)
         } else if text == b"revise".as_slice() {

@@ -1,7 +1,7 @@
 //! Reading single fields: what a row may spell freely has one spelling in a body.
 ghost use Rattle.std.specs.Prelude.{◌≡◌};
 ghost use Rattle.ob_base.specs.Fields.{cause_in, feeder_in, serial_in, unix_second_in};
-ghost use Rattle.ob_command.specs.Spellings.{end_as, is_misspelled, leads_zero, number_as, no_end, IsMomentAs};
+ghost use Rattle.ob_command.specs.Spellings.{end_as, start_as, is_misspelled, leads_zero, number_as, no_end, IsMomentAs};
 ghost use Rattle.ob_command.specs.declared.spelling.Spelling.TheVariants.{Body};
 
 use crate::{CauseCode, FeederNumber, Moment, Serial};
@@ -52,6 +52,21 @@ impl Spelling {
         match self {
             Spelling::Free => Moment::read(text),
             Spelling::Body => read_plain_second(text),
+        }
+    }
+
+    /// The beginning of a life that a text is, which as a moment is `moment`: where it may be empty, it is then 0.
+    pub(crate) fn start_of(self, text: &[u8], moment: Option<Moment>) -> Option<Moment>
+        ensures { result ≡ start_as self text.now moment }
+    {
+        match self {
+            Spelling::Free => {
+                if text.is_empty() {
+                    return Moment::new(0);
+                }
+                moment
+            }
+            Spelling::Body => moment,
         }
     }
 

@@ -9,7 +9,7 @@ pub mod Found
 pub mod Kept
 pub mod Leading
 pub mod NodeByNode
-pub mod OnePartMore
+pub mod NetworkChanges
 pub mod Refused
 pub mod Reposting
 pub mod Serving

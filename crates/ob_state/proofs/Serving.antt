@@ -7,7 +7,7 @@ use Rattle.ob_cust.specs.declared.TheConstants.{MOST_CUSTOMERS}
 use Rattle.ob_cust.specs.Roll.{connect_refusal, revised, with_customer}
 use Rattle.ob_time.specs.Calendar.{IsCalendar, day_count}
 use Rattle.ob_command.specs.declared.command.Command.{Command}
-use Rattle.ob_command.specs.declared.command.Command.TheVariants.{Cause, Bus, Section, Device, Connect, Revise, Switch, Correct, Withdraw, Mark, Unmark}
+use Rattle.ob_command.specs.declared.command.Command.TheVariants.{Cause, Bus, Section, Device, Life, Connect, Revise, Switch, Correct, Withdraw, Mark, Unmark}
 use Rattle.ob_post.specs.MoveLaws.{AreSmall}
 use Rattle.ob_post.specs.SectionLaws.{Changed, Connected}
 use Rattle.ob_post.specs.TotalLaws.{AmountsAreSmall}
@@ -65,7 +65,8 @@ pub next_small : (b : BookState) (command : Command) → AmountsAreSmall → IsC
 next_small b (Cause code name) law cal few h = small (next b (Cause code name)) law cal few
 next_small b (Bus name) law cal few h = small (next b (Bus name)) law cal few
 next_small b (Section name feeder) law cal few h = small (next b (Section name feeder)) law cal few
-next_small b (Device name ends normal) law cal few h = small (next b (Device name ends normal)) law cal few
+next_small b (Device name ends normal since until) law cal few h = small (next b (Device name ends normal since until)) law cal few
+next_small b (Life device since until) law cal few h = small (next b (Life device since until)) law cal few
 next_small b (Connect customer section since until) law cal few h =
     let accepted = connect_accepted b customer section since until h in
     connect_small b customer section since until accepted.0 law cal few accepted.1 accepted.2

@@ -4,6 +4,8 @@ use Rattle.std.specs.List.{sum_by, range_with_len}
 use Rattle.ob_net.specs.Network.{Network, without_last_device, without_last_node}
 use Rattle.ob_cust.specs.declared.Customer.{Customer}
 use Rattle.ob_sheet.specs.declared.Entry.{Entry}
+use Rattle.ob_sweep.specs.Changed.{net_before}
+use Rattle.ob_sweep.specs.declared.change.Change.{Change}
 use Rattle.ob_post.specs.CustomerSeconds.{customer_seconds_by}
 use Rattle.ob_post.specs.SectionAmounts.{amount_at}
 use Rattle.ob_post.specs.declared.Dim.{Dim}
@@ -56,3 +58,7 @@ without_node b = with_network b (without_last_node b.network)
 -- the state without the device that was added last
 abbrev pub without_device : BookState → BookState
 without_device b = with_network b (without_last_device b.network)
+
+-- the state before a change of the network, where this is the one after it
+abbrev pub before_change : Change → BookState → BookState
+before_change change b = with_network b (net_before change b.network)

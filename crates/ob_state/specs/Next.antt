@@ -1,14 +1,14 @@
 -- What an accepted command changes.
 use Rattle.std.specs.Prelude.{ℕ, ◌+◌, List, [], ◌∷◌, ◌++◌, Option, Some, None, is_none, set, unwrap_or, if◌then◌else◌}
-use Rattle.ob_base.specs.Life.{whole_life}
-use Rattle.ob_net.specs.Network.{with_node, with_device, device_of, section_of}
+use Rattle.ob_base.specs.Life.{life}
+use Rattle.ob_net.specs.Network.{with_node, with_device, with_life, device_of, section_of}
 use Rattle.ob_sheet.specs.Sheet.{new_entry}
 use Rattle.ob_sheet.specs.Revisions.{change_entry, corrected, withdrawn}
 use Rattle.ob_cust.specs.Roll.{with_customer, with_service}
 use Rattle.ob_time.specs.Calendar.{Calendar, day_on}
 use Rattle.ob_index.specs.Marks.{with_mark, without_mark}
 use Rattle.ob_command.specs.declared.command.Command.{Command}
-use Rattle.ob_command.specs.declared.command.Command.TheVariants.{Cause, Bus, Section, Device, Connect, Revise, Switch, Correct, Withdraw, Mark, Unmark}
+use Rattle.ob_command.specs.declared.command.Command.TheVariants.{Cause, Bus, Section, Device, Life, Connect, Revise, Switch, Correct, Withdraw, Mark, Unmark}
 use Rattle.ob_state.specs.State.{BookState, empty_book}
 use Rattle.ob_state.specs.Refusals.{refusal}
 use Rattle.jiff.specs.Words.{epoch_day}
@@ -23,7 +23,8 @@ abbrev pub changed : BookState → Command → BookState
 changed b (Cause code name) = record b { causes = set b.causes code (Some name) }
 changed b (Bus name) = record b { network = with_node b.network (record { name = name; feeder = None }) }
 changed b (Section name feeder) = record b { network = with_node b.network (record { name = name; feeder = Some feeder }) }
-changed b (Device name ends normal) = record b { network = with_device b.network name ends.a ends.b normal whole_life }
+changed b (Device name ends normal since until) = record b { network = with_device b.network name ends.a ends.b normal (life since until) }
+changed b (Life device since until) = record b { network = with_life b.network (unwrap_or (device_of b.network device) 0) (life since until) }
 changed b (Connect customer section since until) =
     record b { customers = with_customer (record { «no» = customer; section = unwrap_or (section_of b.network section) 0; since = since; until = until }) b.customers }
 changed b (Revise customer since until) = record b { customers = with_service customer since until b.customers }

@@ -1,8 +1,8 @@
 -- Why a command isn't accepted: the first of its kind's refusals that has a cause, and then the full book.
 use Rattle.std.specs.Prelude.{ℕ, ◌==◌, ◌||◌, Bool, not, nat_le, nat_lt, List, [], ◌∷◌, ◌++◌, Option, Some, None, is_none, if◌then◌else◌, length}
-use Rattle.ob_base.specs.Life.{whole_life}
+use Rattle.ob_base.specs.Life.{life, life_refusal}
 use Rattle.ob_base.specs.declared.stop.Refusal.{Refusal}
-use Rattle.ob_base.specs.declared.stop.Refusal.TheVariants.{UnknownName, NameTaken, Sealed, OutOfPeriod, Full, UnknownCause}
+use Rattle.ob_base.specs.declared.stop.Refusal.TheVariants.{UnknownName, NameTaken, OutOfPeriod, Full, UnknownCause}
 use Rattle.ob_net.specs.Network.{Network, node_refusal, device_refusal, device_of, section_of}
 use Rattle.ob_sheet.specs.declared.Entry.{Entry}
 use Rattle.ob_sheet.specs.Revisions.{revision_refusal}
@@ -11,7 +11,7 @@ use Rattle.ob_cust.specs.declared.Customer.{Customer}
 use Rattle.ob_time.specs.Calendar.{Calendar, first_second_of, end_second_of, day_on}
 use Rattle.ob_index.specs.Marks.{mark_refusal, unmark_refusal}
 use Rattle.ob_command.specs.declared.command.Command.{Command}
-use Rattle.ob_command.specs.declared.command.Command.TheVariants.{Cause, Bus, Section, Device, Connect, Revise, Switch, Correct, Withdraw, Mark, Unmark}
+use Rattle.ob_command.specs.declared.command.Command.TheVariants.{Cause, Bus, Section, Device, Life, Connect, Revise, Switch, Correct, Withdraw, Mark, Unmark}
 use Rattle.ob_state.specs.State.{BookState, has_cause, has_cause_name}
 use Rattle.jiff.specs.Words.{epoch_day}
 
@@ -24,10 +24,6 @@ abbrev pub first : List (Option Refusal) → Option Refusal
 first [] = None
 first (None ∷ rs) = first rs
 first (Some r ∷ rs) = Some r
-
--- the network takes no more parts once the sheet holds an entry, kept or withdrawn
-abbrev pub if_sealed : List Entry → Option Refusal
-if_sealed entries = refuse_if (not (length entries == 0)) Sealed
 
 -- the second lies outside the period
 abbrev pub if_outside : Calendar → ℕ → Option Refusal
@@ -59,9 +55,10 @@ day_refusal (Some day) refusal_of = refusal_of day
 -- what each kind of command is refused for, in order
 abbrev pub refusals : BookState → Command → List (Option Refusal)
 refusals b (Cause code name) = refuse_if (has_cause b.causes code || has_cause_name b.causes name) NameTaken ∷ []
-refusals b (Bus name) = if_sealed b.entries ∷ node_refusal b.network name ∷ []
-refusals b (Section name feeder) = if_sealed b.entries ∷ node_refusal b.network name ∷ []
-refusals b (Device name ends normal) = if_sealed b.entries ∷ device_refusal b.network name ends.a ends.b whole_life ∷ []
+refusals b (Bus name) = node_refusal b.network name ∷ []
+refusals b (Section name feeder) = node_refusal b.network name ∷ []
+refusals b (Device name ends normal since until) = device_refusal b.network name ends.a ends.b (life since until) ∷ []
+refusals b (Life device since until) = if_unknown_device b.network device ∷ life_refusal (life since until) ∷ []
 refusals b (Connect customer section since until) = connect_refusal_on (section_of b.network section) b.customers customer since until ∷ []
 refusals b (Revise customer since until) = revise_refusal b.customers customer since until ∷ []
 refusals b (Switch device act second cause crew) =

@@ -1,16 +1,11 @@
 //! The one change of an accepted command. No memory is asked for here: room was made.
 ghost use Rattle.std.specs.Prelude.{◌≡◌};
+ghost use Rattle.ob_base.specs.Life.{life};
 
 use crate::state::State;
 use ob_base::{Crew, Life, Name, Pos, Second};
 use ob_command::{CauseCode, CivilDate, Command, Ends, FeederNumber, Moment, Serial};
 use ob_cust::Customer;
-
-/// The life of each device that a command adds.
-pub(crate) const WHOLE_LIFE: Life = Life {
-    since: 0,
-    until: None,
-};
 
 /// The end of a service as a second.
 pub fn end_of(until: Option<Moment>) -> Option<Second>
@@ -22,9 +17,19 @@ pub fn end_of(until: Option<Moment>) -> Option<Second>
     }
 }
 
+/// The life from one moment until before another; without end where there is none.
+pub fn life_from(since: Moment, until: Option<Moment>) -> Life
+    ensures { result ≡ life since until }
+{
+    Life {
+        since: since.second(),
+        until: end_of(until),
+    }
+}
+
 impl State {
     ghost use Rattle.std.specs.Prelude.{◌≡◌, ◌<◌, None};
-    ghost use Rattle.ob_command.specs.declared.command.Command.TheVariants.{Cause, Bus, Section, Device, Connect, Revise, Switch, Correct, Withdraw, Mark, Unmark};
+    ghost use Rattle.ob_command.specs.declared.command.Command.TheVariants.{Cause, Bus, Section, Device, Life, Connect, Revise, Switch, Correct, Withdraw, Mark, Unmark};
     ghost use Rattle.ob_state.specs.Refusals.{refusal as refusal_to};
     ghost use Rattle.ob_state.specs.Next.{changed, next};
 
@@ -50,7 +55,18 @@ impl State {
             Command::Cause { code, name } => self.name_cause(code, name),
             Command::Bus { name } => self.add_bus(name),
             Command::Section { name, feeder } => self.add_section(name, feeder),
-            Command::Device { name, ends, normal } => self.add_device(name, ends, normal),
+            Command::Device {
+                name,
+                ends,
+                normal,
+                since,
+                until,
+            } => self.add_device(name, ends, normal, life_from(since, until)),
+            Command::Life {
+                device,
+                since,
+                until,
+            } => self.live(&device, life_from(since, until)),
             Command::Connect {
                 customer,
                 section,
@@ -115,17 +131,31 @@ impl State {
     }
 
     /// Adds a device that isn't refused.
-    pub(crate) fn add_device(&mut self, name: Name, ends: Ends, normal: Pos)
-        requires accepted { refusal_to self.old.state (Device name ends normal) ≡ None }
+    pub(crate) fn add_device(&mut self, name: Name, ends: Ends, normal: Pos, life: Life)
+        requires accepted { refusal_to self.old.state (Device name ends normal life.since life.until) ≡ None }
         requires room { 0 < self.old.room }
-        ensures state { self.new.state ≡ changed self.old.state (Device name ends normal) }
+        ensures state { self.new.state ≡ changed self.old.state (Device name ends normal life.since life.until) }
         ensures searches { self.new.searches ≡ self.old.searches }
     {
         if self
             .net
-            .add_device(name, *ends.a(), *ends.b(), normal, WHOLE_LIFE)
+            .add_device(name, *ends.a(), *ends.b(), normal, life)
             .is_err()
         {
+            unreachable!();
+        }
+    }
+
+    // Sets the life of a device anew, where that isn't refused.
+    fn live(&mut self, device: &Name, life: Life)
+        requires accepted { refusal_to self.old.state (Life device.now life.since life.until) ≡ None }
+        ensures state { self.new.state ≡ changed self.old.state (Life device.now life.since life.until) }
+        ensures searches { self.new.searches ≡ self.old.searches }
+    {
+        let Some(device) = self.net.device_of(device) else {
+            unreachable!();
+        };
+        if self.net.set_life(device, life).is_err() {
             unreachable!();
         }
     }

@@ -1,5 +1,5 @@
 //! What an accepted command moves, and what it does to the runs.
-ghost use Rattle.std.specs.Prelude.{◌≡◌, ◌≤◌, ◌+◌, None, IfOk, IfErr, IfSome};
+ghost use Rattle.std.specs.Prelude.{◌≡◌, ◌≤◌, ◌+◌, None, IfOk, IfErr};
 ghost use Rattle.ob_base.specs.Stop.{out_of_memory};
 ghost use Rattle.ob_state.specs.States.{AreRunsOf};
 ghost use Rattle.ob_state.specs.Refusals.{refusal};
@@ -7,7 +7,8 @@ ghost use Rattle.ob_state.specs.Next.{next};
 ghost use Rattle.ob_state.specs.Effects.{IsEffect};
 ghost use Rattle.ob_state.specs.Searches.{most_searches};
 
-use crate::parts::{with_bus, with_device, with_section};
+use crate::change::life_from;
+use crate::parts::{NewDevice, with_bus, with_device, with_life, with_section};
 use crate::retiming::Retiming;
 use crate::service::{connected, revised};
 use crate::state::State;
@@ -38,8 +39,7 @@ pub fn effect_of<T: Timeline>(
     ensures effect { IfOk result (IsEffect state.old.state (next state.old.state command.now)) }
     ensures err { IfErr result (λ stop. stop ≡ out_of_memory) }
     ensures state { state.new.state ≡ state.old.state }
-    ensures searches { IfSome (most_searches T.bound state.old.state command.now)
-        (λ most. state.new.searches ≤ state.old.searches + most) }
+    ensures searches { state.new.searches ≤ state.old.searches + most_searches T.bound state.old.state command.now }
 {
     match *command {
         Command::Cause { .. } | Command::Mark { .. } | Command::Unmark { .. } => Ok(Effect {
@@ -48,9 +48,26 @@ pub fn effect_of<T: Timeline>(
         }),
         Command::Bus { .. } => Ok(with_bus(alloc, state)),
         Command::Section { name, feeder } => { with_section(alloc, state, timeline, name, feeder) }
-        Command::Device { name, ends, normal } => {
-            with_device(alloc, state, timeline, name, ends, normal)
+        Command::Device {
+            name,
+            ends,
+            normal,
+            since,
+            until,
+        } => {
+            let device = NewDevice {
+                name,
+                ends,
+                normal,
+                life: life_from(since, until),
+            };
+            with_device(alloc, state, timeline, device)
         }
+        Command::Life {
+            device,
+            since,
+            until,
+        } => with_life(alloc, state, timeline, &device, life_from(since, until)),
         Command::Connect {
             customer,
             section,

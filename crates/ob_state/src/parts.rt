@@ -1,5 +1,5 @@
-//! What one more part of the network moves.
-ghost use Rattle.std.specs.Prelude.{◌≡◌, ◌+◌, ◌≤◌, ◌<◌, ℕ, List, None, IfOk, IfErr, IfSome, IsSome, OnOk, length};
+//! What a change of the network moves: a part more, or another life of a device.
+ghost use Rattle.std.specs.Prelude.{◌≡◌, ◌+◌, ◌≤◌, ◌<◌, ℕ, List, None, IfOk, IfErr, IsSome, OnOk, length};
 ghost use Rattle.ob_base.specs.Stop.{out_of_memory};
 ghost use Rattle.ob_sweep.specs.Changed.{changed, net_before, Applies, IsAfter};
 ghost use Rattle.ob_sweep.specs.Deltas.{new_runs, Fits, IsDelta};
@@ -11,10 +11,9 @@ ghost use Rattle.ob_state.specs.Refusals.{refusal};
 ghost use Rattle.ob_state.specs.Next.{next};
 ghost use Rattle.ob_state.specs.Retimings.{runs_in};
 ghost use Rattle.ob_posting.specs.Balances.{Balances, together};
-ghost use Rattle.ob_state.specs.Effects.{IsEffect, amount_of_node, with_network, without_device};
+ghost use Rattle.ob_state.specs.Effects.{IsEffect, amount_of_node, before_change};
 ghost use Rattle.ob_state.specs.Searches.{most_searches};
 
-use crate::change::WHOLE_LIFE;
 use crate::effect::Effect;
 use crate::retiming::Retiming;
 use crate::state::State;
@@ -24,6 +23,15 @@ use ob_post::laws::{section_laws, total_laws};
 use ob_posting::Posting;
 use ob_sweep::{Change, Delta, Timeline};
 use std::alloc::Global;
+
+/// A device that a command adds.
+#[derive(Clone, Copy)]
+pub struct NewDevice {
+    pub name: Name,
+    pub ends: Ends,
+    pub normal: Pos,
+    pub life: Life,
+}
 
 /// The effect of a bus that isn't refused: no section's runs change.
 pub fn with_bus(alloc: Global, state: &State) -> Effect
@@ -50,8 +58,8 @@ pub fn with_section<T: Timeline>(
     ensures effect { IfOk result (IsEffect state.old.state (next state.old.state (Command.Section name feeder))) }
     ensures err { IfErr result (λ stop. stop ≡ out_of_memory) }
     ensures state { state.new.state ≡ state.old.state }
-    ensures searches { IfSome (most_searches T.bound state.old.state (Command.Section name feeder))
-        (λ most. state.new.searches ≤ state.old.searches + most) }
+    ensures searches { state.new.searches ≤ state.old.searches
+        + most_searches T.bound state.old.state (Command.Section name feeder) }
 {
     state.reserve_one()?;
     let _ = state.accepted();
@@ -72,60 +80,97 @@ pub fn with_device<T: Timeline>(
     alloc: Global,
     state: &mut State,
     timeline: &T,
-    name: Name,
-    ends: Ends,
-    normal: Pos,
+    device: NewDevice,
 ) -> Result<Effect, Stop>
-    requires accepted { refusal state.old.state (Command.Device name ends normal) ≡ None }
+    requires accepted { refusal state.old.state
+        (Command.Device device.name device.ends device.normal device.life.since device.life.until) ≡ None }
     requires runs { AreRunsOf state.old.state (T.content timeline.now) }
-    ensures effect { IfOk result (IsEffect state.old.state (next state.old.state (Command.Device name ends normal))) }
+    ensures effect { IfOk result (IsEffect state.old.state (next state.old.state
+        (Command.Device device.name device.ends device.normal device.life.since device.life.until))) }
     ensures err { IfErr result (λ stop. stop ≡ out_of_memory) }
     ensures state { state.new.state ≡ state.old.state }
-    ensures searches { IfSome (most_searches T.bound state.old.state (Command.Device name ends normal))
-        (λ most. state.new.searches ≤ state.old.searches + most) }
+    ensures searches { state.new.searches ≤ state.old.searches + most_searches T.bound state.old.state
+        (Command.Device device.name device.ends device.normal device.life.since device.life.until) }
 {
     state.reserve_one()?;
     let _ = state.accepted();
-    let device = state.net.devices();
-    state.add_device(name, ends, normal);
-    let effect = joined(alloc, state, timeline, device, WHOLE_LIFE);
+    let change = Change::Joined {
+        device: state.net.devices(),
+        life: device.life,
+    };
+    state.add_device(device.name, device.ends, device.normal, device.life);
+    let effect = altered(alloc, state, timeline, &change);
     state.take_back_device();
     effect
 }
 
-// The effect of the device that was added last, where a timeline holds the runs without it.
-fn joined<T: Timeline>(
+/// The effect of another life of a device, where that isn't refused. The error is that memory was refused.
+pub fn with_life<T: Timeline>(
     alloc: Global,
     state: &mut State,
     timeline: &T,
-    device: u16,
+    device: &Name,
     life: Life,
 ) -> Result<Effect, Stop>
-    requires after { IsAfter (Change.Joined device life) state.old.state.network }
-    requires runs { AreRunsOf (without_device state.old.state) (T.content timeline.now) }
-    ensures effect { IfOk result (IsEffect (without_device state.old.state) state.old.state) }
+    requires accepted { refusal state.old.state (Command.Life device.now life.since life.until) ≡ None }
+    requires runs { AreRunsOf state.old.state (T.content timeline.now) }
+    ensures effect { IfOk result (IsEffect state.old.state (next state.old.state
+        (Command.Life device.now life.since life.until))) }
+    ensures err { IfErr result (λ stop. stop ≡ out_of_memory) }
+    ensures state { state.new.state ≡ state.old.state }
+    ensures searches { state.new.searches ≤ state.old.searches + most_searches T.bound state.old.state
+        (Command.Life device.now life.since life.until) }
+{
+    let _ = state.accepted();
+    let Some(device) = state.net.device_of(device) else {
+        unreachable!();
+    };
+    let old = state.net.life_of(device);
+    state.set_life(device, life);
+    let change = Change::Lived {
+        device,
+        old,
+        new: life,
+    };
+    let effect = altered(alloc, state, timeline, &change);
+    state.set_life(device, old);
+    effect
+}
+
+// The effect of a change of the devices that was made, where a timeline holds the runs before it.
+fn altered<T: Timeline>(
+    alloc: Global,
+    state: &mut State,
+    timeline: &T,
+    change: &Change,
+) -> Result<Effect, Stop>
+    requires part { changed change.now state.old.state.entries ≡ state.old.state.entries }
+    requires applies { Applies change.now state.old.state.entries }
+    requires after { IsAfter change.now state.old.state.network }
+    requires nodes { (net_before change.now state.old.state.network).nodes ≡ state.old.state.network.nodes }
+    requires runs { AreRunsOf (before_change change.now state.old.state) (T.content timeline.now) }
+    ensures effect { IfOk result (IsEffect (before_change change.now state.old.state) state.old.state) }
     ensures err { IfErr result (λ stop. stop ≡ out_of_memory) }
     ensures state { state.new.state ≡ state.old.state }
     ensures searches { state.new.searches ≤ state.old.searches
-        + T.bound state.old.state.network state.old.state.entries state.old.state.period (Change.Joined device life) }
+        + T.bound state.old.state.network state.old.state.entries state.old.state.period change.now }
 {
     total_laws();
     let _ = state.accepted();
-    let delta = planned(state, timeline, &Change::Joined { device, life })?;
-    let posting = posted(alloc, state, timeline, &delta)?;
+    let delta = planned(state, timeline, change)?;
+    let posting = posted(alloc, state, timeline, change, &delta)?;
     Ok(Effect {
         moves: posting.moves(&state.period)?,
         retiming: Retiming::By(delta),
     })
 }
 
-// What the part of the network that was added last alters, where a timeline holds the runs without it.
+// What a change of the network that was made alters in the runs, where a timeline holds those before it.
 fn planned<T: Timeline>(state: &mut State, timeline: &T, change: &Change) -> Result<Delta, Stop>
     requires part { changed change.now state.old.state.entries ≡ state.old.state.entries }
     requires applies { Applies change.now state.old.state.entries }
     requires after { IsAfter change.now state.old.state.network }
-    requires runs { AreRunsOf (with_network state.old.state (net_before change.now state.old.state.network))
-        (T.content timeline.now) }
+    requires runs { AreRunsOf (before_change change.now state.old.state) (T.content timeline.now) }
     ensures delta { IfOk result (λ delta. IsDelta state.old.state.network delta (T.content timeline.now)
         (runs_in state.old.state)) }
     ensures fits { IfOk result (λ delta. Fits (T.content timeline.now) delta) }
@@ -137,17 +182,19 @@ fn planned<T: Timeline>(state: &mut State, timeline: &T, change: &Change) -> Res
     timeline.plan(&mut state.net, &state.sheet, &state.period, change)
 }
 
-// What is posted for the device that was added last: the runs of the sections that it touches.
+// What is posted for a change of the devices that was made: the runs of the sections that it touches.
 fn posted<T: Timeline>(
     alloc: Global,
     state: &State,
     timeline: &T,
+    change: &Change,
     delta: &Delta,
 ) -> Result<Posting, Stop>
-    requires runs { AreRunsOf (without_device state.now.state) (T.content timeline.now) }
+    requires nodes { (net_before change.now state.now.state.network).nodes ≡ state.now.state.network.nodes }
+    requires runs { AreRunsOf (before_change change.now state.now.state) (T.content timeline.now) }
     requires delta { IsDelta state.now.state.network delta.now (T.content timeline.now) (runs_in state.now.state) }
     ensures posted { IfOk result (λ posting. Balances (day_count state.now.state.period) posting
-        (amount (without_device state.now.state)) (amount state.now.state)) }
+        (amount (before_change change.now state.now.state)) (amount state.now.state)) }
     ensures err { IfErr result (λ stop. stop ≡ out_of_memory) }
 {
     section_laws();
@@ -155,7 +202,7 @@ fn posted<T: Timeline>(
     let mut posting = Posting::new(alloc);
     let touched = delta.touched();
     for node in touched {
-        repost(&mut posting, state, timeline, delta, *node)?;
+        repost(&mut posting, state, timeline, change, delta, *node)?;
     }
     Ok(posting)
 }
@@ -165,17 +212,19 @@ fn repost<T: Timeline>(
     posting: &mut Posting,
     state: &State,
     timeline: &T,
+    change: &Change,
     delta: &Delta,
     node: u16,
 ) -> Result<(), Stop>
     requires sound { IsSoundState state.now.state }
-    requires runs { AreRunsOf (without_device state.now.state) (T.content timeline.now) }
+    requires nodes { (net_before change.now state.now.state.network).nodes ≡ state.now.state.network.nodes }
+    requires runs { AreRunsOf (before_change change.now state.now.state) (T.content timeline.now) }
     requires delta { IsDelta state.now.state.network delta.now (T.content timeline.now) (runs_in state.now.state) }
     requires node { node < length state.now.state.network.nodes }
     requires touched { IsSome (new_runs delta.now node) }
     ensures posted { (old new : Dimension → ℕ → ℕ) → Balances (day_count state.now.state.period) posting.old old new
         → OnOk result (Balances (day_count state.now.state.period) posting.new
-        (together old (amount_of_node (without_device state.now.state) node))
+        (together old (amount_of_node (before_change change.now state.now.state) node))
         (together new (amount_of_node state.now.state node))) }
     ensures err { IfErr result (λ stop. stop ≡ out_of_memory) }
 {

@@ -4,8 +4,9 @@ ghost use Rattle.ob_cust.specs.Roll.{ends_too_early};
 ghost use Rattle.ob_state.specs.Refusals.{refuse_if as refuse_where};
 
 use crate::MOST_COMMANDS;
+use crate::change::life_from;
 use crate::state::State;
-use ob_base::{Name, Refusal};
+use ob_base::{Life, Name, Refusal};
 use ob_command::{CauseCode, CivilDate, Command, Ends, Moment, Serial};
 use ob_cust::MOST_CUSTOMERS;
 use ob_net::{MOST_DEVICES, MOST_NODES};
@@ -29,13 +30,13 @@ fn is_bad_service(since: Moment, until: Option<Moment>) -> bool
 impl State {
     ghost use Rattle.std.specs.Prelude.{◌≡◌, [], ◌∷◌};
     ghost use Rattle.jiff.specs.Words.{epoch_day};
-    ghost use Rattle.ob_base.specs.Life.{whole_life};
+    ghost use Rattle.ob_base.specs.Life.{life};
     ghost use Rattle.ob_net.specs.Network.{device_refusal, node_refusal};
     ghost use Rattle.ob_sheet.specs.Revisions.{revision_refusal};
     ghost use Rattle.ob_time.specs.Calendar.{day_on};
     ghost use Rattle.ob_index.specs.Marks.{mark_refusal, unmark_refusal};
-    ghost use Rattle.ob_command.specs.declared.command.Command.TheVariants.{Cause, Connect, Revise};
-    ghost use Rattle.ob_state.specs.Refusals.{day_refusal, first, if_full_sheet, if_outside, if_sealed, if_unknown_cause, if_unknown_device, refusals, refusal as refusal_to};
+    ghost use Rattle.ob_command.specs.declared.command.Command.TheVariants.{Cause, Life, Connect, Revise};
+    ghost use Rattle.ob_state.specs.Refusals.{day_refusal, first, if_full_sheet, if_outside, if_unknown_cause, if_unknown_device, refusals, refusal as refusal_to};
 
     /// Why a command isn't accepted; None where it is.
     pub fn refusal(&self, command: &Command) -> Option<Refusal>
@@ -55,7 +56,18 @@ impl State {
             Command::Cause { code, name } => self.refuse_cause(code, &name),
             Command::Bus { name } => self.refuse_node(&name),
             Command::Section { name, .. } => self.refuse_node(&name),
-            Command::Device { name, ends, .. } => self.refuse_device(&name, ends),
+            Command::Device {
+                name,
+                ends,
+                since,
+                until,
+                ..
+            } => self.refuse_device(&name, ends, life_from(since, until)),
+            Command::Life {
+                device,
+                since,
+                until,
+            } => self.refuse_life(&device, life_from(since, until)),
             Command::Connect {
                 customer,
                 section,
@@ -96,33 +108,31 @@ impl State {
         refuse_if(taken, Refusal::NameTaken)
     }
 
-    // The network takes no more parts once the sheet holds an entry.
-    fn refuse_part(&self) -> Option<Refusal>
-        ensures { result ≡ if_sealed self.now.state.entries }
-    {
-        refuse_if(self.sheet.len() > 0, Refusal::Sealed)
-    }
-
     fn refuse_node(&self, name: &Name) -> Option<Refusal>
-        ensures { result ≡ first (if_sealed self.now.state.entries ∷ node_refusal self.now.state.network name.now
-            ∷ []) }
+        ensures { result ≡ first (node_refusal self.now.state.network name.now ∷ []) }
     {
         let full = usize::from(self.net.nodes()) == MOST_NODES;
-        self.refuse_part()
-            .or(refuse_if(self.net.node_of(name).is_some(), Refusal::NameTaken))
+        refuse_if(self.net.node_of(name).is_some(), Refusal::NameTaken)
             .or(refuse_if(full, Refusal::Full(MOST_NODES as u32)))
     }
 
-    fn refuse_device(&self, name: &Name, ends: Ends) -> Option<Refusal>
-        ensures { result ≡ first (if_sealed self.now.state.entries
-            ∷ device_refusal self.now.state.network name.now ends.a ends.b whole_life ∷ []) }
+    fn refuse_device(&self, name: &Name, ends: Ends, life: Life) -> Option<Refusal>
+        ensures { result ≡ first (device_refusal self.now.state.network name.now ends.a ends.b life ∷ []) }
     {
         let unknown = self.net.node_of(ends.a()).is_none() || self.net.node_of(ends.b()).is_none();
         let full = usize::from(self.net.devices()) == MOST_DEVICES;
-        self.refuse_part()
-            .or(refuse_if(unknown, Refusal::UnknownName))
+        refuse_if(unknown, Refusal::UnknownName)
             .or(refuse_if(self.net.device_of(name).is_some(), Refusal::NameTaken))
+            .or(refuse_if(!life.ends_later(), Refusal::BadLife))
             .or(refuse_if(full, Refusal::Full(MOST_DEVICES as u32)))
+    }
+
+    fn refuse_life(&self, device: &Name, life: Life) -> Option<Refusal>
+        ensures { result ≡ first (refusals self.now.state (Life device.now life.since life.until)) }
+    {
+        let unknown = self.net.device_of(device).is_none();
+        refuse_if(unknown, Refusal::UnknownName)
+            .or(refuse_if(!life.ends_later(), Refusal::BadLife))
     }
 
     fn refuse_connect(

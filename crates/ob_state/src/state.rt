@@ -1,6 +1,6 @@
 //! The state of a book: everything but the runs and the amounts, which follow from it.
 use crate::causes::Causes;
-use ob_base::{Name, Stop};
+use ob_base::{Life, Name, Stop};
 use ob_cust::Roll;
 use ob_index::Marks;
 use ob_net::Net;
@@ -38,12 +38,13 @@ impl Model for State {
 }
 
 impl State {
-    ghost use Rattle.std.specs.Prelude.{◌≡◌, ◌<◌, ◌-◌, IfOk, IfErr, OnOk, IfSome, IsSome, length};
+    ghost use Rattle.std.specs.Prelude.{◌≡◌, ◌<◌, ◌-◌, None, IfOk, IfErr, OnOk, IfSome, IsSome, length};
     ghost use Rattle.std.specs.List.{All};
     ghost use Rattle.ob_base.specs.Stop.{out_of_memory};
-    ghost use Rattle.ob_net.specs.Network.{section_of, home_feeder, without_last_node, JoinsTwo};
+    ghost use Rattle.ob_base.specs.Life.{life_refusal};
+    ghost use Rattle.ob_net.specs.Network.{section_of, home_feeder, with_life, without_last_node, JoinsTwo};
     ghost use Rattle.ob_state.specs.State.{empty_book, cause_name_of};
-    ghost use Rattle.ob_state.specs.Effects.{without_device, without_node};
+    ghost use Rattle.ob_state.specs.Effects.{with_network, without_device, without_node};
     ghost use Rattle.ob_state.specs.States.{AreRunsOf, IsSoundState};
 
     /// A new book's state.
@@ -178,5 +179,17 @@ impl State {
         ensures searches { self.new.searches ≡ self.old.searches }
     {
         self.net.take_back_device();
+    }
+
+    /// Sets the life of a device.
+    pub(crate) fn set_life(&mut self, device: u16, life: Life)
+        requires device { device < length self.old.state.network.devices }
+        requires life { life_refusal life ≡ None }
+        ensures state { self.new.state ≡ with_network self.old.state (with_life self.old.state.network device life) }
+        ensures searches { self.new.searches ≡ self.old.searches }
+    {
+        if self.net.set_life(device, life).is_err() {
+            unreachable!();
+        }
     }
 }

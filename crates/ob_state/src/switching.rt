@@ -1,5 +1,5 @@
 //! What a change of the switching sheet moves.
-ghost use Rattle.std.specs.Prelude.{◌≡◌, ◌+◌, ◌<◌, ◌≤◌, None, Some, true, IfOk, IfErr, IfSome, IsSome, IsTrue, OnOk, length};
+ghost use Rattle.std.specs.Prelude.{◌≡◌, ◌+◌, ◌<◌, ◌≤◌, None, Some, true, IfOk, IfErr, IsSome, IsTrue, OnOk, length};
 ghost use Rattle.ob_base.specs.Stop.{out_of_memory};
 ghost use Rattle.ob_sheet.specs.Order.{entry_of};
 ghost use Rattle.ob_sheet.specs.Revisions.{corrected as corrected_entry, revision_refusal};
@@ -53,9 +53,8 @@ pub fn entered<T: Timeline>(
         (Command.Switch device.now operation.act operation.second operation.cause operation.crew))) }
     ensures err { IfErr result (λ stop. stop ≡ out_of_memory) }
     ensures state { state.new.state ≡ state.old.state }
-    ensures searches { IfSome (most_searches T.bound state.old.state
-        (Command.Switch device.now operation.act operation.second operation.cause operation.crew))
-        (λ most. state.new.searches ≤ state.old.searches + most) }
+    ensures searches { state.new.searches ≤ state.old.searches + most_searches T.bound state.old.state
+        (Command.Switch device.now operation.act operation.second operation.cause operation.crew) }
 {
     let Some(device) = state.net.device_of(device) else {
         unreachable!();
@@ -81,9 +80,8 @@ pub fn corrected<T: Timeline>(
         (Command.Correct entry revision operation.act operation.second operation.cause operation.crew))) }
     ensures err { IfErr result (λ stop. stop ≡ out_of_memory) }
     ensures state { state.new.state ≡ state.old.state }
-    ensures searches { IfSome (most_searches T.bound state.old.state
-        (Command.Correct entry revision operation.act operation.second operation.cause operation.crew))
-        (λ most. state.new.searches ≤ state.old.searches + most) }
+    ensures searches { state.new.searches ≤ state.old.searches + most_searches T.bound state.old.state
+        (Command.Correct entry revision operation.act operation.second operation.cause operation.crew) }
 {
     let old = entry_at(state, entry, revision);
     let _ = state.accepted();
@@ -104,8 +102,8 @@ pub fn withdrawn<T: Timeline>(
     ensures effect { IfOk result (IsEffect state.old.state (next state.old.state (Command.Withdraw entry revision))) }
     ensures err { IfErr result (λ stop. stop ≡ out_of_memory) }
     ensures state { state.new.state ≡ state.old.state }
-    ensures searches { IfSome (most_searches T.bound state.old.state (Command.Withdraw entry revision))
-        (λ most. state.new.searches ≤ state.old.searches + most) }
+    ensures searches { state.new.searches ≤ state.old.searches
+        + most_searches T.bound state.old.state (Command.Withdraw entry revision) }
 {
     let old = entry_at(state, entry, revision);
     let _ = state.accepted();

@@ -30,6 +30,9 @@ returns-in-Section-clause-searches g c = rw c.in-Section.is c.with_section.ensur
 pub returns-in-Device-clause-searches : goal.returns-in-Device-clause-searches
 returns-in-Device-clause-searches g c = rw c.in-Device.is c.with_device.ensures.searches
 
+pub returns-in-Life-clause-searches : goal.returns-in-Life-clause-searches
+returns-in-Life-clause-searches g c = rw c.in-Life.is c.with_life.ensures.searches
+
 pub returns-in-Switch-clause-searches : goal.returns-in-Switch-clause-searches
 returns-in-Switch-clause-searches g c = rw c.in-Switch.is c.entered.ensures.searches
 

@@ -3,9 +3,9 @@ use Rattle.std.proofs.lemmas.List.{take_all}
 use Rattle.ob_time.specs.Calendar.{day_count}
 use Rattle.ob_state.specs.Retimings.{runs_in}
 use Rattle.ob_posting.specs.Balances.{Balances, together}
-use Rattle.ob_state.specs.Effects.{amount_of_node, amount_of_nodes, without_device}
+use Rattle.ob_state.specs.Effects.{amount_of_node, amount_of_nodes, before_change}
 use Rattle.ob_posting.proofs.Balancing.{balances_as}
-use Rattle.ob_state.proofs.OnePartMore.{device_balance}
+use Rattle.ob_state.proofs.NetworkChanges.{altered_balance}
 use Rattle.ob_state.proofs.Untouched.{nodes_more, touched_within}
 use Rattle.ob_state.proofs.parts.posted.Goals as goal
 
@@ -24,7 +24,7 @@ repost-requires-clause-touched g c = c.touched-touched.ensures.named c.loop-node
 pub loop-node-preserved : goal.loop-node-preserved
 loop-node-preserved g c =
     let b = c.args.state.now.state in
-    let was = without_device b in
+    let was = before_change c.args.change.now b in
     let ts = c.touched-touched.result.now in
     let i = c.loop-node.node-index in
     let v : ℕ = get_or ts i 0 in
@@ -37,7 +37,7 @@ loop-node-preserved g c =
 pub returns-clause-posted : goal.returns-clause-posted
 returns-clause-posted g c =
     let b = c.args.state.now.state in
-    let was = without_device b in
+    let was = before_change c.args.change.now b in
     let ts = c.touched-touched.result.now in
     let posting = c.loop-node.posting in
     let lists = g.T.Timeline.content c.args.timeline.now in
@@ -45,4 +45,4 @@ returns-clause-posted g c =
     let named = touched_within b.network delta lists (runs_in b) ts c.requires.delta c.touched-touched.ensures.named in
     let all : Balances (day_count b.period) posting (amount_of_nodes was ts) (amount_of_nodes b ts) =
     subst (λ xs. Balances (day_count b.period) posting (amount_of_nodes was xs) (amount_of_nodes b xs)) (take_all c.loop-node.node-index ts c.loop-node-test.false) c.loop-node.invariant in
-    device_balance b posting lists delta ts c.section_laws.ensures.by_runs c.accepted.ensures.sound.state.sections c.requires.runs c.requires.delta c.touched-touched.ensures.sections c.touched-touched.ensures.rising named all
+    altered_balance b was.network c.requires.nodes posting lists delta ts c.section_laws.ensures.by_runs c.accepted.ensures.sound.state.sections c.requires.runs c.requires.delta c.touched-touched.ensures.sections c.touched-touched.ensures.rising named all

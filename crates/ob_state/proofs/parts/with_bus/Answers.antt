@@ -3,7 +3,7 @@ use Rattle.ob_net.specs.declared.net.Node.{Node}
 use Rattle.ob_command.specs.declared.command.Command.TheVariants.{Bus}
 use Rattle.ob_state.specs.Next.{next}
 use Rattle.ob_state.proofs.Leading.{nothing_moved}
-use Rattle.ob_state.proofs.OnePartMore.{bus_runs, has_place, same_amount}
+use Rattle.ob_state.proofs.NetworkChanges.{bus_runs, has_place, same_amount}
 use Rattle.ob_state.proofs.parts.with_bus.Goals as goal
 
 pub returns : goal.returns

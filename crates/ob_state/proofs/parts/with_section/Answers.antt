@@ -10,7 +10,7 @@ use Rattle.ob_state.specs.Effects.{with_network}
 use Rattle.ob_state.specs.Retimings.{runs_in}
 use Rattle.ob_state.proofs.Deltas.{delta_of_same}
 use Rattle.ob_state.proofs.Leading.{effect_next, nothing_moved}
-use Rattle.ob_state.proofs.OnePartMore.{has_place, same_amount, same_lists}
+use Rattle.ob_state.proofs.NetworkChanges.{has_place, same_amount, same_lists}
 use Rattle.ob_state.proofs.parts.with_section.Goals as goal
 
 pub returns-clause-effect : goal.returns-clause-effect

@@ -1,19 +1,20 @@
--- One part more in the network: what stays, what it moves, and what leads to the runs with it.
-use Rattle.std.proofs.Common.{◌≡◌, ◌∙◌, sym, ap, ap₂, subst, refl, ℕ, ◌+◌, ◌-◌, ◌<◌, ◌==◌, ◌&&◌, Bool, true, false, cond, get_or, List, [], ◌∷◌, ◌++◌, length, take, sum_by, Option, Some, None, IsSome, slice_get, inl, inr, length-append, arith, is_some, unwrap_or}
+-- A change of the network: what stays, what it moves, and what leads to the runs after it.
+use Rattle.std.proofs.Common.{◌≡◌, ◌∙◌, sym, ap, ap₂, subst, refl, ℕ, zero, suc, ◌+◌, ◌-◌, ◌<◌, ◌==◌, ◌&&◌, Bool, true, false, cond, get_or, List, [], ◌∷◌, ◌++◌, length, map, take, sum_by, Option, Some, None, IsSome, slice_get, inl, inr, length-append, arith, is_some, unwrap_or}
 use Rattle.std.specs.List.{All, AllPairs, Contains}
 use Rattle.std.specs.Option.{option_and_then, option_map_or}
+use Rattle.std.proofs.lemmas.Option.{same_Some}
 use Rattle.std.proofs.lemmas.Bool.{cases_eq, cases_lt, eq-eqb, false≢true}
 use Rattle.std.proofs.Math.Seq.{take-append_seam}
 use Rattle.std.proofs.lemmas.List.Elements.{All-head, All-tail}
 use Rattle.std.proofs.lemmas.List.Sums.{sum_by-cons}
-use Rattle.ob_base.specs.Life.{whole_life}
+use Rattle.ob_base.specs.declared.life.Life.{Life}
 use Rattle.ob_base.specs.declared.Pos.{Pos}
 use Rattle.ob_net.specs.declared.net.Device.{Device}
 use Rattle.ob_net.specs.declared.net.Node.{Node}
 use Rattle.ob_base.specs.declared.stop.Refusal.{Refusal}
 use Rattle.ob_base.specs.declared.stop.Refusal.TheVariants.{Full, NameTaken}
 use Rattle.ob_net.specs.declared.TheConstants.{MOST_NODES}
-use Rattle.ob_net.specs.Network.{IsNetwork, home_feeder, node_of, node_refusal, with_device, with_node}
+use Rattle.ob_net.specs.Network.{IsNetwork, Network, home_feeder, node_of, node_refusal, with_device, with_life, with_life_at, with_node}
 use Rattle.ob_base.specs.Seconds.{seconds}
 use Rattle.ob_net.specs.Walk.{is_supplied}
 use Rattle.ob_sheet.specs.Supply.{is_deenergized}
@@ -32,14 +33,14 @@ use Rattle.ob_state.specs.Amounts.{amount, days_of_book}
 use Rattle.ob_posting.specs.Balances.{Balances}
 use Rattle.ob_state.specs.Effects.{amount_of_first, amount_of_node, amount_of_nodes, with_network, without_device}
 use Rattle.ob_state.specs.Retimings.{runs_in}
-use Rattle.ob_state.specs.Refusals.{first, if_full, if_sealed}
+use Rattle.ob_state.specs.Refusals.{first, if_full}
 use Rattle.ob_state.specs.State.{BookState}
 use Rattle.ob_state.specs.States.{AreRunsOf}
 use Rattle.ob_state.proofs.Amounting.{all_nodes, get-before, is_section}
 use Rattle.ob_posting.proofs.Balancing.{balances_as, same_change}
 use Rattle.ob_state.proofs.NodeByNode.{section_amount}
 use Rattle.ob_state.proofs.Deltas.{untouched}
-use Rattle.ob_state.proofs.Firsts.{no_head, no_tail}
+use Rattle.ob_state.proofs.Firsts.{no_head}
 use Rattle.ob_state.proofs.Kept.{section_within}
 use Rattle.ob_state.proofs.Untouched.{over_touched}
 
@@ -48,10 +49,10 @@ not_refused true r o h = cc
 not_refused false r o h = (refl, h)
 
 -- a network that takes one more node isn't full
-pub has_place : (b : BookState) (name : List ℕ) → IsNetwork b.network → first (if_sealed b.entries ∷ node_refusal b.network name ∷ if_full b ∷ []) ≡ None → length b.network.nodes < MOST_NODES
+pub has_place : (b : BookState) (name : List ℕ) → IsNetwork b.network → first (node_refusal b.network name ∷ if_full b ∷ []) ≡ None → length b.network.nodes < MOST_NODES
 has_place b name ok h =
     let few = ok.few_nodes in
-    let free = not_refused (length b.network.nodes == MOST_NODES) (Full MOST_NODES) None (not_refused (is_some (node_of b.network name)) NameTaken _ (no_head (node_refusal b.network name) _ (no_tail (if_sealed b.entries) _ h))).1 in
+    let free = not_refused (length b.network.nodes == MOST_NODES) (Full MOST_NODES) None (not_refused (is_some (node_of b.network name)) NameTaken _ (no_head (node_refusal b.network name) _ h)).1 in
     elim (cases_eq (length b.network.nodes) MOST_NODES) as (λ _. length b.network.nodes < MOST_NODES) [
       | inl e ↦ absurd (false≢true (sym free.0 ∙ eq-eqb (length b.network.nodes) MOST_NODES e))
       | inr o ↦ omega (arith, few, o)
@@ -132,10 +133,13 @@ module _ (b : BookState) (node : Node) where
         | inr past ↦ first.empty v (omega (arith, past)) ∙ sym (second.empty v (omega (arith, past)))
       ]
 
--- ---- a device more, where b is the state with it
-module _ (b : BookState) where
+-- ---- another list of devices, where b is the state after the change
+abbrev with_devices : BookState → List Device → BookState
+with_devices b devices = with_network b (record b.network { devices = devices })
+
+module _ (b : BookState) (devices : List Device) where
   abbrev was : BookState
-  was = without_device b
+  was = with_devices b devices
 
   node_stays : (v : ℕ) (o : Option ℕ) (dim : Dim) (key : ℕ) → home_feeder b.network v ≡ o → ((f : ℕ) → o ≡ Some f → runs_in was v ≡ runs_in b v)
       → amount_of_node was v dim key ≡ amount_of_node b v dim key
@@ -144,7 +148,7 @@ module _ (b : BookState) where
       section_amount was v f (runs_in b v) h (sym (runs f refl)) dim key ∙ sym (section_amount b v f (runs_in b v) h refl dim key)
 
   -- what is posted of the touched sections leads from all amounts to all
-  pub device_balance : (p : Posting) (lists : List (List Run)) (delta : List (ℕ × List Run)) (ts : List ℕ) → ByRuns → AreOnSections b.network b.customers
+  device_balance : (p : Posting) (lists : List (List Run)) (delta : List (ℕ × List Run)) (ts : List ℕ) → ByRuns → AreOnSections b.network b.customers
       → AreRunsOf was lists → IsDelta b.network delta lists (runs_in b) → ts ≡ sections_of delta → AllPairs (λ v w. v < w) ts → All (λ v. v < length b.network.nodes) ts
       → Balances (day_count b.period) p (amount_of_nodes was ts) (amount_of_nodes b ts) → Balances (day_count b.period) p (amount was) (amount b)
   device_balance p lists delta ts by_runs ok are is named rising within h =
@@ -160,14 +164,57 @@ module _ (b : BookState) where
       sym (is.others v s (untouched delta v (λ c. apart (subst (λ xs. Contains xs v) (sym named) c))) ∙ are.defined v s))))
       h)
 
+-- a network with the same nodes
+other_devices : (b : BookState) (net : Network) → net.nodes ≡ b.network.nodes → with_network b net ≡ with_devices b net.devices
+other_devices b net same = ap (λ (nodes : List Node). with_network b (record { nodes = nodes; devices = net.devices })) same
+
+-- its home feeders and sections are the same
+pub same_home : (net more : Network) → net.nodes ≡ more.nodes → (v : ℕ) → home_feeder net v ≡ home_feeder more v
+same_home net more same v = ap (λ (nodes : List Node). home_feeder (record { nodes = nodes; devices = [] }) v) same
+
+pub same_section : (net more : Network) → net.nodes ≡ more.nodes → (v : ℕ) → IsSection more v → IsSection net v
+same_section net more same v s = subst IsSome (sym (same_home net more same v)) s
+
+-- what is posted of the touched sections leads from all amounts before a change of the devices to all after it
+pub altered_balance : (b : BookState) (net : Network) → net.nodes ≡ b.network.nodes
+    → (p : Posting) (lists : List (List Run)) (delta : List (ℕ × List Run)) (ts : List ℕ) → ByRuns → AreOnSections b.network b.customers
+    → AreRunsOf (with_network b net) lists → IsDelta b.network delta lists (runs_in b) → ts ≡ sections_of delta → AllPairs (λ v w. v < w) ts → All (λ v. v < length b.network.nodes) ts
+    → Balances (day_count b.period) p (amount_of_nodes (with_network b net) ts) (amount_of_nodes b ts) → Balances (day_count b.period) p (amount (with_network b net)) (amount b)
+altered_balance b net same p lists delta ts by_runs ok are is named rising within h =
+    let e = other_devices b net same in
+    subst (λ (w : BookState). Balances (day_count b.period) p (amount w) (amount b)) (sym e)
+    (device_balance b net.devices p lists delta ts by_runs ok (subst (λ (w : BookState). AreRunsOf w lists) e are) is named rising within
+    (subst (λ (w : BookState). Balances (day_count b.period) p (amount_of_nodes w ts) (amount_of_nodes b ts)) e h))
+
 -- the new device
-abbrev devices_end : BookState → List ℕ → List ℕ → List ℕ → Pos → List Device
-devices_end b name a z normal = record { name = name; a = unwrap_or (node_of b.network a) 0; b = unwrap_or (node_of b.network z) 0; normal = normal; life = whole_life } ∷ []
+abbrev devices_end : BookState → List ℕ → List ℕ → List ℕ → Pos → Life → List Device
+devices_end b name a z normal life = record { name = name; a = unwrap_or (node_of b.network a) 0; b = unwrap_or (node_of b.network z) 0; normal = normal; life = life } ∷ []
 
 -- a device that was added last is taken back
-pub taken_back : (b : BookState) (name a z : List ℕ) (normal : Pos) → without_device (with_network b (with_device b.network name a z normal whole_life)) ≡ b
-taken_back b name a z normal =
-    let devices : List Device = (with_device b.network name a z normal whole_life).devices in
-    let one : length devices - 1 ≡ length b.network.devices = omega (arith, length-append b.network.devices (devices_end b name a z normal)) in
+pub taken_back : (b : BookState) (name a z : List ℕ) (normal : Pos) (life : Life) → without_device (with_network b (with_device b.network name a z normal life)) ≡ b
+taken_back b name a z normal life =
+    let devices : List Device = (with_device b.network name a z normal life).devices in
+    let one : length devices - 1 ≡ length b.network.devices = omega (arith, length-append b.network.devices (devices_end b name a z normal life)) in
     ap (λ (ds : List Device). record b { network = record b.network { devices = ds } })
-    (ap (λ n. take n devices) one ∙ take-append_seam b.network.devices (devices_end b name a z normal))
+    (ap (λ n. take n devices) one ∙ take-append_seam b.network.devices (devices_end b name a z normal life))
+
+-- it has its life
+pub joined_life : (ds : List Device) (d : Device) → slice_get (map (λ (x : Device). x.life) (ds ++ d ∷ [])) (length ds) ≡ Some d.life
+joined_life [] d = refl
+joined_life (x ∷ xs) d = joined_life xs d
+
+-- ---- a device with another life
+pub lived_now : (ds : List Device) (k : ℕ) (life : Life) → k < length ds → slice_get (map (λ (x : Device). x.life) (with_life_at ds k life)) k ≡ Some life
+lived_now [] k life l = absurd (omega (arith, l))
+lived_now (d ∷ ds) zero life l = refl
+lived_now (d ∷ ds) (suc k) life l = lived_now ds k life (omega (arith, l))
+
+life_again : (ds : List Device) (k : ℕ) (old new : Life) → slice_get (map (λ (x : Device). x.life) ds) k ≡ Some old → with_life_at (with_life_at ds k new) k old ≡ ds
+life_again [] k old new has = refl
+life_again (d ∷ ds) zero old new has = ap (λ (life : Life). record d { life = life } ∷ ds) (sym (same_Some d.life old has))
+life_again (d ∷ ds) (suc k) old new has = ap (λ (q : List Device). d ∷ q) (life_again ds k old new has)
+
+-- its old life set again gives the state as it was
+pub lived_back : (b : BookState) (k : ℕ) (old new : Life) → slice_get (map (λ (x : Device). x.life) b.network.devices) k ≡ Some old
+    → with_network (with_network b (with_life b.network k new)) (with_life (with_life b.network k new) k old) ≡ b
+lived_back b k old new has = ap (λ (ds : List Device). with_devices b ds) (life_again b.network.devices k old new has)
