@@ -85,7 +85,7 @@ all_pass : (rows : List Row) → filter (λ r. true) rows ≡ rows
 all_pass [] = refl
 all_pass (r ∷ rows) = ap (λ l. r ∷ l) (all_pass rows)
 
-shows : (l : Listing) (rows : List Row) → map (λ (o : Output). o.1) (map (keyed l) rows) ≡ rows
+pub shows : (l : Listing) (rows : List Row) → map (λ (o : Output). o.1) (map (keyed l) rows) ≡ rows
 shows l [] = refl
 shows l (x ∷ rows) = ap (λ r. x ∷ r) (shows l rows)
 

@@ -1,18 +1,22 @@
 -- Commands whose rows have numbers that rise.
-use Rattle.std.proofs.Common.{◌≡◌, ℕ, suc, ℤ, pos, ◌+◌, ◌≤◌, List, [], ◌∷◌, ◌++◌, map, length, Bool, true, Option, Some, None, IsTrue, Less, Ordering, Equal, Greater, refl, sym, ap, ap₂, subst, ◌∙◌, arith, length-append}
+use Rattle.std.proofs.Common.{◌≡◌, ℕ, suc, ℤ, pos, ◌+◌, ◌≤◌, List, [], ◌∷◌, ◌++◌, map, length, Bool, true, Option, Some, None, IsTrue, Less, Ordering, Equal, Greater, false, refl, sym, ap, ap₂, subst, ◌∙◌, arith, length-append}
 use Rattle.std.specs.Prelude.{◌<ℤ◌, ◌↔◌}
 use Rattle.std.specs.List.{AllByRecursion}
-use Rattle.std.specs.List.Sorted.{IsPermutation, IsStrictlySortedBy}
+use Rattle.std.specs.List.Sorted.{IsPermutation, IsSorted, IsStrictlySortedBy}
 use Rattle.std.specs.Ordering.{int_cmp, MatchOrdering}
 use Rattle.std.specs.Cmp.{int_ranked}
 use Rattle.std.proofs.lemmas.Int.{ints}
-use Rattle.std.proofs.lemmas.List.Sorted.{IsPermutation-sym, IsPermutation-trans}
+use Rattle.std.specs.Ordering.{is_lt, ordering_reverse}
+use Rattle.std.proofs.lemmas.List.Sorted.{IsPermutation-map, IsPermutation-sym, IsPermutation-trans}
+use Rattle.std.proofs.lemmas.Map.Keys.{Less-from_sorted}
+use Rattle.sqlite_sql.proofs.QueryLemmas.{output_cmp_total}
 use Rattle.sqlite_value.proofs.OrderLemmas.{value_cmp-Int}
 use Rattle.sqlite.specs.Order.{Row}
-use Rattle.sqlite.specs.Query.{output_cmp}
+use Rattle.sqlite.specs.Query.{Output, output_cmp}
 use Rattle.sqlite.specs.Effect.{Database}
 use Rattle.ob_book.specs.Acts.{Referenced}
 use Rattle.ob_record.specs.Naming.{IsReferenced}
+use Rattle.ob_command.specs.Commands.{BodiesDiffer, body_text}
 use Rattle.ob_record.specs.Tables.{Shows, row_of_command}
 use Rattle.ob_state.specs.declared.TheConstants.{MOST_COMMANDS}
 use Rattle.ob_tables.specs.Rows.{Columns}
@@ -21,9 +25,10 @@ use Rattle.ob_compare.specs.Apart.{IsAbove}
 use Rattle.ob_compare.specs.declared.commands.Commands.{Commands}
 use Rattle.ob_compare.specs.declared.filed.Filed.{Filed}
 use Rattle.ob_compare.specs.Listing.{Lists, list_query, keyed, referenced, filed_of}
-use Rattle.ob_compare.specs.Ordered.{AreAbove, AreInOrder, AreRowsOf, Numbered, row_under, rows_under}
+use Rattle.ob_compare.specs.Ordered.{AreAbove, AreInOrder, AreRowsOf, Numbered, RowsHaveOneOrder, row_under, rows_under}
 use Rattle.ob_compare.specs.Reading.{IsCommands, IsFiled, command_listing, command_rows}
-use Rattle.ob_compare.proofs.Listing.{lists_rows}
+use Rattle.ob_compare.proofs.Listing.{lists_rows, shows}
+use Rattle.ob_compare.proofs.Same.{same_when_sorted}
 use Rattle.ob_compare.proofs.Standing.{map_last, map_length, numbered_last, table_is}
 
 abbrev pub commands_in : List Numbered → List Referenced
@@ -184,3 +189,43 @@ too_many db items last counted pairs row rest shows read long lists there = λ l
     let here : length (rows_under pairs) ≡ length items = map_length row_under pairs ∙ sym (map_length (λ (q : Numbered). q.1) pairs) ∙ ap length read.commands ∙ map_length referenced items in
     let other : length (rows_under of.pairs) ≡ length list = map_length row_under of.pairs ∙ sym (map_length (λ (q : Numbered). q.1) of.pairs) ∙ ap length of.commands in
     absurd (omega (arith, e, length-append (rows_under pairs) (row ∷ rest), here, other, long, low))
+
+-- ---- rows are in one order alone
+abbrev by_key : Output → Output → Ordering
+by_key = output_cmp (list_query command_listing)
+
+abbrev keys_of : List Numbered → List Output
+keys_of pairs = map (keyed command_listing) (rows_under pairs)
+
+sorted_so : (pairs : List Numbered) → AreInOrder pairs → IsSorted by_key (keys_of pairs)
+sorted_so pairs above = λ k d low high.
+    let less = Less-from_sorted by_key (keys_of pairs) k (k + 1) d (rises None pairs above) (omega arith) high in
+    ap is_lt ((output_cmp_total (list_query command_listing)).antisymm _ _ ∙ ap ordering_reverse less)
+
+same_rows : (pairs others : List Numbered) → AreInOrder pairs → AreInOrder others → IsPermutation (rows_under pairs) (rows_under others) → rows_under pairs ≡ rows_under others
+same_rows pairs others above up moved =
+    let keys = same_when_sorted by_key (output_cmp_total (list_query command_listing)) (keys_of pairs) (keys_of others) (IsPermutation-map (keyed command_listing) _ _ moved) (sorted_so pairs above) (rises None others up) in
+    sym (shows command_listing (rows_under pairs)) ∙ ap (map (λ (o : Output). o.1)) keys ∙ shows command_listing (rows_under others)
+
+module _ (law : BodiesDiffer) where
+  same_command : (p q : Numbered) → IsReferenced p.1 → IsReferenced q.1 → row_under p ≡ row_under q → p.1 ≡ q.1
+  same_command p q is so same =
+      let reference : p.1.reference ≡ q.1.reference = cc in
+      let body : body_text p.1.command ≡ body_text q.1.command = cc in
+      ap₂ (λ r c. record { reference = r; command = c }) reference (law p.1.command q.1.command is.1 so.1 body)
+
+  same_commands : (pairs others : List Numbered) → AllByRecursion IsReferenced (commands_in pairs) → AllByRecursion IsReferenced (commands_in others) → rows_under pairs ≡ rows_under others → commands_in pairs ≡ commands_in others
+  same_commands [] [] is so same = refl
+  same_commands [] (q ∷ others) is so same = absurd cc
+  same_commands (p ∷ pairs) [] is so same = absurd cc
+  same_commands (p ∷ pairs) (q ∷ others) is so same =
+      let first : row_under p ≡ row_under q = cc in
+      let rest : rows_under pairs ≡ rows_under others = cc in
+      ap₂ (λ a l. a ∷ l) (same_command p q is.0 so.0 first) (same_commands pairs others is.1 so.1 rest)
+
+  pub one_order : RowsHaveOneOrder
+  one_order rows xs ys is so of other =
+      let moved = IsPermutation-trans _ _ _ (IsPermutation-sym _ _ of.are) other.are in
+      sym of.commands
+      ∙ same_commands of.pairs other.pairs (subst (AllByRecursion IsReferenced) (sym of.commands) is) (subst (AllByRecursion IsReferenced) (sym other.commands) so) (same_rows of.pairs other.pairs of.in_order other.in_order moved)
+      ∙ other.commands

@@ -1,10 +1,12 @@
 -- Commands in the order of the numbers that their rows have, whatever these are.
 use Rattle.std.specs.Prelude.{◌≡◌, ℤ, ⊤, List, [], ◌∷◌, map, Option, Some, None}
+use Rattle.std.specs.List.{AllByRecursion}
 use Rattle.std.specs.List.Sorted.{IsPermutation}
 use Rattle.sqlite.specs.declared.types.Value.{Value}
 use Rattle.sqlite.specs.declared.types.Value.TheVariants.{Int, Text}
 use Rattle.ob_command.specs.Commands.{body_text}
 use Rattle.ob_book.specs.Acts.{Referenced}
+use Rattle.ob_record.specs.Naming.{IsReferenced}
 use Rattle.ob_tables.specs.Rows.{Columns}
 use Rattle.ob_compare.specs.Apart.{IsAbove}
 
@@ -37,3 +39,9 @@ pub record AreRowsOf (list : List Referenced) (rows : List Columns) : Type 0 whe
   pub in_order : AreInOrder pairs
   pub commands : map (λ (p : Numbered). p.1) pairs ≡ list
   pub are : IsPermutation rows (rows_under pairs)
+
+-- in the order of their numbers, rows are those of one list of commands alone
+abbrev pub RowsHaveOneOrder : Type 0
+RowsHaveOneOrder =
+    (rows : List Columns) (xs ys : List Referenced) → AllByRecursion IsReferenced xs → AllByRecursion IsReferenced ys
+    → AreRowsOf xs rows → AreRowsOf ys rows → xs ≡ ys
