@@ -44,27 +44,27 @@ module _ {S : Type 0} (g : Ghosts S) {X : Type 0} (Good : Trees → X → Type 0
   is_outdated : IsOfBook old.conn.schema → Tells g Good Bad old.conn new.conn (Err old_version) → new.book ≡ old.book → IsOutdated g old new
   is_outdated of it book = (it.outdated clean refl of, shows_the_bad g Good Bad old.conn new.conn clean of old_version (inr refl) it, book)
 
-  module _ (schema : old.conn.schema ≡ old_schema) where
-    outdated_fault : (stop : Stop) → IsLoadFault stop → stop ≢ Fault Store → Tells g Good Bad old.conn new.conn (Err stop) → new.book ≡ old.book → {Y : Type 0} → Outdated g {X = Y} old new (Err stop)
-    outdated_fault stop (inl (inl (inl memory))) other it book {Y} =
+  module _ (Y : Type 0) (schema : old.conn.schema ≡ old_schema) where
+    outdated_fault : (stop : Stop) → IsLoadFault stop → stop ≢ Fault Store → Tells g Good Bad old.conn new.conn (Err stop) → new.book ≡ old.book → Outdated g {X = Y} old new (Err stop)
+    outdated_fault stop (inl (inl (inl memory))) other it book =
         subst (λ s. Outdated g {X = Y} old new (Err s)) (sym memory) (only_reads g Good Bad old.conn new.conn clean (Err stop) it, book)
     outdated_fault stop (inl (inl (inr store))) other it book = absurd (other store)
-    outdated_fault stop (inl (inr bad)) other it book {Y} =
+    outdated_fault stop (inl (inr bad)) other it book =
         subst (λ s. Outdated g {X = Y} old new (Err s)) (sym bad) (it.lacking clean bad schema, shows_the_bad g Good Bad old.conn new.conn clean (inr schema) stop (inl bad) it, book)
-    outdated_fault stop (inr is) other it book {Y} =
+    outdated_fault stop (inr is) other it book =
         let at : Tells g Good Bad old.conn new.conn (Err old_version) = subst (λ s. Tells g Good Bad old.conn new.conn (Err s)) is it in
         subst (λ s. Outdated g {X = Y} old new (Err s)) (sym is) (refl, is_outdated (inr schema) at book)
 
     -- the tables of version 1 are those of no book
-    pub outdated_ok : (x : X) → Tells g Good Bad old.conn new.conn (Ok x) → {Y : Type 0} (y : Y) → Outdated g {X = Y} old new (Ok y)
+    pub outdated_ok : (x : X) → Tells g Good Bad old.conn new.conn (Ok x) → (y : Y) → Outdated g {X = Y} old new (Ok y)
     outdated_ok x it y = absurd (it.never clean schema)
 
     -- memory was refused, the book is of version 1, or its tables are those of no book
-    pub outdated_err : (stop : Stop) → stop ≢ Fault Store → Tells g Good Bad old.conn new.conn (Err stop) → new.book ≡ old.book → {Y : Type 0} → Outdated g {X = Y} old new (Err stop)
+    pub outdated_err : (stop : Stop) → stop ≢ Fault Store → Tells g Good Bad old.conn new.conn (Err stop) → new.book ≡ old.book → Outdated g {X = Y} old new (Err stop)
     outdated_err stop other it book = outdated_fault stop it.faults other it book
 
     -- the store failed
-    pub outdated_store : Tells g Good Bad old.conn new.conn (Err (Fault Store)) → new.book ≡ None → {Y : Type 0} → Outdated g {X = Y} old new (Err (Fault Store))
+    pub outdated_store : Tells g Good Bad old.conn new.conn (Err (Fault Store)) → new.book ≡ None → Outdated g {X = Y} old new (Err (Fault Store))
     outdated_store it book = (only_reads g Good Bad old.conn new.conn clean (Err (Fault Store)) it, book)
 
 module _ {S : Type 0} (g : Ghosts S) (old new : KeeperValue S) (schema : old.conn.schema ≡ book_schema) (clean : HasCleanDisk (state g new.conn)) where
