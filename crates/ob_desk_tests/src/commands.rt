@@ -69,16 +69,16 @@ fn a_correction(rt: HostRuntime) -> Result<(), AllocError> {
     are_answered(&rt, rt.alloc(), CORRECTIONS, 26)
 }
 
-// Refused commands, all under one reference, which stays free.
+// A bus, which is accepted behind the entries too, and refused commands, all under one reference, which stays free.
 const REFUSALS: &[Row] = &[
     TAKES_OUTAGE,
     (
         Ask::Post(
             "/commands",
-            "{\"kind\":\"bus\",\"ref\":\"X\",\"f1\":\"BUS-B\"}",
+            "{\"kind\":\"bus\",\"ref\":\"W\",\"f1\":\"BUS-B\"}",
         ),
         Ok(1),
-        Reply::Json(CONFLICT, "{\"name\":\"Sealed\",\"refused\":4}"),
+        Reply::Json("200 OK", "{\"moved\":[],\"no\":26}"),
     ),
     (
         Ask::Post(
@@ -153,7 +153,7 @@ const REFUSALS: &[Row] = &[
             "{\"kind\":\"mark\",\"ref\":\"X\",\"f1\":\"2024-01-01\",\"f2\":\"E1\"}",
         ),
         Ok(1),
-        Reply::Json("200 OK", "{\"moved\":[],\"no\":26}"),
+        Reply::Json("200 OK", "{\"moved\":[],\"no\":27}"),
     ),
     (
         Ask::Post(
@@ -171,7 +171,7 @@ const REFUSALS: &[Row] = &[
         Ok(1),
         Reply::Json(
             "200 OK",
-            "{\"moved\":[[\"cause\",3,246600],[\"feeder\",1,246600],[\"day\",0,246600]],\"no\":27}",
+            "{\"moved\":[[\"cause\",3,246600],[\"feeder\",1,246600],[\"day\",0,246600]],\"no\":28}",
         ),
     ),
     (
@@ -186,7 +186,7 @@ const REFUSALS: &[Row] = &[
 
 #[test]
 fn refused_commands(rt: HostRuntime) -> Result<(), AllocError> {
-    are_answered(&rt, rt.alloc(), REFUSALS, 27)
+    are_answered(&rt, rt.alloc(), REFUSALS, 28)
 }
 
 const WHOLE: &'static str = "{\"detail\":0,\"name\":\"BadField\",\"refused\":1}";

@@ -73,7 +73,7 @@ section,R4,S2,1,,,,
 /// Two feeders of one bus with a tie between them, S1 and S2 behind the breaker B1 and S3 behind B2, with two, three and
 /// five customers. An hour after the start of 2024 B1 opens; ten minutes later W1 opens and the tie takes S2 over; an hour
 /// after its opening B1 closes.
-const OUTAGE: &'static str = "\
+pub const OUTAGE: &'static str = "\
 kind,ref,f1,f2,f3,f4,f5,f6
 cause,N1,3,STORM,,,,
 cause,N2,4,PLANNED,,,,

@@ -25,6 +25,8 @@ mod retries;
 #[cfg(test)]
 mod script;
 #[cfg(test)]
+mod stories;
+#[cfg(test)]
 mod streams;
 #[cfg(test)]
 mod texts;

@@ -9,11 +9,11 @@ N3 bus BUS-A
 N4 section S1 1
 N5 section S2 1
 N6 section S3 2
-N7 device I1 GRID BUS-A closed
-N8 device B1 BUS-A S1 closed
-N9 device W1 S1 S2 closed
-N10 device B2 BUS-A S3 closed
-N11 device T1 S2 S3 open
+N7 device I1 GRID BUS-A closed 0 -
+N8 device B1 BUS-A S1 closed 0 -
+N9 device W1 S1 S2 closed 0 -
+N10 device B2 BUS-A S3 closed 0 -
+N11 device T1 S2 S3 open 0 -
 N12 connect 1 S1 1704067200 -
 N13 connect 2 S1 1704067200 -
 N14 connect 3 S2 1704067200 -
@@ -31,16 +31,19 @@ N25 switch B1 close 1704074400 3 K1
 ";
 
 /// After the outage: an opening that comes late, ten minutes before the breaker's, and is withdrawn; then the breaker closed ten
-/// minutes earlier, and not at all.
+/// minutes earlier, and not at all. A second way from the bus to S1 is there 5,000 seconds after the start of 2024, and supplies
+/// it; and the tie leaves 1,000 seconds later, so S2 has no supply from then on.
 pub const AFTERWARDS: &'static str = "\
 LATE1 switch W1 open 1704070200 4 K1
 LATE2 withdraw 5 1
 FIX1 correct 4 1 close 1704073800 3 K1
 FIX2 withdraw 4 2
+JOIN1 device X1 BUS-A S1 closed 1704072200 -
+LIFE1 life T1 0 1704073200
 ";
 
 /// How many commands the outage and those after it are.
-pub const COMMANDS: u32 = 29;
+pub const COMMANDS: u32 = 31;
 
 /// The customer-seconds of the book of the first so many of them.
 pub fn total_of(accepted: u32) -> u64 {
@@ -50,6 +53,8 @@ pub fn total_of(accepted: u32) -> u64 {
         24 | 29 => 167_400,
         26 => 10_800,
         28 => 7_800,
+        30 => 4_600,
+        31 => 245_800,
         _ => 9_000,
     }
 }
@@ -86,7 +91,31 @@ switch,LATE1,W1,open,1704070200,4,K1,
 withdraw,LATE2,5,1,,,,
 correct,FIX1,4,1,close,1704073800,3,K1
 withdraw,FIX2,4,2,,,,
+device,JOIN1,X1,BUS-A,S1,closed,1704072200,
+life,LIFE1,T1,,1704073200,,,
 ";
 
+/// A command that comes behind the outage, and the customer-seconds of the book with it.
+#[derive(Clone, Copy)]
+pub struct Last {
+    pub line: &'static str,
+    pub total: u64,
+}
+
 /// The breaker closed ten minutes earlier.
-pub const CORRECTION: &'static str = "FIX1 correct 4 1 close 1704073800 3 K1";
+pub const CORRECTION: Last = Last {
+    line: "FIX1 correct 4 1 close 1704073800 3 K1",
+    total: 7_800,
+};
+
+/// A second way from the bus to S1, which is there 5,000 seconds after the start of 2024.
+pub const JOINING: Last = Last {
+    line: "JOIN1 device X1 BUS-A S1 closed 1704072200 -",
+    total: 4_600,
+};
+
+/// The tie leaves 6,000 seconds after the start of 2024, and S2 has no supply from then on.
+pub const LEAVING: Last = Last {
+    line: "LIFE1 life T1 0 1704073200",
+    total: 250_200,
+};

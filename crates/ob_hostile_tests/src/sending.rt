@@ -1,19 +1,26 @@
 //! A command that is sent to a book whose store may stop, and the book that is then kept.
 use crate::office::{Office, STORE, is_without_book};
-use crate::scripts::{CORRECTION, OUTAGE};
+use crate::scripts::{Last, OUTAGE};
 use crate::tasks::Kept;
 use ob_net::Stop;
 use std::process::Abort;
 
-/// How many commands the book has before the correction.
+/// How many commands the book has before the last one.
 pub const BEFORE: u32 = 25;
 
 /// How many it has after it.
 pub const AFTER: u32 = 26;
 
-// The customer-seconds of the book of so many commands.
-fn total_of(accepted: u32) -> u64 {
-    if accepted == BEFORE { 9_000 } else { 7_800 }
+// The customer-seconds of the book of the outage.
+const TOTAL: u64 = 9_000;
+
+// Those of the book of so many commands, the last of which may be this one.
+fn total_of(accepted: u32, last: Last) -> u64 {
+    if accepted == BEFORE {
+        TOTAL
+    } else {
+        last.total
+    }
 }
 
 /// Makes a book with the outage.
@@ -22,7 +29,7 @@ pub fn outage<O: Office>(rt: &impl Abort, office: &mut O) -> Kept {
     for line in OUTAGE.lines() {
         assert!(rt; office.acts(line).is_ok());
     }
-    assert!(rt; office.shows() == Some((BEFORE, total_of(BEFORE))));
+    assert!(rt; office.shows() == Some((BEFORE, TOTAL)));
     Kept::all(BEFORE)
 }
 
@@ -33,12 +40,12 @@ pub fn failed<O: Office>(rt: &impl Abort, office: &mut O, stop: Stop, kept: Kept
     kept
 }
 
-/// Loads the book and sends it the correction.
-pub fn send<O: Office>(rt: &impl Abort, office: &mut O) -> Kept {
+/// Loads the book and sends it this command.
+pub fn send<O: Office>(rt: &impl Abort, office: &mut O, last: Last) -> Kept {
     if let Err(stop) = office.loads() {
         return failed(rt, office, stop, Kept::all(BEFORE));
     }
-    match office.acts(CORRECTION) {
+    match office.acts(last.line) {
         Ok(no) => {
             assert!(rt; no == AFTER);
             Kept::all(AFTER)
@@ -55,13 +62,13 @@ pub fn send<O: Office>(rt: &impl Abort, office: &mut O) -> Kept {
     }
 }
 
-/// Loads the book: it has what was acknowledged, and nothing that wasn't sent. Then it takes the correction, or answers it again.
-pub fn holds<O: Office>(rt: &impl Abort, office: &mut O, kept: Kept) -> Kept {
+/// Loads the book: it has what was acknowledged, and nothing that wasn't sent. Then it takes the command, or answers it again.
+pub fn holds<O: Office>(rt: &impl Abort, office: &mut O, kept: Kept, last: Last) -> Kept {
     assert!(rt; office.loads().is_ok());
     let (accepted, total) = office.shows().unwrap_or((0, 0));
     assert!(rt; kept.allows(accepted));
-    assert!(rt; total == total_of(accepted));
-    assert!(rt; office.acts(CORRECTION) == Ok(AFTER));
-    assert!(rt; office.shows() == Some((AFTER, total_of(AFTER))));
+    assert!(rt; total == total_of(accepted, last));
+    assert!(rt; office.acts(last.line) == Ok(AFTER));
+    assert!(rt; office.shows() == Some((AFTER, last.total)));
     Kept::all(accepted)
 }

@@ -1,6 +1,7 @@
 //! A task that is stopped at each call of either file, and what is left.
 use crate::disks::{Pair, Which, blank, copies, crash_db, crash_log, have_stopped};
 use crate::importing::IMPORTED;
+use crate::scripts::{CORRECTION, JOINING, LEAVING, Last};
 use crate::sending::{AFTER, BEFORE};
 use crate::tasks::{Kept, Task, run};
 use std::alloc::Global;
@@ -11,7 +12,8 @@ fn held(task: Task, kept: Option<Kept>) -> Task {
     match task {
         Task::Make => Task::HoldNew(kept.unwrap_or(Kept::all(0))),
         Task::Import => Task::HoldRows(kept.unwrap_or(Kept::all(BEFORE))),
-        _ => Task::Hold(kept.unwrap_or(Kept::all(BEFORE))),
+        Task::Send(last) => Task::Hold(kept.unwrap_or(Kept::all(BEFORE)), last),
+        _ => Task::Hold(kept.unwrap_or(Kept::all(BEFORE)), CORRECTION),
     }
 }
 
@@ -72,14 +74,39 @@ fn stopped_in_creation(rt: &impl Abort, alloc: Global, which: Which) {
     stopped(rt, alloc, &blank(alloc), which, Task::Make, 1);
 }
 
+// This command, sent to that book and stopped so.
+fn stopped_in_sending(rt: &impl Abort, alloc: Global, which: Which, last: Last) {
+    stopped_in_outage(rt, alloc, which, Task::Send(last), AFTER);
+}
+
 #[test]
 fn a_command_over_a_log_that_stops(rt: HostRuntime) {
-    stopped_in_outage(&rt, rt.alloc(), Which::Log, Task::Send, AFTER);
+    stopped_in_sending(&rt, rt.alloc(), Which::Log, CORRECTION);
 }
 
 #[test]
 fn a_command_over_a_database_file_that_stops(rt: HostRuntime) {
-    stopped_in_outage(&rt, rt.alloc(), Which::Db, Task::Send, AFTER);
+    stopped_in_sending(&rt, rt.alloc(), Which::Db, CORRECTION);
+}
+
+#[test]
+fn a_device_that_joins_over_a_log_that_stops(rt: HostRuntime) {
+    stopped_in_sending(&rt, rt.alloc(), Which::Log, JOINING);
+}
+
+#[test]
+fn a_device_that_joins_over_a_database_file_that_stops(rt: HostRuntime) {
+    stopped_in_sending(&rt, rt.alloc(), Which::Db, JOINING);
+}
+
+#[test]
+fn a_life_over_a_log_that_stops(rt: HostRuntime) {
+    stopped_in_sending(&rt, rt.alloc(), Which::Log, LEAVING);
+}
+
+#[test]
+fn a_life_over_a_database_file_that_stops(rt: HostRuntime) {
+    stopped_in_sending(&rt, rt.alloc(), Which::Db, LEAVING);
 }
 
 #[test]

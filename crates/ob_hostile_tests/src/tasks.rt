@@ -2,6 +2,7 @@
 use crate::creations::{holds_new, make};
 use crate::importing::{holds_rows, import};
 use crate::office::Office;
+use crate::scripts::Last;
 use crate::sending::{holds, outage, send};
 use crate::serving::serve;
 use crate::working::{act, read};
@@ -39,10 +40,10 @@ impl Kept {
 pub enum Task {
     /// Make a book with the outage.
     Outage,
-    /// Load the book and send it the correction.
-    Send,
-    /// Load the book that is kept, and go on.
-    Hold(Kept),
+    /// Load the book and send it this command.
+    Send(Last),
+    /// Load the book that is kept, and go on with this command.
+    Hold(Kept, Last),
     /// Load the book and serve it a stream with the correction.
     Serve,
     /// Load the book and import rows into it.
@@ -101,8 +102,8 @@ fn over<S: Alter + Drop>(
 fn done<O: Office>(rt: &impl Abort, alloc: Global, office: &mut O, task: Task) -> Kept {
     match task {
         Task::Outage => outage(rt, office),
-        Task::Send => send(rt, office),
-        Task::Hold(kept) => holds(rt, office, kept),
+        Task::Send(last) => send(rt, office, last),
+        Task::Hold(kept, last) => holds(rt, office, kept, last),
         Task::Serve => serve(rt, alloc, office),
         Task::Import => import(rt, alloc, office),
         Task::HoldRows(kept) => holds_rows(rt, alloc, office, kept),

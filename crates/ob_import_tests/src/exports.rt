@@ -26,7 +26,7 @@ const EXPORT: &'static str = "cmd,dim,key,delta
 ";
 
 // How many rows the tables of the outage with its correction have.
-const ROWS: &[i64] = &[1, 3, 5, 5, 10, 4, 0, 26, 12, 320];
+const ROWS: &[i64] = &[1, 3, 5, 5, 5, 10, 4, 0, 26, 12, 320];
 
 const EXPORTED: &[Step] = &[
     Step::Make(A_DAY),
@@ -49,7 +49,7 @@ const OF_NOTHING: &[Step] = &[
 
 #[test]
 fn exports_of_nothing(rt: HostRuntime) -> Result<(), AllocError> {
-    let rows = &[1, 1, 1, 0, 0, 0, 0, 0, 0, 320];
+    let rows = &[1, 1, 1, 0, 0, 0, 0, 0, 0, 0, 320];
     are_answered(&rt, rt.alloc(), OF_NOTHING, rows)
 }
 

@@ -27,7 +27,7 @@ const CHANGED: &[Step] = &[
 
 #[test]
 fn a_row_stops_and_is_changed(rt: HostRuntime) -> Result<(), AllocError> {
-    let rows = &[1, 2, 4, 0, 0, 0, 0, 4, 0, 320];
+    let rows = &[1, 2, 4, 0, 0, 0, 0, 0, 4, 0, 320];
     are_answered_both_ways(&rt, rt.alloc(), CHANGED, rows)
 }
 
@@ -51,7 +51,7 @@ impl Trial for Hearing {
 
 #[test]
 fn who_listens_hears_each_row(rt: HostRuntime) -> Result<(), AllocError> {
-    let rows = &[1, 2, 3, 0, 0, 0, 0, 3, 0, 320];
+    let rows = &[1, 2, 3, 0, 0, 0, 0, 0, 3, 0, 320];
     over_a_store(&rt, rt.alloc(), &Hearing, rows)
 }
 
@@ -73,7 +73,7 @@ const WITHOUT_ROWS: &[Step] = &[
 
 #[test]
 fn texts_without_rows(rt: HostRuntime) -> Result<(), AllocError> {
-    let rows = &[1, 1, 1, 0, 0, 0, 0, 0, 0, 320];
+    let rows = &[1, 1, 1, 0, 0, 0, 0, 0, 0, 0, 320];
     are_answered_both_ways(&rt, rt.alloc(), WITHOUT_ROWS, rows)
 }
 
@@ -85,7 +85,7 @@ const TWICE: &[Step] = &[
 
 #[test]
 fn a_text_comes_twice(rt: HostRuntime) -> Result<(), AllocError> {
-    let rows = &[1, 3, 5, 5, 10, 4, 0, 25, 9, 320];
+    let rows = &[1, 3, 5, 5, 5, 10, 4, 0, 25, 9, 320];
     are_answered_both_ways(&rt, rt.alloc(), TWICE, rows)
 }
 
@@ -166,7 +166,7 @@ fn the_book_of_an_import(rt: HostRuntime) -> Result<(), AllocError> {
         steps: LOADED,
         by_reader: false,
     };
-    let rows = &[1, 3, 5, 5, 10, 4, 0, 25, 9, 320];
+    let rows = &[1, 3, 5, 5, 5, 10, 4, 0, 25, 9, 320];
     over_tables(&rt, rt.alloc(), &first, &next, rows)
 }
 

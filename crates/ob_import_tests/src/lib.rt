@@ -26,6 +26,8 @@ mod sinks;
 #[cfg(test)]
 mod sources;
 #[cfg(test)]
+mod stories;
+#[cfg(test)]
 mod streams;
 #[cfg(test)]
 mod tables;

@@ -35,6 +35,12 @@ const BAD_ROWS: &[(&'static str, u8)] = &[
     ("cause,R1,3,STORM,,,", 0),
     ("switch,R1,B1,open,3600,3,K1,x", 8),
     ("device,R1,X1,S1,S1,open,,", 5),
+    ("device,R1,X1,S1,S2,open,-,x", 7),
+    ("device,R1,X1,S1,S2,open,,-", 8),
+    ("life,R1,,,,,,", 3),
+    ("life,R1,T1,2024-01-01,,,,", 4),
+    ("life,R1,T1,,-,,,", 5),
+    ("life,R1,T1,,,x,,", 6),
     ("cause,R1,3,STORM,,,,,", 0),
     ("causes,R1,3,STORM,,,,", 1),
     ("cause,,3,STORM,,,,", 2),
@@ -44,7 +50,7 @@ const BAD_ROWS: &[(&'static str, u8)] = &[
 
 #[test]
 fn bad_rows(rt: HostRuntime) -> Result<(), AllocError> {
-    let rows = &[1, 1, 1, 0, 0, 0, 0, 0, 0, 320];
+    let rows = &[1, 1, 1, 0, 0, 0, 0, 0, 0, 0, 320];
     over_a_store(&rt, rt.alloc(), &Bad { rows: BAD_ROWS }, rows)
 }
 
@@ -69,7 +75,7 @@ const BOTH: &[Step] = &[
 
 #[test]
 fn marks_line_ends_and_quotes(rt: HostRuntime) -> Result<(), AllocError> {
-    let rows = &[1, 2, 3, 0, 0, 0, 0, 3, 0, 320];
+    let rows = &[1, 2, 3, 0, 0, 0, 0, 0, 3, 0, 320];
     are_answered(&rt, rt.alloc(), BOTH, rows)
 }
 
@@ -88,6 +94,6 @@ const SPELT_OTHERWISE: &[Step] = &[
 
 #[test]
 fn another_spelling_is_the_same_command(rt: HostRuntime) -> Result<(), AllocError> {
-    let rows = &[1, 3, 5, 5, 10, 4, 0, 25, 9, 320];
+    let rows = &[1, 3, 5, 5, 5, 10, 4, 0, 25, 9, 320];
     are_answered(&rt, rt.alloc(), SPELT_OTHERWISE, rows)
 }

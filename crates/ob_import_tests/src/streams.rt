@@ -40,7 +40,7 @@ impl Trial for Fronts {
 
 #[test]
 fn readers_that_fail(rt: HostRuntime) -> Result<(), AllocError> {
-    let rows = &[1, 2, 4, 0, 0, 0, 0, 4, 0, 320];
+    let rows = &[1, 2, 4, 0, 0, 0, 0, 0, 4, 0, 320];
     over_a_store(&rt, rt.alloc(), &Fronts, rows)
 }
 
@@ -52,7 +52,7 @@ const JOLTING: &[Step] = &[
 
 #[test]
 fn an_interrupted_reader(rt: HostRuntime) -> Result<(), AllocError> {
-    let rows = &[1, 3, 5, 5, 10, 4, 0, 25, 9, 320];
+    let rows = &[1, 3, 5, 5, 5, 10, 4, 0, 25, 9, 320];
     are_answered(&rt, rt.alloc(), JOLTING, rows)
 }
 
@@ -64,7 +64,7 @@ const STUCK: &[Step] = &[
 
 #[test]
 fn a_reader_interrupted_for_ever(rt: HostRuntime) -> Result<(), AllocError> {
-    let rows = &[1, 2, 4, 0, 0, 0, 0, 4, 0, 320];
+    let rows = &[1, 2, 4, 0, 0, 0, 0, 0, 4, 0, 320];
     are_answered(&rt, rt.alloc(), STUCK, rows)
 }
 
@@ -84,6 +84,6 @@ impl Trial for Interrupted {
 
 #[test]
 fn interrupted_in_two_reads(rt: HostRuntime) -> Result<(), AllocError> {
-    let rows = &[1, 2, 4, 0, 0, 0, 0, 4, 0, 320];
+    let rows = &[1, 2, 4, 0, 0, 0, 0, 0, 4, 0, 320];
     over_a_store(&rt, rt.alloc(), &Interrupted, rows)
 }

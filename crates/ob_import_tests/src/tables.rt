@@ -5,11 +5,12 @@ use std::process::Abort;
 
 /// The tables of a book.
 const TABLES: &'static [&'static str] = &[
-    "meta", "cause", "node", "device", "customer", "entry", "mark", "cmd", "moved", "posting",
+    "meta", "cause", "node", "device", "life", "customer", "entry", "mark", "cmd", "moved",
+    "posting",
 ];
 
-/// The tables have so many rows: the period, causes, nodes, devices, customers, entries, marked days, commands, moves,
-/// amounts.
+/// The tables have so many rows: the period, causes, nodes, devices, their lives, customers, entries, marked days,
+/// commands, moves, amounts.
 pub fn has_rows<S: Alter>(
     rt: &impl Abort,
     alloc: Global,
