@@ -1,5 +1,5 @@
 -- The rows of the lives of devices, where one device has another life.
-use Rattle.std.proofs.Common.{◌≡◌, ℕ, ◌+◌, ◌<◌, ◌==◌, true, false, zero, suc, List, [], ◌∷◌, filter, length, Option, refl, ap, ap₂, ◌∙◌, arith}
+use Rattle.std.proofs.Common.{◌≡◌, ℕ, ◌+◌, ◌<◌, ◌==◌, true, false, zero, suc, List, [], ◌∷◌, filter, length, Option, refl, ap, ap₂, arith}
 use Rattle.std.proofs.lemmas.Bool.Decides.{nat_tests}
 use Rattle.ob_base.specs.Life.{life}
 use Rattle.ob_base.specs.declared.life.Life.{Life as ALife}
