@@ -1,4 +1,5 @@
-use Rattle.std.proofs.Common.{List, ◌≡◌, ◌+◌, ◌≤◌, Some, [], ◌∷◌, ◌++◌, length, inl, sym, ap, subst, ◌∙◌, arith}
+use Rattle.std.proofs.Common.{List, ◌≡◌, ◌+◌, ◌≤◌, Some, [], ◌∷◌, ◌++◌, length, inl, sym, ap, subst, ◌∙◌, arith, rules, ℤ, to_z-of_z, w64}
+use Rattle.std.specs.Prelude.{FitsSigned}
 use Rattle.std.specs.List.{AllByRecursion}
 use Rattle.sqlite.specs.Effect.{Database}
 use Rattle.sqlite.specs.State.{HasCleanDisk}
@@ -29,8 +30,8 @@ returns-in-Other-clause-read g c late live has given shows there =
     let schema = ap (λ (d : Database). d.schema) was.0.now_is ∙ has in
     let pairs = c.commands.invariant.7 in
     let front = rows_under pairs in
-    let next = subst (λ n. Stands g.S.Store c.commands.last n new front) c.in-Other.is (c.in_ok-filed.ensures.stands late schema front (c.commands.invariant.9 early live has given)) in
-    let db : (state g.S.Store new).now ≡ old.now = (c.in_ok-filed.ensures.same late).0.now_is ∙ was.0.now_is in
+    let next = subst (λ n. Stands g.S.Store c.commands.last n new front) c.in-Other.is (c.in_ok-number.ensures.stands late schema front (c.commands.invariant.9 early live has given)) in
+    let db : (state g.S.Store new).now ≡ old.now = (c.in_ok-number.ensures.same late).0.now_is ∙ was.0.now_is in
     other_read old.now c.commands.commands.items c.commands.last c.commands.counted pairs next.0 next.1 shows c.commands.invariant.8 (subst (λ (d : Database). Lists command_listing d (front ++ (next.0 ∷ next.1))) db next.2) next.3 there
 
 pub returns-in-End-clause-read : goal.returns-in-End-clause-read
@@ -43,8 +44,8 @@ returns-in-End-clause-read g c late live has given shows there =
     let schema = ap (λ (d : Database). d.schema) was.0.now_is ∙ has in
     let pairs = c.commands.invariant.7 in
     let front = rows_under pairs in
-    let next = subst (λ n. Stands g.S.Store c.commands.last n new front) c.in-End.is (c.in_ok-filed.ensures.stands late schema front (c.commands.invariant.9 early live has given)) in
-    let db : (state g.S.Store new).now ≡ old.now = (c.in_ok-filed.ensures.same late).0.now_is ∙ was.0.now_is in
+    let next = subst (λ n. Stands g.S.Store c.commands.last n new front) c.in-End.is (c.in_ok-number.ensures.stands late schema front (c.commands.invariant.9 early live has given)) in
+    let db : (state g.S.Store new).now ≡ old.now = (c.in_ok-number.ensures.same late).0.now_is ∙ was.0.now_is in
     all_read old.now (record { commands = c.commands.commands; counted = c.commands.counted }) c.commands.last pairs shows c.commands.invariant.8 (subst (λ (d : Database). Lists command_listing d front) db next) there
 
 pub commands-preserved : goal.commands-preserved
@@ -54,27 +55,29 @@ commands-preserved g c =
     let new = c.next_filed.new.rows.conn.now in
     let step = c.next_filed.ensures in
     let pairs = c.commands.invariant.7 in
-    let n = c.in-Higher.field-0 in
+    let n = c.in-Higher.number in
+    let fits : FitsSigned w64 n = search rules in
     let f = c.in-Higher.filed in
     let pushed : c.push.new.self.items ≡ c.commands.commands.items ++ f ∷ [] = c.in_ok-push-in-Higher.ensures.items in
-    let next = subst (IsNext c.commands.last) c.in-Higher.is c.in_ok-filed.ensures.valid in (
+    let next = subst (IsNext c.commands.last) c.in-Higher.is c.in_ok-number.ensures.valid in (
       step.same_reference ∙ c.commands.invariant.0,
       still_then old mid (state g.S.Store new) c.commands.invariant.1 step.survives,
       λ idle. step.mode (c.commands.invariant.2 idle),
       ap length pushed ∙ pushed_length c.commands.commands.items f c.commands.at c.commands.invariant.3,
       λ late live.
           let early : HasCleanDisk mid = omega (arith, step.survives.clean, late) in
-          unchanged_then old mid (state g.S.Store new) (c.commands.invariant.4 early live) (c.in_ok-filed.ensures.same late),
+          unchanged_then old mid (state g.S.Store new) (c.commands.invariant.4 early live) (c.in_ok-number.ensures.same late),
       subst (λ (items : List Filed). AllByRecursion IsReferenced (filed_of items)) (sym pushed) (all_referenced c.commands.commands.items f c.commands.invariant.5 next.1),
       λ t keeps. step.kept t (c.commands.invariant.6 t keeps),
       pairs ++ (n, referenced f) ∷ [],
-      subst (λ (items : List Filed). IsRead items (Some n) c.goes_on_counting.result (pairs ++ (n, referenced f) ∷ [])) (sym pushed)
-          (one_read c.commands.commands.items c.commands.last c.commands.counted c.goes_on_counting.result pairs n f (c.commands.at + 1) (omega (arith, c.commands.invariant.3)) c.commands.invariant.8 next.0 c.goes_on_counting.ensures),
+      subst (λ (k : ℤ). IsRead c.push.new.self.items (Some k) c.goes_on_counting.result (pairs ++ (n, referenced f) ∷ [])) (sym (to_z-of_z fits))
+          (subst (λ (items : List Filed). IsRead items (Some n) c.goes_on_counting.result (pairs ++ (n, referenced f) ∷ [])) (sym pushed)
+          (one_read c.commands.commands.items c.commands.last c.commands.counted c.goes_on_counting.result pairs n f (c.commands.at + 1) (omega (arith, c.commands.invariant.3)) c.commands.invariant.8 next.0 c.goes_on_counting.ensures)),
       λ late live has given.
           let early : HasCleanDisk mid = omega (arith, step.survives.clean, late) in
           let was = c.commands.invariant.4 early live in
           let schema = ap (λ (d : Database). d.schema) was.0.now_is ∙ has in
-          let there = subst (λ n. Stands g.S.Store c.commands.last n new (rows_under pairs)) c.in-Higher.is (c.in_ok-filed.ensures.stands late schema (rows_under pairs) (c.commands.invariant.9 early live has given)) in
+          let there = subst (λ n. Stands g.S.Store c.commands.last n new (rows_under pairs)) c.in-Higher.is (c.in_ok-number.ensures.stands late schema (rows_under pairs) (c.commands.invariant.9 early live has given)) in
           subst (HasGiven g.S.Store command_listing.text [] new) (rows_read pairs n f) there,
     )
 
@@ -107,29 +110,29 @@ returns-else-branch-clause-read g c late live has given shows there =
     let many : 1000000 ≤ length c.commands.commands.items = omega (arith, c.commands-test.false, c.commands.invariant.3) in
     too_many old.now c.commands.commands.items c.commands.last c.commands.counted pairs ends.0 ends.1 shows c.commands.invariant.8 many (subst (λ (d : Database). Lists command_listing d (front ++ (ends.0 ∷ ends.1))) db ends.2) there
 
-pub returns-in_err-filed-clause-same_reference : goal.returns-in_err-filed-clause-same_reference
-returns-in_err-filed-clause-same_reference g c = c.next_filed.ensures.same_reference ∙ c.commands.invariant.0
+pub returns-in_err-number-clause-same_reference : goal.returns-in_err-number-clause-same_reference
+returns-in_err-number-clause-same_reference g c = c.next_filed.ensures.same_reference ∙ c.commands.invariant.0
 
-pub returns-in_err-filed-clause-survives : goal.returns-in_err-filed-clause-survives
-returns-in_err-filed-clause-survives g c = still_then (state g.S.Store c.args.rows.now.conn.now) (state g.S.Store c.commands.rows.conn.now) (state g.S.Store c.next_filed.new.rows.conn.now) c.commands.invariant.1 c.next_filed.ensures.survives
+pub returns-in_err-number-clause-survives : goal.returns-in_err-number-clause-survives
+returns-in_err-number-clause-survives g c = still_then (state g.S.Store c.args.rows.now.conn.now) (state g.S.Store c.commands.rows.conn.now) (state g.S.Store c.next_filed.new.rows.conn.now) c.commands.invariant.1 c.next_filed.ensures.survives
 
-pub returns-in_err-filed-clause-kept : goal.returns-in_err-filed-clause-kept
-returns-in_err-filed-clause-kept g c t keeps = c.next_filed.ensures.kept t (c.commands.invariant.6 t keeps)
+pub returns-in_err-number-clause-kept : goal.returns-in_err-number-clause-kept
+returns-in_err-number-clause-kept g c t keeps = c.next_filed.ensures.kept t (c.commands.invariant.6 t keeps)
 
-pub returns-in_err-filed-clause-mode : goal.returns-in_err-filed-clause-mode
-returns-in_err-filed-clause-mode g c idle = c.next_filed.ensures.mode (c.commands.invariant.2 idle)
+pub returns-in_err-number-clause-mode : goal.returns-in_err-number-clause-mode
+returns-in_err-number-clause-mode g c idle = c.next_filed.ensures.mode (c.commands.invariant.2 idle)
 
-pub returns-in_err-filed-clause-faults : goal.returns-in_err-filed-clause-faults
-returns-in_err-filed-clause-faults g c = of_error c.from_residual.result IsStoreFault c.from_residual.ensures.1 (λ stop is. subst IsStoreFault (sym is) c.in_err-filed.ensures.faults)
+pub returns-in_err-number-clause-faults : goal.returns-in_err-number-clause-faults
+returns-in_err-number-clause-faults g c = of_error c.from_residual.result IsStoreFault c.from_residual.ensures.1 (λ stop is. subst IsStoreFault (sym is) c.in_err-number.ensures.faults)
 
-pub returns-in_err-filed-clause-valid : goal.returns-in_err-filed-clause-valid
-returns-in_err-filed-clause-valid g c = no_value c.from_residual.result AreFiled c.from_residual.ensures.0
+pub returns-in_err-number-clause-valid : goal.returns-in_err-number-clause-valid
+returns-in_err-number-clause-valid g c = no_value c.from_residual.result AreFiled c.from_residual.ensures.0
 
-pub returns-in_err-filed-clause-same : goal.returns-in_err-filed-clause-same
-returns-in_err-filed-clause-same g c late = no_value c.from_residual.result _ c.from_residual.ensures.0
+pub returns-in_err-number-clause-same : goal.returns-in_err-number-clause-same
+returns-in_err-number-clause-same g c late = no_value c.from_residual.result _ c.from_residual.ensures.0
 
-pub returns-in_err-filed-clause-read : goal.returns-in_err-filed-clause-read
-returns-in_err-filed-clause-read g c late = no_value c.from_residual.result _ c.from_residual.ensures.0
+pub returns-in_err-number-clause-read : goal.returns-in_err-number-clause-read
+returns-in_err-number-clause-read g c late = no_value c.from_residual.result _ c.from_residual.ensures.0
 
 pub returns-in_err-push-in-Higher-clause-same_reference : goal.returns-in_err-push-in-Higher-clause-same_reference
 returns-in_err-push-in-Higher-clause-same_reference g c = c.next_filed.ensures.same_reference ∙ c.commands.invariant.0
@@ -171,7 +174,7 @@ pub returns-in-Other-clause-same : goal.returns-in-Other-clause-same
 returns-in-Other-clause-same g c late =
     let mid = state g.S.Store c.commands.rows.conn.now in
     let new = state g.S.Store c.next_filed.new.rows.conn.now in
-    unchanged_after (state g.S.Store c.args.rows.now.conn.now) mid new (c.commands.invariant.4 (clean_before mid new c.next_filed.ensures.survives late)) (c.in_ok-filed.ensures.same late)
+    unchanged_after (state g.S.Store c.args.rows.now.conn.now) mid new (c.commands.invariant.4 (clean_before mid new c.next_filed.ensures.survives late)) (c.in_ok-number.ensures.same late)
 
 pub returns-in-End-clause-same_reference : goal.returns-in-End-clause-same_reference
 returns-in-End-clause-same_reference g c = c.next_filed.ensures.same_reference ∙ c.commands.invariant.0
@@ -192,7 +195,7 @@ pub returns-in-End-clause-same : goal.returns-in-End-clause-same
 returns-in-End-clause-same g c late =
     let mid = state g.S.Store c.commands.rows.conn.now in
     let new = state g.S.Store c.next_filed.new.rows.conn.now in
-    unchanged_after (state g.S.Store c.args.rows.now.conn.now) mid new (c.commands.invariant.4 (clean_before mid new c.next_filed.ensures.survives late)) (c.in_ok-filed.ensures.same late)
+    unchanged_after (state g.S.Store c.args.rows.now.conn.now) mid new (c.commands.invariant.4 (clean_before mid new c.next_filed.ensures.survives late)) (c.in_ok-number.ensures.same late)
 
 pub returns-in_err-is_over-clause-same_reference : goal.returns-in_err-is_over-clause-same_reference
 returns-in_err-is_over-clause-same_reference g c = c.is_over.ensures.same_reference ∙ c.commands.invariant.0
