@@ -1,11 +1,9 @@
-use Rattle.std.proofs.Common.{◌≡◌, ◌∙◌, ap, sym, subst, ◌+◌, ◌<◌, ◌≤◌, ℕ, length, map, Option, Some, slice_get, unwrap_or, arith}
-use Rattle.std.specs.Option.{option_and_then, option_map, option_map_or}
+use Rattle.std.proofs.Common.{◌≡◌, ◌∙◌, ap, sym, subst, ◌+◌, ◌<◌, ◌≤◌, ℕ, length, Option, Some, unwrap_or, arith}
+use Rattle.std.specs.Option.{option_and_then, option_map}
 use Rattle.std.specs.Result.{IfOk}
 use Rattle.std.proofs.lemmas.Result.{IfOk-weaker}
 use Rattle.ob_base.specs.declared.life.Life.{Life as ALife}
-use Rattle.ob_net.specs.declared.net.Device.{Device}
 use Rattle.ob_net.specs.Network.{Network, device_of, with_life}
-use Rattle.ob_sweep.specs.declared.change.Change.{Change}
 use Rattle.ob_sweep.specs.declared.change.Change.TheVariants.{Lived}
 use Rattle.ob_command.specs.declared.command.Command.TheVariants.{Life}
 use Rattle.ob_state.specs.Next.{changed}
