@@ -200,7 +200,7 @@ keys_of pairs = map (keyed command_listing) (rows_under pairs)
 sorted_so : (pairs : List Numbered) → AreInOrder pairs → IsSorted by_key (keys_of pairs)
 sorted_so pairs above = λ k d low high.
     let less = Less-from_sorted by_key (keys_of pairs) k (k + 1) d (rises None pairs above) (omega arith) high in
-    ap is_lt ((output_cmp_total (list_query command_listing)).antisymm (get_or (keys_of pairs) k d) (get_or (keys_of pairs) (k + 1) d) ∙ ap ordering_reverse less)
+    ap is_lt ((output_cmp_total (list_query command_listing)).antisymm (get_or (keys_of pairs) (k + 1) d) (get_or (keys_of pairs) k d) ∙ ap ordering_reverse less)
 
 same_rows : (pairs others : List Numbered) → AreInOrder pairs → AreInOrder others → IsPermutation (rows_under pairs) (rows_under others) → rows_under pairs ≡ rows_under others
 same_rows pairs others above up moved =

@@ -4,7 +4,7 @@ use Rattle.std.specs.Prelude.{unwrap_or}
 use Rattle.ob_base.specs.Life.{life}
 use Rattle.ob_base.specs.declared.life.Life.{Life}
 use Rattle.ob_net.specs.Network.{Network, device_of, with_life, with_life_at}
-use Rattle.ob_net.specs.declared.net.Device.{Device}
+use Rattle.ob_net.specs.declared.net.Device.{Device as NetDevice}
 use Rattle.ob_command.specs.declared.command.Command.{Command}
 use Rattle.ob_command.specs.declared.command.Command.TheVariants.{Cause, Bus, Section, Device, Life as LifeCommand, Connect, Revise, Switch, Correct, Withdraw, Mark, Unmark}
 use Rattle.ob_state.specs.State.{BookState}
@@ -12,10 +12,10 @@ use Rattle.ob_state.specs.Next.{changed}
 use Rattle.ob_compare.specs.Moves.{ends_of}
 use Rattle.ob_compare.specs.declared.ends.EndNodes.{EndNodes}
 
-abbrev ends_in : List Device → List EndNodes
-ends_in devices = map (λ (d : Device). record { a = d.a; b = d.b }) devices
+abbrev ends_in : List NetDevice → List EndNodes
+ends_in devices = map (λ (d : NetDevice). record { a = d.a; b = d.b }) devices
 
-same_ends : (devices : List Device) (k : ℕ) (life : Life) → ends_in (with_life_at devices k life) ≡ ends_in devices
+same_ends : (devices : List NetDevice) (k : ℕ) (life : Life) → ends_in (with_life_at devices k life) ≡ ends_in devices
 same_ends [] k life = refl
 same_ends (d ∷ devices) zero life = refl
 same_ends (d ∷ devices) (suc k) life = ap (λ (l : List EndNodes). record { a = d.a; b = d.b } ∷ l) (same_ends devices k life)

@@ -70,9 +70,9 @@ commands-preserved g c =
       subst (λ (items : List Filed). AllByRecursion IsReferenced (filed_of items)) (sym pushed) (all_referenced c.commands.commands.items f c.commands.invariant.5 next.1),
       λ t keeps. step.kept t (c.commands.invariant.6 t keeps),
       pairs ++ (n, referenced f) ∷ [],
-      subst (λ (k : ℤ). IsRead c.push.new.self.items (Some k) c.goes_on_counting.result (pairs ++ (n, referenced f) ∷ [])) (sym (to_z-of_z fits))
-          (subst (λ (items : List Filed). IsRead items (Some n) c.goes_on_counting.result (pairs ++ (n, referenced f) ∷ [])) (sym pushed)
-          (one_read c.commands.commands.items c.commands.last c.commands.counted c.goes_on_counting.result pairs n f (c.commands.at + 1) (omega (arith, c.commands.invariant.3)) c.commands.invariant.8 next.0 c.goes_on_counting.ensures)),
+      subst (λ (k : ℤ). IsRead c.push.new.self.items (Some k) c.goes_on_counting-counted.result (pairs ++ (n, referenced f) ∷ [])) (sym (to_z-of_z fits))
+          (subst (λ (items : List Filed). IsRead items (Some n) c.goes_on_counting-counted.result (pairs ++ (n, referenced f) ∷ [])) (sym pushed)
+          (one_read c.commands.commands.items c.commands.last c.commands.counted c.goes_on_counting-counted.result pairs n f (c.commands.at + 1) (omega (arith, c.commands.invariant.3)) c.commands.invariant.8 next.0 c.goes_on_counting-counted.ensures)),
       λ late live has given.
           let early : HasCleanDisk mid = omega (arith, step.survives.clean, late) in
           let was = c.commands.invariant.4 early live in

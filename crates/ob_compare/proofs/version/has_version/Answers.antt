@@ -12,11 +12,11 @@ use Rattle.ob_compare.specs.Version.{IsOfBook, IsVersionRow}
 use Rattle.ob_compare.proofs.Headings.{meta_listing, no_meaning, version_read}
 use Rattle.ob_compare.proofs.Selects.{is_listing, is_old_listing}
 use Rattle.ob_compare.proofs.version.has_version.Given.{Over}
-use Rattle.ob_compare.proofs.version.has_version.Goals.{In-Ok}
+use Rattle.ob_compare.proofs.version.has_version.Goals.{After-drop-rows}
 use Rattle.ob_compare.proofs.version.has_version.Goals as goal
 
 -- the rows are an answer over the tables of either version, and nothing changed
-listed_over : (g : Over) (c : In-Ok g) → HasCleanDisk (state g.S.Store c.list_all.new.conn) → IsOfBook c.args.conn.now.schema
+listed_over : (g : Over) (c : After-drop-rows g) → HasCleanDisk (state g.S.Store c.list_all.new.conn) → IsOfBook c.args.conn.now.schema
     → Lists meta_listing (state g.S.Store c.args.conn.now).now c.in-Ok.rows.items × IsUnchanged (state g.S.Store c.args.conn.now) (state g.S.Store c.list_all.new.conn)
 listed_over g c clean (inl has) = c.in-Ok.ensures.listed clean book_schema meta_listing (is_listing Meta) (sym c.select_of.ensures) has
 listed_over g c clean (inr has) = c.in-Ok.ensures.listed clean old_schema meta_listing is_old_listing (sym c.select_of.ensures) has
