@@ -1,5 +1,5 @@
-use Rattle.std.proofs.Common.{List, ◌≡◌, ◌+◌, ◌≤◌, Some, [], ◌∷◌, ◌++◌, length, inl, sym, ap, subst, ◌∙◌, arith, rules, ℤ, to_z-of_z, w64}
-use Rattle.std.specs.Prelude.{FitsSigned}
+use Rattle.std.proofs.Common.{List, ◌≡◌, ◌+◌, ◌≤◌, Some, [], ◌∷◌, ◌++◌, length, inl, sym, ap, subst, ◌∙◌, arith, rules, ℤ, pos, IsTrue, to_z-of_z, w64}
+use Rattle.std.specs.Prelude.{FitsSigned, ◌↔◌}
 use Rattle.std.specs.List.{AllByRecursion}
 use Rattle.sqlite.specs.Effect.{Database}
 use Rattle.sqlite.specs.State.{HasCleanDisk}
@@ -72,7 +72,7 @@ commands-preserved g c =
       pairs ++ (n, referenced f) ∷ [],
       subst (λ (k : ℤ). IsRead c.push.new.self.items (Some k) c.goes_on_counting-counted.result (pairs ++ (n, referenced f) ∷ [])) (sym (to_z-of_z fits))
           (subst (λ (items : List Filed). IsRead items (Some n) c.goes_on_counting-counted.result (pairs ++ (n, referenced f) ∷ [])) (sym pushed)
-          (one_read c.commands.commands.items c.commands.last c.commands.counted c.goes_on_counting-counted.result pairs n f (c.commands.at + 1) (omega (arith, c.commands.invariant.3)) c.commands.invariant.8 next.0 c.goes_on_counting-counted.ensures)),
+          (one_read c.commands.commands.items c.commands.last c.commands.counted c.goes_on_counting-counted.result pairs n f (c.commands.at + 1) (omega (arith, c.commands.invariant.3)) c.commands.invariant.8 next.0 (subst (λ (k : ℤ). IsTrue c.goes_on_counting-counted.result ↔ (IsTrue c.commands.counted × (k ≡ pos (c.commands.at + 1)))) (to_z-of_z fits) c.goes_on_counting-counted.ensures))),
       λ late live has given.
           let early : HasCleanDisk mid = omega (arith, step.survives.clean, late) in
           let was = c.commands.invariant.4 early live in
