@@ -142,16 +142,29 @@ fn are_found<O: Office>(rt: &impl Abort, alloc: Global, cases: &[Case]) -> Resul
     Ok(())
 }
 
-fn all_are_found<O: Office>(rt: &impl Abort, alloc: Global) -> Result<(), Stop> {
-    for cases in [CHANGED, MORE_OR_LESS, RENAMED, NO_BOOK, SEVERAL] {
-        are_found::<O>(rt, alloc, cases)?;
-    }
-    Ok(())
+#[test]
+fn a_row_that_is_changed(rt: HostRuntime) -> Result<(), Stop> {
+    are_found::<InMemory>(&rt, rt.alloc(), CHANGED)
 }
 
 #[test]
-fn tables_that_are_changed(rt: HostRuntime) -> Result<(), Stop> {
-    all_are_found::<InMemory>(&rt, rt.alloc())
+fn rows_more_or_less(rt: HostRuntime) -> Result<(), Stop> {
+    are_found::<InMemory>(&rt, rt.alloc(), MORE_OR_LESS)
+}
+
+#[test]
+fn another_heading_or_number(rt: HostRuntime) -> Result<(), Stop> {
+    are_found::<InMemory>(&rt, rt.alloc(), RENAMED)
+}
+
+#[test]
+fn headings_and_commands_of_no_book(rt: HostRuntime) -> Result<(), Stop> {
+    are_found::<InMemory>(&rt, rt.alloc(), NO_BOOK)
+}
+
+#[test]
+fn several_tables_that_are_changed(rt: HostRuntime) -> Result<(), Stop> {
+    are_found::<InMemory>(&rt, rt.alloc(), SEVERAL)
 }
 
 // What is done to the tables, so that they are of version 1, whatever else stands in them.
