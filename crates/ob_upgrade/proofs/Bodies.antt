@@ -1,5 +1,5 @@
 -- A body text of version 1 is read as its command.
-use Rattle.std.proofs.Common.{◌≡◌, ◌∙◌, ◌↔◌, sym, ap, subst, refl, ℕ, ◌==◌, ◌&&◌, Bool, true, false, true≢false, List, [], ◌∷◌, ◌++◌, append_assoc, append_nil, Option, Some, None, is_none, codes, decimal, if◌then◌else◌, arith}
+use Rattle.std.proofs.Common.{◌≡◌, ◌∙◌, ◌↔◌, sym, ap, subst, refl, ℕ, ◌==◌, ◌&&◌, Bool, true, false, true≢false, not, List, [], ◌∷◌, ◌++◌, append_assoc, append-nil, Option, Some, None, is_none, codes, decimal, if◌then◌else◌, arith}
 use Rattle.std.specs.List.{join_with_byte}
 use Rattle.std.specs.Fmt.{digits}
 use Rattle.std.proofs.lemmas.List.{append_cancel_right}
@@ -57,16 +57,16 @@ not_false b is not_so = absurd (true≢false (sym is ∙ not_so))
 pub bodies_grow : BodiesGrow
 bodies_grow (Device name ends normal since until) h = device_text name ends normal since until h
 bodies_grow (Life device since until) h = not_false false h refl
-bodies_grow (Cause code name) h = sym (append_nil (body_text (Cause code name)))
-bodies_grow (Bus name) h = sym (append_nil (body_text (Bus name)))
-bodies_grow (Section name feeder) h = sym (append_nil (body_text (Section name feeder)))
-bodies_grow (Connect customer section since until) h = sym (append_nil (body_text (Connect customer section since until)))
-bodies_grow (Revise customer since until) h = sym (append_nil (body_text (Revise customer since until)))
-bodies_grow (Switch device act second cause crew) h = sym (append_nil (body_text (Switch device act second cause crew)))
-bodies_grow (Correct entry revision act second cause crew) h = sym (append_nil (body_text (Correct entry revision act second cause crew)))
-bodies_grow (Withdraw entry revision) h = sym (append_nil (body_text (Withdraw entry revision)))
-bodies_grow (Mark date engineer) h = sym (append_nil (body_text (Mark date engineer)))
-bodies_grow (Unmark date engineer) h = sym (append_nil (body_text (Unmark date engineer)))
+bodies_grow (Cause code name) h = sym (append-nil (body_text (Cause code name)))
+bodies_grow (Bus name) h = sym (append-nil (body_text (Bus name)))
+bodies_grow (Section name feeder) h = sym (append-nil (body_text (Section name feeder)))
+bodies_grow (Connect customer section since until) h = sym (append-nil (body_text (Connect customer section since until)))
+bodies_grow (Revise customer since until) h = sym (append-nil (body_text (Revise customer since until)))
+bodies_grow (Switch device act second cause crew) h = sym (append-nil (body_text (Switch device act second cause crew)))
+bodies_grow (Correct entry revision act second cause crew) h = sym (append-nil (body_text (Correct entry revision act second cause crew)))
+bodies_grow (Withdraw entry revision) h = sym (append-nil (body_text (Withdraw entry revision)))
+bodies_grow (Mark date engineer) h = sym (append-nil (body_text (Mark date engineer)))
+bodies_grow (Unmark date engineer) h = sym (append-nil (body_text (Unmark date engineer)))
 
 -- only a device's text begins as one
 begins : (c : Command) → is_old c ≡ true → is_of_device (old_body_text c) ≡ is_device c
@@ -109,7 +109,7 @@ other_not false o h = (refl, h)
 text_of_other : (c : Command) → is_old_other c ≡ true → body_text c ≡ old_body_text c
 text_of_other c h =
     let parts = other_not (is_device c) (is_old c) h in
-    bodies_grow c parts.1 ∙ ap (λ b. old_body_text c ++ (if b then tail else [])) parts.0 ∙ append_nil (old_body_text c)
+    bodies_grow c parts.1 ∙ ap (λ b. old_body_text c ++ (if b then tail else [])) parts.0 ∙ append-nil (old_body_text c)
 
 abbrev pub ReadsAs : List ℕ → Option Command → Type 0
 ReadsAs text found = (c : Command) → (found ≡ Some c) ↔ (IsCommand c × (text ≡ body_text c))

@@ -12,7 +12,7 @@ use Rattle.ob_base.specs.declared.stop.Refusal.{Refusal}
 use Rattle.ob_base.specs.declared.stop.Refusal.TheVariants.{UnknownName, NameTaken, Full}
 use Rattle.ob_net.specs.Network.{Network, AreWhole, as_of, home_feeder, node_refusal, node_of, device_of, device_refusal}
 use Rattle.ob_net.specs.Walk.{is_supplied}
-use Rattle.ob_net.specs.declared.net.Device.{Device}
+use Rattle.ob_net.specs.declared.net.Device.{Device as OneDevice}
 use Rattle.ob_sheet.specs.declared.Entry.{Entry}
 use Rattle.ob_sheet.specs.Order.{before, through, greatest, upto, cause_of}
 use Rattle.ob_sheet.specs.Supply.{is_supplied_under}
@@ -66,14 +66,17 @@ module _ (supplied : List Entry → ℕ → ℕ → Bool) (net : Network) (entri
 alive_whole : (s : ℕ) → is_alive whole_life s ≡ true
 alive_whole s = let e = le-leb 0 s (omega arith) in ap (λ b. b && true) e
 
-as_of_whole : (ds : List Device) → AreWhole ds → (s : ℕ) (ps : List Pos) → as_of ds s ps ≡ ps
+as_of_whole : (ds : List OneDevice) → AreWhole ds → (s : ℕ) (ps : List Pos) → as_of ds s ps ≡ ps
 as_of_whole [] h s ps = refl
 as_of_whole (d ∷ ds) h s [] = refl
 as_of_whole (d ∷ ds) h s (p ∷ ps) =
     let alive : is_alive d.life s ≡ true = ap (λ l. is_alive l s) (All-head (λ d. d.life ≡ whole_life) d ds h) ∙ alive_whole s in
     ap (λ b. (if b then p else Opened) ∷ as_of ds s ps) alive ∙ ap (λ t. p ∷ t) (as_of_whole ds (All-tail (λ d. d.life ≡ whole_life) d ds h) s ps)
 
-supplied_same : (net : Network) → AreWhole net.devices → (λ set s v. is_supplied_under net set s v) ≡ (λ set s v. old_is_supplied_under net set v)
+abbrev old_supplied : Network → List Entry → ℕ → ℕ → Bool
+old_supplied net set s v = old_is_supplied_under net set v
+
+supplied_same : (net : Network) → AreWhole net.devices → is_supplied_under net ≡ old_supplied net
 supplied_same net h = λ i set s v. is_supplied net (as_of_whole net.devices h s (old_positions net set) i) v
 
 amount_same : (b : BookState) → LiveAlways b → (dim : Dim) (key : ℕ) → amount b dim key ≡ old_amount b dim key
