@@ -1,6 +1,5 @@
 -- Where devices live always, what is said today is what version 1 said.
-use Rattle.std.proofs.Common.{◌≡◌, ◌∙◌, true≢false, sym, ap, subst, refl, ℕ, ◌==◌, ◌&&◌, ◌||◌, pos, ◌-ℤ◌, Bool, true, false, not, List, [], ◌∷◌, ◌++◌, map, length, Option, Some, None, is_some, is_none, option_map, if◌then◌else◌, filter, arith}
-use Rattle.std.specs.List.{All}
+use Rattle.std.proofs.Common.{◌≡◌, ◌∙◌, true≢false, sym, ap, subst, refl, ℕ, ◌==◌, ◌&&◌, ◌||◌, pos, ◌-ℤ◌, Bool, true, false, not, List, [], ◌∷◌, ◌++◌, length, Option, Some, None, is_some, is_none, option_map, if◌then◌else◌, filter, arith}
 use Rattle.std.specs.Option.{option_map_or, option_and_then}
 use Rattle.std.proofs.lemmas.Bool.{and_parts, le-leb}
 use Rattle.std.proofs.lemmas.List.Elements.{All-append, All-cons, All-head, All-tail}
@@ -10,7 +9,7 @@ use Rattle.ob_base.specs.declared.Pos.{Pos}
 use Rattle.ob_base.specs.declared.Pos.TheVariants.{Opened}
 use Rattle.ob_base.specs.declared.stop.Refusal.{Refusal}
 use Rattle.ob_base.specs.declared.stop.Refusal.TheVariants.{UnknownName, NameTaken, Full}
-use Rattle.ob_net.specs.Network.{Network, AreWhole, as_of, home_feeder, node_refusal, node_of, device_of, device_refusal}
+use Rattle.ob_net.specs.Network.{Network, AreWhole, as_of, home_feeder, node_refusal, node_of, device_of}
 use Rattle.ob_net.specs.Walk.{is_supplied}
 use Rattle.ob_net.specs.declared.net.Device.{Device as OneDevice}
 use Rattle.ob_sheet.specs.declared.Entry.{Entry}
@@ -24,7 +23,7 @@ use Rattle.ob_post.specs.CustomerSeconds.{Days, is_in_day}
 use Rattle.ob_post.specs.Moved.{moves_by}
 use Rattle.ob_post.specs.declared.Dim.{Dim}
 use Rattle.ob_post.specs.declared.Dim.TheVariants as dims
-use Rattle.ob_index.specs.Counts.{counts, counts_of}
+use Rattle.ob_index.specs.Counts.{counts_of}
 use Rattle.ob_index.specs.Interruptions.{is_counted}
 use Rattle.ob_index.specs.declared.figures.Counts.{Counts}
 use Rattle.ob_index.specs.declared.figures.Which.{Which}
@@ -34,10 +33,11 @@ use Rattle.ob_state.specs.Amounts.{amount, days_of_book, moves}
 use Rattle.ob_state.specs.Next.{next, next_all}
 use Rattle.ob_state.specs.Refusals.{refusal, refusals, first, if_full}
 use Rattle.ob_state.specs.State.{BookState}
+use Rattle.ob_book.specs.Views.{counts_of_book}
 use Rattle.ob_upgrade.proofs.Bodies.{old_device}
-use Rattle.ob_upgrade.specs.Laws.{AcceptedButForParts, AcceptedByBoth, LiveAlways, SameFigures, moved_by, old_moved_by}
-use Rattle.ob_upgrade.specs.Old.{fits_old, is_old, is_part, is_sealed, old_accepts, old_device_refusal, old_next_all, old_passes}
-use Rattle.ob_upgrade.specs.OldFigures.{old_amount, old_counts, old_is_supplied_under, old_moves, old_positions}
+use Rattle.ob_upgrade.specs.Laws.{AcceptedButForParts, AcceptedByBoth, LiveAlways, SameFigures}
+use Rattle.ob_upgrade.specs.Old.{fits_old, is_old, is_part, is_sealed, old_accepts, old_next_all, old_passes}
+use Rattle.ob_upgrade.specs.OldFigures.{old_amount, old_counts_of_book, old_is_supplied_under, old_moves, old_positions}
 
 -- ---- the definitions once more, over a test that tells which node is supplied under a set of entries taken at a second
 module _ (supplied : List Entry → ℕ → ℕ → Bool) (net : Network) (entries : List Entry) where
@@ -84,8 +84,7 @@ amount_same b h dims.Cause key = ap (λ t. seconds_by t b.network b.entries b.cu
 amount_same b h dims.Feeder key = ap (λ t. seconds_by t b.network b.entries b.customers (days_of_book b) dims.Feeder key) (supplied_same b.network h)
 amount_same b h dims.Day key = ap (λ t. seconds_by t b.network b.entries b.customers (days_of_book b) dims.Day key) (supplied_same b.network h)
 
-counts_same : (b : BookState) → LiveAlways b → (which : Which)
-    → counts b.network b.entries b.customers b.period b.marks which ≡ old_counts b.network b.entries b.customers b.period b.marks which
+counts_same : (b : BookState) → LiveAlways b → (which : Which) → counts_of_book b which ≡ old_counts_of_book b which
 counts_same b h which = ap (λ t. counts_by t b.network b.entries b.customers b.period b.marks which) (supplied_same b.network h)
 
 pub same_figures : SameFigures
@@ -175,8 +174,7 @@ accepted_by_both (x ∷ list) b c h e =
     let on = goes_on (old_accepts b x) (old_next_all (next b x) list) c e in
     let both = and_parts (fits_old b.entries x) (is_none (refusal b x)) (sym (accepted_but_for_parts b x) ∙ on.0) in
     let whole = whole_next b x h (and_parts (is_old x) (not (is_part x && is_sealed b.entries)) both.0).0 in
-    let rest = accepted_by_both list (next b x) c whole on.1 in
-    (
+    let rest = accepted_by_both list (next b x) c whole on.1 in (
       ap (λ o. if o then next_all (next b x) list else None) both.1 ∙ rest.0,
       rest.1,
       λ i. moves_same b (next b x) h whole i ∷ rest.2 i,

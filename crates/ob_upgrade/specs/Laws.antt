@@ -3,7 +3,6 @@ use Rattle.std.specs.Prelude.{◌≡◌, ℕ, ◌&&◌, true, List, [], ◌∷�
 use Rattle.ob_net.specs.Network.{AreWhole}
 use Rattle.ob_post.specs.declared.Dim.{Dim}
 use Rattle.ob_post.specs.declared.Moved.{Moved}
-use Rattle.ob_index.specs.Counts.{counts}
 use Rattle.ob_index.specs.declared.figures.Which.{Which}
 use Rattle.ob_command.specs.Commands.{body_text}
 use Rattle.ob_command.specs.declared.command.Command.{Command}
@@ -11,8 +10,9 @@ use Rattle.ob_state.specs.Amounts.{amount, moves}
 use Rattle.ob_state.specs.Next.{next, next_all}
 use Rattle.ob_state.specs.Refusals.{refusal}
 use Rattle.ob_state.specs.State.{BookState}
+use Rattle.ob_book.specs.Views.{counts_of_book}
 use Rattle.ob_upgrade.specs.Old.{is_old, is_device, fits_old, old_accepts, old_body_text, old_next_all}
-use Rattle.ob_upgrade.specs.OldFigures.{old_amount, old_counts, old_moves}
+use Rattle.ob_upgrade.specs.OldFigures.{old_amount, old_counts_of_book, old_moves}
 
 -- each device of the state lives without end from the first second on
 abbrev pub LiveAlways : BookState → Type 0
@@ -23,8 +23,7 @@ abbrev pub SameFigures : Type 0
 SameFigures =
     (b : BookState) → LiveAlways b
     → ((dim : Dim) (key : ℕ) → amount b dim key ≡ old_amount b dim key)
-    × ((which : Which) → counts b.network b.entries b.customers b.period b.marks which
-        ≡ old_counts b.network b.entries b.customers b.period b.marks which)
+    × ((which : Which) → counts_of_book b which ≡ old_counts_of_book b which)
 
 -- what each command of a list moves
 abbrev pub moved_by : BookState → List Command → List (List Moved)

@@ -7,7 +7,7 @@ use Rattle.ob_net.specs.Network.{Network, node_of, device_of, node_refusal}
 use Rattle.ob_sheet.specs.declared.Entry.{Entry}
 use Rattle.ob_command.specs.Commands.{normal_text, words}
 use Rattle.ob_command.specs.declared.command.Command.{Command}
-use Rattle.ob_command.specs.declared.command.Command.TheVariants.{Cause, Bus, Section, Device, Life, Connect, Revise, Switch, Correct, Withdraw, Mark, Unmark}
+use Rattle.ob_command.specs.declared.command.Command.TheVariants.{Bus, Section, Device, Life}
 use Rattle.ob_state.specs.State.{BookState}
 use Rattle.ob_state.specs.Refusals.{refusals, first, if_full}
 use Rattle.ob_state.specs.Next.{next}

@@ -88,3 +88,7 @@ old_counted net entries period marks which c = filter (is_counted period marks w
 -- the counts over all interruptions, or over the unmarked ones
 abbrev pub old_counts : Network → List Entry → List Customer → Calendar → List (Option (List ℕ)) → Which → Counts
 old_counts net entries roll period marks which = counts_of (old_counted net entries period marks which) roll
+
+-- the counts of a state
+abbrev pub old_counts_of_book : BookState → Which → Counts
+old_counts_of_book b which = old_counts b.network b.entries b.customers b.period b.marks which

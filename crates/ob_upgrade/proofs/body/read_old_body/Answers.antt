@@ -1,4 +1,4 @@
-use Rattle.std.proofs.Common.{◌≡◌, subst, sym, ◌∙◌}
+use Rattle.std.proofs.Common.{subst, sym, ◌∙◌}
 use Rattle.ob_upgrade.proofs.Bodies.{of_other, ReadsAsOld}
 use Rattle.ob_upgrade.proofs.body.read_old_body.Goals as goal
 
