@@ -161,7 +161,7 @@ moves_same b c h k =
     let is = amount_same c k in
     λ i. moves_by (λ dim key. pos (is dim key i) -ℤ pos (was dim key i)) (day_count b.period)
 
-goes_on : (o : Bool) (rest : Option BookState) (c : BookState) → (if o then rest else None) ≡ Some c → (o ≡ true) × (rest ≡ Some c)
+pub goes_on : (o : Bool) (rest : Option BookState) (c : BookState) → (if o then rest else None) ≡ Some c → (o ≡ true) × (rest ≡ Some c)
 goes_on true rest c e = (refl, e)
 goes_on false rest c e = absurd (cc)
 

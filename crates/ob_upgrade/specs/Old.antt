@@ -1,6 +1,6 @@
 -- The commands of version 1, their body texts, and which of them it accepted, over the states of today.
 use Rattle.std.specs.Prelude.{ℕ, ◌==◌, ◌&&◌, ◌||◌, Bool, true, false, not, List, [], ◌∷◌, Option, Some, None, is_some, is_none, if◌then◌else◌, length, codes}
-use Rattle.std.specs.List.{join_with_byte}
+use Rattle.std.specs.List.{fold, join_with_byte}
 use Rattle.ob_base.specs.declared.stop.Refusal.{Refusal}
 use Rattle.ob_base.specs.declared.stop.Refusal.TheVariants.{UnknownName, NameTaken, Full}
 use Rattle.ob_net.specs.Network.{Network, node_of, device_of, node_refusal}
@@ -11,6 +11,7 @@ use Rattle.ob_command.specs.declared.command.Command.TheVariants.{Bus, Section, 
 use Rattle.ob_state.specs.State.{BookState}
 use Rattle.ob_state.specs.Refusals.{refusals, first, if_full}
 use Rattle.ob_state.specs.Next.{next}
+use Rattle.ob_book.specs.Acts.{ActState, Referenced, number_of, take_on}
 
 -- a device had no life, and no life could be set: a whole one stands for it
 abbrev pub is_old : Command → Bool
@@ -70,3 +71,15 @@ old_accepts b command = is_old command && old_passes b command && is_none (if_fu
 abbrev pub old_next_all : BookState → List Command → Option BookState
 old_next_all b [] = Some b
 old_next_all b (command ∷ commands) = if old_accepts b command then old_next_all (next b command) commands else None
+
+-- the reference is new, and version 1 accepted the command
+abbrev pub old_is_accepted : ActState → Referenced → Bool
+old_is_accepted b a = is_none (number_of b a.reference) && old_accepts b.book a.command
+
+-- the state of version 1 after a command under a reference
+abbrev pub old_act : ActState → Referenced → ActState
+old_act b a = if old_is_accepted b a then take_on b a else b
+
+-- the state of version 1 after a list of commands under references
+abbrev pub old_acts : ActState → List Referenced → ActState
+old_acts b list = fold old_act b list
