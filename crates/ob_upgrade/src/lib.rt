@@ -4,8 +4,8 @@
 //! Keeps what that version accepted, its body texts, and its definitions from positions to amounts, moves and counts, over the
 //! states of today, in which a device of version 1 lives without end from the first second on. Promises that a body text of
 //! version 1 is read as its command and no other text is read, which commands version 1 accepted, that its amounts, moves and
-//! counts are those of today where every device lives so, and that a book of version 1 is a book of today. Nothing else in the
-//! product speaks of version 1; what reads the tables of such a book stands above it.
+//! counts are those of today where every device lives so, and that a book of version 1 is a book of today. What version 1
+//! defined stands nowhere else; what reads the tables of such a book stands above it.
 #![tactic(auto)]
 
 mod body;
