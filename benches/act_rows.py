@@ -3,7 +3,7 @@
     python3 benches/act_rows.py [--acts N] [--moved N] [--folder FOLDER] [--memory FOLDER] [--program FILE]
 
 An act is a lookup of its reference and one transaction: a row of `cmd`, one of `entry`, some of `moved` and as many
-updates of `posting`, over the ten tables with foreign keys. In memory and in a file, with a write-ahead log and
+updates of `posting`, over the eleven tables with foreign keys. In memory and in a file, with a write-ahead log and
 synchronous = FULL. By Python's sqlite3 the rows are made up, and nothing of a book is computed. The program imports as
 many switchings of some breakers in turn, each of which moves a cause, a feeder and a day; its time is that of the import
 less that of a tenth of it, so without its start. It keeps no book in memory alone, so its book then lies in a file system

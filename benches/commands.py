@@ -13,7 +13,6 @@ NAMES = {
     1: "BadField",
     2: "UnknownName",
     3: "NameTaken",
-    4: "Sealed",
     5: "OutOfPeriod",
     6: "UnknownEntry",
     7: "Stale",
@@ -25,6 +24,7 @@ NAMES = {
     13: "MarkedAlready",
     14: "NotMarked",
     15: "UnknownCause",
+    18: "BadLife",
 }
 
 
@@ -101,8 +101,13 @@ def read_date(text):
     return text
 
 
+def read_since(text):
+    """The beginning of a life: an empty one is 0."""
+    return 0 if text == "" else read_second(text)
+
+
 def read_until(text):
-    """The end of a service: `-` is none."""
+    """The end of a service or a life: `-` is none."""
     return "-" if text == "" else read_second(text)
 
 
@@ -119,7 +124,8 @@ KINDS = {
     "cause": [CAUSE, NAME],
     "bus": [NAME],
     "section": [NAME, FEEDER],
-    "device": [NAME, NAME, NAME, NORMAL],
+    "device": [NAME, NAME, NAME, NORMAL, read_since, read_until],
+    "life": [NAME, read_since, read_until],
     "connect": [SERIAL, NAME, read_second, read_until],
     "revise": [SERIAL, read_second, read_until],
     "switch": [NAME, ACT, read_second, CAUSE, CREW],

@@ -3,7 +3,7 @@
     python3 benches/compare.py [--seeds N] [--program FILE]
     python3 benches/compare.py --plain                      # the plain office in place of the program
 
-For each text: `init`, `import`, and the same import again; `table`, `export`, `audit`; and every row of the ten tables.
+For each text: `init`, `import`, and the same import again; `table`, `export`, `audit`; and every row of the eleven tables.
 All that is printed, the messages and the statuses have to be the model's. It ends with status 1 at the first
 difference; the text is then bench-data/difference.csv.
 """

@@ -1,10 +1,10 @@
 """A made year through the program's jobs, beside the plain office in Python and SQLite: seconds, memory, every row.
 
-    python3 benches/import_year.py [--entries N] [--customers N] [--seed N] [--program FILE] [--folder FOLDER]
+    python3 benches/import_year.py [--entries N] [--customers N] [--lives N] [--seed N] [--program FILE] [--folder FOLDER]
 
 It makes the year as CSV, then a book: `init`, `import`, the same import again, `table`, `export`, `audit`. Its rows are
 then read by Python's sqlite3 (benches/read_rows.py), which a load or an audit is compared with. Then the plain office
-(benches/plain_office.py) imports the same text, and all rows of both books' ten tables are compared. Both books lie in
+(benches/plain_office.py) imports the same text, and all rows of both books' eleven tables are compared. Both books lie in
 the folder, bench-data/ where none is named: a commit takes what its disk takes.
 """
 
@@ -20,7 +20,7 @@ from compare import PROGRAM
 from make_year import DAYS, FIRST_DATE, csv_lines, year_lines
 
 BENCHES = Path(__file__).resolve().parent
-TABLES = ["meta", "cause", "node", "device", "customer", "entry", "mark", "cmd", "moved", "posting"]
+TABLES = ["meta", "cause", "node", "device", "life", "customer", "entry", "mark", "cmd", "moved", "posting"]
 
 
 def measure(words):
@@ -42,7 +42,7 @@ def show(name, words):
 
 
 def make_text(path, words):
-    lines = year_lines(words.entries, words.seed, words.customers, "rising", 0)
+    lines = year_lines(words.entries, words.seed, words.customers, "rising", 0, words.lives)
     path.write_text("".join(f"{line}\n" for line in csv_lines(lines)), encoding="ascii")
 
 
@@ -69,6 +69,7 @@ def main():
     words = argparse.ArgumentParser(description="Times the jobs of the program over a made year.")
     words.add_argument("--entries", type=int, default=10_000, help="even")
     words.add_argument("--customers", type=int, default=100_000)
+    words.add_argument("--lives", type=int, default=0, help="devices that join, and ties and lines that are taken down")
     words.add_argument("--seed", type=int, default=1)
     words.add_argument("--program", default=PROGRAM, help="the program (that of crates/outagebook)")
     words.add_argument("--folder", type=Path, default=BENCHES.parent / "bench-data", help="where books are made")

@@ -3,10 +3,11 @@
     python3 benches/make_commands.py 7                # the text
     python3 benches/make_commands.py 7 --period       # first day, days and zone of its book
 
-Meshed networks, devices side by side, parts that come after customers, several switchings in one second and at the
-period's first and last one, switchings that change nothing, services inside the period, at its bounds or outside, days
-of 23 and 25 hours, midnights that don't come or come twice, entries in any order of their seconds, corrections and
-withdrawals, marks, rows that are sent again in another spelling. The last row of every third text is refused.
+Meshed networks, devices side by side, parts that come after customers and after switchings, lives and services inside
+the period, at its bounds or outside, lives that are set anew, switchings outside them, several switchings in one second
+and at the period's first and last one, also where a life begins or ends, switchings that change nothing, days of 23 and
+25 hours, midnights that don't come or come twice, entries in any order of their seconds, corrections and withdrawals,
+marks, rows that are sent again in another spelling. The last row of every third text is refused.
 """
 
 import argparse
@@ -87,6 +88,8 @@ class Text:
                 anew[place] = "0" + field
             elif field.isdigit() and len(field) > 6:
                 anew[place] = self.civil(int(field))
+            elif row[0] == "device" and place == 6 and field in ["", "0"]:
+                anew[place] = "" if field else "0"
         return anew
 
     def civil(self, second):
@@ -97,8 +100,9 @@ class Text:
     def second(self):
         """A second of the period, often one that a switching has already, or a bound of a day."""
         rng, period = self.rng, self.state.period
-        entries = self.state.entries
-        near = [rng.choice(entries).second + rng.choice([0, 0, 0, 1, -1, 300, 301, 60])] if entries else []
+        said = [entry.second for entry in self.state.entries]
+        said += [turn for device in self.state.devices.values() for turn in device.turns() if period.holds(turn)]
+        near = [rng.choice(said) + rng.choice([0, 0, 0, 1, -1, 300, 301, 60])] if said else []
         bounds = [period.first, period.end - 1, rng.choice(period.bounds), rng.randrange(period.first, period.end)]
         return rng.choice(near * 3 + bounds)
 
@@ -111,6 +115,13 @@ class Text:
         rng, period = self.rng, self.state.period
         since = rng.choice(["0", str(period.first), self.moment(), self.moment()])
         until = rng.choice(["", "", str(period.end), str(period.end + 5), self.moment(), self.moment()])
+        return since, until
+
+    def life(self):
+        """The two ends of a life, either of which may be empty; one that ends before it begins is refused."""
+        rng, period = self.rng, self.state.period
+        since = rng.choice(["", "", "0", str(period.first), self.moment(), self.moment()])
+        until = rng.choice(["", "", "", str(period.end - 1), str(period.end), self.moment(), self.moment()])
         return since, until
 
     def draw_parts(self):
@@ -137,7 +148,8 @@ class Text:
     def draw_device(self, node):
         other = self.rng.choice(["GRID", *self.state.feeders])
         normal = self.rng.choice(["open", "closed", "closed", "closed"])
-        self.add("device", f"D{len(self.state.devices)}", other, node, normal)
+        life = self.life() if self.rng.random() < 0.3 else ("", "")
+        self.add("device", f"D{len(self.state.devices)}", other, node, normal, *life)
 
     def draw_connection(self):
         sections = [node for node, feeder in self.state.feeders.items() if feeder is not None]
@@ -148,6 +160,8 @@ class Text:
         for _ in range(self.rng.randint(0, 30)):
             if self.rng.random() < 0.15 and self.state.devices:
                 self.draw_flurry()
+            elif self.rng.random() < 0.05:
+                self.draw_joining()
             else:
                 self.draw_command()
 
@@ -160,9 +174,24 @@ class Text:
         for act in (["open", "close"] * 3)[begin : begin + rng.randint(2, 4)]:
             self.add("switch", device, act, second, rng.choice(sorted(state.causes)[1:]), "K2")
 
+    def draw_joining(self):
+        """A device to a new section that joins in the period, opened before it does, and closed later in some."""
+        rng, state = self.rng, self.state
+        period, name = state.period, f"D{len(state.devices)}"
+        opened, joins, closed = sorted(rng.randrange(period.first, period.end) for _ in range(3))
+        node = f"N{len(state.feeders)}"
+        self.add("section", node, rng.choice([1, 2, 3]))
+        self.add("connect", 100 + len(state.feeders), node, 0, "")
+        self.add("device", name, "GRID", node, "closed", joins, "")
+        cause = sorted(state.causes)[-1]
+        self.add("switch", name, "open", opened, cause, "K3")
+        if rng.random() < 0.5:
+            self.add("switch", name, "close", closed, cause, "K3")
+
     def draw_command(self):
         rng, state = self.rng, self.state
         kinds = ["switch"] * 8 + ["correct"] * 3 + ["withdraw", "connect", "revise", "mark", "unmark", "cause"]
+        kinds += ["life"] * 3 + ["device", "section", "bus"]
         kind = rng.choice(kinds)
         said = rng.choice(["open", "open", "close"]), self.moment(), rng.choice(sorted(state.causes)[1:]), "K1"
         entry = rng.randint(1, len(state.entries) + 1)
@@ -183,6 +212,12 @@ class Text:
         elif kind == "cause":
             code = rng.randint(1, 63)
             self.add(kind, code, f"CAUSE-{code}")
+        elif kind == "life" and state.devices:
+            self.add(kind, rng.choice(list(state.devices)), *self.life())
+        elif kind == "device":
+            self.draw_device(rng.choice(list(state.feeders)))
+        elif kind in ["section", "bus"]:
+            self.draw_node(kind)
 
     def draw_refused(self):
         """A last row that is refused, but for chance."""
@@ -210,6 +245,7 @@ class Text:
         yield "section", "GRID", 1
         yield "device", "D0", "GRID", "N1", "open"
         yield "device", "NEW", "NOWHERE", "GRID", "open"
+        yield "life", "NOWHERE", first, end
         yield "connect", 999, "GRID", 0, ""
         yield "revise", 999, 0, ""
         yield "switch", "NOWHERE", "open", first, code, "K1"
@@ -225,6 +261,8 @@ class Text:
             yield "switch", device, "open", end, code, "K1"
             yield "switch", device, "close", max(0, first - 1), code, "K1"
             yield "switch", device, "close", first, min(unused, 63), "K1"
+            yield "life", device, end, end
+            yield "device", "NEW", *state.devices[device].ends, "open", end, first
         for number, entry in enumerate(state.entries, 1):
             yield "correct", number, entry.revision + 1, "open", first, code, "K1"
             yield "withdraw", number, max(1, entry.revision - 1)

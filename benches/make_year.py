@@ -3,6 +3,7 @@
     python3 benches/make_year.py 10000 1 > bench-data/year.txt
     python3 benches/make_year.py 10000 1 --csv > bench-data/year.csv        # as `outagebook import` reads it
     python3 benches/make_year.py 0 1 --order falling        # network and customers alone
+    python3 benches/make_year.py 10000 1 --lives 200        # with lines that are taken down, and devices that join
 
 The book that it is for has the 366 days from 2024-01-01, zone UTC0. Each command is accepted in its turn.
 """
@@ -23,6 +24,7 @@ SECTIONS = 900
 BUSES = 99
 DEVICES = 1_500
 MOST_ENTRIES = 50_000
+MOST_LIVES = 1_500  # one in three is a device more, and a book takes 2,048
 MARKED_DAYS = 6
 CAUSES = [
     "STORM", "LIGHTNING", "TREE", "ANIMAL", "VEHICLE", "DIGGING", "EQUIPMENT", "OVERLOAD", "PLANNED",
@@ -92,9 +94,9 @@ class Network:
             else:
                 yield f"bus {name}"
         for name, above in self.above.items():
-            yield f"device {self.breaker_of[name]} {above} {name} closed"
+            yield f"device {self.breaker_of[name]} {above} {name} closed 0 -"
         for tie, a, b in self.ties:
-            yield f"device {tie} {a} {b} open"
+            yield f"device {tie} {a} {b} open 0 -"
 
 
 def customer_lines(rng, network, customers, order):
@@ -188,9 +190,10 @@ class Sheet:
                 if self.rng.random() < 0.03:
                     yield entered + self.delay(), "correct", (entry, outage[place ^ 1])
 
-    def lines(self):
-        """The commands in the order of their moments."""
-        acts = [(moment, place, kind, what) for place, (moment, kind, what) in enumerate(self.acts())]
+    def lines(self, told=()):
+        """The commands in the order of their moments, with what else is told, pairs of a moment and a line."""
+        acts = [*self.acts(), *((moment, "tell", line) for moment, line in told)]
+        acts = [(moment, place, kind, what) for place, (moment, kind, what) in enumerate(acts)]
         heapq.heapify(acts)
         number = 0
         while acts:
@@ -201,6 +204,8 @@ class Sheet:
                 yield f"switch {what.device} {what.act} {what.second} {what.cause} {what.crew}"
             elif kind == "withdraw":
                 yield f"withdraw {what.number} {what.revision}"
+            elif kind == "tell":
+                yield what
             else:
                 yield self.correction(*what)
 
@@ -220,6 +225,25 @@ class Sheet:
         return f"correct {entry.number} {revision} {entry.act} {second} {entry.cause} {entry.crew}"
 
 
+def life_lines(rng, network, lives):
+    """Lives by turns, each with the moment at which it is told, up to two days after its second or before it: a device
+    joins, a tie is taken down, a line is taken down and stands again some hours later."""
+    nodes, breakers = list(network.above), list(network.breaker_of.values())
+    for number in range(lives):
+        second = rng.randrange(FIRST + 3 * DAY, END - 3 * DAY)
+        told = second + rng.randint(-2 * DAY, 2 * DAY)
+        if number % 3 == 0:
+            a, b = rng.sample(nodes, 2)
+            yield told, f"device JOINED-{number // 3 + 1} {a} {b} {rng.choice(['open', 'closed'])} {second} -"
+        elif number % 3 == 1:
+            tie, _, _ = rng.choice(network.ties)
+            yield told, f"life {tie} 0 {second}"
+        else:
+            breaker = rng.choice(breakers)
+            yield told, f"life {breaker} 0 {second}"
+            yield told + rng.randint(1, DAY), f"life {breaker} 0 -"
+
+
 def late_lines(rng, network, pairs):
     """Short outages of a minute at any second of the year, each entered after all others."""
     breakers = list(network.breaker_of.values())
@@ -231,7 +255,7 @@ def late_lines(rng, network, pairs):
         yield f"switch {breaker} close {opened + 60} {cause} CREW-1"
 
 
-def year_lines(entries, seed, customers, order, late):
+def year_lines(entries, seed, customers, order, late, lives=0):
     """The lines of a year; those of two years that differ only in `late` begin alike."""
     network = Network(random.Random(f"network {seed}"))
     for code, name in enumerate(CAUSES, 1):
@@ -242,12 +266,14 @@ def year_lines(entries, seed, customers, order, late):
         rng = random.Random(f"marks {seed}")
         for day in sorted(rng.sample(range(DAYS), MARKED_DAYS)):
             yield f"mark {FIRST_DATE + timedelta(days=day)} ENGINEER-1"
-    yield from Sheet(random.Random(f"sheet {seed}"), network, entries).lines()
+    told = life_lines(random.Random(f"lives {seed}"), network, lives)
+    yield from Sheet(random.Random(f"sheet {seed}"), network, entries).lines(told)
     yield from late_lines(random.Random(f"late {seed}"), network, late)
 
 
-REFS = {"connect": "CUS", "switch": "SW", "correct": "COR", "withdraw": "WD", "mark": "MARK"}
-MOMENTS = {"connect": [2, 3], "switch": [2], "correct": [3]}
+REFS = {"connect": "CUS", "switch": "SW", "correct": "COR", "withdraw": "WD", "mark": "MARK", "life": "LIFE"}
+MOMENTS = {"connect": [2, 3], "switch": [2], "correct": [3], "device": [4, 5], "life": [1, 2]}
+WHOLE = {"device": ["0", "-"], "life": ["0", "-"]}  # a life's ends that a row leaves out
 
 
 def csv_lines(lines):
@@ -257,7 +283,8 @@ def csv_lines(lines):
     for line in lines:
         kind, *fields = line.split(" ")
         for place in MOMENTS.get(kind, ()):
-            fields[place] = "" if fields[place] == "-" else civil(int(fields[place]))
+            is_left_out = fields[place] in WHOLE.get(kind, ["-"])
+            fields[place] = "" if is_left_out else civil(int(fields[place]))
         word = REFS.get(kind, "NET")
         counts[word] = counts.get(word, 0) + 1
         fields += [""] * (6 - len(fields))
@@ -275,11 +302,14 @@ def main():
     words.add_argument("--customers", type=int, default=100_000)
     words.add_argument("--order", choices=["rising", "falling", "random"], default="rising", help="of their numbers")
     words.add_argument("--late", type=int, default=0, help="short outages that are entered after all others")
+    words.add_argument("--lives", type=int, default=0, help="devices that join, and ties and lines that are taken down")
     words.add_argument("--csv", action="store_true", help="rows of CSV in place of body texts")
     words = words.parse_args()
     if words.entries % 2 or words.entries + 2 * words.late > MOST_ENTRIES:
         sys.exit("the entries are even, and with the late ones 50,000 at most")
-    lines = year_lines(words.entries, words.seed, words.customers, words.order, words.late)
+    if words.lives > MOST_LIVES:
+        sys.exit(f"the lives are {MOST_LIVES:,} at most")
+    lines = year_lines(words.entries, words.seed, words.customers, words.order, words.late, words.lives)
     for line in csv_lines(lines) if words.csv else lines:
         print(line)
 

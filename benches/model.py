@@ -6,7 +6,7 @@ It imports CSV texts, one after another, into a new book and prints the annual t
 prints the moves as CSV, --totals the totals as JSON, --imports what each import says, --compare FILE the first table
 of a book's database that differs. Where a row is refused the rest of its text is left out and the status is 2.
 
-It keeps nothing but what was said: the network, the sheet, the customers, the marks. The supply of each stretch of
+It keeps nothing but what was said: the network with its devices' lives, the sheet, the customers, the marks. The supply of each stretch of
 seconds, the runs, the amounts and the indices are found anew each time somebody asks. The clock of a zone is that of
 the C library.
 """
@@ -19,6 +19,7 @@ from fractions import Fraction
 
 from state import Period, State
 
+VERSION = 2  # of the tables
 LONGEST_MOMENTARY = 300
 DIMENSIONS = ["cause", "feeder", "day"]
 
@@ -63,11 +64,11 @@ class Book(State):
                 self.moves.append((number, dimension, key, delta))
         return number
 
-    def supplied(self, positions):
-        """The nodes to which a walk of closed devices leads from GRID."""
+    def supplied(self, positions, second):
+        """The nodes to which a walk of closed devices leads from GRID; outside its life a device is open."""
         beside = {}
         for device in self.devices.values():
-            if positions[device.name] == "closed":
+            if positions[device.name] == "closed" and device.is_alive(second):
                 a, b = device.ends
                 beside.setdefault(a, []).append(b)
                 beside.setdefault(b, []).append(a)
@@ -82,7 +83,8 @@ class Book(State):
 
     def steps(self):
         """The seconds at which positions may change, the period's first among them, each with its kept entries."""
-        steps = {self.period.first: []}
+        turns = (second for device in self.devices.values() for second in device.turns())
+        steps = {second: [] for second in [self.period.first, *turns] if self.period.holds(second)}
         for number, entry in enumerate(self.entries, 1):
             if entry.is_kept:
                 steps.setdefault(entry.second, []).append((number, entry))
@@ -92,14 +94,13 @@ class Book(State):
         """The runs of all sections."""
         sections = [node for node, feeder in self.feeders.items() if feeder is not None]
         positions = {device.name: device.normal for device in self.devices.values()}
-        was = self.supplied(positions)
         finished, going = [], {}
         for second, entries in self.steps():
             cutters = {}
-            reached = was
+            reached = self.supplied(positions, second)  # lives act before the second's entries
             for number, entry in entries:
                 positions[entry.device] = entry.position
-                before, reached = reached, self.supplied(positions)
+                before, reached = reached, self.supplied(positions, second)
                 for section in before - reached:
                     cutters[section] = number
             for section in sections:
@@ -109,7 +110,6 @@ class Book(State):
                     finished.append(going.pop(section))
                 elif not is_supplied and section not in going:
                     going[section] = Run(section, second, cutters.get(section))
-            was = reached
         for run in going.values():
             run.until = self.period.end
             finished.append(run)
@@ -220,20 +220,24 @@ class Book(State):
         return json.dumps(totals, separators=(",", ":"), sort_keys=True)
 
     def tables(self):
-        """The rows of the ten tables of the database of the book, each list sorted by its key."""
+        """The rows of the eleven tables of the database of the book, each list sorted by its key."""
         period, amounts = self.period, self.amounts()
         nodes = {name: number for number, name in enumerate(self.feeders)}
         devices = {name: number for number, name in enumerate(self.devices)}
         keys = [(1, code) for code in range(64)] + [(2, feeder) for feeder in range(1, 256)]
         keys += [(3, day) for day in range(len(period.bounds) - 1)]
         return {
-            "meta": [(1, 1, period.days[0].isoformat(), len(period.bounds) - 1, period.zone)],
+            "meta": [(1, VERSION, period.days[0].isoformat(), len(period.bounds) - 1, period.zone)],
             "cause": sorted(self.causes.items()),
             "node": [
                 (nodes[name], name, kind_of(name, feeder), feeder or 0) for name, feeder in self.feeders.items()
             ],
             "device": [
                 (devices[name], name, nodes[device.ends[0]], nodes[device.ends[1]], int(device.normal == "closed"))
+                for name, device in self.devices.items()
+            ],
+            "life": [
+                (devices[name], device.since, None if device.until == "-" else device.until)
                 for name, device in self.devices.items()
             ],
             "customer": [

@@ -1,7 +1,8 @@
 //! A year's book in plain Rust, standard library alone, to compare the proved book with. It shares no code with it.
 //!
-//! It keeps the runs of each section in step with the sheet, and posts what each command moves. A change of the sheet
-//! sweeps the window from its first second up to its device's next entry and no more.
+//! It keeps the runs of each section in step with the sheet and the devices' lives, and posts what each command moves. A
+//! change of the sheet sweeps the window from its first second up to its device's next entry and no more; a life that is
+//! set anew, from the first second that only one of the two lives holds up to the last one.
 
 use std::collections::{BTreeMap, HashMap, HashSet};
 
@@ -95,6 +96,39 @@ struct Run {
     cutter: Option<usize>,
 }
 
+/// The seconds in which a device stands in the network, the end excluded.
+#[derive(Clone, Copy, PartialEq)]
+struct Life {
+    since: u64,
+    until: u64,
+}
+
+impl Life {
+    /// That of a device which isn't there.
+    const NEVER: Life = Life { since: 0, until: 0 };
+
+    fn holds(self, second: u64) -> bool {
+        (self.since..self.until).contains(&second)
+    }
+
+    /// The first second of the year that exactly one of the two lives holds, and the one after the last.
+    fn differing(self, other: Life) -> Option<(u64, u64)> {
+        let bounds = [self.since, self.until, other.since, other.until, FIRST, END];
+        let mut bounds = bounds.map(|second| second.clamp(FIRST, END));
+        bounds.sort_unstable();
+        let differs = |&second: &u64| self.holds(second) != other.holds(second);
+        let first = bounds
+            .iter()
+            .copied()
+            .find(|second| *second < END && differs(second))?;
+        let pieces = bounds.windows(2).rev();
+        let last = pieces
+            .filter(|piece| piece[0] < piece[1])
+            .find(|piece| differs(&piece[0]))?;
+        Some((first, last[1]))
+    }
+}
+
 struct Entry {
     device: usize,
     closes: bool,
@@ -122,6 +156,8 @@ pub struct Book {
     joined: Vec<Vec<(usize, usize)>>,
     device_of: HashMap<String, usize>,
     normal: Vec<bool>,
+    lives: Vec<Life>,
+    turns: Vec<(u64, usize)>,
     customers: BTreeMap<u32, (usize, Service)>,
     services: Vec<Services>,
     entries: Vec<Entry>,
@@ -152,7 +188,13 @@ impl Book {
             ["cause", ..] => {}
             ["bus", name] => self.add_node(name, None),
             ["section", name, feeder] => self.add_node(name, Some(feeder.parse().ok()?)),
-            ["device", name, a, b, normal] => self.add_device(name, a, b, normal == "closed")?,
+            ["device", name, a, b, normal, since, until] => {
+                self.add_device(name, a, b, normal == "closed", life(since, until)?)?;
+            }
+            ["life", name, since, until] => {
+                let device = *self.device_of.get(name)?;
+                self.live(device, life(since, until)?);
+            }
             ["connect", number, section, since, until] => {
                 let section = *self.node_of.get(section)?;
                 self.connect(number.parse().ok()?, section, service(since, until)?);
@@ -175,7 +217,7 @@ impl Book {
                 self.entries.push(entry);
                 let number = self.entries.len();
                 self.keep(number);
-                self.sweep(device, number, second, second);
+                self.sweep_entry(device, number, second, second);
             }
             ["correct", number, _, act, second, cause, _] => {
                 let second = second.parse().ok()?;
@@ -190,7 +232,7 @@ impl Book {
                 let number: usize = number.parse().ok()?;
                 self.forget(number);
                 let Entry { device, second, .. } = self.entries[number - 1];
-                self.sweep(device, number, second, second);
+                self.sweep_entry(device, number, second, second);
             }
             ["mark", date, _] => {
                 self.marked.insert(day_of_date(date)?);
@@ -208,11 +250,17 @@ impl Book {
         self.feeder_of.push(feeder);
         self.joined.push(Vec::new());
         self.services.push(Services::default());
-        self.runs.push(Vec::new());
-        self.find_normal_runs();
+        let all_year = Run {
+            since: FIRST,
+            until: END,
+            cutter: None,
+        };
+        let is_grid = self.runs.is_empty();
+        self.runs
+            .push(if is_grid { vec![] } else { vec![all_year] });
     }
 
-    fn add_device(&mut self, name: &str, a: &str, b: &str, closed: bool) -> Option<()> {
+    fn add_device(&mut self, name: &str, a: &str, b: &str, closed: bool, life: Life) -> Option<()> {
         let device = self.normal.len();
         let (a, b) = (*self.node_of.get(a)?, *self.node_of.get(b)?);
         self.device_of.insert(name.to_owned(), device);
@@ -220,20 +268,24 @@ impl Book {
         self.joined[b].push((device, a));
         self.normal.push(closed);
         self.order_of.push(Vec::new());
-        self.find_normal_runs();
+        self.lives.push(Life::NEVER);
+        self.live(device, life);
         Some(())
     }
 
-    /// The runs while nothing is entered; no customer is connected yet in a made year.
-    fn find_normal_runs(&mut self) {
-        let all_year = Run {
-            since: FIRST,
-            until: END,
-            cutter: None,
-        };
-        let reached = self.supplied(&self.normal.clone());
-        for (runs, is_reached) in self.runs.iter_mut().zip(reached) {
-            *runs = if is_reached { vec![] } else { vec![all_year] };
+    /// Sets a device's life anew.
+    fn live(&mut self, device: usize, life: Life) {
+        let old = std::mem::replace(&mut self.lives[device], life);
+        self.turns.retain(|&(_, other)| other != device);
+        for turn in [(life.since, device), (life.until, device)] {
+            let place = self.turns.partition_point(|&other| other < turn);
+            self.turns.insert(place, turn);
+        }
+        let was_ever_closed = self.normal[device] || !self.order_of[device].is_empty();
+        if let Some((first, last)) = old.differing(life)
+            && was_ever_closed
+        {
+            self.sweep(first, END.min(last + 1));
         }
     }
 
@@ -255,7 +307,7 @@ impl Book {
         entry.closes = closes;
         entry.second = second;
         self.keep(number);
-        self.sweep(device, number, old.min(second), old.max(second));
+        self.sweep_entry(device, number, old.min(second), old.max(second));
     }
 
     fn keep(&mut self, number: usize) {
@@ -306,24 +358,67 @@ impl Book {
     }
 
     /// Finds the runs anew from a first second on, up to the device's first entry after the last one.
-    fn sweep(&mut self, device: usize, number: usize, first: u64, last: u64) {
+    fn sweep_entry(&mut self, device: usize, number: usize, first: u64, last: u64) {
         let order = &self.order_of[device];
         let next = order.get(order.partition_point(|&other| other <= (last, number)));
         let end = next.map_or(END, |&(second, _)| second + 1);
-        let mut closed = self.positions_before(first);
+        self.sweep(first, end);
+    }
+
+    /// What may change the supply, in order: a second with the number of an entry, or with 0 for the lives that begin or
+    /// end then, which act before its entries.
+    fn steps(&self, first: u64, end: u64) -> Vec<(u64, usize)> {
+        let within = |list: &[(u64, usize)]| {
+            let from = list.partition_point(|&(second, _)| second < first);
+            let to = list.partition_point(|&(second, _)| second < end);
+            from..to
+        };
+        let turns = self.turns[within(&self.turns)].iter();
+        let mut steps: Vec<_> = turns.map(|&(second, _)| (second, 0)).collect();
+        steps.extend_from_slice(&self.order[within(&self.order)]);
+        steps.sort_unstable();
+        steps.dedup();
+        steps
+    }
+
+    /// Sets the devices that a step may move; whether one of them moved.
+    fn step(&self, second: u64, step: usize, switched: &mut [bool], closed: &mut [bool]) -> bool {
+        let mut moved = false;
+        let mut set = |device: usize, switched: &[bool]| {
+            let now = switched[device] && self.lives[device].holds(second);
+            moved |= closed[device] != now;
+            closed[device] = now;
+        };
+        if let Some(place) = step.checked_sub(1) {
+            let entry = &self.entries[place];
+            switched[entry.device] = entry.closes;
+            set(entry.device, switched);
+        } else {
+            let from = self.turns.partition_point(|&(other, _)| other < second);
+            let turns = self.turns[from..].iter();
+            for &(_, device) in turns.take_while(|turn| turn.0 == second) {
+                set(device, switched);
+            }
+        }
+        moved
+    }
+
+    /// Finds the runs anew from a first second on, up to an end.
+    fn sweep(&mut self, first: u64, end: u64) {
+        let mut switched = self.positions_before(first);
+        let before = FIRST.max(first - 1);
+        let devices = self.lives.iter().zip(&switched);
+        let mut closed: Vec<bool> = devices
+            .map(|(life, &is_closed)| is_closed && life.holds(before))
+            .collect();
         let mut was = self.supplied(&closed);
         let begun = |reached: &bool| (!reached).then_some((first, None));
         let mut since: Vec<Option<(u64, Option<usize>)>> = was.iter().map(begun).collect();
         let mut found: Vec<Vec<Run>> = vec![Vec::new(); was.len()];
-        let from = self.order.partition_point(|&(second, _)| second < first);
-        let to = self.order.partition_point(|&(second, _)| second < end);
-        for place in from..to {
-            let (second, step) = self.order[place];
-            let entry = &self.entries[step - 1];
-            if closed[entry.device] == entry.closes {
+        for (second, step) in self.steps(first, end) {
+            if !self.step(second, step, &mut switched, &mut closed) {
                 continue;
             }
-            closed[entry.device] = entry.closes;
             let reached = self.supplied(&closed);
             for node in 0..reached.len() {
                 match (was[node], reached[node]) {
@@ -508,7 +603,7 @@ impl Book {
 fn cut(runs: &mut Vec<Run>, second: u64, step: usize) -> (u64, Option<usize>) {
     match runs.pop_if(|run| run.until == second) {
         Some(run) => (run.since, run.cutter),
-        None => (second, Some(step)),
+        None => (second, (step > 0).then_some(step)),
     }
 }
 
@@ -532,6 +627,12 @@ fn join(runs: &mut Vec<Run>, run: Run) {
         Some(last) if last.until == run.since => last.until = run.until,
         _ => runs.push(run),
     }
+}
+
+fn life(since: &str, until: &str) -> Option<Life> {
+    let Service { since, until } = service(since, until)?;
+    let until = until.unwrap_or(u64::MAX);
+    Some(Life { since, until })
 }
 
 fn service(since: &str, until: &str) -> Option<Service> {

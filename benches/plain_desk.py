@@ -19,7 +19,7 @@ from state import Period
 
 MEMBERS = ["kind", "ref", "f1", "f2", "f3", "f4", "f5", "f6"]
 DIMENSIONS = ["cause", "feeder", "day"]
-CONFLICTS = {3, 4, 7, 8, 11, 13, 14}
+CONFLICTS = {3, 7, 8, 11, 13, 14}
 
 
 def amounts_of(amounts):

@@ -1,4 +1,4 @@
-"""A plain office in Python and SQLite, to compare `outagebook import` with: it keeps the ten tables of docs/BOOK.md.
+"""A plain office in Python and SQLite, to compare `outagebook import` with: it keeps the eleven tables of docs/BOOK.md.
 
     python3 benches/make_year.py 10000 1 --csv > bench-data/year.csv
     python3 benches/plain_office.py bench-data/year.csv --book bench-data/plain.db
@@ -15,7 +15,7 @@ import sys
 import time
 
 from make_year import DAYS, FIRST_DATE
-from model import kind_of
+from model import VERSION, kind_of
 from state import Period, State
 from year import Book
 
@@ -39,6 +39,7 @@ CREATE TABLE moved (cmd INTEGER NOT NULL REFERENCES cmd (id), dim INTEGER NOT NU
     delta INTEGER NOT NULL CHECK (delta <> 0), PRIMARY KEY (cmd, dim, k)) STRICT;
 CREATE TABLE posting (dim INTEGER NOT NULL, k INTEGER NOT NULL, amount INTEGER NOT NULL CHECK (amount >= 0),
     PRIMARY KEY (dim, k)) STRICT;
+CREATE TABLE life (device INTEGER PRIMARY KEY REFERENCES device (id), since INTEGER NOT NULL, until INTEGER) STRICT;
 """
 
 
@@ -82,7 +83,7 @@ class Office(State):
         self.run("BEGIN")
         for statement in TABLES.split(";")[:-1]:
             self.run(statement)
-        self.run("INSERT INTO meta VALUES (1, 1, ?, ?, ?)", (period.days[0].isoformat(), days, period.zone))
+        self.run("INSERT INTO meta VALUES (1, ?, ?, ?, ?)", (VERSION, period.days[0].isoformat(), days, period.zone))
         self.run("INSERT INTO cause VALUES (0, 'UNASSIGNED')")
         self.run("INSERT INTO node VALUES (0, 'GRID', 0, 0)")
         for dimension, keys in [(1, range(64)), (2, range(1, 256)), (3, range(days))]:
@@ -124,10 +125,15 @@ class Office(State):
 
     write_section = write_bus
 
-    def write_device(self, name, a, b, normal):
+    def write_device(self, name, a, b, normal, since, until):
         nodes = self.book.node_of
-        row = self.book.device_of[name], name, nodes[a], nodes[b], normal == "closed"
-        self.run("INSERT INTO device VALUES (?, ?, ?, ?, ?)", row)
+        device = self.book.device_of[name]
+        self.run("INSERT INTO device VALUES (?, ?, ?, ?, ?)", (device, name, nodes[a], nodes[b], normal == "closed"))
+        self.run("INSERT INTO life VALUES (?, ?, ?)", (device, since, end_of(until)))
+
+    def write_life(self, name, since, until):
+        row = since, end_of(until), self.book.device_of[name]
+        self.run("UPDATE life SET since = ?, until = ? WHERE device = ?", row)
 
     def write_connect(self, number, section, since, until):
         row = number, self.book.node_of[section], since, end_of(until)

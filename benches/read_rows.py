@@ -14,6 +14,7 @@ ORDERS = {
     "cause": "code",
     "node": "id",
     "device": "id",
+    "life": "device",
     "customer": "id",
     "entry": "id",
     "mark": "day",

@@ -59,7 +59,7 @@ def run(program, folder, job, refusal=None):
 
 
 def rows_of(folder):
-    """All rows of the ten tables."""
+    """All rows of the eleven tables."""
     with sqlite3.connect(folder / "book.db") as database:
         return {table: sorted(database.execute(f"SELECT * FROM {table}"), key=repr) for table in TABLES}
 

@@ -172,10 +172,10 @@ def show_counts():
         print(f"| {' | '.join(columns)} |")
 
 
-def year_text(entries, seed=YEAR_SEED, customers=100_000, order="rising", late=0):
+def year_text(entries, seed=YEAR_SEED, customers=100_000, order="rising", late=0, lives=0):
     """A made year in a file."""
-    path = DATA / f"year-{entries}-{seed}-{customers}-{order}-{late}.txt"
-    lines = year_lines(entries, seed, customers, order, late)
+    path = DATA / f"year-{entries}-{seed}-{customers}-{order}-{late}-{lives}.txt"
+    lines = year_lines(entries, seed, customers, order, late, lives)
     path.write_text("".join(line + "\n" for line in lines), encoding="ascii")
     return path
 
@@ -242,10 +242,10 @@ def compare_year(path):
 
 
 def compare_years():
-    """Compares whole years, and small ones whose network has few customers."""
+    """Compares whole years, and small ones whose network has few customers, in which devices join and leave."""
     count = compare_year(year_text(PYTHON_ENTRIES))
     for seed in range(1, SMALL_YEARS + 1):
-        count += compare_year(year_text(200, seed, 300, ORDERS[seed % 3], 20))
+        count += compare_year(year_text(200, seed, 300, ORDERS[seed % 3], 20, 45))
     print(f"{SMALL_YEARS + 1} years, {count} amounts, counts and indices are those of both plain books")
 
 

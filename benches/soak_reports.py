@@ -67,9 +67,12 @@ class Client(threading.Thread):
         """A command that the desk accepts."""
         rng = self.rng
         act = [rng.choice(["open", "close"]), str(rng.randrange(FIRST, END)), str(rng.choice(CAUSES)), "SOAK"]
-        kind = rng.choices(["switch", "correct", "withdraw"], [6, 3, 1])[0]
+        kind = rng.choices(["switch", "correct", "withdraw", "life"], [6, 3, 1, 1])[0]
         if kind == "switch":
             return [kind, rng.choice(self.devices), *act]
+        if kind == "life":
+            since, until = sorted(rng.sample(range(FIRST, END), 2))
+            return [kind, rng.choice(self.devices), *rng.choice([["", ""], ["", str(until)], [str(since), str(until)]])]
         entry = rng.choice(sorted(self.revisions))
         return [kind, str(entry), str(self.revisions[entry]), *(act if kind == "correct" else [])]
 
@@ -80,7 +83,7 @@ class Client(threading.Thread):
             self.revisions[self.number] = 1
         elif kind == "correct":
             self.revisions[int(fields[0])] += 1
-        else:
+        elif kind == "withdraw":
             del self.revisions[int(fields[0])]
 
     def send(self):

@@ -61,10 +61,20 @@ class Period:
 
 
 class Device:
-    def __init__(self, name, ends, normal):
+    """A device with its life: outside the seconds from `since` up to `until`, or "-" for without end, it is open."""
+
+    def __init__(self, name, ends, normal, since, until):
         self.name = name
         self.ends = ends
         self.normal = normal
+        self.since, self.until = since, until
+
+    def is_alive(self, second):
+        return self.since <= second and (self.until == "-" or second < self.until)
+
+    def turns(self):
+        """The seconds at which its life begins and ends."""
+        return [self.since] if self.until == "-" else [self.since, self.until]
 
 
 class Entry:
@@ -134,17 +144,20 @@ class State:
         refuse_if(code in self.causes or name in self.causes.values(), 3)
 
     def check_bus(self, name, _feeder=None):
-        refuse_if(self.entries, 4)
         refuse_if(name in self.feeders, 3)
         refuse_if(len(self.feeders) == MOST_NODES, 12, MOST_NODES)
 
     check_section = check_bus
 
-    def check_device(self, name, a, b, _normal):
-        refuse_if(self.entries, 4)
+    def check_device(self, name, a, b, _normal, since, until):
         refuse_if(a not in self.feeders or b not in self.feeders, 2)
         refuse_if(name in self.devices, 3)
+        refuse_if(until != "-" and until <= since, 18)
         refuse_if(len(self.devices) == MOST_DEVICES, 12, MOST_DEVICES)
+
+    def check_life(self, name, since, until):
+        refuse_if(name not in self.devices, 2)
+        refuse_if(until != "-" and until <= since, 18)
 
     def check_connect(self, number, section, since, until):
         refuse_if(self.feeders.get(section) is None, 2)
@@ -191,8 +204,11 @@ class State:
 
     say_section = say_bus
 
-    def say_device(self, name, a, b, normal):
-        self.devices[name] = Device(name, (a, b), normal)
+    def say_device(self, name, a, b, normal, since, until):
+        self.devices[name] = Device(name, (a, b), normal, since, until)
+
+    def say_life(self, name, since, until):
+        self.devices[name].since, self.devices[name].until = since, until
 
     def say_connect(self, number, section, since, until):
         self.customers[number] = [section, since, until]

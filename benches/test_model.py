@@ -11,8 +11,10 @@ import unittest
 from pathlib import Path
 
 from commands import KINDS, Refusal, RowRefusal, read_date, read_row, read_second
+from make_year import DAYS, FIRST_DATE, csv_lines, year_lines
 from model import Book, quotient, quotient_text
 from state import Period, midnight_of
+from year import Book as YearBook
 
 T = 1_704_067_200  # 2024-01-01T00:00:00Z
 NETWORK = """\
@@ -95,18 +97,23 @@ class Outages(unittest.TestCase):
         self.assertEqual(book.totals_text(), TOTALS)
 
     def test_second_by_second(self):
-        """The same outage, with every second of the day looked at by itself."""
+        """The same outage, with every second of the day looked at by itself, and so the tie that is taken down."""
         book = base()
         act(book, TIE_RESTORES)
+        self.assertEqual(self.seconds_one_by_one(book), 9_000)
+        act(book, "life T1 0 +6000")
+        self.assertEqual(self.seconds_one_by_one(book), 250_200)
+
+    def seconds_one_by_one(self, book):
         w = 0
         for second in range(book.period.first, book.period.end):
             positions = {device.name: device.normal for device in book.devices.values()}
             for entry in sorted(book.entries, key=lambda entry: entry.second):
                 if entry.second <= second:
                     positions[entry.device] = entry.position
-            supplied = book.supplied(positions)
+            supplied = book.supplied(positions, second)
             w += sum(section not in supplied for section, since, _ in book.customers.values() if since <= second)
-        self.assertEqual(w, 9_000)
+        return w
 
     def test_five_minutes_are_momentary(self):
         book = base()
@@ -244,7 +251,6 @@ class Outages(unittest.TestCase):
     def test_refusals(self):
         book = base()
         act(book, TIE_RESTORES)
-        self.refused(book, "bus BUS-B", 4)
         self.refused(book, "switch X9 open +0 3 K1", 2)
         self.refused(book, "switch B1 open +0 9 K1", 15)
         self.refused(book, "correct 9 1 open +0 3 K1", 6)
@@ -254,6 +260,58 @@ class Outages(unittest.TestCase):
         self.refused(book, "mark 2024-02-01 ENG", 5)
         act(book, "mark 2024-01-01 ENG")
         self.refused(book, "mark 2024-01-01 ENG", 13)
+
+    def test_tie_is_taken_down(self):
+        """The tie that supplies a section ends: nobody switched, so the seconds have no cause; a whole life undoes it."""
+        book = base()
+        act(book, TIE_RESTORES)
+        self.assertEqual(act(book, "life T1 0 +6000"), [everywhere(241_200, 0)])
+        self.check(book, 250_200)
+        self.assertEqual(book.act(["life", "WHOLE", "T1", "", "", "", "", ""]), 27)
+        self.assertEqual([move for move in book.moves if move[0] == 27], [(27, *move) for move in everywhere(-241_200, 0)])
+        self.check(book, 9_000)
+
+    def test_device_joins_during_an_outage(self):
+        book = base()
+        act(book, TIE_RESTORES)
+        self.assertEqual(act(book, "device X1 BUS-A S1 closed +5000"), [everywhere(-4_400)])
+        self.check(book, 4_600, "1/2", "23/3", "46/3")
+        self.assertEqual(book.commands[-1][1], f"device X1 BUS-A S1 closed {T + 5_000} -")
+
+    def test_switchings_at_the_end_of_a_life(self):
+        """Lives act before the second's entries: one at the end is late, one a second before is the cutter."""
+        book = base()
+        self.assertEqual(act(book, "life B2 0 +3600"), [everywhere(414_000, 0, 2)])
+        self.assertEqual(act(book, "switch B2 open +3600 4 K1"), [[]])
+        moved = [(1, 0, -414_000), (1, 4, 414_005), (2, 2, 5), (3, 0, 5)]
+        self.assertEqual(act(book, "switch B2 open +3599 4 K1"), [moved])
+
+    def test_lives_that_are_refused(self):
+        book = base()
+        self.refused(book, "life B2 +10 +10", 18)
+        self.refused(book, "life X9 0 +10", 2)
+        self.refused(book, "life X9 +10 +10", 2)
+        self.refused(book, "device I1 GRID BUS-A closed +10 +10", 3)
+        self.refused(book, "device X1 GRID BUS-B closed +10 +10", 2)
+        self.refused(book, "device X1 GRID BUS-A closed +10 +9", 18)
+
+    def test_parts_after_an_entry(self):
+        book = base()
+        act(book, TIE_RESTORES)
+        self.assertEqual(act(book, "bus BUS-B"), [[]])
+        self.refused(book, "bus BUS-B", 3)
+        whole = everywhere(86_400, 0, 9)
+        self.assertEqual(act(book, "section S9 9\nconnect 11 S9 +0"), [[], whole])
+        self.assertEqual(act(book, "device N1 BUS-B S9 closed\ndevice N2 BUS-A BUS-B closed +43200")[0], [])
+        self.check(book, 9_000 + 43_200)
+
+    def test_table_of_lives(self):
+        book = base()
+        act(book, "life T1 +10 +20\ndevice X1 BUS-A S1 open +5")
+        rows = [(number, 0, None) for number in range(4)] + [(4, T + 10, T + 20), (5, T + 5, None)]
+        self.assertEqual(book.tables()["life"], rows)
+        self.assertEqual([*book.tables()][3:5], ["device", "life"])
+        self.assertEqual(book.tables()["meta"], [(1, 2, "2024-01-01", 1, "UTC0")])
 
 
 class Imports(unittest.TestCase):
@@ -287,7 +345,7 @@ class Examples(unittest.TestCase):
         """The table and the moves that stand beside the sample fortnight, and its amounts by hand."""
         examples = Path(__file__).resolve().parent.parent / "examples"
         book = Book(Period("2025-03-24", 14, "CET-1CEST,M3.5.0,M10.5.0/3"))
-        for name, added in [("fortnight", 97), ("corrections", 3)]:
+        for name, added in [("fortnight", 102), ("corrections", 3)]:
             self.assertEqual(book.import_text((examples / f"{name}.csv").read_bytes()), (added, 0, None))
             for lines, file in [(book.table_lines(), "table.txt"), (book.moves_lines(), "moves.csv")]:
                 self.assertEqual("".join(f"{line}\n" for line in lines), (examples / f"{name}.{file}").read_text())
@@ -306,6 +364,24 @@ class Examples(unittest.TestCase):
                 self.assertIn(f'"\\\n{text}";', source, file)
 
 
+class MadeYears(unittest.TestCase):
+    def test_lives_in_a_year(self):
+        """A made year with lives: each command is accepted, and the windows of year.py find what the model finds."""
+        lines = [*year_lines(80, 1, 60, "rising", 10, lives=30)]
+        book, plain = Book(Period(FIRST_DATE.isoformat(), DAYS, "UTC0"), keeps_moves=False), YearBook()
+        text = "".join(f"{row}\n" for row in csv_lines(lines))
+        self.assertEqual(book.import_text(text.encode()), (len(lines), 0, None))
+        for line in lines:
+            plain.act(*line.split())
+        self.assertEqual([body for _, body in book.commands], lines)
+        amounts = book.amounts()
+        for dimension, found in enumerate([plain.by_cause, plain.by_feeder, plain.by_day], 1):
+            wanted = {key: amount for (other, key), amount in amounts.items() if other == dimension}
+            self.assertEqual({key: amount for key, amount in found.items() if amount}, wanted)
+        joined = sum(line.startswith("device JOINED-") for line in lines)
+        self.assertEqual((joined, sum(line.startswith("life ") for line in lines)), (10, 30))
+
+
 class Fields(unittest.TestCase):
     def bad_column(self, row):
         with self.assertRaises(Refusal) as raised:
@@ -320,6 +396,16 @@ class Fields(unittest.TestCase):
         self.assertEqual(self.bad_column(["bus", "R", "B", "", "", "", "", "x"]), 8)
         self.assertEqual(self.bad_column(["device", "R", "D", "A", "A", "shut", "", ""]), 5)
         self.assertEqual(self.bad_column(["device", "R", "D", "a", "a", "shut", "", ""]), 4)
+
+    def test_lives(self):
+        device = ["device", "R", "D", "A", "B", "open", "", ""]
+        self.assertEqual(read_row(device)[2], ["D", "A", "B", "open", 0, "-"])
+        self.assertEqual(read_row([*device[:6], "1704070800", "2024-01-01T02:00:00Z"])[2][4:], [T + 3_600, T + 7_200])
+        self.assertEqual(read_row(["life", "R", "D", "", "", "", "", ""])[2], ["D", 0, "-"])
+        self.assertEqual(self.bad_column([*device[:6], "-", "-"]), 7)
+        self.assertEqual(self.bad_column([*device[:6], "", "-"]), 8)
+        self.assertEqual(self.bad_column(["life", "R", "D", "x", "x", "x", "", ""]), 4)
+        self.assertEqual(self.bad_column(["life", "R", "D", "", "", "x", "", ""]), 6)
 
     def test_one_command_in_two_spellings(self):
         one = read_row(["switch", "R", "B1", "open", "1704070800", "03", "K1", ""])
@@ -356,7 +442,7 @@ class Fields(unittest.TestCase):
         self.assertIsNone(read_date("2024-1-1"))
 
     def test_kinds(self):
-        self.assertEqual(len(KINDS), 11)
+        self.assertEqual(len(KINDS), 12)
 
 
 class Clocks(unittest.TestCase):
@@ -381,10 +467,10 @@ BY_HAND = {
     (1, 1): 2 * 31_500 + 14 * 6_300,
     (1, 2): 13 * 1_880 + 5 * 11_390,
     (1, 3): 13 * 40,
-    (1, 4): 2 * 8_070,
+    (1, 4): 2 * 2_190,
     (1, 5): 3 * 4_500 + 3 * 2_400,
     (1, 6): 8 * 9_000 + 3 * 240,
-    (1, 7): 13 * 680,
+    (1, 7): 15 * 680,
     (1, 8): 8 * 3_120,
 }
 HEADER = "kind,ref,f1,f2,f3,f4,f5,f6\n"

@@ -3,14 +3,17 @@
     python3 benches/year.py bench-data/year.txt             # all customer-seconds, and those by cause, feeder and day
     python3 benches/year.py bench-data/year.txt --indices   # counts and indices too
 
-It reads a made year (benches/make_year.py), keeps the runs of each section in step with the sheet, and posts what each
-command moves. A change of the sheet sweeps the window from its first second up to its device's next entry and no more.
+It reads a made year (benches/make_year.py), keeps the runs of each section in step with the sheet and the devices'
+lives, and posts what each command moves. A change of the sheet sweeps the window from its first second up to its device's
+next entry and no more; a life that is set anew, from the first second that only one of the two lives holds up to the
+last one.
 """
 
 import argparse
 import sys
 from bisect import bisect_left, bisect_right, insort
 from fractions import Fraction
+from itertools import groupby
 from math import inf
 
 FIRST = 1_704_067_200
@@ -69,8 +72,9 @@ class OneService:
 class Book:
     """The book of some days, by their bounds: those of the 366 days from 2024-01-01 in UTC where none are given.
 
-    Nodes are numbers, GRID is 0. An entry is a list of device, position, second, cause and revision. A run is a triple
-    of its first second, the second after it and its cutter's number, None where it has no cutter.
+    Nodes are numbers, GRID is 0. An entry is a list of device, position, second, cause and revision. A life is a pair of
+    its first second and the one after it. A run is a triple of its first second, the second after it and its cutter's
+    number, None where it has no cutter.
     """
 
     def __init__(self, bounds=YEAR):
@@ -81,6 +85,8 @@ class Book:
         self.joined = [[]]
         self.device_of = {}
         self.normal = []
+        self.lives = []
+        self.turns = []  # the seconds at which lives begin and end, rising, with their devices
         self.customers = {}
         self.services = [Services()]
         self.entries = [None]
@@ -107,20 +113,29 @@ class Book:
 
     act_section = act_bus
 
-    def act_device(self, name, a, b, normal):
+    def act_device(self, name, a, b, normal, since, until):
         device = self.device_of[name] = len(self.normal)
         a, b = self.node_of[a], self.node_of[b]
         self.joined[a].append((device, b))
         self.joined[b].append((device, a))
         self.normal.append(normal == "closed")
         self.order_of.append([])
-        if normal == "closed":
-            # Nothing is entered yet: a node that is now reached was without supply all the time.
-            for node, is_reached in enumerate(self.supplied(self.normal)):
-                if is_reached and self.runs[node]:
-                    if self.services[node].begins:
-                        self.post(node, self.services[node], self.runs[node], -1)
-                    self.runs[node] = []
+        self.lives.append(NEVER)
+        self.live(device, int(since), end_of(until))
+
+    def act_life(self, name, since, until):
+        self.live(self.device_of[name], int(since), end_of(until))
+
+    def live(self, device, *life):
+        """Sets a device's life anew, and finds the runs anew from the first second to the last that one of both holds."""
+        old, self.lives[device] = self.lives[device], life
+        self.turns = [turn for turn in self.turns if turn[1] != device]
+        for second in life:
+            if second != inf:
+                insort(self.turns, (second, device))
+        window = differing(old, life, self.bounds[0], self.bounds[-1])
+        if window and (self.normal[device] or self.order_of[device]):
+            self.sweep(window[0], min(window[1] + 1, self.bounds[-1]))
 
     def act_connect(self, number, section, since, until):
         section, since, until = self.node_of[section], int(since), end_of(until)
@@ -142,7 +157,7 @@ class Book:
         number = len(self.entries)
         self.entries.append(entry)
         self.keep(number)
-        self.sweep(entry[0], number, entry[2], entry[2])
+        self.sweep_entry(entry[0], number, entry[2], entry[2])
 
     def act_correct(self, number, revision, act, second, cause, crew):
         number, second, cause = int(number), int(second), int(cause)
@@ -156,13 +171,13 @@ class Book:
         entry[1], entry[2] = act == "close", second
         entry[4] += 1
         self.keep(number)
-        self.sweep(entry[0], number, *seconds)
+        self.sweep_entry(entry[0], number, *seconds)
 
     def act_withdraw(self, number, revision):
         number = int(number)
         device, _, second, _, _ = self.entries[number]
         self.drop(number)
-        self.sweep(device, number, second, second)
+        self.sweep_entry(device, number, second, second)
 
     def act_mark(self, date, engineer):
         self.marked.add(date)
@@ -201,28 +216,51 @@ class Book:
                 closed[device] = self.entries[order[place - 1][1]][1]
         return closed
 
-    def sweep(self, device, number, first, last):
+    def sweep_entry(self, device, number, first, last):
         """Finds the runs anew from a first second on, up to the device's first entry after the last one."""
         order = self.order_of[device]
         place = bisect_right(order, (last, number))
-        end = self.entries[order[place][1]][2] + 1 if place < len(order) else self.bounds[-1]
-        closed = self.positions_before(first)
+        self.sweep(first, self.entries[order[place][1]][2] + 1 if place < len(order) else self.bounds[-1])
+
+    def is_alive(self, device, second):
+        since, until = self.lives[device]
+        return since <= second < until
+
+    def steps(self, first, end):
+        """What may change the supply: lives before the entries of their second, then these in their order.
+
+        Each is a triple of the second, the entry's number, 0 for the lives, and the devices with what they are then told.
+        """
+        turns = self.turns[bisect_left(self.turns, (first,)) : bisect_left(self.turns, (end,))]
+        entries = self.order[bisect_left(self.order, (first,)) : bisect_left(self.order, (end,))]
+        lives = groupby(turns, key=lambda turn: turn[0])
+        steps = [(second, 0, [device for _, device in of_second]) for second, of_second in lives]
+        steps += [(second, number, [self.entries[number][0]]) for second, number in entries]
+        return sorted(steps)
+
+    def sweep(self, first, end):
+        """Finds the runs anew from a first second up to an end."""
+        switched = self.positions_before(first)
+        before = max(first - 1, self.bounds[0])
+        closed = [is_closed and self.is_alive(device, before) for device, is_closed in enumerate(switched)]
         was = self.supplied(closed)
         since = [None if is_reached else (first, None) for is_reached in was]
         found = {node: [] for node, start in enumerate(since) if start}
-        steps = self.order[bisect_left(self.order, (first,)) : bisect_left(self.order, (end,))]
-        for second, step in steps:
-            device, act, *_ = self.entries[step]
-            if closed[device] == act:
+        for second, step, devices in self.steps(first, end):
+            if step:
+                switched[devices[0]] = self.entries[step][1]
+            new = [switched[device] and self.is_alive(device, second) for device in devices]
+            if new == [closed[device] for device in devices]:
                 continue
-            closed[device] = act
+            for device, is_closed in zip(devices, new):
+                closed[device] = is_closed
             reached = self.supplied(closed)
             if reached == was:
                 continue
             for node, (before, after) in enumerate(zip(was, reached)):
                 if before and not after:
                     found.setdefault(node, [])
-                    since[node] = self.cut(found[node], second, step)
+                    since[node] = self.cut(found[node], second, step or None)
                 elif after and not before:
                     if since[node][0] < second:
                         found[node].append((since[node][0], second, since[node][1]))
@@ -290,8 +328,24 @@ class Book:
             move(self.by_cause, cause, sign * (before - start))
 
 
+NEVER = 0, 0  # the life of a device that isn't there
+
+
 def end_of(until):
     return inf if until == "-" else int(until)
+
+
+def differing(old, new, first, end):
+    """The first second of a period that exactly one of two lives holds and the one after the last; None where none is."""
+    spans = [(max(life[0], first), min(life[1], end)) for life in (old, new)]
+    (a, b), (c, d) = [span if span[0] < span[1] else (first, first) for span in spans]
+    if (a, b) == (c, d):
+        return None
+    if a == b or c == d or b <= c or d <= a:
+        some = [span for span in [(a, b), (c, d)] if span[0] < span[1]]
+        return min(some)[0], max(span[1] for span in some)
+    bounds = [pair for pair in [sorted([a, c]), sorted([b, d])] if pair[0] < pair[1]]
+    return bounds[0][0], bounds[-1][1]
 
 
 def join(runs, run):

@@ -1,7 +1,7 @@
 #!/usr/bin/env python3
 """Figures of a book, as a table to read, as CSV or as JSON.
 
-    python3 tools/figures.py BOOK interruptions|days|months|feeders|causes|sections|switchings|indices
+    python3 tools/figures.py BOOK interruptions|days|months|feeders|causes|sections|switchings|lives|indices
                              [--csv | --json] [--late] [--table FILE | --program PATH]
 
 Before it answers, the book's postings and the program's annual table are compared with what is found here (book.py).
@@ -452,6 +452,42 @@ def work_values(book: Book, work: Work) -> List[Value]:
     ]
 
 
+def life_of(command: Command) -> Tuple[int, Optional[int]]:
+    """The life that a `device` or a `life` says; a `device` of version 1 says none, and has the whole one."""
+    ends = command.fields[1:] if command.kind == "life" else command.fields[4:]
+    since, until = ends or ["0", "-"]
+    return int(since), None if until == "-" else int(until)
+
+
+def lives(found: Checked) -> Figures:
+    """Devices that join and leave, with what each command moved that said so."""
+    columns = {
+        "command": "the command's number",
+        "reference": "its reference",
+        "kind": "device or life",
+        "device": "the device whose life it tells",
+        "since": "when the life begins, by the clock of the book's zone; empty: the device was there before",
+        "until": "when it ends; empty: without end",
+        "moved": "by how many customer-seconds it changed W",
+        "shifted": "how much it moved in all, in the dimension (cause, feeder, day) in which this is most",
+    }
+    about = [
+        "Every `life` and every `device` with a life that begins or ends, and what each moved when it was accepted.",
+        "A later `life` of the same device takes the place of an earlier one.",
+    ]
+    moved = moved_by(found)
+    rows: List[List[Value]] = []
+    for command in read_commands(found.database):
+        if command.kind not in ("device", "life") or (command.kind == "device" and life_of(command) == (0, None)):
+            continue
+        since, until = life_of(command)
+        texts = [found.book.period.zone.text_of(second) if second else "" for second in (since, until)]
+        rows.append(
+            [command.number, command.ref, command.kind, command.fields[0], *texts, *moved.get(command.number, (0, 0))]
+        )
+    return Figures("lives", about, columns, rows)
+
+
 def indices(found: Checked) -> Figures:
     """Both sets of indices and counts, with units and definitions."""
     columns = {
@@ -480,6 +516,7 @@ FIGURES: Dict[str, Callable[[Checked], Figures]] = {
     "causes": causes,
     "sections": sections,
     "switchings": switchings,
+    "lives": lives,
     "indices": indices,
 }
 

@@ -6,8 +6,8 @@
 
 docs/DATA.md says what each file holds. With --book the rows are those that the book doesn't have yet: what is new, a
 `correct` with its revision where a ticket was changed, a `withdraw` where it was cancelled, a `revise` where a service
-was. References come from the ticket, so rows that are imported twice count once. Where a row can't be read nothing is
-written: all such rows are told, and the status is 1.
+was, a `life` where the beginning or the end of a device's life is another. References come from the ticket, so rows that
+are imported twice count once. Where a row can't be read nothing is written: all such rows are told, and the status is 1.
 """
 
 from __future__ import annotations
@@ -27,7 +27,7 @@ from commands import read_commands, row_of, write_rows
 from tool import BookError, Words, add_table_words, run_job
 
 CAUSE_COLUMNS = ("code", "name", "oms")
-GIS_COLUMNS = ("type", "name", "feeder", "from", "to", "normal")
+GIS_COLUMNS = ("type", "name", "feeder", "from", "to", "normal", "since", "until")
 CUSTOMER_COLUMNS = ("customer", "section", "since", "until")
 OMS_COLUMNS = (
     "ticket",
@@ -166,10 +166,12 @@ def cause_rows(causes: Iterable[Tuple[int, Row]], known: Known, bad: "Bad") -> I
                 yield row("cause", ref, code, name)
 
 
-def network_rows(parts: List[Tuple[int, Row]], known: Known, bad: "Bad") -> Iterator[List[str]]:
-    """Buses and sections, then devices; those that the book has are left out."""
+def network_rows(
+    parts: List[Tuple[int, Row]], zone: Optional[Zone], known: Known, bad: "Bad"
+) -> Iterator[List[str]]:
+    """Buses and sections, then devices. Of those that the book has only other lives are written, where they are given."""
     nodes = set(known.book.nodes.values()) if known.book else set()
-    devices = {device.name for device in known.book.devices} if known.book else set()
+    lives = {device.name: (device.since, device.until) for device in known.book.devices} if known.book else {}
     for place, each in sorted(parts, key=lambda part: part[1]["type"] == "device"):
         with bad.told(place):
             kind, name = each["type"].lower(), identifier(each["name"], 24, "the name")
@@ -178,8 +180,12 @@ def network_rows(parts: List[Tuple[int, Row]], known: Known, bad: "Bad") -> Iter
                 ends = [identifier(each[column], 24, f"the node {column}") for column in ("from", "to")]
                 if each["normal"] not in ("open", "closed"):
                     raise BadRow(f"normal {each['normal']!r} is neither open nor closed")
-                if name not in devices:
-                    yield row("device", ref, name, *ends, each["normal"])
+                life = [read_moment(each[end], "A", zone, end) if each[end] else None for end in ("since", "until")]
+                told = [None if moment is None else moment_text(moment, zone) for moment in life]
+                if name not in lives:
+                    yield row("device", ref, name, *ends, each["normal"], *told)
+                elif life != [None, None] and (life[0] or 0, life[1]) != lives[name]:
+                    yield row("life", known.unused(f"GIS-LIFE-{name}"), name, *told)
             elif kind == "section":
                 feeder = number(each["feeder"], 255, "the feeder")
                 if name not in nodes:
@@ -360,7 +366,7 @@ def rows_of(given: argparse.Namespace, known: Known) -> List[List[str]]:
         ]
     )
     rows = list(cause_rows(causes, known, Bad(given.causes, told.append)))
-    rows += network_rows(parts, known, Bad(given.gis, told.append))
+    rows += network_rows(parts, zone, known, Bad(given.gis, told.append))
     rows += customer_rows(customers, zone, known, Bad(given.customers, told.append))
     codes = codes_of(causes, known, Bad(given.causes, lambda _text: None))
     outages = Outages(zone, codes, known, given.prefix, given.crew)

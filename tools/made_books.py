@@ -1,4 +1,4 @@
-"""Makes the book files of the tools' tests: of each text the ten tables and the annual table by benches/model.py.
+"""Makes the book files of the tools' tests: of each text the eleven tables and the annual table by benches/model.py.
 
     python3 tools/made_books.py FOLDER [--seeds N | --list FILE]
 

@@ -131,25 +131,31 @@ class Worked(unittest.TestCase):
 
 class Lives(unittest.TestCase):
     def test_tables_of_version_2_are_read(self):
-        """The fortnight with whole lives has the fortnight's figures; a life that ends early has others."""
+        """In the fortnight TIE-2 joins and FUSE-13 leaves; if they had another life, other figures would follow."""
         made = support.fortnight()
-        path = changed("lives", "UPDATE meta SET version = 2")
-        with contextlib.closing(sqlite3.connect(str(path))) as database:
-            database.execute(
-                "CREATE TABLE life (device INTEGER PRIMARY KEY, since INTEGER NOT NULL, until INTEGER) STRICT"
-            )
-            database.execute("INSERT INTO life SELECT id, 0, NULL FROM device")
-            database.commit()
-            with open_book(str(path), str(made.table)) as found:
-                self.assertEqual(found.book.version, 2)
-            database.execute("UPDATE life SET until = 1743000000 WHERE device = 6")
-            database.commit()
-        with self.assertRaises(Differs):
-            with open_book(str(path), str(made.table)):
-                pass
+        book = support.opened(made).book
+        lives = {device.name: (device.since, device.until) for device in book.devices}
+        self.assertEqual((book.version, lives["TIE-2"]), (2, (1_743_598_800, None)))
+        self.assertEqual((lives["FUSE-13"], lives["CB-1"]), ((0, 1_743_841_800), (0, None)))
+        changes = [
+            "UPDATE life SET until = NULL WHERE until IS NOT NULL",
+            "UPDATE life SET since = 1743800000 WHERE since > 0",
+            "UPDATE life SET until = 1743000000 WHERE device = 6",
+        ]
+        for number, change in enumerate(changes):
+            with self.subTest(change), self.assertRaises(Differs):
+                with open_book(str(changed(f"life-{number}", change)), str(made.table)):
+                    pass
+
+    def test_tables_of_version_1_are_read(self):
+        """A book from before devices had lives has the figures of the same one in which all lives are whole."""
+        made = support.edges()
+        with open_book(str(support.as_version_1(made)), str(made.table)) as found:
+            self.assertEqual(found.book.version, 1)
+            self.assertEqual({(device.since, device.until) for device in found.book.devices}, {(0, None)})
 
     def test_a_life_for_each_device(self):
-        path = changed("no-lives", "UPDATE meta SET version = 2")
+        path = changed("no-life", "DELETE FROM life WHERE device = 3")
         with self.assertRaises(BookError):
             with open_book(str(path), str(support.fortnight().table)):
                 pass
@@ -167,7 +173,7 @@ class Changed(unittest.TestCase):
         path = changed("posting", "UPDATE posting SET amount = amount + 1 WHERE dim = 2 AND k = 1")
         self.assertEqual(
             self.told(path),
-            "differs: customer-seconds of feeder 1: found here 232530, in the book or its table 232531\n",
+            "differs: customer-seconds of feeder 1: found here 222130, in the book or its table 222131\n",
         )
 
     def test_a_posting_that_is_missing(self):
@@ -217,11 +223,11 @@ class Changed(unittest.TestCase):
     def test_of_the_table_is_told_which(self):
         path = support.folder() / "saidi.txt"
         text = support.fortnight().table.read_text()
-        path.write_text(text.replace("9615505/62958 152.729", "9615506/62958 152.729"))
+        path.write_text(text.replace("3089035/20986 147.195", "3089036/20986 147.195"))
         self.assertEqual(
             self.told(support.fortnight().book, path),
             "differs: SAIDI unmarked: found here "
-            "9615505/62958 152.729, in the book or its table 9615506/62958 152.729\n",
+            "3089035/20986 147.195, in the book or its table 3089036/20986 147.195\n",
         )
 
 
@@ -261,7 +267,7 @@ class AtWork(unittest.TestCase):
             writer.execute("BEGIN IMMEDIATE")
             writer.execute("UPDATE posting SET amount = 7 WHERE dim = 1 AND k = 1")  # half of a command
             with open_book(str(path), str(support.fortnight().table)) as found:
-                self.assertEqual(len(found.interruptions), 22)
+                self.assertEqual(len(found.interruptions), 23)
             writer.execute("COMMIT")
             with self.assertRaises(Differs):
                 with open_book(str(path), str(support.fortnight().table)):

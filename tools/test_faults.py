@@ -29,6 +29,21 @@ FAULTS = {
     "a day that takes the rest of an interruption": ("end = min(until, self.bounds[day + 1])", "end = until"),
     "a feeder taken for another": ("amounts[FEEDER, book.sections[each.run.section].feeder]", "amounts[FEEDER, 1]"),
     "the entries of a second in another order": ("FROM entry ORDER BY id", "FROM entry ORDER BY id DESC"),
+    "lives that are never looked at": ("if version == 2:", "if False:"),
+    "a life that holds the second of its end": ("or second < self.until)", "or second <= self.until)"),
+    "a life that begins a second late": ("return self.since <= second and", "return self.since < second and"),
+    "lives that act after the entries of their second": (
+        "if moment in lives and supply.come_to(moment):",
+        "if moment in lives and not entries_at.get(moment) and supply.come_to(moment):",
+    ),
+    "an entry that acts outside its device's life": (
+        "return self.set_position(device, entry.closes and device.is_alive(second))",
+        "return self.set_position(device, entry.closes)",
+    ),
+    "an entry outside its device's life that is forgotten": (
+        "        self.switched[entry.device] = entry.closes\n",
+        "        if device.is_alive(second):\n            self.switched[entry.device] = entry.closes\n",
+    ),
     "a tenth interruption that isn't counted": ("range(min(10, len(sustained)))", "range(min(9, len(sustained)))"),
 }
 

@@ -63,6 +63,12 @@ class Fortnight(unittest.TestCase):
             ],
         )
 
+    def test_lives(self):
+        found = [tuple(row.values())[1:] for row in self.rows("lives")]
+        joins, leaves = "2025-04-02T15:00:00+02:00", "2025-04-05T10:30:00+02:00"
+        wanted = [("NET-21", "device", "TIE-2", joins, "", 0, 0), ("NET-22", "life", "FUSE-13", "", leaves, 0, 0)]
+        self.assertEqual(found, wanted)
+
     def test_indices_are_the_words_of_the_table(self):
         lines = support.fortnight().table.read_text().splitlines()[-34:]
         found = [
@@ -117,6 +123,10 @@ class Sums(unittest.TestCase):
             kinds += " OR body LIKE 'correct %' OR body LIKE 'withdraw %')"
             works = rows_of(figures.switchings(found))
             self.assertEqual(sum(row["moved"] for row in works), found.database.execute(kinds).fetchone()[0])
+            lives = "SELECT ifnull(sum(delta), 0) FROM moved JOIN cmd ON cmd.id = moved.cmd WHERE dim = 1 AND (body LIKE 'life %'"
+            lives += " OR (body LIKE 'device %' AND body NOT LIKE 'device % 0 -'))"
+            told = rows_of(figures.lives(found))
+            self.assertEqual(sum(row["moved"] for row in told), found.database.execute(lives).fetchone()[0])
 
 
 def figures_value(found, index):

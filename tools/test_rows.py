@@ -18,6 +18,7 @@ TABLES = {
     "cause": "code",
     "node": "id",
     "device": "id",
+    "life": "device",
     "customer": "id",
     "entry": "id",
     "mark": "day",
@@ -66,12 +67,22 @@ class Commands(unittest.TestCase):
             with self.subTest(made.name):
                 self.assertEqual(tables_of(anew.book), tables_of(made.book))
 
+    def test_a_book_of_version_1_goes_on_in_a_new_one(self):
+        """Its commands, imported into a new book, give that book's tables: the devices' lives are whole."""
+        made = support.edges()
+        done = support.run_tool("commands", support.as_version_1(made), table=made)
+        self.assertEqual(done.returncode, 0, done.stderr)
+        (anew,) = support.made_of("from-version-1", [(written("from-version-1.csv", done.stdout), made.period)])
+        self.assertEqual(tables_of(anew.book), tables_of(made.book))
+
     def test_names_that_are_a_dash(self):
         rows = [
             "kind,ref,f1,f2,f3,f4,f5,f6",
             "cause,A,1,-,,,,",
             "section,B,-,1,,,,",
-            "device,C,-,GRID,-,closed,,",
+            "device,C,-,GRID,-,closed,0,",
+            "life,G,-,0,1704067260,,,",
+            "life,H,-,1704067200,,,,",
             "connect,D,1,-,0,,,",
             "switch,E,-,open,1704067200,1,-,",
             "mark,F,2024-01-01,-,,,,",
@@ -84,18 +95,22 @@ class Commands(unittest.TestCase):
 
 class NextYear(unittest.TestCase):
     def test_the_first_second_has_the_positions_of_the_last(self):
+        """As the entries of the old book leave them, with lives as of the new book's first second."""
         texts, olds = [], []
         for made in support.books():
             found = support.opened(made)
             end = found.book.period.end
-            olds.append((positions(found.book, end - 1), found.book))
+            olds.append((positions(found.book, end), found.book))
             first = date.fromisoformat(made.period[0]) + timedelta(days=int(made.period[1]))
             text = text_of(next_year.rows_of(found, end))
             texts.append((written(f"next-{made.name}.csv", text), (first.isoformat(), "2", made.period[2])))
         for (old, old_book), anew in zip(olds, support.made_of("next", texts)):
             with self.subTest(anew.name):
                 found = support.opened(anew)
-                self.assertEqual(positions(found.book, found.book.period.first), old)
+                over = {d.name for d in old_book.devices if d.until is not None and d.until <= old_book.period.end}
+                wanted = {name: closed for name, closed in old.items() if name not in over}
+                self.assertEqual(positions(found.book, found.book.period.first), wanted)
+                self.assertFalse(any(old[name] for name in over))
                 self.assertEqual(found.book.causes, old_book.causes)
                 self.assertEqual(found.book.nodes, old_book.nodes)
                 self.assertTrue(all(entry.second == found.book.period.first for entry in found.book.entries))
@@ -192,6 +207,27 @@ class FromOms(unittest.TestCase):
         for name in ["oms-sample", "oms-later"]:
             shutil.rmtree(support.folder() / name, ignore_errors=True)
 
+    def test_lives(self):
+        """A device that joins, and one that a GIS tells to have been taken down since; what it doesn't tell stays."""
+        row = "device,TIE-78,,ELM-STREET,DEPOT,open"
+        gis = (support.EXAMPLES / "gis.csv").read_text().replace("normal\n", "normal,since,until\n")
+        joins = written("gis-joins.csv", gis.replace(row, f"{row},2025-10-20 09:00:00,"))
+        files = [joins if word == support.EXAMPLES / "gis.csv" else word for word in self.FILES]
+        text = self.converted(*files, "--zone", ZONE)
+        self.assertIn("device,GIS-DEVICE-TIE-78,TIE-78,ELM-STREET,DEPOT,open,2025-10-20T09:00:00+02:00,\n", text)
+        made = self.made("oms-sample", text)
+        words = ["--book", made.book, "--table", made.table]
+        header = "kind,ref,f1,f2,f3,f4,f5,f6\n"
+        self.assertEqual(self.converted("--gis", joins, *words), header)
+        self.assertEqual(self.converted("--gis", support.EXAMPLES / "gis.csv", *words), header)
+        leaves = written("gis-leaves.csv", gis.replace(row, f"{row},,2025-11-01 12:00:00"))
+        rows = "life,GIS-LIFE-TIE-78,TIE-78,,2025-11-01T12:00:00+01:00,,,\n"
+        self.assertEqual(self.converted("--gis", leaves, *words), header + rows)
+        later = self.made("oms-later", text + rows)
+        words = ["--book", later.book, "--table", later.table]
+        self.assertEqual(self.converted("--gis", leaves, *words), header)
+        self.assertIn("life,GIS-LIFE-TIE-78-2,TIE-78,2025-10-20", self.converted("--gis", joins, *words))
+
     def test_what_a_book_has_is_left_out(self):
         made = self.sample()
         text = self.converted(*self.FILES, "--book", made.book, "--table", made.table)
@@ -272,7 +308,7 @@ class Years(unittest.TestCase):
         done = support.run_tool("years", one.book, two.book, "--csv", "--table", one.table, "--table", two.table)
         self.assertEqual(done.returncode, 0, done.stderr)
         lines = done.stdout.splitlines()
-        self.assertIn("SAIDI all,12570205/62958 199.660,12288805/62958 195.191", lines)
+        self.assertIn("SAIDI all,4073935/20986 194.126,3980135/20986 189.657", lines)
         self.assertIn('"cause ANIMAL, customer-seconds",520,18520', lines)
         self.assertIn('"feeder 2, customer-seconds",143940,135540', lines)
 

@@ -32,12 +32,12 @@ abbrev pub IsMomentAs : Spelling → List ℕ → Option ℕ → Type 0
 IsMomentAs Free text o = Gives IsSecondText text o
 IsMomentAs Body text o = o ≡ number_as Body unix_second_in text
 
--- the text that stands for no end of service
+-- the text that stands for no end of a service or a life
 abbrev pub no_end : Spelling → List ℕ
 no_end Free = []
 no_end Body = codes "-"
 
--- an end of service of this text, which as a moment is `moment`
+-- an end of a service or a life of this text, which as a moment is `moment`
 abbrev pub end_as : Spelling → List ℕ → Option ℕ → Option (Option ℕ)
 end_as spelling text moment = if bytes_eq text (no_end spelling) then Some None else option_map (λ s. Some s) moment
 

@@ -1,6 +1,6 @@
 //! The commands of the book, and their texts.
 //!
-//! Keeps the eleven kinds of command, with fields that hold what their readings give and nothing
+//! Keeps the twelve kinds of command, with fields that hold what their readings give and nothing
 //! else. Promises the body text of each command, that two commands have two texts, that a body
 //! text is read back as its command and no other text is read, and that a row is read as its
 //! reference and its command or refused for its leftmost bad column. Above it stand the book, which

@@ -11,10 +11,10 @@ use ob_base::read_unix_second;
 #[derive(Clone, Copy)]
 pub(crate) enum Spelling {
     /// As in a row or a JSON member: numbers may have leading zeros, a moment is Unix seconds or a
-    /// civil moment, and no end of service is an empty field.
+    /// civil moment, and an empty field is no end of a service or a life, or a life's beginning at 0.
     Free,
     /// As in a body text: numbers have no leading zeros, a moment is Unix seconds, and no end of
-    /// service is `-`.
+    /// a service or a life is `-`.
     Body,
 }
 
@@ -70,7 +70,7 @@ impl Spelling {
         }
     }
 
-    /// The end of service that a text is, which as a moment is `moment`.
+    /// The end of a service or a life that a text is, which as a moment is `moment`.
     pub(crate) fn end_of(self, text: &[u8], moment: Option<Moment>) -> Option<Option<Moment>>
         ensures { result ≡ end_as self text.now moment }
     {

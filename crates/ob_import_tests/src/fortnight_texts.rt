@@ -87,14 +87,19 @@ connect,CON-0401-1,10453,MILL-LANE,2025-04-01T00:00:00+02:00,,,
 switch,LATE-0326-1,LBS-22,open,2025-03-26T18:05:00+01:00,5,CREW-3,
 switch,LATE-0326-2,LBS-22,close,2025-03-26T19:20:00+01:00,5,CREW-3,
 correct,COR-0402-1,10,1,close,2025-03-27T17:32:00+01:00,2,CONTROL
+device,NET-21,TIE-2,QUARRY,FISH-DOCK,open,2025-04-02T15:00:00+02:00,
 switch,OUT-0403-1,LBS-21,open,2025-04-03T10:00:00+02:00,6,CREW-2,
 withdraw,WD-0403-1,21,1,,,,
 switch,OUT-0403-2,LBS-22,open,2025-04-03T10:00:00+02:00,6,CREW-2,
 switch,OUT-0403-3,LBS-22,close,2025-04-03T10:04:00+02:00,6,CREW-2,
 switch,OUT-0404-1,FUSE-13,open,2025-04-04T13:05:30+02:00,4,CREW-1,
-switch,OUT-0404-2,FUSE-13,close,2025-04-04T15:20:00+02:00,4,CREW-1,
+switch,OUT-0404-2,TIE-2,close,2025-04-04T13:42:00+02:00,4,CREW-1,
+switch,OUT-0404-3,FUSE-13,close,2025-04-04T15:20:00+02:00,4,CREW-1,
+switch,OUT-0404-4,TIE-2,open,2025-04-04T15:22:00+02:00,4,CREW-1,
 switch,OUT-0405-1,LBS-21,open,2025-04-05T06:10:00+02:00,8,CREW-3,
 switch,OUT-0405-2,LBS-21,close,2025-04-05T07:02:00+02:00,8,CREW-3,
+switch,PLAN-0405-1,TIE-2,close,2025-04-05T09:00:00+02:00,6,CREW-2,
+life,NET-22,FUSE-13,,2025-04-05T10:30:00+02:00,,,
 switch,OUT-0405-3,INC-2,open,2025-04-05T21:30:00+02:00,7,CONTROL,
 switch,OUT-0405-4,CPL-1,close,2025-04-05T21:41:20+02:00,7,CONTROL,
 switch,OUT-0405-5,INC-2,close,2025-04-05T23:10:00+02:00,7,CONTROL,
@@ -105,25 +110,25 @@ switch,OUT-0406-1,LBS-22,open,2025-04-06T23:20:00+02:00,5,CREW-3,
 /// What was corrected afterwards: `corrections.csv`.
 pub const CORRECTIONS: &'static str = "\
 kind,ref,f1,f2,f3,f4,f5,f6
-correct,COR-0409-1,26,1,open,2025-04-05T06:10:00+02:00,3,CREW-3
-correct,COR-0409-2,27,1,close,2025-04-05T06:47:30+02:00,3,CREW-3
+correct,COR-0409-1,28,1,open,2025-04-05T06:10:00+02:00,3,CREW-3
+correct,COR-0409-2,29,1,close,2025-04-05T06:47:30+02:00,3,CREW-3
 switch,LATE-0406-1,LBS-22,close,2025-04-06T23:52:00+02:00,5,CREW-3,
 ";
 
 /// The annual table of the fortnight: `fortnight.table.txt`.
 pub const TABLE: &'static str = "\
 OUTAGE BOOK 2025-03-24 days 14 zone CET-1CEST,M3.5.0,M10.5.0/3
-P 1206000 S 37774800 W 376470
+P 1206000 S 37774800 W 366070
 cause   0 UNASSIGNED                             0
 cause   1 STORM                             151200
 cause   2 TREE                               81390
 cause   3 ANIMAL                               520
-cause   4 DIGGING                            16140
+cause   4 DIGGING                             4380
 cause   5 EQUIPMENT                          20700
 cause   6 PLANNED                            72720
-cause   7 SUPPLIER                            8840
+cause   7 SUPPLIER                           10200
 cause   8 UNKNOWN                            24960
-feeder   1                                  232530
+feeder   1                                  222130
 feeder   2                                  143940
 day 2025-03-25                               72000
 day 2025-03-26                               13500
@@ -132,59 +137,59 @@ day 2025-03-28                                 520
 day 2025-03-29                                3600
 day 2025-03-30                              147600 marked
 day 2025-04-03                                 720
-day 2025-04-04                               16140
-day 2025-04-05                               33800
+day 2025-04-04                                4380
+day 2025-04-05                               35160
 day 2025-04-06                                7200
-SAIFI     all      23785/10493 2.267
-SAIDI     all      12570205/62958 199.660
-CAIDI     all      37523/426 88.082
-CAIFI     all      71/32 2.219
-ASAI      all      3739957/3777480 0.990
+SAIFI     all      24455/10493 2.331
+SAIDI     all      4073935/20986 194.126
+CAIDI     all      12161/146 83.295
+CAIFI     all      73/32 2.281
+ASAI      all      1246999/1259160 0.990
 CEMI-1    all      10720/10493 1.022
 CEMI-2    all      1005/1499 0.670
 CEMI-3    all      3350/10493 0.319
 CEMI-4    all      1675/10493 0.160
-CEMI-5    all      1005/10493 0.096
+CEMI-5    all      1675/10493 0.160
 CEMI-6    all      0/1 0.000
 CEMI-7    all      0/1 0.000
 CEMI-8    all      0/1 0.000
 CEMI-9    all      0/1 0.000
 CEMI-10   all      0/1 0.000
-SUSTAINED all      71
+SUSTAINED all      73
 MOMENTARY all      16
-SAIFI     unmarked 19095/10493 1.820
-SAIDI     unmarked 9615505/62958 152.729
-CAIDI     unmarked 28703/342 83.927
-CAIFI     unmarked 57/31 1.839
-ASAI      unmarked 3748777/3777480 0.992
+SAIFI     unmarked 19765/10493 1.884
+SAIDI     unmarked 3089035/20986 147.195
+CAIDI     unmarked 9221/118 78.144
+CAIFI     unmarked 59/31 1.903
+ASAI      unmarked 1249939/1259160 0.993
 CEMI-1    unmarked 10385/10493 0.990
 CEMI-2    unmarked 5360/10493 0.511
 CEMI-3    unmarked 1675/10493 0.160
 CEMI-4    unmarked 1675/10493 0.160
-CEMI-5    unmarked 0/1 0.000
+CEMI-5    unmarked 670/10493 0.064
 CEMI-6    unmarked 0/1 0.000
 CEMI-7    unmarked 0/1 0.000
 CEMI-8    unmarked 0/1 0.000
 CEMI-9    unmarked 0/1 0.000
 CEMI-10   unmarked 0/1 0.000
-SUSTAINED unmarked 57
+SUSTAINED unmarked 59
 MOMENTARY unmarked 16
 ";
 
 /// The annual table with the corrections: `corrections.table.txt`.
 pub const CORRECTED_TABLE: &'static str = "\
 OUTAGE BOOK 2025-03-24 days 14 zone CET-1CEST,M3.5.0,M10.5.0/3
-P 1206000 S 37774800 W 368070
+P 1206000 S 37774800 W 357670
 cause   0 UNASSIGNED                             0
 cause   1 STORM                             151200
 cause   2 TREE                               81390
 cause   3 ANIMAL                             18520
-cause   4 DIGGING                            16140
+cause   4 DIGGING                             4380
 cause   5 EQUIPMENT                          19260
 cause   6 PLANNED                            72720
-cause   7 SUPPLIER                            8840
+cause   7 SUPPLIER                           10200
 cause   8 UNKNOWN                                0
-feeder   1                                  232530
+feeder   1                                  222130
 feeder   2                                  135540
 day 2025-03-25                               72000
 day 2025-03-26                               13500
@@ -193,41 +198,41 @@ day 2025-03-28                                 520
 day 2025-03-29                                3600
 day 2025-03-30                              147600 marked
 day 2025-04-03                                 720
-day 2025-04-04                               16140
-day 2025-04-05                               26840
+day 2025-04-04                                4380
+day 2025-04-05                               28200
 day 2025-04-06                                5760
-SAIFI     all      23785/10493 2.267
-SAIDI     all      12288805/62958 195.191
-CAIDI     all      36683/426 86.110
-CAIFI     all      71/32 2.219
-ASAI      all      3740797/3777480 0.990
+SAIFI     all      24455/10493 2.331
+SAIDI     all      3980135/20986 189.657
+CAIDI     all      11881/146 81.377
+CAIFI     all      73/32 2.281
+ASAI      all      1247279/1259160 0.991
 CEMI-1    all      10720/10493 1.022
 CEMI-2    all      1005/1499 0.670
 CEMI-3    all      3350/10493 0.319
 CEMI-4    all      1675/10493 0.160
-CEMI-5    all      1005/10493 0.096
+CEMI-5    all      1675/10493 0.160
 CEMI-6    all      0/1 0.000
 CEMI-7    all      0/1 0.000
 CEMI-8    all      0/1 0.000
 CEMI-9    all      0/1 0.000
 CEMI-10   all      0/1 0.000
-SUSTAINED all      71
+SUSTAINED all      73
 MOMENTARY all      16
-SAIFI     unmarked 19095/10493 1.820
-SAIDI     unmarked 9334105/62958 148.259
-CAIDI     unmarked 27863/342 81.471
-CAIFI     unmarked 57/31 1.839
-ASAI      unmarked 3749617/3777480 0.993
+SAIFI     unmarked 19765/10493 1.884
+SAIDI     unmarked 2995235/20986 142.725
+CAIDI     unmarked 8941/118 75.771
+CAIFI     unmarked 59/31 1.903
+ASAI      unmarked 1250219/1259160 0.993
 CEMI-1    unmarked 10385/10493 0.990
 CEMI-2    unmarked 5360/10493 0.511
 CEMI-3    unmarked 1675/10493 0.160
 CEMI-4    unmarked 1675/10493 0.160
-CEMI-5    unmarked 0/1 0.000
+CEMI-5    unmarked 670/10493 0.064
 CEMI-6    unmarked 0/1 0.000
 CEMI-7    unmarked 0/1 0.000
 CEMI-8    unmarked 0/1 0.000
 CEMI-9    unmarked 0/1 0.000
 CEMI-10   unmarked 0/1 0.000
-SUSTAINED unmarked 57
+SUSTAINED unmarked 59
 MOMENTARY unmarked 16
 ";

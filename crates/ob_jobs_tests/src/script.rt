@@ -11,6 +11,9 @@ use std::process::Abort;
 /// The tables are no book's.
 pub const BAD_BOOK: Halt = Some((Stop::Refused(Refusal::BadBook), None));
 
+/// The book was made by version 1.
+pub const OLD_VERSION: Halt = Some((Stop::Refused(Refusal::OldVersion(1)), None));
+
 /// An input or a port can't be opened.
 pub const INPUT: Halt = Some((Stop::Fault(Fault::Input), None));
 
@@ -29,12 +32,12 @@ pub enum Step {
     Begin(Ask, &'static str),
 }
 
-/// Whether a job ended so and told this. Where the tables are no book's, nothing was opened.
+/// Whether a job ended so and told this. Where the tables are no book's of this version, nothing was opened.
 pub fn ended(heard: &Heard, status: u8, halt: Halt, told: &[u8]) -> bool {
     heard.status == status
         && heard.halt == halt
         && heard.told.as_slice() == told
-        && !(heard.tried && halt == BAD_BOOK)
+        && !(heard.tried && (halt == BAD_BOOK || halt == OLD_VERSION))
 }
 
 // Whether a step is answered as it says.

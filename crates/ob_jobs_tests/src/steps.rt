@@ -1,6 +1,6 @@
 //! The lines that the jobs tell, and the statuses that they end with.
 use crate::office::{Ask, Office};
-use crate::script::{BAD_BOOK, INPUT, OUTPUT, Step, Trial, answered, over_a_store};
+use crate::script::{BAD_BOOK, INPUT, OLD_VERSION, OUTPUT, Step, Trial, answered, over_a_store};
 use crate::texts::{ONE_NAME_TWICE, OUTAGE};
 use ob_base::{Refusal, Stop};
 use std::alloc::Global;
@@ -71,11 +71,32 @@ const CHANGED: &[Step] = &[
     Step::Do(Ask::Audit, 2, None, "audit differs posting\n"),
 ];
 
+// Each job on a book whose heading is of version 1, which is looked at first; and on one of version 2 without its lives.
+const OLD_BOOK: &[Step] = &[
+    Step::Change("UPDATE meta SET version = 1"),
+    Step::Do(Ask::Make(1), 2, BAD_BOOK, ""),
+    Step::Do(Ask::Import(Some(OUTAGE)), 2, OLD_VERSION, ""),
+    Step::Do(Ask::Import(None), 2, OLD_VERSION, ""),
+    Step::Do(Ask::Export(None), 2, OLD_VERSION, ""),
+    Step::Do(Ask::Print, 2, OLD_VERSION, ""),
+    Step::Do(Ask::Serve(false), 2, OLD_VERSION, ""),
+    Step::Do(Ask::Audit, 2, OLD_VERSION, ""),
+    Step::Lack,
+    Step::Change("DROP TABLE life"),
+    Step::Do(Ask::Print, 2, OLD_VERSION, ""),
+    Step::Do(Ask::Audit, 2, OLD_VERSION, ""),
+    Step::Change("UPDATE meta SET version = 2"),
+    Step::Do(Ask::Print, 2, BAD_BOOK, ""),
+    Step::Do(Ask::Audit, 2, BAD_BOOK, ""),
+    Step::Lack,
+];
+
 struct Jobs;
 
 impl Trial for Jobs {
     fn run<A: Abort, O: Office>(&self, rt: &A, alloc: Global, office: O) -> Result<(), Stop> {
-        answered(rt, alloc, office, BOOK)?;
+        let book = answered(rt, alloc, office, BOOK)?;
+        answered(rt, alloc, book, OLD_BOOK)?;
         Ok(())
     }
 }

@@ -5,6 +5,7 @@ use ob_command::{
     CauseCode, CivilDate, Command, Ends, FeederNumber, Moment, Serial, bodies_law, body_text,
     read_body, read_row, rows_law,
 };
+use ob_net::Pos::Closed;
 use ob_net::{LAST_SECOND, Name, Refusal, Second, Stop};
 use std::alloc::Global;
 use std::process::Abort;
@@ -15,7 +16,12 @@ const BODIES: &'static str = "cause 3 STORM
 bus BUS-A
 section S1 255
 section S1 7
-device B1 GRID S1 closed
+device B1 GRID S1 closed 0 -
+device X1 BUS-A S1 closed 1704072200 -
+device T1 S2 S3 open 0 99999999999
+life T1 0 1704073200
+life T1 7 7
+life T1 99999999999 -
 connect 11 S3 1704072600 -
 connect 4294967295 S3 0 99999999999
 revise 11 1704072600 1704072600
@@ -33,6 +39,24 @@ fn service() -> Option<Command> {
         section: Name::read(b"S3")?,
         since: Moment::new(7)?,
         until: Moment::new(9),
+    })
+}
+
+fn device() -> Option<Command> {
+    Some(Command::Device {
+        name: Name::read(b"X1")?,
+        ends: ends(b"BUS-A", b"S1")?,
+        normal: Closed,
+        since: Moment::new(1_704_072_200)?,
+        until: None,
+    })
+}
+
+fn life() -> Option<Command> {
+    Some(Command::Life {
+        device: Name::read(b"T1")?,
+        since: Moment::new(0)?,
+        until: Moment::new(1_704_073_200),
     })
 }
 
@@ -105,8 +129,11 @@ fn rows(rt: HostRuntime) -> Result<(), Fail> {
             (
                 "device,R3,B1,GRID,S1,closed,,",
                 b"R3",
-                b"device B1 GRID S1 closed",
+                b"device B1 GRID S1 closed 0 -",
             ),
+            ("life,R4,T1,,,,,", b"R4", b"life T1 0 -"),
+            ("life,R4,T1,,01704073200,,,", b"R4", b"life T1 0 1704073200"),
+            ("life,R4,T1,007,7,,,", b"R4", b"life T1 7 7"),
             (
                 "connect,R4,0011,S3,2024-01-01T01:30:00Z,,,",
                 b"R4",
@@ -132,6 +159,37 @@ fn rows(rt: HostRuntime) -> Result<(), Fail> {
     )
 }
 
+// 5,000 and 6,000 seconds after the year began.
+#[test]
+fn rows_of_lives_by_civil_moments(rt: HostRuntime) -> Result<(), Fail> {
+    says(
+        &rt,
+        rt.alloc(),
+        &[
+            (
+                "device,R1,X1,BUS-A,S1,closed,2024-01-01T01:23:20Z,",
+                b"R1",
+                b"device X1 BUS-A S1 closed 1704072200 -",
+            ),
+            (
+                "device,R2,X1,BUS-A,S1,open,,2024-01-01T02:40:00+01:00",
+                b"R2",
+                b"device X1 BUS-A S1 open 0 1704073200",
+            ),
+            (
+                "life,R3,T1,2024-01-01T01:23:20Z,1704073200,,,",
+                b"R3",
+                b"life T1 1704072200 1704073200",
+            ),
+            (
+                "life,R4,T1,,2024-01-01T01:40:00Z,,,",
+                b"R4",
+                b"life T1 0 1704073200",
+            ),
+        ],
+    )
+}
+
 #[test]
 fn bad_rows(rt: HostRuntime) {
     are_bad(
@@ -148,6 +206,19 @@ fn bad_rows(rt: HostRuntime) {
             ("device,R1,X1,S1,S1,open,,", 5),
             ("device,R1,B1,s1,S1,shut,,", 4),
             ("device,R1,B1,S1,S2,shut,,", 6),
+            ("device,R1,B1,S1,S2,shut,x,x", 6),
+            ("device,R1,B1,S1,S2,open,-,-", 7),
+            ("device,R1,B1,S1,S2,open,100000000000,", 7),
+            ("device,R1,B1,S1,S2,open,,-", 8),
+            ("device,R1,B1,S1,S2,open,0,2024-02-30T00:00:00Z", 8),
+            ("lives,R1,T1,,,,,", 1),
+            ("life,,T1,,,,,", 2),
+            ("life,R1,,-,,,,", 3),
+            ("life,R1,T1,-,-,,,", 4),
+            ("life,R1,T1,,-,x,,", 5),
+            ("life,R1,T1,,,x,,", 6),
+            ("life,R1,T1,0,,,x,", 7),
+            ("life,R1,T1,,1,,,x", 8),
             ("connect,R1,1,S1,,-,,", 5),
             ("connect,R1,1,S1,0,-,,", 6),
             ("revise,R1,0,x,-,,,", 3),
@@ -186,10 +257,10 @@ fn no_bodies(rt: HostRuntime) {
             b"section S1 256",
             b"section S1 0",
             b"section S1 007",
-            b"device B1 GRID GRID closed",
-            b"device B1 GRID S1 close",
-            b"device B1 GRID closed",
-            b"device B1 GRID S1 S2 closed",
+            b"device B1 GRID GRID closed 0 -",
+            b"device B1 GRID S1 close 0 -",
+            b"device B1 GRID closed 0 -",
+            b"device B1 GRID S1 S2 closed 0 -",
             b"connect 11 S3 1704072600",
             b"connect 11 S3 1704072600 ",
             b"connect 11 S3 - -",
@@ -208,10 +279,50 @@ fn no_bodies(rt: HostRuntime) {
     );
 }
 
+// A device and a life have a beginning and an end in their bodies.
 #[test]
-fn a_command_by_its_fields(rt: HostRuntime) -> Result<(), Fail> {
+fn no_bodies_of_lives(rt: HostRuntime) {
+    are_no_bodies(
+        &rt,
+        &[
+            b"device X1 BUS-A S1 closed",
+            b"device X1 BUS-A S1 closed ",
+            b"device X1 BUS-A S1 closed 1704072200",
+            b"device X1 BUS-A S1 closed 1704072200 ",
+            b"device X1 BUS-A S1 closed  -",
+            b"device X1 BUS-A S1 closed - -",
+            b"device X1 BUS-A S1 closed 00 -",
+            b"device X1 BUS-A S1 closed 0 01",
+            b"device X1 BUS-A S1 closed 2024-01-01T01:23:20Z -",
+            b"device X1 BUS-A S1 closed 0 - -",
+            b"life T1",
+            b"life T1 0",
+            b"life T1 0 ",
+            b"life T1  -",
+            b"life T1 - -",
+            b"life T1 00 -",
+            b"life T1 0 2024-01-01T01:40:00Z",
+            b"life T1 100000000000 -",
+            b"life T1 0 - ",
+            b"life T1 0 - -",
+            b"life t1 0 -",
+        ],
+    );
+}
+
+#[test]
+fn commands_by_their_fields(rt: HostRuntime) -> Result<(), Fail> {
     let command = service().ok_or("a command")?;
     has_body(&rt, rt.alloc(), &command, b"connect 11 S3 7 9")?;
+    let command = device().ok_or("a command")?;
+    has_body(
+        &rt,
+        rt.alloc(),
+        &command,
+        b"device X1 BUS-A S1 closed 1704072200 -",
+    )?;
+    let command = life().ok_or("a command")?;
+    has_body(&rt, rt.alloc(), &command, b"life T1 0 1704073200")?;
     Ok(())
 }
 

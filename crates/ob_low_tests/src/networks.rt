@@ -1,7 +1,7 @@
 //! The network: its parts by name and by number, which nodes are supplied, and its limits.
 ghost use Rattle.std.specs.Prelude.{◌≡◌, []};
 
-use ob_command::{Command, read_body};
+use ob_command::{Command, Moment, read_body};
 use ob_net::Pos::{Closed, Opened};
 use ob_net::{Life, Name, Net, Pos, Refusal};
 use std::alloc::Global;
@@ -15,19 +15,23 @@ bus BUS-B
 section S1 1
 section S2 1
 section S3 255
-device CB-A GRID BUS-A closed
-device CB-B BUS-B GRID closed
-device D1 BUS-A S1 closed
-device D2 S2 S1 closed
-device D3 BUS-B S3 closed
-device TIE S2 S3 open
+device CB-A GRID BUS-A closed 0 -
+device CB-B BUS-B GRID closed 0 -
+device D1 BUS-A S1 closed 0 -
+device D2 S2 S1 closed 0 -
+device D3 BUS-B S3 closed 0 -
+device TIE S2 S3 open 0 -
 ";
 
-// The life of a device that is always there.
-const WHOLE: Life = Life {
-    since: 0,
-    until: None,
-};
+fn life_from(since: Moment, until: Option<Moment>) -> Life {
+    Life {
+        since: since.second(),
+        until: match until {
+            Some(until) => Some(until.second()),
+            None => None,
+        },
+    }
+}
 
 // Adds the part that a body text says; why it is refused, if it is.
 fn add(net: &mut Net, body: &str) -> Result<Option<Refusal>, Fail> {
@@ -36,10 +40,19 @@ fn add(net: &mut Net, body: &str) -> Result<Option<Refusal>, Fail> {
     match command {
         Command::Bus { name } => Ok(net.add_bus(name).err()),
         Command::Section { name, feeder } => Ok(net.add_section(name, feeder.get()).err()),
-        Command::Device { name, ends, normal } => Ok(
-            net.add_device(name, *ends.a(), *ends.b(), normal, WHOLE)
-                .err(),
-        ),
+        Command::Device {
+            name,
+            ends,
+            normal,
+            since,
+            until,
+        } => {
+            let life = life_from(since, until);
+            Ok(
+                net.add_device(name, *ends.a(), *ends.b(), normal, life)
+                    .err(),
+            )
+        }
         _ => Err("no part of a network".into()),
     }
 }
@@ -154,7 +167,7 @@ fn tie_anew(rt: &impl Abort, net: &mut Net) -> Result<(), Fail> {
     counts(rt, net, 6, 5, 0);
     is_device(rt, net, 4, b"D3", Closed);
     assert!(rt; device_of(net, b"TIE") == None);
-    add_all(rt, net, "device TIE S1 S3 open")
+    add_all(rt, net, "device TIE S1 S3 open 0 -")
 }
 
 #[test]
@@ -268,13 +281,13 @@ fn names(rt: HostRuntime) -> Result<(), Fail> {
             ("bus GRID", Some(Refusal::NameTaken)),
             ("bus S3", Some(Refusal::NameTaken)),
             ("section BUS-A 3", Some(Refusal::NameTaken)),
-            ("device D9 S9 S1 closed", Some(Refusal::UnknownName)),
-            ("device D9 S1 S9 closed", Some(Refusal::UnknownName)),
-            ("device D1 S1 S9 closed", Some(Refusal::UnknownName)),
-            ("device D9 D1 S1 closed", Some(Refusal::UnknownName)),
-            ("device D1 S1 S3 closed", Some(Refusal::NameTaken)),
-            ("device TIE S3 S1 closed", Some(Refusal::NameTaken)),
-            ("device S1 S1 S3 closed", None),
+            ("device D9 S9 S1 closed 0 -", Some(Refusal::UnknownName)),
+            ("device D9 S1 S9 closed 0 -", Some(Refusal::UnknownName)),
+            ("device D1 S1 S9 closed 0 -", Some(Refusal::UnknownName)),
+            ("device D9 D1 S1 closed 0 -", Some(Refusal::UnknownName)),
+            ("device D1 S1 S3 closed 0 -", Some(Refusal::NameTaken)),
+            ("device TIE S3 S1 closed 0 -", Some(Refusal::NameTaken)),
+            ("device S1 S1 S3 closed 0 -", None),
             ("bus TIE", None),
         ],
     )?;
@@ -295,7 +308,7 @@ fn fill_nodes(rt: &impl Abort, alloc: Global, net: &mut Net) -> Result<(), Fail>
 fn fill_devices(rt: &impl Abort, alloc: Global, net: &mut Net) -> Result<(), Fail> {
     for number in 0..2048 {
         let end = number % 1023 + 1;
-        let body = format!(in alloc; "device D{number} GRID N{end} closed")?;
+        let body = format!(in alloc; "device D{number} GRID N{end} closed 0 -")?;
         add_all(rt, net, body.as_str())?;
     }
     Ok(())
@@ -319,9 +332,15 @@ fn most_nodes_and_devices(rt: HostRuntime) -> Result<(), Fail> {
         &rt,
         &mut net,
         &[
-            ("device ONE-MORE GRID N1 closed", Some(Refusal::Full(2048))),
-            ("device D2047 GRID N1 closed", Some(Refusal::NameTaken)),
-            ("device D2047 GRID N1024 closed", Some(Refusal::UnknownName)),
+            (
+                "device ONE-MORE GRID N1 closed 0 -",
+                Some(Refusal::Full(2048)),
+            ),
+            ("device D2047 GRID N1 closed 0 -", Some(Refusal::NameTaken)),
+            (
+                "device D2047 GRID N1024 closed 0 -",
+                Some(Refusal::UnknownName),
+            ),
         ],
     )?;
     counts(&rt, &net, 1024, 2048, 0);

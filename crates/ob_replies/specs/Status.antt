@@ -1,7 +1,7 @@
 -- The status of a reply, RFC 9110, section 15.
 use Rattle.std.specs.Prelude.{ℕ, Option, Some, None}
 use Rattle.ob_base.specs.declared.stop.Refusal.{Refusal}
-use Rattle.ob_base.specs.declared.stop.Refusal.TheVariants.{BadField, UnknownName, NameTaken, Sealed, OutOfPeriod, UnknownEntry, Stale, Withdrawn, UnknownCustomer, BadService, RefConflict, Full, MarkedAlready, NotMarked, UnknownCause, BadPeriod, BadBook, BadLife, OldVersion}
+use Rattle.ob_base.specs.declared.stop.Refusal.TheVariants.{BadField, UnknownName, NameTaken, OutOfPeriod, UnknownEntry, Stale, Withdrawn, UnknownCustomer, BadService, RefConflict, Full, MarkedAlready, NotMarked, UnknownCause, BadPeriod, BadBook, BadLife, OldVersion}
 use Rattle.ob_replies.specs.declared.status.Status.{Status}
 use Rattle.ob_replies.specs.declared.status.Status.TheVariants as statuses
 
@@ -24,7 +24,6 @@ abbrev pub refusal_status : Refusal → Status
 refusal_status (BadField column) = statuses.UnprocessableEntity
 refusal_status UnknownName = statuses.UnprocessableEntity
 refusal_status NameTaken = statuses.Conflict
-refusal_status Sealed = statuses.Conflict
 refusal_status OutOfPeriod = statuses.UnprocessableEntity
 refusal_status UnknownEntry = statuses.UnprocessableEntity
 refusal_status (Stale revision) = statuses.Conflict

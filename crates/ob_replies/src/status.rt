@@ -70,7 +70,6 @@ pub fn refusal_status(refusal: &Refusal) -> Status
 {
     match refusal {
         Refusal::NameTaken
-        | Refusal::Sealed
         | Refusal::Stale(_)
         | Refusal::Withdrawn
         | Refusal::RefConflict(_)

@@ -45,6 +45,18 @@ fn refused(rt: HostRuntime) -> Result<(), Fail> {
         alloc,
         &Refusal::BadBook,
         b"{\"name\":\"BadBook\",\"refused\":17}",
+    )?;
+    is_told(
+        &rt,
+        alloc,
+        &Refusal::BadLife,
+        b"{\"name\":\"BadLife\",\"refused\":18}",
+    )?;
+    is_told(
+        &rt,
+        alloc,
+        &Refusal::OldVersion(1),
+        b"{\"detail\":1,\"name\":\"OldVersion\",\"refused\":19}",
     )
 }
 

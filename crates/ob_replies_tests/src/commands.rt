@@ -44,6 +44,41 @@ fn commands(rt: HostRuntime) -> Result<(), Fail> {
     )
 }
 
+#[test]
+fn commands_with_lives(rt: HostRuntime) -> Result<(), Fail> {
+    says(
+        &rt,
+        rt.alloc(),
+        &[
+            (
+                b"{\"kind\":\"device\",\"ref\":\"R1\",\"f1\":\"X1\",\"f2\":\"BUS-A\",\"f3\":\"S1\",\"f4\":\"closed\",\"f5\":\"2024-01-01T01:23:20Z\"}",
+                b"R1",
+                b"device X1 BUS-A S1 closed 1704072200 -",
+            ),
+            (
+                b"{\"kind\":\"device\",\"ref\":\"R2\",\"f1\":\"X1\",\"f2\":\"BUS-A\",\"f3\":\"S1\",\"f4\":\"open\",\"f5\":\"\",\"f6\":\"1704073200\"}",
+                b"R2",
+                b"device X1 BUS-A S1 open 0 1704073200",
+            ),
+            (
+                b"{\"kind\":\"device\",\"ref\":\"R3\",\"f1\":\"X1\",\"f2\":\"BUS-A\",\"f3\":\"S1\",\"f4\":\"open\"}",
+                b"R3",
+                b"device X1 BUS-A S1 open 0 -",
+            ),
+            (
+                b"{\"kind\":\"life\",\"ref\":\"R4\",\"f1\":\"T1\",\"f3\":\"1704073200\"}",
+                b"R4",
+                b"life T1 0 1704073200",
+            ),
+            (
+                b"{\"kind\":\"life\",\"ref\":\"R5\",\"f1\":\"T1\",\"f2\":\"1704072200\"}",
+                b"R5",
+                b"life T1 1704072200 -",
+            ),
+        ],
+    )
+}
+
 fn are_bad(rt: &impl Abort, alloc: Global, bodies: &[(&[u8], u8)]) {
     for (body, column) in bodies {
         let refused = Some(Stop::Refused(Refusal::BadField(*column)));
@@ -81,6 +116,37 @@ fn bad_bodies(rt: HostRuntime) {
             (
                 b"{\"kind\":\"bus\",\"ref\":\"R1\",\"f1\":\"B\",\"f3\":0,\"f2\":\"x\"}",
                 4,
+            ),
+        ],
+    );
+}
+
+#[test]
+fn bad_bodies_of_lives(rt: HostRuntime) {
+    are_bad(
+        &rt,
+        rt.alloc(),
+        &[
+            (
+                b"{\"kind\":\"device\",\"ref\":\"R1\",\"f1\":\"X1\",\"f2\":\"BUS-A\",\"f3\":\"S1\",\"f4\":\"open\",\"f5\":0}",
+                7,
+            ),
+            (
+                b"{\"kind\":\"device\",\"ref\":\"R1\",\"f1\":\"X1\",\"f2\":\"BUS-A\",\"f3\":\"S1\",\"f4\":\"open\",\"f6\":\"-\"}",
+                8,
+            ),
+            (b"{\"kind\":\"life\",\"ref\":\"R1\"}", 3),
+            (
+                b"{\"kind\":\"life\",\"ref\":\"R1\",\"f1\":\"T1\",\"f2\":\"-\"}",
+                4,
+            ),
+            (
+                b"{\"kind\":\"life\",\"ref\":\"R1\",\"f1\":\"T1\",\"f3\":null}",
+                5,
+            ),
+            (
+                b"{\"kind\":\"life\",\"ref\":\"R1\",\"f1\":\"T1\",\"f4\":\"x\"}",
+                6,
             ),
         ],
     );

@@ -93,7 +93,6 @@ fn refusals_and_imports(rt: HostRuntime) {
         Status::Conflict,
         &[
             Refusal::NameTaken,
-            Refusal::Sealed,
             Refusal::Stale(2),
             Refusal::Withdrawn,
             Refusal::RefConflict(1),
@@ -109,6 +108,8 @@ fn refusals_and_imports(rt: HostRuntime) {
             Refusal::UnknownEntry,
             Refusal::Full(50_000),
             Refusal::UnknownCause,
+            Refusal::BadLife,
+            Refusal::OldVersion(1),
         ],
     );
     assert!(rt; report_status(None) == Status::Ok);

@@ -1,10 +1,12 @@
 -- What a state keeps to stays where one of its parts changes.
-use Rattle.std.proofs.Common.{ℕ, ◌<◌, ◌≤◌, List, [], ◌∷◌, ◌++◌, IsSome, Option, length, map, get_or, zero, suc, arith, length-append, nat_lt, ◌==◌, cond, Bool, true, false}
+use Rattle.std.proofs.Common.{◌≡◌, refl, ap, ℕ, ◌<◌, ◌≤◌, List, [], ◌∷◌, ◌++◌, IsSome, Option, length, map, get_or, zero, suc, arith, length-append, nat_lt, ◌==◌, cond, Bool, true, false}
 use Rattle.std.specs.List.{All}
 use Rattle.std.proofs.lemmas.List.{length-map}
 use Rattle.std.proofs.lemmas.List.Elements.{All-map, All-cons, All-push}
 use Rattle.ob_net.specs.declared.net.Node.{Node}
-use Rattle.ob_net.specs.Network.{Network, home_feeder}
+use Rattle.ob_base.specs.declared.life.Life.{Life}
+use Rattle.ob_net.specs.declared.net.Device.{Device}
+use Rattle.ob_net.specs.Network.{Network, home_feeder, with_life, with_life_at}
 use Rattle.ob_base.specs.declared.Pos.{Pos}
 use Rattle.ob_sheet.specs.declared.TheConstants.{MOST_ENTRIES}
 use Rattle.ob_sheet.specs.Revisions.{change_entry, corrected, withdrawn}
@@ -104,6 +106,25 @@ withdrawn_is b number h = let same = length-map b.entries (λ e. cond (e.no == n
   between = All-change_where (λ e. (first_second_of b.period ≤ e.second) × (e.second < end_second_of b.period)) (λ e. e.no == number) withdrawn b.entries h.between h.between;
   entry_causes = All-change_where (λ e. e.cause < 64) (λ e. e.no == number) withdrawn b.entries h.entry_causes h.entry_causes;
   few_entries = rw same h.few_entries;
+  causes = h.causes;
+  marks = h.marks;
+  few = h.few;
+}
+
+-- another life leaves the number of devices
+pub count_lived : (ds : List Device) (k : ℕ) (life : Life) → length (with_life_at ds k life) ≡ length ds
+count_lived [] k life = refl
+count_lived (d ∷ ds) zero life = refl
+count_lived (d ∷ ds) (suc k) life = ap suc (count_lived ds k life)
+
+-- and where a device has another life
+pub lived_is : (b : BookState) (device : ℕ) (life : Life) → IsBookState b → IsBookState (record b { network = with_life b.network device life })
+lived_is b device life h = record {
+  sections = h.sections;
+  devices = rw (count_lived b.network.devices device life) h.devices;
+  between = h.between;
+  entry_causes = h.entry_causes;
+  few_entries = h.few_entries;
   causes = h.causes;
   marks = h.marks;
   few = h.few;

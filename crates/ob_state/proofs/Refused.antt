@@ -1,8 +1,8 @@
 -- Refusals tried one after another, as their definitions put them.
-use Rattle.std.proofs.Common.{◌≡◌, ℕ, Bool, true, false, ◌==◌, List, [], ◌∷◌, Option, Some, None, is_none, length, refl, cond}
+use Rattle.std.proofs.Common.{◌≡◌, ℕ, Bool, true, false, not, ◌==◌, List, [], ◌∷◌, Option, Some, None, is_none, length, refl, cond}
 use Rattle.std.specs.Option.{option_or}
 use Rattle.ob_base.specs.declared.stop.Refusal.{Refusal}
-use Rattle.ob_base.specs.declared.stop.Refusal.TheVariants.{UnknownName, NameTaken, BadService, Full}
+use Rattle.ob_base.specs.declared.stop.Refusal.TheVariants.{UnknownName, NameTaken, BadLife, BadService, Full}
 use Rattle.ob_cust.specs.declared.Customer.{Customer}
 use Rattle.ob_cust.specs.declared.TheConstants.{MOST_CUSTOMERS}
 use Rattle.ob_cust.specs.Roll.{ends_too_early, has_number}
@@ -25,3 +25,9 @@ pub connect_refused : (section : Option ℕ) (customers : List Customer) (number
 connect_refused None customers number since until = refl
 connect_refused (Some v) customers number since until =
     one_of_three (has_number customers number) (ends_too_early since until) (length customers == MOST_CUSTOMERS) NameTaken BadService (Full MOST_CUSTOMERS)
+
+-- why a device can't have a life
+pub life_refused : (unknown later : Bool) → option_or (refuse_if unknown UnknownName) (refuse_if (not later) BadLife) ≡ first (refuse_if unknown UnknownName ∷ cond later None (Some BadLife) ∷ [])
+life_refused true later = refl
+life_refused false true = refl
+life_refused false false = refl

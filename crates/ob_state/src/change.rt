@@ -29,7 +29,7 @@ pub fn life_from(since: Moment, until: Option<Moment>) -> Life
 
 impl State {
     ghost use Rattle.std.specs.Prelude.{◌≡◌, ◌<◌, None};
-    ghost use Rattle.ob_command.specs.declared.command.Command.TheVariants.{Cause, Bus, Section, Device, Life, Connect, Revise, Switch, Correct, Withdraw, Mark, Unmark};
+    ghost use Rattle.ob_command.specs.declared.command.Command.TheVariants.{Cause, Bus, Section, Device, Connect, Revise, Switch, Correct, Withdraw, Mark, Unmark};
     ghost use Rattle.ob_state.specs.Refusals.{refusal as refusal_to};
     ghost use Rattle.ob_state.specs.Next.{changed, next};
 
@@ -148,8 +148,8 @@ impl State {
 
     // Sets the life of a device anew, where that isn't refused.
     fn live(&mut self, device: &Name, life: Life)
-        requires accepted { refusal_to self.old.state (Life device.now life.since life.until) ≡ None }
-        ensures state { self.new.state ≡ changed self.old.state (Life device.now life.since life.until) }
+        requires accepted { refusal_to self.old.state (Command.Life device.now life.since life.until) ≡ None }
+        ensures state { self.new.state ≡ changed self.old.state (Command.Life device.now life.since life.until) }
         ensures searches { self.new.searches ≡ self.old.searches }
     {
         let Some(device) = self.net.device_of(device) else {

@@ -35,7 +35,7 @@ impl State {
     ghost use Rattle.ob_sheet.specs.Revisions.{revision_refusal};
     ghost use Rattle.ob_time.specs.Calendar.{day_on};
     ghost use Rattle.ob_index.specs.Marks.{mark_refusal, unmark_refusal};
-    ghost use Rattle.ob_command.specs.declared.command.Command.TheVariants.{Cause, Life, Connect, Revise};
+    ghost use Rattle.ob_command.specs.declared.command.Command.TheVariants.{Cause, Connect, Revise};
     ghost use Rattle.ob_state.specs.Refusals.{day_refusal, first, if_full_sheet, if_outside, if_unknown_cause, if_unknown_device, refusals, refusal as refusal_to};
 
     /// Why a command isn't accepted; None where it is.
@@ -128,11 +128,11 @@ impl State {
     }
 
     fn refuse_life(&self, device: &Name, life: Life) -> Option<Refusal>
-        ensures { result ≡ first (refusals self.now.state (Life device.now life.since life.until)) }
+        ensures { result ≡ first (refusals self.now.state (Command.Life device.now life.since life.until)) }
     {
         let unknown = self.net.device_of(device).is_none();
-        refuse_if(unknown, Refusal::UnknownName)
-            .or(refuse_if(!life.ends_later(), Refusal::BadLife))
+        let bad = !life.ends_later();
+        refuse_if(unknown, Refusal::UnknownName).or(refuse_if(bad, Refusal::BadLife))
     }
 
     fn refuse_connect(

@@ -1,7 +1,7 @@
 //! Networks by the body texts of commands, and lives of their devices.
 ghost use Rattle.std.specs.Prelude.{◌<◌, IfOk, length};
 
-use ob_command::{Command, read_body};
+use ob_command::{Command, Moment, read_body};
 use ob_net::{Life, Name, Net, Second};
 use std::alloc::Global;
 use std::test::Fail;
@@ -13,11 +13,11 @@ section S1 1
 section S2 1
 section S3 2
 section S4 2
-device I1 GRID BUS-A closed
-device B1 BUS-A S1 closed
-device W1 S1 S2 closed
-device B2 BUS-A S3 closed
-device T1 S2 S3 open
+device I1 GRID BUS-A closed 0 -
+device B1 BUS-A S1 closed 0 -
+device W1 S1 S2 closed 0 -
+device B2 BUS-A S3 closed 0 -
+device T1 S2 S3 open 0 -
 ";
 
 /// The nodes of the network, by number, and one that isn't there yet.
@@ -60,13 +60,30 @@ pub fn net_of(alloc: Global, script: &str) -> Result<Net, Fail> {
     Ok(net)
 }
 
+fn life_from(since: Moment, until: Option<Moment>) -> Life {
+    Life {
+        since: since.second(),
+        until: match until {
+            Some(until) => Some(until.second()),
+            None => None,
+        },
+    }
+}
+
 fn add_part(net: &mut Net, command: &Command) -> Result<(), Fail> {
     net.reserve_one()?;
     match command {
         Command::Bus { name } => net.add_bus(*name)?,
         Command::Section { name, feeder } => net.add_section(*name, feeder.get())?,
-        Command::Device { name, ends, normal } => {
-            net.add_device(*name, *ends.a(), *ends.b(), *normal, WHOLE)?
+        Command::Device {
+            name,
+            ends,
+            normal,
+            since,
+            until,
+        } => {
+            let life = life_from(*since, *until);
+            net.add_device(*name, *ends.a(), *ends.b(), *normal, life)?
         }
         _ => return Err("no part of a network".into()),
     }

@@ -15,9 +15,9 @@ use std::test::Fail;
 // Three devices between GRID and a section, the second of them normally open.
 const DEVICES: &'static str = "\
 section S1 1
-device D1 GRID S1 closed
-device D2 GRID S1 open
-device D3 GRID S1 closed
+device D1 GRID S1 closed 0 -
+device D2 GRID S1 open 0 -
+device D3 GRID S1 closed 0 -
 ";
 
 const ENTRIES: &'static str = "\

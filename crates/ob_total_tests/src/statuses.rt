@@ -27,6 +27,7 @@ fn a_complaint_has_number_name_detail_and_row(rt: HostRuntime) -> Result<(), Fai
     let out_of_period = Stop::Refused(Refusal::OutOfPeriod);
     let bad_field = Stop::Refused(Refusal::BadField(4));
     let full = Stop::Refused(Refusal::Full(1_000_000));
+    let old_version = Stop::Refused(Refusal::OldVersion(1));
     let alloc = rt.alloc();
     complains(&rt, alloc, bad_field, Some(1), "refused 1 BadField 4 row 1")?;
     complains(
@@ -37,6 +38,7 @@ fn a_complaint_has_number_name_detail_and_row(rt: HostRuntime) -> Result<(), Fai
         "refused 5 OutOfPeriod row 24",
     )?;
     complains(&rt, alloc, full, None, "refused 12 Full 1000000")?;
+    complains(&rt, alloc, old_version, None, "refused 19 OldVersion 1")?;
     complains(&rt, alloc, out_of_period, None, "refused 5 OutOfPeriod")?;
     complains(
         &rt,
