@@ -1,4 +1,4 @@
--- The change of a row, once its kind is known.
+-- The change of rows, once its kind is known.
 use Rattle.std.proofs.Common.{◌≡◌, sym, subst}
 use Rattle.std.specs.Prelude.{Result}
 use Rattle.std.specs.Borrow.{MutBor}

@@ -1,11 +1,11 @@
--- The tables of a new book: the ten without rows, then the rows that they begin with.
+-- The tables of a new book: the eleven without rows, then the rows that they begin with.
 use Rattle.std.proofs.Common.{◌≡◌, ℕ, List, refl}
 use Rattle.sqlite.specs.State.{State}
 use Rattle.ob_tables.specs.Rows.{Always}
 use Rattle.ob_tables.specs.Steps.{Makes}
 use Rattle.ob_tables.specs.Creation.{MakesBook, no_rows}
 use Rattle.ob_tables.specs.declared.table.Table.{Table}
-use Rattle.ob_tables.specs.declared.table.Table.TheVariants.{Meta, Cause, Node, Device, Customer, Entry, Mark, Command, Moved, Posting}
+use Rattle.ob_tables.specs.declared.table.Table.TheVariants.{Meta, Cause, Node, Device, Life, Customer, Entry, Mark, Command, Moved, Posting}
 use Rattle.ob_commit.specs.Amounts.{all_keys}
 use Rattle.ob_commit.specs.NewBook.{new_tables, with_heading, with_zeros, MakesNew}
 use Rattle.ob_commit.proofs.Zeros.{holds_as}
@@ -16,6 +16,7 @@ new_rows first days zone Meta = refl
 new_rows first days zone Cause = refl
 new_rows first days zone Node = refl
 new_rows first days zone Device = refl
+new_rows first days zone Life = refl
 new_rows first days zone Customer = refl
 new_rows first days zone Entry = refl
 new_rows first days zone Mark = refl

@@ -1,18 +1,21 @@
--- What the change of a row makes of the tables.
-use Rattle.std.specs.Prelude.{◌<◌, ◌^◌, ⊤, true, IfSome}
-use Rattle.ob_tables.specs.Rows.{Tables, Always, HasCustomer, HasEntry, HasMark, with_row, with_change, without_key}
-use Rattle.ob_tables.specs.Rows.{cause_row, node_row, device_row, customer_row, entry_row, mark_row}
-use Rattle.ob_tables.specs.Rows.{serve, correct, withdraw}
-use Rattle.ob_tables.specs.declared.table.Table.TheVariants.{Cause, Node, Device, Customer, Entry, Mark}
+-- What the change of rows makes of the tables.
+use Rattle.std.specs.Prelude.{ℕ, ◌<◌, ◌^◌, ⊤, true, List, Option, IfSome}
+use Rattle.ob_base.specs.declared.Pos.{Pos}
+use Rattle.ob_tables.specs.Rows.{Tables, Always, HasLife, HasCustomer, HasEntry, HasMark, with_row, with_change, without_key}
+use Rattle.ob_tables.specs.Rows.{cause_row, node_row, device_row, life_row, customer_row, entry_row, mark_row}
+use Rattle.ob_tables.specs.Rows.{relive, serve, correct, withdraw}
+use Rattle.ob_tables.specs.declared.table.Table.TheVariants.{Cause, Node, Device, Life, Customer, Entry, Mark}
 use Rattle.ob_commit.specs.declared.change.RowChange.{RowChange}
-use Rattle.ob_commit.specs.declared.change.RowChange.TheVariants.{AddCause, AddNode, AddDevice, AddCustomer, SetService}
+use Rattle.ob_commit.specs.declared.change.RowChange.TheVariants.{AddCause, AddNode, AddDevice, SetLife, AddCustomer, SetService}
 use Rattle.ob_commit.specs.declared.change.RowChange.TheVariants.{AddEntry, CorrectEntry, WithdrawEntry, AddMark, DropMark}
 
 -- its seconds are small enough for a column
 abbrev pub HasSmallSeconds : RowChange → Type 0
 HasSmallSeconds (AddCause code name) = ⊤
 HasSmallSeconds (AddNode id name kind feeder) = ⊤
-HasSmallSeconds (AddDevice id name a b normal) = ⊤
+HasSmallSeconds (AddDevice id name a b normal since until) =
+    (since < 2 ^ 63) × IfSome until (λ end. end < 2 ^ 63)
+HasSmallSeconds (SetLife device since until) = (since < 2 ^ 63) × IfSome until (λ end. end < 2 ^ 63)
 HasSmallSeconds (AddCustomer id section since until) = (since < 2 ^ 63) × IfSome until (λ end. end < 2 ^ 63)
 HasSmallSeconds (SetService id since until) = (since < 2 ^ 63) × IfSome until (λ end. end < 2 ^ 63)
 HasSmallSeconds (AddEntry id device act second cause crew) = second < 2 ^ 63
@@ -25,7 +28,8 @@ HasSmallSeconds (DropMark day) = ⊤
 abbrev pub NeedsRow : RowChange → Tables → Type 0
 NeedsRow (AddCause code name) = Always
 NeedsRow (AddNode id name kind feeder) = Always
-NeedsRow (AddDevice id name a b normal) = Always
+NeedsRow (AddDevice id name a b normal since until) = Always
+NeedsRow (SetLife device since until) = HasLife device
 NeedsRow (AddCustomer id section since until) = Always
 NeedsRow (SetService id since until) = HasCustomer id
 NeedsRow (AddEntry id device act second cause crew) = Always
@@ -34,11 +38,17 @@ NeedsRow (WithdrawEntry id revision) = HasEntry id
 NeedsRow (AddMark day engineer) = Always
 NeedsRow (DropMark day) = HasMark day
 
+-- the tables with a device more, and with its life
+abbrev pub with_device_and_life : ℕ → List ℕ → ℕ → ℕ → Pos → ℕ → Option ℕ → Tables → Tables
+with_device_and_life id name a b normal since until tables =
+    with_row Life (life_row id since until) (with_row Device (device_row id name a b normal) tables)
+
 -- the tables once it is made
 abbrev pub changed_by : RowChange → Tables → Tables
 changed_by (AddCause code name) = with_row Cause (cause_row code name.now)
 changed_by (AddNode id name kind feeder) = with_row Node (node_row id name.now kind feeder)
-changed_by (AddDevice id name a b normal) = with_row Device (device_row id name.now a b normal)
+changed_by (AddDevice id name a b normal since until) = with_device_and_life id name.now a b normal since until
+changed_by (SetLife device since until) = with_change Life device (relive since until)
 changed_by (AddCustomer id section since until) = with_row Customer (customer_row id section since until)
 changed_by (SetService id since until) = with_change Customer id (serve since until)
 changed_by (AddEntry id device act second cause crew) =

@@ -5,7 +5,7 @@ use Rattle.sqlite.specs.State.{State}
 use Rattle.ob_post.specs.declared.Dim.{Dim}
 use Rattle.ob_tables.specs.Schema.{no_schema, book_schema}
 use Rattle.ob_tables.specs.Rows.{Tables, Holds, with_row, with_table, meta_row, cause_row, node_row}
-use Rattle.ob_tables.specs.declared.table.Table.TheVariants.{Meta, Cause, Node, Device, Customer, Entry, Mark, Command, Moved, Posting}
+use Rattle.ob_tables.specs.declared.table.Table.TheVariants.{Meta, Cause, Node, Device, Life, Customer, Entry, Mark, Command, Moved, Posting}
 use Rattle.ob_commit.specs.Amounts.{amount_row, amount_rows}
 
 -- no second is posted under any key
@@ -14,10 +14,11 @@ no_amount dim key = 0
 
 -- its period, from this day on for this many days in this zone, cause 0, GRID, and an amount of 0 under each key
 abbrev pub new_tables : List ℕ → ℕ → List ℕ → Tables
-new_tables first days zone Meta = meta_row 1 first days zone ∷ []
+new_tables first days zone Meta = meta_row 2 first days zone ∷ []
 new_tables first days zone Cause = cause_row 0 (codes "UNASSIGNED") ∷ []
 new_tables first days zone Node = node_row 0 (codes "GRID") 0 0 ∷ []
 new_tables first days zone Device = []
+new_tables first days zone Life = []
 new_tables first days zone Customer = []
 new_tables first days zone Entry = []
 new_tables first days zone Mark = []
@@ -29,7 +30,7 @@ new_tables first days zone Posting = amount_rows days no_amount
 abbrev pub with_heading : List ℕ → ℕ → List ℕ → Tables → Tables
 with_heading first days zone tables =
     with_row Node (node_row 0 (codes "GRID") 0 0) (with_row Cause (cause_row 0 (codes "UNASSIGNED"))
-    (with_row Meta (meta_row 1 first days zone) tables))
+    (with_row Meta (meta_row 2 first days zone) tables))
 
 -- with an amount of 0 under each of these keys
 abbrev pub with_zeros : List (Dim × ℕ) → Tables → Tables

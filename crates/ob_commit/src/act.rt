@@ -24,13 +24,13 @@ pub struct Act<'t> {
     pub reference: &'t [u8],
     /// Its body text.
     pub body: &'t [u8],
-    /// What it does to a row beside its own and those of its amounts.
+    /// What it does to the rows beside its own and those of its amounts.
     pub change: RowChange<'t>,
     /// The amounts that it moves.
     pub moves: &'t [Moved],
 }
 
-/// Writes the rows of an accepted command: the one that it changes, its own, and those of the amounts that it moves.
+/// Writes the rows of an accepted command: those that it changes, its own, and those of the amounts that it moves.
 pub(crate) fn write_act<S: Alter>(
     tx: &mut Transaction<'_, S>,
     act: &Act<'_>,

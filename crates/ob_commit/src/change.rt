@@ -1,17 +1,18 @@
-//! The row that a command changes beside its own and those of its amounts.
-ghost use Rattle.std.specs.Prelude.{◌≡◌};
+//! The rows that a command changes beside its own and those of its amounts.
+ghost use Rattle.std.specs.Prelude.{◌≡◌, ◌<◌, ◌^◌, IfSome};
+ghost use Rattle.ob_tables.specs.Rows.{Always};
 ghost use Rattle.ob_tables.specs.Steps.{Changes};
-ghost use Rattle.ob_commit.specs.Changing.{HasSmallSeconds, NeedsRow, changed_by};
+ghost use Rattle.ob_commit.specs.Changing.{HasSmallSeconds, NeedsRow, changed_by, with_device_and_life};
 
 use ob_base::{Pos, Stop};
 use ob_tables::{
-    add_cause, add_customer, add_device, add_entry, add_mark, add_node, correct_entry, drop_mark,
-    set_service, withdraw_entry,
+    add_cause, add_customer, add_device, add_entry, add_life, add_mark, add_node, correct_entry,
+    drop_mark, set_life, set_service, withdraw_entry,
 };
 use sqlite::{Alter, Transaction};
 
-/// What a command does to one row, in plain numbers and bytes. Seconds are Unix seconds, and `until` is None for
-/// without end.
+/// What a command does to one row, or a new device to its two, in plain numbers and bytes. Seconds are Unix seconds,
+/// and `until` is None for without end.
 #[derive(Clone, Copy)]
 pub enum RowChange<'t> {
     /// Adds a cause.
@@ -26,13 +27,21 @@ pub enum RowChange<'t> {
         kind: u32,
         feeder: u32,
     },
-    /// Adds a device between the nodes numbered `a` and `b`.
+    /// Adds a device between the nodes numbered `a` and `b`, and its life.
     AddDevice {
         no: u32,
         name: &'t [u8],
         a: u32,
         b: u32,
         normal: Pos,
+        since: u64,
+        until: Option<u64>,
+    },
+    /// Gives a device another life.
+    SetLife {
+        device: u32,
+        since: u64,
+        until: Option<u64>,
     },
     /// Adds a customer of the section of a number.
     AddCustomer {
@@ -81,7 +90,7 @@ pub enum RowChange<'t> {
     },
 }
 
-/// Makes the change of the row.
+/// Makes the change of the rows.
 pub(crate) fn write_change<S: Alter>(
     tx: &mut Transaction<'_, S>,
     change: &RowChange<'_>,
@@ -104,7 +113,14 @@ pub(crate) fn write_change<S: Alter>(
             a,
             b,
             normal,
-        } => add_device(tx, no, name, a, b, normal),
+            since,
+            until,
+        } => add_device_and_life(tx, no, name, a, b, normal, since, until),
+        RowChange::SetLife {
+            device,
+            since,
+            until,
+        } => set_life(tx, device, since, until),
         RowChange::AddCustomer {
             no,
             section,
@@ -132,4 +148,24 @@ pub(crate) fn write_change<S: Alter>(
         RowChange::AddMark { day, engineer } => add_mark(tx, day, engineer),
         RowChange::DropMark { day } => drop_mark(tx, day),
     }
+}
+
+/// Adds a device between the nodes of two numbers, and its life.
+fn add_device_and_life<S: Alter>(
+    tx: &mut Transaction<'_, S>,
+    no: u32,
+    name: &[u8],
+    a: u32,
+    b: u32,
+    normal: Pos,
+    since: u64,
+    until: Option<u64>,
+) -> Result<(), Stop>
+    requires since { since < 2 ^ 63 }
+    requires until { IfSome until (λ end. end < 2 ^ 63) }
+    ensures { Changes S.Store tx.old.conn tx.new.conn result Always
+        (with_device_and_life no name.now a b normal since until) }
+{
+    add_device(tx, no, name, a, b, normal)?;
+    add_life(tx, no, since, until)
 }

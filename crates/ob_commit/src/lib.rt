@@ -1,7 +1,7 @@
 //! The rows of a book, written and read back in transactions.
 //!
-//! Keeps what makes the ten tables of a new book with the rows that they begin with (its period, cause 0, GRID, and an
-//! amount of 0 under each key); what writes the rows of an accepted command (the one that it changes, its own, and
+//! Keeps what makes the eleven tables of a new book with the rows that they begin with (its period, cause 0, GRID, and
+//! an amount of 0 under each key); what writes the rows of an accepted command (those that it changes, its own, and
 //! those of the amounts that it moves); and what reads the rows of one command back, under its reference or by its
 //! number. Promises that what one transaction writes is committed whole or not at all, also where the store fails or
 //! the machine stops in the midst; that a database which holds something is refused and left as it was; that a reading

@@ -18,13 +18,15 @@ use Rattle.ob_base.specs.declared.stop.Stop.{Stop}
 use Rattle.sqlite_trees.specs.declared.error.StoreError.{StoreError}
 use Rattle.sqlite_trees.specs.declared.error.StoreError.TheVariants.{OutOfMemory, Io, Corrupt, Full, Broken, Unstorable}
 use Rattle.sqlite_resolve.specs.declared.compiled.Compiled.{Compiled}
-use Rattle.sqlite.proofs.Callers.{IsPlain, unchanged_then}
+use Rattle.sqlite.proofs.Callers.{IsPlain, command_of, reads_as, unchanged_then}
+use Rattle.sqlite.specs.Command.{Command as SqlCommand}
+use Rattle.sqlite.specs.Schema.{Schema}
 use Rattle.ob_tables.specs.Schema.{book_schema}
 use Rattle.ob_tables.specs.Steps.{IsStoreFault}
-use Rattle.ob_compare.specs.Listing.{Listing, IsListing, Lists}
+use Rattle.ob_compare.specs.Listing.{Listing, IsListing, IsListingOver, Lists, Means, list_command}
 use Rattle.ob_compare.specs.Faults.{IsReadFault, bad_book}
 use Rattle.ob_compare.specs.Reading.{HasNoMeaning, HasTrouble, IsInputError}
-use Rattle.ob_compare.proofs.Listing.{listed, quiet, still_then}
+use Rattle.ob_compare.proofs.Listing.{quiet, still_then}
 
 -- no failure of a store is one of the text
 of_store : (cause : StoreError) → IsInputError (store_error cause) → ⊥
@@ -88,24 +90,35 @@ module _ (l : Listing) (means : IsListing l) (old mid new : State) (text : List 
   pub listing_quiet : Survives old mid (λ _. ⊥) → Survives mid new (CommitsShowing text [] mid) → Survives old new (λ _. ⊥)
   listing_quiet first s = still_then old mid new first (quiet l means old mid new text prepared s)
 
+means_command : (it : Result Compiled CompileError) (command : SqlCommand) → Means it command → command_of it ≡ command
+means_command (Ok c) command h = h
+means_command (Err e) command h = absurd h
+
+module _ (at : Schema) (l : Listing) (means : IsListingOver at l) where
   -- and changes nothing
-  pub listing_whole : old.now.schema ≡ book_schema → HasCleanDisk mid → (rows : List Row) → Shown text [] mid new rows → Lists l old.now rows × IsUnchanged old new
-  listing_whole has clean rows h =
+  pub listing_whole : (old mid new : State) (text : List ℕ) (prepared : HasCleanDisk mid → (text ≡ l.text) × IsUnchanged old mid) → old.now.schema ≡ at → HasCleanDisk mid → (rows : List Row) → Shown text [] mid new rows
+      → Lists l old.now rows × IsUnchanged old new
+  listing_whole old mid new text prepared has clean rows h =
       let it = prepared clean in
-      let there : mid.now.schema ≡ book_schema = ap (λ (d : Database). d.schema) it.1.0.now_is ∙ has in
+      let there : mid.now.schema ≡ at = ap (λ (d : Database). d.schema) it.1.0.now_is ∙ has in
       let shown = subst (λ x. Shown x [] mid new rows) it.0 h in
-      let plain : IsPlain (understood mid.now.schema l.text) = subst (λ x. IsPlain (understood x l.text)) (sym there) means.plain in (
-        subst (λ (d : Database). Lists l d rows) it.1.0.now_is (listed l means mid new rows there shown),
+      let plain : IsPlain (understood mid.now.schema l.text) = subst (λ x. IsPlain (understood x l.text)) (sym there) means.plain in
+      let command : command_of (understood at l.text) ≡ list_command l = means_command (understood at l.text) (list_command l) means.means in (
+        subst (λ (d : Database). Lists l d rows) it.1.0.now_is (reads_as l.text [] mid new at there (list_command l) command means.plain means.unlisted rows shown),
         unchanged_then old mid new it.1 (shown_unchanged l.text [] mid new rows plain shown),
       )
 
--- where a listing's text isn't understood, the tables aren't those of a book
+  -- where a listing's text isn't understood, the tables are others
+  pub foreign_over : (old : State) (sql : List ℕ) → l.text ≡ sql → HasNoMeaning old.now.schema sql → old.now.schema ≢ at
+  foreign_over old sql text none has = go (understood at l.text) refl means.plain
+    where
+      go : (it : _) → understood at l.text ≡ it → IsPlain it → ⊥
+      go (Ok c) known plain = none c (ap (λ s. understood s sql) has ∙ ap (understood at) (sym text) ∙ known)
+      go (Err e) known plain = plain
+
+-- they aren't those of a book
 pub foreign_tables : (l : Listing) → IsListing l → (old : State) (sql : List ℕ) → l.text ≡ sql → HasNoMeaning old.now.schema sql → old.now.schema ≢ book_schema
-foreign_tables l means old sql text none has = go (understood book_schema l.text) refl means.plain
-  where
-    go : (it : _) → understood book_schema l.text ≡ it → IsPlain it → ⊥
-    go (Ok c) known plain = none c (ap (λ s. understood s sql) has ∙ ap (understood book_schema) (sym text) ∙ known)
-    go (Err e) known plain = plain
+foreign_tables l means old sql text none = foreign_over book_schema l means old sql text none
 
 -- a failure of the store doesn't say that the tables are those of no book
 pub faults_alone : {X : Type 0} (r : Result X Stop) (P : Type 0) → IfErr r IsStoreFault → IfErr r (λ stop. stop ≡ bad_book → P)

@@ -8,7 +8,8 @@ use Rattle.sqlite.specs.Order.{column}
 use Rattle.ob_command.specs.Commands.{body_text}
 use Rattle.ob_tables.specs.Rows.{Columns}
 use Rattle.ob_compare.specs.declared.filed.Filed.{Filed}
-use Rattle.ob_compare.specs.Reading.{row_of_filed}
+use Rattle.ob_compare.specs.Listing.{referenced}
+use Rattle.ob_compare.specs.Ordered.{row_with}
 
 -- a row of three columns is known by them
 pub three_columns : (row : Columns) (a b c : Value) → length row ≡ 3 → column row 0 ≡ a → column row 1 ≡ b → column row 2 ≡ c → row ≡ a ∷ b ∷ c ∷ []
@@ -22,10 +23,10 @@ same_text : {s t : List ℕ} → ◌≡◌ {A = Value} (Text s) (Text t) → s �
 same_text e = cc
 
 -- the reference and the body that stand in the row of a command
-pub reference_there : (row : Columns) (id : ℕ) (f : Filed) → row ≡ row_of_filed id f → (1 < length row) × (column row 1 ≡ Text f.reference)
+pub reference_there : (row : Columns) (id : Value) (f : Filed) → row ≡ row_with id (referenced f) → (1 < length row) × (column row 1 ≡ Text f.reference)
 reference_there row id f is = (omega (arith, ap length is), ap (λ r. column r 1) is)
 
-pub body_there : (row : Columns) (id : ℕ) (f : Filed) → row ≡ row_of_filed id f → (2 < length row) × (column row 2 ≡ Text (body_text f.command))
+pub body_there : (row : Columns) (id : Value) (f : Filed) → row ≡ row_with id (referenced f) → (2 < length row) × (column row 2 ≡ Text (body_text f.command))
 body_there row id f is = (omega (arith, ap length is), ap (λ r. column r 2) is)
 
 pub nothing : {X : Type 0} (r : Option X) (x : X) (P : Type 0) → r ≡ None → (P → ⊥) → (r ≡ Some x → P) × (P → r ≡ Some x)

@@ -1,9 +1,10 @@
 -- The row of a heading, and the listing of its table.
 use Rattle.std.proofs.Common.{◌≡◌, ℕ, ◌<◌, List, [], ◌∷◌, length, Option, Some, None, refl, sym, ap, subst, ◌∙◌, arith}
-use Rattle.std.specs.Prelude.{Result, Ok, Err, OnOk}
+use Rattle.std.specs.Prelude.{Result, Ok, Err, OnOk, Bool, IsTrue, ◌↔◌}
 use Rattle.std.specs.List.Sorted.{IsStrictlySortedBy}
 use Rattle.std.proofs.lemmas.List.Sorted.{IsPermutation-sym, IsPermutation-trans}
 use Rattle.sqlite_value.specs.declared.value.Value.{Value}
+use Rattle.sqlite_value.specs.declared.value.Value.TheVariants.{Null}
 use Rattle.sqlite.specs.Order.{Row, column}
 use Rattle.sqlite.specs.Effect.{Database}
 use Rattle.sqlite.specs.Query.{output_cmp}
@@ -13,13 +14,14 @@ use Rattle.sqlite_resolve.specs.declared.error.CompileError.TheVariants.{NoSuchT
 use Rattle.ob_tables.specs.Schema.{no_schema}
 use Rattle.sqlite_tied.specs.Compute.{everything}
 use Rattle.sqlite.proofs.Callers.{one_permutation}
-use Rattle.ob_tables.specs.Rows.{Columns, meta_row}
+use Rattle.ob_tables.specs.Rows.{Columns, number}
 use Rattle.ob_tables.specs.declared.table.Table.TheVariants.{Meta}
 use Rattle.ob_record.specs.Tables.{Shows}
 use Rattle.ob_compare.specs.declared.heading.Heading.{Heading}
 use Rattle.ob_compare.specs.Listing.{Listing, Lists, list_query, keyed}
 use Rattle.ob_compare.specs.Parts.{listing_of}
-use Rattle.ob_compare.specs.Reading.{HasNoMeaning, IsHeading}
+use Rattle.ob_compare.specs.Reading.{HasNoMeaning, IsHeading, heading_row}
+use Rattle.ob_compare.specs.Version.{HasVersion, IsVersionRow}
 use Rattle.ob_compare.proofs.Listing.{lists_rows}
 
 -- a row of five columns is known by them
@@ -33,8 +35,9 @@ five_columns (u ∷ v ∷ w ∷ x ∷ y ∷ []) a b c d e long p q r s t = cc
 five_columns (u ∷ v ∷ w ∷ x ∷ y ∷ z ∷ more) a b c d e long p q r s t = absurd (omega (arith, long))
 
 -- a column of the row of a heading
-pub meta_there : (row : Columns) (first_day : List ℕ) (days : ℕ) (zone : List ℕ) (at : ℕ) → row ≡ meta_row 1 first_day days zone → at < 5 → (at < length row) × (column row at ≡ column (meta_row 1 first_day days zone) at)
-meta_there row first_day days zone at is low = (omega (arith, ap length is, low), ap (λ r. column r at) is)
+pub meta_there : (row : Columns) (id version : Value) (first_day : List ℕ) (days : ℕ) (zone : List ℕ) (at : ℕ) → row ≡ heading_row id version first_day days zone → at < 5
+    → (at < length row) × (column row at ≡ column (heading_row id version first_day days zone) at)
+meta_there row id version first_day days zone at is low = (omega (arith, ap length is, low), ap (λ r. column r at) is)
 
 abbrev pub meta_listing : Listing
 meta_listing = listing_of Meta
@@ -62,8 +65,21 @@ one_answer db answer rows row lists shows is =
     (lists_rows meta_listing db answer (row ∷ []) lists (one_rises row)).1 (subst (Shows db.trees Meta) is shows)
 
 pub heading_read : (db : Database) (answer rows : List Row) (found : Option Heading) → Lists meta_listing db answer → Shows db.trees Meta rows → IsHeading found answer → IsHeading found rows
-heading_read db answer rows (Some h) lists shows is = one_row db answer rows _ lists shows is
-heading_read db answer rows None lists shows is = λ first_day days zone low e. is first_day days zone low (one_answer db answer rows _ lists shows e)
+heading_read db answer rows (Some h) lists shows is = (is.0, is.1, one_row db answer rows _ lists shows is.2)
+heading_read db answer rows None lists shows is = λ id version first_day days zone low e. is id version first_day days zone low (one_answer db answer rows _ lists shows e)
+
+-- the version that an answer tells is that of the table
+pub version_read : (db : Database) (answer : List Row) (version : ℕ) (is : Bool) → Lists meta_listing db answer → IsTrue is ↔ IsVersionRow version answer → IsTrue is ↔ HasVersion version db.trees
+version_read db answer version is lists tells = (
+  λ yes. let it = tells.0 yes in (it.0, (lists_rows meta_listing db answer (it.0 ∷ []) lists (one_rises it.0)).0 it.1, it.2),
+  λ has. tells.1 (has.0, (lists_rows meta_listing db answer (has.0 ∷ []) lists (one_rises has.0)).1 has.1, has.2),
+)
+
+-- a row alone, and the number in its second column
+pub second_there : (row : Columns) (n : ℕ) → column row 1 ≡ number n → 1 < length row
+second_there [] n is = absurd (let e : Null ≡ number n = is in cc)
+second_there (x ∷ []) n is = absurd (let e : Null ≡ number n = is in cc)
+second_there (x ∷ y ∷ more) n is = omega arith
 
 pub ok_always : {X E : Type 0} (r : Result X E) {P : Type 0} → P → OnOk r P
 ok_always (Ok x) h = h

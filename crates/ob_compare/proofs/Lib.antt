@@ -5,6 +5,7 @@ mod Kept
 mod Passing
 pub mod Listing
 pub mod Order
+pub mod Ordered
 pub mod Rowing
 pub mod Same
 pub mod Standing
@@ -18,3 +19,4 @@ mod Texts
 pub mod Silent
 mod RowNumbers
 mod NumberQuery
+mod SameEnds

@@ -24,7 +24,7 @@ use Rattle.sqlite.proofs.Callers.{command_of}
 use Rattle.ob_tables.specs.Schema.{book_schema}
 use Rattle.ob_tables.specs.Rows.{shown, places_of, tree_of}
 use Rattle.ob_tables.specs.declared.table.Table.{Table}
-use Rattle.ob_tables.specs.declared.table.Table.TheVariants.{Meta, Cause, Node, Device, Customer, Entry, Mark, Command, Moved, Posting}
+use Rattle.ob_tables.specs.declared.table.Table.TheVariants.{Meta, Cause, Node, Device, Life, Customer, Entry, Mark, Command, Moved, Posting}
 use Rattle.ob_tables.proofs.Answers.{answered_in_order}
 use Rattle.ob_record.specs.Tables.{Shows}
 use Rattle.ob_compare.specs.Listing.{Listing, IsListing, Means, list_query, list_command, keyed, upward, Lists, IsOff, Goes, Ends}
@@ -73,6 +73,7 @@ plain_tree Meta = refl
 plain_tree Cause = refl
 plain_tree Node = refl
 plain_tree Device = refl
+plain_tree Life = refl
 plain_tree Customer = refl
 plain_tree Entry = refl
 plain_tree Mark = refl
@@ -84,7 +85,7 @@ all_pass : (rows : List Row) → filter (λ r. true) rows ≡ rows
 all_pass [] = refl
 all_pass (r ∷ rows) = ap (λ l. r ∷ l) (all_pass rows)
 
-shows : (l : Listing) (rows : List Row) → map (λ (o : Output). o.1) (map (keyed l) rows) ≡ rows
+pub shows : (l : Listing) (rows : List Row) → map (λ (o : Output). o.1) (map (keyed l) rows) ≡ rows
 shows l [] = refl
 shows l (x ∷ rows) = ap (λ r. x ∷ r) (shows l rows)
 

@@ -8,7 +8,7 @@ use Rattle.ob_net.specs.Network.{Network}
 use Rattle.ob_net.specs.declared.net.Node.{Node}
 use Rattle.ob_time.specs.Calendar.{Calendar}
 use Rattle.ob_command.specs.declared.command.Command.{Command}
-use Rattle.ob_command.specs.declared.command.Command.TheVariants.{Cause, Bus, Section, Device, Connect, Revise, Switch, Correct, Withdraw, Mark, Unmark}
+use Rattle.ob_command.specs.declared.command.Command.TheVariants.{Cause, Bus, Section, Device, Life, Connect, Revise, Switch, Correct, Withdraw, Mark, Unmark}
 use Rattle.ob_state.specs.State.{BookState, empty_book}
 use Rattle.ob_state.specs.Refusals.{refusal}
 use Rattle.ob_state.specs.Next.{next, next_all}
@@ -27,7 +27,8 @@ step_named : (b : BookState) (x : Command) → named (next b x).network ≡ name
 step_named b (Cause code name) = sym (append-nil (named b.network))
 step_named b (Bus name) = map-append (λ (n : Node). n.name) b.network.nodes (record { name = name; feeder = None } ∷ [])
 step_named b (Section name feeder) = map-append (λ (n : Node). n.name) b.network.nodes (record { name = name; feeder = Some feeder } ∷ [])
-step_named b (Device name ends normal) = sym (append-nil (named b.network))
+step_named b (Device name ends normal since until) = sym (append-nil (named b.network))
+step_named b (Life device since until) = sym (append-nil (named b.network))
 step_named b (Connect customer section since until) = sym (append-nil (named b.network))
 step_named b (Revise customer since until) = sym (append-nil (named b.network))
 step_named b (Switch device act second cause crew) = sym (append-nil (named b.network))

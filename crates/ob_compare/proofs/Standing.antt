@@ -20,8 +20,7 @@ use Rattle.ob_tables.specs.declared.table.Table.TheVariants.{Command}
 use Rattle.ob_record.specs.Tables.{Shows, numbered, row_of_command}
 use Rattle.ob_compare.specs.declared.filed.Filed.{Filed}
 use Rattle.ob_compare.specs.Listing.{Lists, list_query, keyed, referenced, filed_of}
-use Rattle.ob_state.specs.declared.TheConstants.{MOST_COMMANDS}
-use Rattle.ob_compare.specs.Reading.{IsCommands, IsFiled, row_of_filed, command_listing, command_rows}
+use Rattle.ob_compare.specs.Reading.{IsFiled, command_listing, command_rows}
 use Rattle.ob_record.specs.Naming.{IsReferenced}
 use Rattle.ob_compare.proofs.Selects.{is_listing}
 use Rattle.ob_compare.proofs.Listing.{append_last, begun_list, lists_rows}
@@ -40,25 +39,6 @@ numbered_last row n (y ∷ xs) x =
     let e : n + 1 + length xs ≡ n + suc (length xs) = omega arith in
     ap (λ l. row n y ∷ l) (numbered_last row (n + 1) xs x ∙ ap (λ k. numbered row (n + 1) xs ++ row k x ∷ []) e)
 
-pub numbered_length : {X : Type 0} (row : ℕ → X → Columns) (n : ℕ) (xs : List X) → length (numbered row n xs) ≡ length xs
-numbered_length row n [] = refl
-numbered_length row n (x ∷ xs) = ap suc (numbered_length row (n + 1) xs)
-
--- the row behind the first ones is that of some element
-pub numbered_next : {X : Type 0} (row : ℕ → X → Columns) (P : X → Type 0) (n : ℕ) (xs : List X) (given rest : List Columns) (next : Columns) → AllByRecursion P xs → given ++ (next ∷ rest) ≡ numbered row n xs
-    → (x : X) × P x × (next ≡ row (n + length given) x)
-numbered_next row P n [] [] rest next all e = absurd cc
-numbered_next row P n [] (g ∷ given) rest next all e = absurd cc
-numbered_next row P n (x ∷ xs) [] rest next all e =
-    let first : next ≡ row n x = cc in
-    let place : n ≡ n + 0 = omega arith in
-    (x, all.0, first ∙ ap (λ k. row k x) place)
-numbered_next row P n (x ∷ xs) (g ∷ given) rest next all e =
-    let more : given ++ (next ∷ rest) ≡ numbered row (n + 1) xs = cc in
-    let it = numbered_next row P (n + 1) xs given rest next all.1 more in
-    let place : n + 1 + length given ≡ n + suc (length given) = omega arith in
-    (it.0, it.1, it.2 ∙ ap (λ k. row k it.0) place)
-
 less_int : (m n : ℕ) → m < n → int_cmp (pos m) (pos n) ≡ Less
 less_int m n low = grind (arith, nat_tests)
 
@@ -76,11 +56,11 @@ commands_rise n [] = tt
 commands_rise n (a ∷ list) = (all_after n (n + 1) a list (omega arith), commands_rise (n + 1) list)
 
 -- ---- the commands so far
-map_last : {X Y : Type 0} (f : X → Y) (xs : List X) (x : X) → map f (xs ++ x ∷ []) ≡ map f xs ++ f x ∷ []
+pub map_last : {X Y : Type 0} (f : X → Y) (xs : List X) (x : X) → map f (xs ++ x ∷ []) ≡ map f xs ++ f x ∷ []
 map_last f [] x = refl
 map_last f (y ∷ xs) x = ap (λ l. f y ∷ l) (map_last f xs x)
 
-map_length : {X Y : Type 0} (f : X → Y) (xs : List X) → length (map f xs) ≡ length xs
+pub map_length : {X Y : Type 0} (f : X → Y) (xs : List X) → length (map f xs) ≡ length xs
 map_length f [] = refl
 map_length f (x ∷ xs) = ap suc (map_length f xs)
 
@@ -89,38 +69,9 @@ pub all_referenced : (items : List Filed) (f : Filed) → AllByRecursion IsRefer
 all_referenced [] f all is = (is, tt)
 all_referenced (g ∷ items) f all is = (all.0, all_referenced items f all.1 is)
 
--- one more
-pub one_filed : (items : List Filed) (at : ℕ) (f : Filed) → length items ≡ at → command_rows (filed_of items) ++ row_of_filed (at + 1) f ∷ [] ≡ command_rows (filed_of (items ++ f ∷ []))
-one_filed items at f long =
-    let place : 1 + length (filed_of items) ≡ at + 1 = omega (arith, map_length referenced items, long) in
-    sym (ap command_rows (map_last referenced items f) ∙ numbered_last row_of_command 1 (filed_of items) (referenced f) ∙ ap (λ k. command_rows (filed_of items) ++ row_of_command k (referenced f) ∷ []) place)
-
-rows_length : (items : List Filed) → length (command_rows (filed_of items)) ≡ length items
-rows_length items = numbered_length row_of_command 1 (filed_of items) ∙ map_length referenced items
-
 -- the table has the rows of commands exactly where they are its answer
-table_is : (db : Database) (answer shows : List Row) (list : List Referenced) → Lists command_listing db answer → Shows db.trees Command shows → IsPermutation shows (command_rows list) → answer ≡ command_rows list
+pub table_is : (db : Database) (answer shows : List Row) (list : List Referenced) → Lists command_listing db answer → Shows db.trees Command shows → IsPermutation shows (command_rows list) → answer ≡ command_rows list
 table_is db answer shows list lists there same = (lists_rows command_listing db answer (command_rows list) lists (commands_rise 1 list)).1 (IsPermutation-trans _ _ _ there same)
-
--- no row is left
-pub all_filed : (db : Database) (items : List Filed) (shows : List Row) → Lists command_listing db (command_rows (filed_of items)) → Shows db.trees Command shows → IsPermutation shows (command_rows (filed_of items))
-all_filed db items shows lists there =
-    let here = (lists_rows command_listing db (command_rows (filed_of items)) (command_rows (filed_of items)) lists (commands_rise 1 (filed_of items))).0 refl in
-    IsPermutation-trans _ _ _ (IsPermutation-sym _ _ there) here
-
--- a row stands there that is none of the next command
-pub other_filed : (db : Database) (items : List Filed) (at : ℕ) (row : Row) (rest shows : List Row) → length items ≡ at → Lists command_listing db (command_rows (filed_of items) ++ (row ∷ rest))
-    → ((f : Filed) → IsFiled f → row ≢ row_of_filed (at + 1) f) → Shows db.trees Command shows → IsCommands None shows
-other_filed db items at row rest shows long lists none there = λ list low all same.
-    let it = numbered_next row_of_command IsReferenced 1 list (command_rows (filed_of items)) rest row all (table_is db _ shows list lists there same) in
-    let place : 1 + length (command_rows (filed_of items)) ≡ at + 1 = omega (arith, rows_length items, long) in
-    none (record { reference = it.0.reference; command = it.0.command }) it.1 (it.2 ∙ ap (λ k. row_of_command k it.0) place)
-
--- there are more rows than a book has commands
-pub too_many : (db : Database) (items : List Filed) (row : Row) (rest shows : List Row) → MOST_COMMANDS ≤ length items → Lists command_listing db (command_rows (filed_of items) ++ (row ∷ rest)) → Shows db.trees Command shows → IsCommands None shows
-too_many db items row rest shows long lists there = λ list low all same.
-    let e = ap length (table_is db _ shows list lists there same) in
-    absurd (omega (arith, e, length-append (command_rows (filed_of items)) (row ∷ rest), rows_length items, numbered_length row_of_command 1 list, long, low))
 
 pub pushed_length : {X : Type 0} (xs : List X) (x : X) (at : ℕ) → length xs ≡ at → length (xs ++ x ∷ []) ≡ at + 1
 pushed_length xs x at long = omega (arith, length-append xs (x ∷ []), long)

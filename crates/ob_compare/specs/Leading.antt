@@ -1,14 +1,15 @@
 -- The names of the nodes that commands add.
 use Rattle.std.specs.Prelude.{ℕ, List, [], ◌∷◌, ◌++◌, codes}
 use Rattle.ob_command.specs.declared.command.Command.{Command}
-use Rattle.ob_command.specs.declared.command.Command.TheVariants.{Cause, Bus, Section, Device, Connect, Revise, Switch, Correct, Withdraw, Mark, Unmark}
+use Rattle.ob_command.specs.declared.command.Command.TheVariants.{Cause, Bus, Section, Device, Life, Connect, Revise, Switch, Correct, Withdraw, Mark, Unmark}
 
 -- the name of the node that a command adds, where it adds one
 abbrev pub node_names_by : Command → List (List ℕ)
 node_names_by (Cause code name) = []
 node_names_by (Bus name) = name ∷ []
 node_names_by (Section name feeder) = name ∷ []
-node_names_by (Device name ends normal) = []
+node_names_by (Device name ends normal since until) = []
+node_names_by (Life device since until) = []
 node_names_by (Connect customer section since until) = []
 node_names_by (Revise customer since until) = []
 node_names_by (Switch device act second cause crew) = []

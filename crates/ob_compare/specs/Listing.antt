@@ -58,12 +58,16 @@ Means (Err e) command = ⊥
 abbrev pub ShowsNoWrite : List ℕ → Type 0
 ShowsNoWrite text = (schema : Schema) (c : Compiled) → understood schema text ≡ Ok c → c.returning ≡ None
 
--- at the schema of the book the text means this query, and it writes at no schema
-pub record IsListing (l : Listing) : Type 0 where
-  pub means : Means (understood book_schema l.text) (list_command l)
-  pub plain : IsPlain (understood book_schema l.text)
-  pub unlisted : reads_listing book_schema l.text ≡ false
+-- at the schema the text means this query, and it writes at no schema
+pub record IsListingOver (schema : Schema) (l : Listing) : Type 0 where
+  pub means : Means (understood schema l.text) (list_command l)
+  pub plain : IsPlain (understood schema l.text)
+  pub unlisted : reads_listing schema l.text ≡ false
   pub silent : ShowsNoWrite l.text
+
+-- the same at the schema of the book
+abbrev pub IsListing : Listing → Type 0
+IsListing l = IsListingOver book_schema l
 
 -- the key of a row, and the row
 abbrev pub keyed : Listing → Row → Output

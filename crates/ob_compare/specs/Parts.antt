@@ -10,7 +10,7 @@ use Rattle.ob_base.specs.declared.stop.Stop.{Stop}
 use Rattle.ob_tables.specs.Schema.{book_schema}
 use Rattle.ob_tables.specs.Rows.{Columns, Tables}
 use Rattle.ob_tables.specs.declared.table.Table.{Table}
-use Rattle.ob_tables.specs.declared.table.Table.TheVariants.{Meta, Cause, Node, Device, Customer, Entry, Mark, Command, Moved, Posting}
+use Rattle.ob_tables.specs.declared.table.Table.TheVariants.{Meta, Cause, Node, Device, Life, Customer, Entry, Mark, Command, Moved, Posting}
 use Rattle.ob_commit.specs.Keeps.{Keeps}
 use Rattle.ob_record.specs.Tables.{Shows}
 use Rattle.ob_compare.specs.Faults.{HasNoMeaning, IsMissed, IsReadFault, bad_book}
@@ -22,6 +22,7 @@ select_of Meta = codes "SELECT id, version, day0, days, zone FROM meta ORDER BY 
 select_of Cause = codes "SELECT code, name FROM cause ORDER BY code"
 select_of Node = codes "SELECT id, name, kind, feeder FROM node ORDER BY id"
 select_of Device = codes "SELECT id, name, a, b, normal FROM device ORDER BY id"
+select_of Life = codes "SELECT device, since, until FROM life ORDER BY device"
 select_of Customer = codes "SELECT id, section, since, until FROM customer ORDER BY id"
 select_of Entry = codes "SELECT id, rev, device, pos, second, cause, crew, kept FROM entry ORDER BY id"
 select_of Mark = codes "SELECT day, engineer FROM mark ORDER BY day"
@@ -35,6 +36,7 @@ names_of Meta = codes "id" ∷ codes "version" ∷ codes "day0" ∷ codes "days"
 names_of Cause = codes "code" ∷ codes "name" ∷ []
 names_of Node = codes "id" ∷ codes "name" ∷ codes "kind" ∷ codes "feeder" ∷ []
 names_of Device = codes "id" ∷ codes "name" ∷ codes "a" ∷ codes "b" ∷ codes "normal" ∷ []
+names_of Life = codes "device" ∷ codes "since" ∷ codes "until" ∷ []
 names_of Customer = codes "id" ∷ codes "section" ∷ codes "since" ∷ codes "until" ∷ []
 names_of Entry =
     codes "id" ∷ codes "rev" ∷ codes "device" ∷ codes "pos" ∷ codes "second" ∷ codes "cause" ∷ codes "crew"

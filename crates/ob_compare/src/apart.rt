@@ -19,7 +19,7 @@ use sqlite::{Alter, Connection, Row, Rows};
 use sqlite_value::value::ValueRef;
 
 /// The number that the row begins with, where it is above the last.
-fn higher_in(row: &Row, last: Option<i64>) -> Option<i64>
+pub(crate) fn higher_in(row: &Row, last: Option<i64>) -> Option<i64>
     ensures { (n : ℤ) → (result ≡ Some n) ↔ ((rowid row.now ≡ Int n) × IsAbove last n) }
 {
     let Ok(ValueRef::Int(number)) = row.get_ref(0) else {

@@ -1,6 +1,7 @@
 //! The commands, read back from the rows of their table.
-ghost use Rattle.std.specs.Prelude.{◌≡◌, ◌≢◌, ◌↔◌, false, List, [], Some, IsTrue, IfOk, IfErr, OnOk};
+ghost use Rattle.std.specs.Prelude.{◌≡◌, ◌≢◌, ◌↔◌, pos, false, List, [], Some, IsTrue, IfOk, IfErr, OnOk};
 ghost use Rattle.sqlite.specs.Order.{Row as ARow};
+ghost use Rattle.sqlite.specs.Tree.{rowid};
 ghost use Rattle.sqlite.specs.Held.{state};
 ghost use Rattle.sqlite.specs.Given.{HasGiven};
 ghost use Rattle.sqlite.specs.State.{HasCleanDisk, IsUnchanged, Survives};
@@ -12,10 +13,12 @@ ghost use Rattle.ob_commit.specs.Keeps.{Keeps};
 ghost use Rattle.ob_record.specs.Tables.{Shows};
 ghost use Rattle.ob_compare.specs.declared.filed.Filed.{Filed as AFiled};
 ghost use Rattle.ob_compare.specs.Faults.{HasNoMeaning, IsMissed, IsReadFault, bad_book};
-ghost use Rattle.ob_compare.specs.Reading.{AreFiled, IsCommands, IsDue, IsFiled, Stands};
-ghost use Rattle.ob_compare.specs.Reading.{command_listing, row_of_filed};
+ghost use Rattle.ob_compare.specs.Listing.{referenced};
+ghost use Rattle.ob_compare.specs.Ordered.{row_with};
+ghost use Rattle.ob_compare.specs.Reading.{AreFiled, IsCommands, IsFiled, IsNext, Stands, command_listing};
 
-use crate::columns::{has_number, text_at};
+use crate::apart::higher_in;
+use crate::columns::text_at;
 use crate::filed::Filed;
 use crate::listed::select_of;
 use crate::query::prepare;
@@ -27,11 +30,20 @@ use ob_tables::{Table, stop_of};
 use sqlite::{Alter, Connection, Row, Rows};
 use std::alloc::Global;
 
-/// The command whose row it is, under this number.
-pub(crate) fn filed_in(row: &Row, no: u32) -> Option<Filed>
-    ensures { (f : AFiled) → (result ≡ Some f) ↔ (IsFiled f × (row.now ≡ row_of_filed no f)) }
+/// Commands in the order of the numbers of their rows.
+#[derive(Drop)]
+pub struct Commands {
+    /// The commands, under their references.
+    pub commands: Vec<Filed>,
+    /// Whether their numbers are 1, 2, 3 and so on, with none left out.
+    pub counted: bool,
+}
+
+/// The command whose row it is, whatever its number.
+pub(crate) fn filed_in(row: &Row) -> Option<Filed>
+    ensures { (f : AFiled) → (result ≡ Some f) ↔ (IsFiled f × (row.now ≡ row_with (rowid row.now) (referenced f))) }
 {
-    if row.column_count() != 3 || !has_number(row, 0, no) {
+    if row.column_count() != 3 {
         return None;
     }
     let reference = Ref::read(text_at(row, 1)?)?;
@@ -41,41 +53,51 @@ pub(crate) fn filed_in(row: &Row, no: u32) -> Option<Filed>
 
 /// What stands next in the table of commands.
 enum Next {
-    /// The command whose number is due.
-    Due(Filed),
+    /// A command, with a number above the last.
+    Higher(i64, Filed),
     /// A row of none.
     Other,
     /// No row.
     End,
 }
 
-/// What stands next, where this number is due.
-fn next_filed<S: Alter>(rows: &mut Rows<'_, S>, no: u32) -> Result<Next, Stop>
+/// What stands next, behind the last number.
+fn next_filed<S: Alter>(rows: &mut Rows<'_, S>, last: Option<i64>) -> Result<Next, Stop>
     ensures same_reference { rows.new.conn.ghost_name ≡ rows.old.conn.ghost_name }
     ensures survives { Survives (state S.Store rows.old.conn.now) (state S.Store rows.new.conn.now) (λ _. ⊥) }
     ensures kept { (t : Tables) → Keeps (state S.Store rows.old.conn.now) t → Keeps (state S.Store rows.new.conn.now) t }
     ensures mode { rows.old.conn.now.in_transaction ≡ false → rows.new.conn.now.in_transaction ≡ false }
     ensures faults { IfErr result IsStoreFault }
-    ensures valid { IfOk result IsDue }
+    ensures valid { IfOk result (IsNext last) }
     ensures same { HasCleanDisk (state S.Store rows.new.conn.now)
         → OnOk result (IsUnchanged (state S.Store rows.old.conn.now) (state S.Store rows.new.conn.now)) }
     ensures stands { HasCleanDisk (state S.Store rows.new.conn.now) → IfOk result (λ next.
         (state S.Store rows.old.conn.now).now.schema ≡ book_schema
         → (given : List ARow) → HasGiven S.Store command_listing.text [] rows.old.conn.now given
-        → Stands S.Store no next rows.new.conn.now given) }
+        → Stands S.Store last next rows.new.conn.now given) }
 {
     advance(rows)?;
     let Some(row) = rows.get() else {
         return Ok(Next::End);
     };
-    match filed_in(row, no) {
-        Some(filed) => Ok(Next::Due(filed)),
+    let Some(number) = higher_in(row, last) else {
+        return Ok(Next::Other);
+    };
+    match filed_in(row) {
+        Some(filed) => Ok(Next::Higher(number, filed)),
         None => Ok(Next::Other),
     }
 }
 
+/// Whether numbers that count from 1 so far, or don't, do with one more, where this is due.
+fn goes_on_counting(counted: bool, number: i64, due: u32) -> bool
+    ensures { IsTrue result ↔ (IsTrue counted × (number ≡ pos due)) }
+{
+    counted && number == i64::from(due)
+}
+
 /// The commands that the rows hold.
-fn filed_rows<S: Alter>(alloc: Global, rows: &mut Rows<'_, S>) -> Result<Option<Vec<Filed>>, Stop>
+fn filed_rows<S: Alter>(alloc: Global, rows: &mut Rows<'_, S>) -> Result<Option<Commands>, Stop>
     ensures same_reference { rows.new.conn.ghost_name ≡ rows.old.conn.ghost_name }
     ensures survives { Survives (state S.Store rows.old.conn.now) (state S.Store rows.new.conn.now) (λ _. ⊥) }
     ensures kept { (t : Tables) → Keeps (state S.Store rows.old.conn.now) t → Keeps (state S.Store rows.new.conn.now) t }
@@ -91,27 +113,34 @@ fn filed_rows<S: Alter>(alloc: Global, rows: &mut Rows<'_, S>) -> Result<Option<
         → (shown : List Columns) → Shows (state S.Store rows.old.conn.now).now.trees ATable.Command shown
         → IsCommands found shown) }
 {
-    let mut list = Vec::new(alloc);
+    let mut commands = Vec::new(alloc);
+    let mut counted = true;
+    let mut last = None;
     'commands: for at in 0..MOST_COMMANDS {
-        match next_filed(rows, at + 1)? {
-            Next::Due(filed) => list.push(filed)?,
+        match next_filed(rows, last)? {
+            Next::Higher(number, filed) => {
+                commands.push(filed)?;
+                counted = goes_on_counting(counted, number, at + 1);
+                last = Some(number);
+            }
             Next::Other => return Ok(None),
-            Next::End => return Ok(Some(list)),
+            Next::End => return Ok(Some(Commands { commands, counted })),
         }
     }
     if is_over(rows)? {
-        Ok(Some(list))
+        Ok(Some(Commands { commands, counted }))
     } else {
         Ok(None)
     }
 }
 
-/// The commands of the table `cmd`, by number; None where its rows aren't those of commands numbered from 1 under
-/// references, no more than a book takes. A database without the table is refused as no book's.
+/// The commands of the table `cmd`, in the order of their numbers, and whether these count from 1; None where its rows
+/// aren't those of commands under references and numbers that rise, no more than a book takes. A database without the table
+/// is refused as no book's.
 pub fn read_commands<S: Alter>(
     alloc: Global,
     conn: &mut Connection<S>,
-) -> Result<Option<Vec<Filed>>, Stop>
+) -> Result<Option<Commands>, Stop>
     ensures mode { conn.old.in_transaction ≡ false → conn.new.in_transaction ≡ false }
     ensures survives { Survives (state S.Store conn.old) (state S.Store conn.new) (λ _. ⊥) }
     ensures kept { (t : Tables) → Keeps (state S.Store conn.old) t → Keeps (state S.Store conn.new) t }

@@ -12,7 +12,7 @@ ghost use Rattle.ob_compare.specs.Faults.{HasNoMeaning, IsMissed, IsReadFault, b
 ghost use Rattle.ob_compare.specs.Parts.{select_of};
 ghost use Rattle.ob_compare.specs.Reading.{IsHeading, IsHeadingRow};
 
-use crate::columns::{has_number, small_at, text_at};
+use crate::columns::{small_at, text_at};
 use crate::listed::select_of;
 use crate::query::list_all;
 use ob_base::Stop;
@@ -20,7 +20,7 @@ use ob_tables::Table;
 use sqlite::{Alter, Connection, Row};
 use std::alloc::Global;
 
-/// The row of `meta` of a book under the first version of its tables: the texts as they stand.
+/// The row of `meta` of a book, under any number and of any version: the texts as they stand.
 #[derive(Drop)]
 pub struct Heading {
     /// The text of the first day.
@@ -36,7 +36,7 @@ fn heading_of(alloc: Global, row: &Row) -> Result<Option<Heading>, Stop>
     ensures heading { IfOk result (λ found. IsHeadingRow found row.now) }
     ensures err { IfErr result (λ stop. stop ≡ out_of_memory) }
 {
-    if row.column_count() != 5 || !has_number(row, 0, 1) || !has_number(row, 1, 1) {
+    if row.column_count() != 5 {
         return Ok(None);
     }
     let Some(first_day) = text_at(row, 2) else {
@@ -68,8 +68,8 @@ fn heading_in(alloc: Global, rows: &[Row]) -> Result<Option<Heading>, Stop>
     heading_of(alloc, &rows[0])
 }
 
-/// The row of `meta`, where it is that of a book under the first version of its tables; None where `meta` holds
-/// anything else. A database without tables is refused as no book's.
+/// The row of `meta`, where it is the only one and names a first day, a count of days and a zone, whatever its number and
+/// its version; None where `meta` holds anything else. A database without tables is refused as no book's.
 pub fn read_heading<S: Alter>(
     alloc: Global,
     conn: &mut Connection<S>,

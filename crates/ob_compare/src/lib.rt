@@ -1,4 +1,4 @@
-//! The ten tables, read back row by row and compared with what a book of their commands has.
+//! The eleven tables, read back row by row and compared with what a book of their commands has.
 #![tactic(auto)]
 
 mod apart;
@@ -14,9 +14,10 @@ mod moves;
 mod names;
 mod query;
 mod rows;
+mod version;
 
 pub use apart::are_apart;
-pub use commands::read_commands;
+pub use commands::{Commands, read_commands};
 pub use distinct::{are_distinct, reaching_law};
 pub use ends::EndNodes;
 pub use filed::Filed;
@@ -25,3 +26,4 @@ pub use leading::lead;
 pub use listed::{Listed, holds};
 pub use moves::holds_moves;
 pub use names::names_of;
+pub use version::has_version;

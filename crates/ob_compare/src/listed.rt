@@ -57,6 +57,7 @@ pub(crate) fn select_of(table: Table) -> &'static str
         Table::Cause => "SELECT code, name FROM cause ORDER BY code",
         Table::Node => "SELECT id, name, kind, feeder FROM node ORDER BY id",
         Table::Device => "SELECT id, name, a, b, normal FROM device ORDER BY id",
+        Table::Life => "SELECT device, since, until FROM life ORDER BY device",
         Table::Customer => "SELECT id, section, since, until FROM customer ORDER BY id",
         Table::Entry => {
             "SELECT id, rev, device, pos, second, cause, crew, kept FROM entry ORDER BY id"

@@ -1,12 +1,12 @@
 //! Queries of the rows of a table.
 ghost use Rattle.std.specs.Prelude.{◌≡◌, ◌≢◌, false, IfOk, IfErr};
 ghost use Rattle.sqlite.specs.Held.{state};
+ghost use Rattle.sqlite.specs.Schema.{Schema};
 ghost use Rattle.sqlite.specs.State.{HasCleanDisk, IsUnchanged, Survives};
 ghost use Rattle.ob_base.specs.Stop.{out_of_memory};
-ghost use Rattle.ob_tables.specs.Schema.{book_schema};
 ghost use Rattle.ob_tables.specs.Rows.{Tables};
 ghost use Rattle.ob_commit.specs.Keeps.{Keeps};
-ghost use Rattle.ob_compare.specs.Listing.{Listing, IsListing, Lists};
+ghost use Rattle.ob_compare.specs.Listing.{Listing, IsListing, IsListingOver, Lists};
 ghost use Rattle.ob_compare.specs.Reading.{HasNoMeaning, IsInputError, IsMissed, IsReadFault, bad_book};
 
 use ob_base::{Fault, Refusal, Stop};
@@ -52,7 +52,7 @@ pub(crate) fn list_all<S: Alter>(conn: &mut Connection<S>, sql: &str) -> Result<
     ensures clean { HasCleanDisk (state S.Store conn.new) → HasCleanDisk (state S.Store conn.old) }
     ensures faults { IfErr result IsReadFault }
     ensures foreign { HasCleanDisk (state S.Store conn.new) → IfErr result (λ stop. stop ≡ bad_book
-        → (l : Listing) → IsListing l → l.text ≡ sql.now → conn.old.schema ≢ book_schema) }
+        → (schema : Schema) (l : Listing) → IsListingOver schema l → l.text ≡ sql.now → conn.old.schema ≢ schema) }
     ensures missed { HasNoMeaning conn.old.schema sql.now
         → Survives (state S.Store conn.old) (state S.Store conn.new) (λ _. ⊥)
         × (HasCleanDisk (state S.Store conn.new) → IsMissed (state S.Store conn.old) (state S.Store conn.new) result) }
@@ -61,7 +61,7 @@ pub(crate) fn list_all<S: Alter>(conn: &mut Connection<S>, sql: &str) -> Result<
     ensures kept { (l : Listing) → IsListing l → l.text ≡ sql.now
         → (t : Tables) → Keeps (state S.Store conn.old) t → Keeps (state S.Store conn.new) t }
     ensures listed { HasCleanDisk (state S.Store conn.new) → IfOk result (λ rows.
-        (l : Listing) → IsListing l → l.text ≡ sql.now → conn.old.schema ≡ book_schema
+        (schema : Schema) (l : Listing) → IsListingOver schema l → l.text ≡ sql.now → conn.old.schema ≡ schema
         → Lists l (state S.Store conn.old).now rows.items
         × IsUnchanged (state S.Store conn.old) (state S.Store conn.new)) }
 {

@@ -6,13 +6,14 @@ use Rattle.sqlite.specs.State.{HasCleanDisk, Survives}
 use Rattle.ob_base.specs.declared.stop.Stop.{Stop}
 use Rattle.ob_base.specs.declared.stop.Stop.TheVariants.{Fault}
 use Rattle.ob_base.specs.declared.stop.Fault.{Fault as AFault}
-use Rattle.ob_compare.specs.Reading.{IsReadFault}
 use Rattle.ob_stream.specs.Watching.{watched_inner}
 use Rattle.ob_stream.specs.declared.watched.Watched.{Watched}
+use Rattle.ob_tables.specs.Creation.{old_schema}
 use Rattle.ob_tables.specs.Schema.{book_schema}
 use Rattle.ob_tables.specs.declared.table.Table.{Table}
 use Rattle.ob_store.specs.Keeping.{IsBookAfter, KeeperValue}
 use Rattle.ob_store.specs.Loading.{Audited, Loaded}
+use Rattle.ob_store.specs.Versions.{IsLoadFault, Outdated}
 
 -- something was opened and this was done with it; or it could not be opened, which is answered as this fault, and nothing was done
 abbrev pub OpensThen : {A I X : Type 0} → (A → Option I → A → Type 0) → AFault → (Watched I → Result X Stop → Type 0) → Type 0
@@ -26,19 +27,21 @@ module _ {S : Type 0} (g : Ghosts S) where
   pub record LoadOf (old new : KeeperValue S) (done : Result ⊤ Stop) : Type 0 where
     pub found : OnOk done (IsSome new.book)
     pub dropped : IfErr done (IsBookAfter old.book new.book)
-    pub stops : IfErr done IsReadFault
+    pub stops : IfErr done IsLoadFault
     pub clean : HasCleanDisk (state g new.conn) → HasCleanDisk (state g old.conn)
     pub survives : Survives (state g old.conn) (state g new.conn) (λ _. ⊥)
     pub loaded : HasCleanDisk (state g new.conn) → old.conn.schema ≡ book_schema → Loaded g old new done
+    pub outdated : HasCleanDisk (state g new.conn) → old.conn.schema ≡ old_schema → Outdated g old new done
 
   -- a comparison of the tables with the commands in them: what differs, or why there is no answer
   pub record AuditOf (old new : KeeperValue S) (found : Result (Option Table) Stop) : Type 0 where
     pub kept : OnOk found (new.book ≡ old.book)
     pub dropped : IfErr found (IsBookAfter old.book new.book)
-    pub stops : IfErr found IsReadFault
+    pub stops : IfErr found IsLoadFault
     pub clean : HasCleanDisk (state g new.conn) → HasCleanDisk (state g old.conn)
     pub survives : Survives (state g old.conn) (state g new.conn) (λ _. ⊥)
     pub audited : HasCleanDisk (state g new.conn) → old.conn.schema ≡ book_schema → Audited g old new found
+    pub outdated : HasCleanDisk (state g new.conn) → old.conn.schema ≡ old_schema → Outdated g old new found
 
   -- the book of the tables was loaded, and then this was done over it; or none was loaded, which is answered, and nothing was done
   abbrev pub LoadsThen : {X : Type 0} → (KeeperValue S → Result X Stop → Type 0) → Type 0 → KeeperValue S → KeeperValue S

@@ -14,7 +14,7 @@ ghost use Rattle.ob_parts.specs.Parts.{IsPart};
 
 use crate::parts::{
     holds_amounts, holds_causes, holds_customers, holds_devices, holds_entries, holds_heading,
-    holds_marks, holds_nodes,
+    holds_lives, holds_marks, holds_nodes,
 };
 use ob_base::{Name, Stop};
 use ob_book::Book;
@@ -27,7 +27,7 @@ use sqlite::{Alter, Connection};
 /// Whether the table of the heading holds that of a period. Nothing is written.
 fn holds_period<S: Alter>(conn: &mut Connection<S>, period: &Period) -> Result<bool, Stop>
     ensures { Compares S.Store ATable.Meta
-        (meta_row 1 (day_text period.now.first_day) (day_count period.now) period.now.zone ∷ [])
+        (meta_row 2 (day_text period.now.first_day) (day_count period.now) period.now.zone ∷ [])
         conn.old conn.new result }
 {
     let days = period.days();
@@ -69,6 +69,7 @@ pub fn holds_part<S: Alter, T: Timeline>(
         Table::Cause => holds_causes(conn, book),
         Table::Node => holds_nodes(conn, book.net(), names),
         Table::Device => holds_devices(conn, book.net(), ends),
+        Table::Life => holds_lives(conn, book.net()),
         Table::Customer => holds_customers(conn, book.roll()),
         Table::Entry => holds_entries(conn, book.sheet()),
         Table::Mark => holds_marks(conn, book.marks(), book.period().days()),

@@ -5,7 +5,7 @@ ghost use Rattle.ob_tables.specs.declared.table.Table.{Table as ATable};
 ghost use Rattle.ob_commit.specs.Amounts.{all_keys, amount_rows};
 ghost use Rattle.ob_post.specs.Keys.{IsKey};
 ghost use Rattle.ob_post.specs.Postings.{amount_of, day_count};
-ghost use Rattle.ob_record.specs.Tables.{numbered, present, row_of_customer, row_of_device, row_of_entry, row_of_node};
+ghost use Rattle.ob_record.specs.Tables.{numbered, present, row_of_customer, row_of_device, row_of_entry, row_of_life, row_of_node};
 ghost use Rattle.ob_tables.specs.Rows.{cause_row, mark_row, meta_row};
 ghost use Rattle.ob_compare.specs.Moves.{ends_of};
 ghost use Rattle.ob_compare.specs.Parts.{Compares};
@@ -23,7 +23,7 @@ use ob_sweep::Timeline;
 use ob_tables::Table;
 use sqlite::{Alter, Connection, Row};
 
-/// The one row of the heading: version 1, the first day, the count of days and the zone.
+/// The one row of the heading: version 2, the first day, the count of days and the zone.
 #[derive(Drop)]
 struct HeadingRow<'b> {
     first_day: &'b [u8],
@@ -38,7 +38,7 @@ impl<'b> Listed for HeadingRow<'b> {
 
     ghost table = { ATable.Meta };
 
-    ghost places = { λ h. Some (meta_row 1 h.first_day.now h.days h.zone.now) ∷ [] };
+    ghost places = { λ h. Some (meta_row 2 h.first_day.now h.days h.zone.now) ∷ [] };
 
     fn table(&self) -> Table {
         Table::Meta
@@ -57,7 +57,7 @@ impl<'b> Listed for HeadingRow<'b> {
             row,
             &[
                 Field::Number(1),
-                Field::Number(1),
+                Field::Number(2),
                 Field::Words(self.first_day),
                 Field::Number(u64::from(self.days)),
                 Field::Words(self.zone),
@@ -66,7 +66,7 @@ impl<'b> Listed for HeadingRow<'b> {
     }
 }
 
-/// Whether the table of the heading holds that of version 1 with this first day, so many days and this zone, and no
+/// Whether the table of the heading holds that of version 2 with this first day, so many days and this zone, and no
 /// more. Nothing is written.
 pub(crate) fn holds_heading<S: Alter>(
     conn: &mut Connection<S>,
@@ -74,7 +74,7 @@ pub(crate) fn holds_heading<S: Alter>(
     days: u16,
     zone: &[u8],
 ) -> Result<bool, Stop>
-    ensures { Compares S.Store ATable.Meta (meta_row 1 first_day.now days zone.now ∷ []) conn.old conn.new result }
+    ensures { Compares S.Store ATable.Meta (meta_row 2 first_day.now days zone.now ∷ []) conn.old conn.new result }
 {
     let heading = HeadingRow {
         first_day,
@@ -382,6 +382,56 @@ pub(crate) fn holds_devices<S: Alter>(
         conn.old conn.new result }
 {
     holds(conn, &Devices { net, ends })
+}
+
+/// The lives of the devices of a network.
+#[derive(Drop)]
+struct Lives<'b> {
+    net: &'b Net,
+}
+
+impl<'b> Listed for Lives<'b> {
+    ghost use Rattle.std.specs.Prelude.{map, Some};
+    ghost use Rattle.ob_tables.specs.declared.table.Table.{Table as ATable};
+    ghost use Rattle.ob_record.specs.Tables.{row_of_life};
+    ghost use Rattle.ob_parts.specs.Parts.{placed};
+
+    ghost table = { ATable.Life };
+
+    ghost places = { λ l. placed row_of_life 0 (map Some l.net.now.network.devices) };
+
+    fn table(&self) -> Table {
+        Table::Life
+    }
+
+    fn count(&self) -> usize {
+        usize::from(self.net.devices())
+    }
+
+    fn has_row(&self, _at: usize) -> bool {
+        true
+    }
+
+    fn is_row(&self, at: usize, row: &Row) -> bool {
+        // They are few, by a clause of this call.
+        let _ = self.net.devices();
+        let life = self.net.life_of(at as u16);
+        has_fields(
+            row,
+            &[
+                Field::Number(at as u64),
+                Field::Number(life.since),
+                number_or_nothing(life.until),
+            ],
+        )
+    }
+}
+
+/// Whether the table of lives holds those of a network's devices. Nothing is written.
+pub(crate) fn holds_lives<S: Alter>(conn: &mut Connection<S>, net: &Net) -> Result<bool, Stop>
+    ensures { Compares S.Store ATable.Life (numbered row_of_life 0 net.now.network.devices) conn.old conn.new result }
+{
+    holds(conn, &Lives { net })
 }
 
 /// The nodes of a network with their names.

@@ -25,7 +25,7 @@ use Rattle.ob_tables.specs.declared.table.Table.{Table}
 use Rattle.ob_tables.specs.declared.table.Table.TheVariants as tables
 use Rattle.ob_commit.specs.declared.act.Act.{Act}
 use Rattle.ob_commit.specs.declared.change.RowChange.{RowChange}
-use Rattle.ob_commit.specs.declared.change.RowChange.TheVariants.{AddCause, AddNode, AddDevice, AddCustomer, SetService}
+use Rattle.ob_commit.specs.declared.change.RowChange.TheVariants.{AddCause, AddNode, AddDevice, SetLife, AddCustomer, SetService}
 use Rattle.ob_commit.specs.declared.change.RowChange.TheVariants.{AddEntry, CorrectEntry, WithdrawEntry, AddMark, DropMark}
 use Rattle.ob_commit.specs.Acts.{CanWrite, NeedsRows, with_act, with_command}
 use Rattle.ob_commit.specs.Amounts.{all_keys, amount_rows}
@@ -39,7 +39,7 @@ use Rattle.ob_record.proofs.Posted.{IsOnce, all_from_both, ends_new, keys_are, m
 
 -- ---- which tables stay
 
--- a change of a row leaves the rows of the commands, of what they moved and of the amounts
+-- a change of rows leaves the rows of the commands, of what they moved and of the amounts
 record Leaves (change : RowChange) (t : Tables) : Type 0 where
   commands : changed_by change t tables.Command ≡ t tables.Command
   moved : changed_by change t tables.Moved ≡ t tables.Moved
@@ -48,7 +48,8 @@ record Leaves (change : RowChange) (t : Tables) : Type 0 where
 leaves : (change : RowChange) (t : Tables) → Leaves change t
 leaves (AddCause code name) t = record { commands = refl; moved = refl; amounts = refl }
 leaves (AddNode id name kind feeder) t = record { commands = refl; moved = refl; amounts = refl }
-leaves (AddDevice id name a b normal) t = record { commands = refl; moved = refl; amounts = refl }
+leaves (AddDevice id name a b normal since until) t = record { commands = refl; moved = refl; amounts = refl }
+leaves (SetLife device since until) t = record { commands = refl; moved = refl; amounts = refl }
 leaves (AddCustomer id section since until) t = record { commands = refl; moved = refl; amounts = refl }
 leaves (SetService id since until) t = record { commands = refl; moved = refl; amounts = refl }
 leaves (AddEntry id device act second cause crew) t = record { commands = refl; moved = refl; amounts = refl }
@@ -105,6 +106,7 @@ own_parts b = record {
   causes = IsPermutation-refl (tables_of b tables.Cause);
   nodes = IsPermutation-refl (tables_of b tables.Node);
   devices = IsPermutation-refl (tables_of b tables.Device);
+  lives = IsPermutation-refl (tables_of b tables.Life);
   customers = IsPermutation-refl (tables_of b tables.Customer);
   entries = IsPermutation-refl (tables_of b tables.Entry);
   marks = IsPermutation-refl (tables_of b tables.Mark);
@@ -262,6 +264,7 @@ module _ (keyed : MovesHaveKeys) (of_change : MovesAreOfChange) (stays : PeriodS
   leads_on tables.Cause = part tables.Cause refl refl refl parts.causes
   leads_on tables.Node = part tables.Node refl refl refl parts.nodes
   leads_on tables.Device = part tables.Device refl refl refl parts.devices
+  leads_on tables.Life = part tables.Life refl refl refl parts.lives
   leads_on tables.Customer = part tables.Customer refl refl refl parts.customers
   leads_on tables.Entry = part tables.Entry refl refl refl parts.entries
   leads_on tables.Mark = part tables.Mark refl refl refl parts.marks

@@ -1,4 +1,4 @@
--- The change of a row that each kind of accepted command makes leads to the rows of the state after it.
+-- The change of rows that each kind of accepted command makes leads to the rows of the state after it.
 use Rattle.std.proofs.Common.{◌≡◌, ℕ, ◌+◌, ◌<◌, ◌^◌, ◌==◌, true, false, not, codes, List, [], ◌∷◌, ◌++◌, map, filter, set, length, Option, Some, None, Bor, refl, sym, ap, subst, ◌∙◌, arith}
 use Rattle.std.specs.Prelude.{if◌then◌else◌, unwrap_or, slice_get, IfSome}
 use Rattle.std.specs.List.Sorted.{IsPermutation}
@@ -10,9 +10,9 @@ use Rattle.jiff.specs.Types.{Date}
 use Rattle.jiff.specs.Words.{epoch_day}
 use Rattle.ob_base.specs.declared.Pos.{Pos}
 use Rattle.ob_base.specs.declared.stop.Refusal.TheVariants.{NameTaken}
-use Rattle.ob_net.specs.Network.{Network, IsNetwork, with_node, with_device, node_of, device_of, section_of}
+use Rattle.ob_net.specs.Network.{Network, IsNetwork, with_node, with_device, with_life, node_of, device_of, section_of}
 use Rattle.ob_net.specs.declared.net.Node.{Node as NetNode}
-use Rattle.ob_base.specs.Life.{whole_life}
+use Rattle.ob_base.specs.Life.{life}
 use Rattle.ob_net.specs.declared.net.Device.{Device as NetDevice}
 use Rattle.ob_sheet.specs.declared.Entry.{Entry as SheetEntry}
 use Rattle.ob_sheet.specs.Order.{entry_of}
@@ -32,16 +32,17 @@ use Rattle.ob_state.specs.Next.{next}
 use Rattle.ob_state.proofs.Accepted.{connect_accepted, revise_accepted, correct_accepted, entry_number}
 use Rattle.ob_state.proofs.Changing.{changed_found}
 use Rattle.ob_state.proofs.Firsts.{no_head}
-use Rattle.ob_tables.specs.Rows.{Columns, Tables, HasEntry, is_key, change_where, cause_row, node_row, device_row, customer_row, entry_row, mark_row, serve, correct, withdraw}
-use Rattle.ob_tables.specs.declared.table.Table.TheVariants.{Cause, Node, Device, Customer, Entry, Mark}
-use Rattle.ob_commit.specs.declared.change.RowChange.TheVariants.{AddCause, AddNode, AddDevice, AddCustomer, SetService, AddEntry, CorrectEntry, WithdrawEntry, AddMark, DropMark}
+use Rattle.ob_tables.specs.Rows.{Columns, Tables, HasEntry, is_key, change_where, cause_row, node_row, device_row, life_row, customer_row, entry_row, mark_row, relive, serve, correct, withdraw}
+use Rattle.ob_tables.specs.declared.table.Table.TheVariants.{Cause, Node, Device, Life, Customer, Entry, Mark}
+use Rattle.ob_commit.specs.declared.change.RowChange.TheVariants.{AddCause, AddNode, AddDevice, SetLife, AddCustomer, SetService, AddEntry, CorrectEntry, WithdrawEntry, AddMark, DropMark}
 use Rattle.ob_commit.specs.Changing.{changed_by}
-use Rattle.ob_record.specs.Tables.{numbered, present, row_of_node, row_of_device, row_of_customer, row_of_entry}
+use Rattle.ob_record.specs.Tables.{numbered, present, row_of_node, row_of_device, row_of_life, row_of_customer, row_of_entry}
 use Rattle.ob_record.specs.Leading.{HaveParts, LeadsParts}
 use Rattle.ob_record.proofs.Accepts.{code_is_free, day_is_free, day_is_marked, section_is_node, entry_seen}
 use Rattle.ob_record.proofs.Keyed.{key_is}
 use Rattle.ob_record.proofs.Listed.{numbered_push, present_put, present_one, present_cleared, joins, rows_changed, one_row, row_of_one, one_customer, one_entry}
-use Rattle.ob_record.proofs.Parts.{causes_part, nodes_part, devices_part, customers_part, entries_part, marks_part, row_joins}
+use Rattle.ob_record.proofs.Lives.{devices_stay, lives_changed, one_life}
+use Rattle.ob_record.proofs.Parts.{causes_part, nodes_part, devices_part, lives_part, customers_part, entries_part, marks_part, row_joins}
 
 -- ---- causes
 pub lead_cause : (b : BookState) (code : ℕ) (name : Bor (List ℕ)) → IsSoundState b → IsCauseCode code → refusal b (commands.Cause code name.now) ≡ None
@@ -91,29 +92,56 @@ lead_section b name feeder id last = record {
   parts = node_joins b (record { name = name.now; feeder = Some feeder }) name id 2 feeder last refl;
 }
 
+-- ---- ends of lives and services
+small_end : (until : Option ℕ) → IsEnd until → IfSome until (λ end. end < 2 ^ 63)
+small_end None h = tt
+small_end (Some s) h = omega (arith, h)
+
 -- ---- devices
-pub lead_device : (b : BookState) (name : Bor (List ℕ)) (ends : EndNames) (normal : Pos) (id u v : ℕ) → id ≡ length b.network.devices → node_of b.network ends.a ≡ Some u → node_of b.network ends.b ≡ Some v
-    → LeadsParts b (next b (commands.Device name.now ends normal)) (AddDevice id name u v normal)
-lead_device b name ends normal id u v last first second =
-    let device : NetDevice = record { name = name.now; a = unwrap_or (node_of b.network ends.a) 0; b = unwrap_or (node_of b.network ends.b) 0; normal = normal; life = whole_life } in
+pub lead_device : (b : BookState) (name : Bor (List ℕ)) (ends : EndNames) (normal : Pos) (since : ℕ) (until : Option ℕ) (id u v : ℕ) → IsMoment since → IsEnd until
+    → id ≡ length b.network.devices → node_of b.network ends.a ≡ Some u → node_of b.network ends.b ≡ Some v
+    → LeadsParts b (next b (commands.Device name.now ends normal since until)) (AddDevice id name u v normal since until)
+lead_device b name ends normal since until id u v moment end last first second =
+    let device : NetDevice = record { name = name.now; a = unwrap_or (node_of b.network ends.a) 0; b = unwrap_or (node_of b.network ends.b) 0; normal = normal; life = life since until } in
     let row = device_row id name.now u v normal in
     let rows = numbered row_of_device 0 b.network.devices in
     let is : row_of_device id device ≡ row = rw (first, second) refl in
     let anew : numbered row_of_device 0 (b.network.devices ++ device ∷ []) ≡ rows ++ row ∷ [] =
     numbered_push row_of_device 0 b.network.devices device id (omega (arith, last)) ∙ ap (λ r. rows ++ r ∷ []) is in
+    let alive = life_row id since until in
+    let lives = numbered row_of_life 0 b.network.devices in
+    let more : numbered row_of_life 0 (b.network.devices ++ device ∷ []) ≡ lives ++ alive ∷ [] = numbered_push row_of_life 0 b.network.devices device id (omega (arith, last)) in
     record {
-      small = tt;
+      small = (omega (arith, moment), small_end until end);
       needs = λ t have. tt;
       parts = λ t have.
-          devices_part b (b.accepted + 1) (λ rows. rows ++ row ∷ []) t have (with_device b.network name.now ends.a ends.b normal whole_life) refl
-          (row_joins (t Device) rows _ row have.devices (IsPermutation-same _ _ (sym anew)));
+          devices_part b (b.accepted + 1) (λ rows. rows ++ row ∷ []) (λ rows. rows ++ alive ∷ []) t have (with_device b.network name.now ends.a ends.b normal (life since until)) refl
+          (row_joins (t Device) rows _ row have.devices (IsPermutation-same _ _ (sym anew))) (row_joins (t Life) lives _ alive have.lives (IsPermutation-same _ _ (sym more)));
+    }
+
+pub lead_life : (b : BookState) (device : List ℕ) (since : ℕ) (until : Option ℕ) (number : ℕ) → IsMoment since → IsEnd until → number < length b.network.devices → device_of b.network device ≡ Some number
+    → LeadsParts b (next b (commands.Life device since until)) (SetLife number since until)
+lead_life b device since until number moment end low at =
+    let lives = numbered row_of_life 0 b.network.devices in
+    let one = one_life number 0 number b.network.devices (omega arith) low in
+    let net = with_life b.network number (life since until) in
+    let same : with_life b.network (unwrap_or (device_of b.network device) 0) (life since until) ≡ net = ap (λ o. with_life b.network (unwrap_or o 0) (life since until)) at in
+    let changed = lives_changed number since until 0 number b.network.devices (omega arith) in
+    record {
+      small = (omega (arith, moment), small_end until end);
+      needs = λ t have. record {
+        since = one.0.life.since;
+        until = one.0.life.until;
+        row = one_row (t Life) lives number (row_of_life number one.0) have.lives one.1;
+      };
+      parts = λ t have.
+          subst (λ (n : Network). HaveParts (record b { network = n; accepted = b.accepted + 1 }) (changed_by (SetLife number since until) t)) (sym same)
+          (lives_part b (b.accepted + 1) (change_where (is_key number) (relive since until)) t have net refl (devices_stay 0 b.network.devices number (life since until))
+          (subst (IsPermutation (change_where (is_key number) (relive since until) (t Life))) changed
+          (IsPermutation-map (λ r. if is_key number r then relive since until r else r) _ _ have.lives)));
     }
 
 -- ---- customers
-small_end : (until : Option ℕ) → IsEnd until → IfSome until (λ end. end < 2 ^ 63)
-small_end None h = tt
-small_end (Some s) h = omega (arith, h)
-
 pub lead_customer : (b : BookState) (number : ℕ) (section : List ℕ) (since : ℕ) (until : Option ℕ) (node : ℕ) → IsMoment since → IsEnd until
     → refusal b (commands.Connect number section since until) ≡ None → node_of b.network section ≡ Some node
     → LeadsParts b (next b (commands.Connect number section since until)) (AddCustomer number node since until)

@@ -3,6 +3,7 @@ mod Acted
 mod Keyed
 mod Leads
 mod Listed
+mod Lives
 mod Named
 mod Parts
 mod Posted

@@ -7,8 +7,8 @@ use Rattle.ob_sheet.specs.declared.Entry.{Entry as SheetEntry}
 use Rattle.ob_cust.specs.declared.Customer.{Customer as RollCustomer}
 use Rattle.ob_state.specs.State.{BookState}
 use Rattle.ob_tables.specs.Rows.{Columns, Tables, with_table, cause_row, mark_row}
-use Rattle.ob_tables.specs.declared.table.Table.TheVariants.{Cause, Node, Device, Customer, Entry, Mark}
-use Rattle.ob_record.specs.Tables.{numbered, present, row_of_node, row_of_device, row_of_customer, row_of_entry}
+use Rattle.ob_tables.specs.declared.table.Table.TheVariants.{Cause, Node, Device, Life, Customer, Entry, Mark}
+use Rattle.ob_record.specs.Tables.{numbered, present, row_of_node, row_of_device, row_of_life, row_of_customer, row_of_entry}
 use Rattle.ob_record.specs.Leading.{HaveParts}
 
 -- ---- one part changed, and how many commands were accepted
@@ -20,6 +20,7 @@ module _ (b : BookState) (accepted : ℕ) (change : List Columns → List Column
     causes = here;
     nodes = have.nodes;
     devices = have.devices;
+    lives = have.lives;
     customers = have.customers;
     entries = have.entries;
     marks = have.marks;
@@ -32,18 +33,21 @@ module _ (b : BookState) (accepted : ℕ) (change : List Columns → List Column
     causes = have.causes;
     nodes = here;
     devices = subst (λ ds. IsPermutation (t Device) (numbered row_of_device 0 ds)) (sym same) have.devices;
+    lives = subst (λ ds. IsPermutation (t Life) (numbered row_of_life 0 ds)) (sym same) have.lives;
     customers = have.customers;
     entries = have.entries;
     marks = have.marks;
   }
 
-  pub devices_part : (net : Network) → net.nodes ≡ b.network.nodes → IsPermutation (change (t Device)) (numbered row_of_device 0 net.devices)
-      → HaveParts (record b { network = net; accepted = accepted }) (with_table Device change t)
-  devices_part net same here = record {
+  pub lives_part : (net : Network) → net.nodes ≡ b.network.nodes → numbered row_of_device 0 net.devices ≡ numbered row_of_device 0 b.network.devices
+      → IsPermutation (change (t Life)) (numbered row_of_life 0 net.devices)
+      → HaveParts (record b { network = net; accepted = accepted }) (with_table Life change t)
+  lives_part net same alike here = record {
     meta = have.meta;
     causes = have.causes;
     nodes = subst (λ ns. IsPermutation (t Node) (numbered row_of_node 0 ns)) (sym same) have.nodes;
-    devices = here;
+    devices = subst (IsPermutation (t Device)) (sym alike) have.devices;
+    lives = here;
     customers = have.customers;
     entries = have.entries;
     marks = have.marks;
@@ -56,6 +60,7 @@ module _ (b : BookState) (accepted : ℕ) (change : List Columns → List Column
     causes = have.causes;
     nodes = have.nodes;
     devices = have.devices;
+    lives = have.lives;
     customers = here;
     entries = have.entries;
     marks = have.marks;
@@ -68,6 +73,7 @@ module _ (b : BookState) (accepted : ℕ) (change : List Columns → List Column
     causes = have.causes;
     nodes = have.nodes;
     devices = have.devices;
+    lives = have.lives;
     customers = have.customers;
     entries = here;
     marks = have.marks;
@@ -80,10 +86,26 @@ module _ (b : BookState) (accepted : ℕ) (change : List Columns → List Column
     causes = have.causes;
     nodes = have.nodes;
     devices = have.devices;
+    lives = have.lives;
     customers = have.customers;
     entries = have.entries;
     marks = here;
   }
+
+-- the devices changed, and their lives with them
+pub devices_part : (b : BookState) (accepted : ℕ) (change live : List Columns → List Columns) (t : Tables) → HaveParts b t → (net : Network) → net.nodes ≡ b.network.nodes
+    → IsPermutation (change (t Device)) (numbered row_of_device 0 net.devices) → IsPermutation (live (t Life)) (numbered row_of_life 0 net.devices)
+    → HaveParts (record b { network = net; accepted = accepted }) (with_table Life live (with_table Device change t))
+devices_part b accepted change live t have net same here alive = record {
+  meta = have.meta;
+  causes = have.causes;
+  nodes = subst (λ ns. IsPermutation (t Node) (numbered row_of_node 0 ns)) (sym same) have.nodes;
+  devices = here;
+  lives = alive;
+  customers = have.customers;
+  entries = have.entries;
+  marks = have.marks;
+}
 
 -- ---- a row joins the rows of a part, in whatever order these are
 pub row_joins : (rows known anew : List Columns) (row : Columns) → IsPermutation rows known → IsPermutation (known ++ row ∷ []) anew → IsPermutation (rows ++ row ∷ []) anew

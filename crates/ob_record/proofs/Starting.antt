@@ -13,7 +13,7 @@ use Rattle.ob_state.specs.State.{BookState, empty_book}
 use Rattle.ob_state.specs.Next.{next}
 use Rattle.ob_book.specs.Acts.{ActState, PeriodStays, Referenced, StateIsOfCommands, act, acts, of_commands, start, take_on}
 use Rattle.ob_tables.specs.Rows.{Columns, cause_row, mark_row, posting_row}
-use Rattle.ob_tables.specs.declared.table.Table.TheVariants.{Meta, Cause, Node, Device, Customer, Entry, Mark, Command, Moved, Posting}
+use Rattle.ob_tables.specs.declared.table.Table.TheVariants.{Meta, Cause, Node, Device, Life, Customer, Entry, Mark, Command, Moved, Posting}
 use Rattle.ob_commit.specs.Amounts.{all_keys, amount_row}
 use Rattle.ob_record.specs.Tables.{present}
 use Rattle.ob_record.specs.Reached.{AcceptedIsReached, IsReached, ReachedCounts, ReachedIsOfCommands, StartHasFirstRows, StartIsReached}
@@ -80,6 +80,7 @@ start_has_first_rows p Meta = refl
 start_has_first_rows p Cause = ap (λ l. cause_row 0 (codes "UNASSIGNED") ∷ l) (none_present cause_row 1 63)
 start_has_first_rows p Node = refl
 start_has_first_rows p Device = refl
+start_has_first_rows p Life = refl
 start_has_first_rows p Customer = refl
 start_has_first_rows p Entry = refl
 start_has_first_rows p Mark = none_present mark_row 0 (day_count p)

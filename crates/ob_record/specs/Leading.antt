@@ -1,9 +1,9 @@
--- What a change of a row, and the rows of a command, make of the tables of a book.
+-- What a change of rows, and the rows of a command, make of the tables of a book.
 use Rattle.std.specs.Prelude.{[]}
 use Rattle.std.specs.List.Sorted.{IsPermutation}
 use Rattle.ob_tables.specs.Rows.{Tables}
 use Rattle.ob_tables.specs.declared.table.Table.{Table}
-use Rattle.ob_tables.specs.declared.table.Table.TheVariants.{Meta, Cause, Node, Device, Customer, Entry, Mark}
+use Rattle.ob_tables.specs.declared.table.Table.TheVariants.{Meta, Cause, Node, Device, Life, Customer, Entry, Mark}
 use Rattle.ob_post.specs.Postings.{PostedAmounts}
 use Rattle.ob_state.specs.State.{BookState}
 use Rattle.ob_book.specs.Acts.{ActState, Referenced, take_on}
@@ -23,11 +23,12 @@ pub record HaveParts (b : BookState) (t : Tables) : Type 0 where
   pub causes : IsPermutation (t Cause) (tables_of (bare b) Cause)
   pub nodes : IsPermutation (t Node) (tables_of (bare b) Node)
   pub devices : IsPermutation (t Device) (tables_of (bare b) Device)
+  pub lives : IsPermutation (t Life) (tables_of (bare b) Life)
   pub customers : IsPermutation (t Customer) (tables_of (bare b) Customer)
   pub entries : IsPermutation (t Entry) (tables_of (bare b) Entry)
   pub marks : IsPermutation (t Mark) (tables_of (bare b) Mark)
 
--- the change of a row makes of the rows of one book's parts those of another's
+-- the change of rows makes of the rows of one book's parts those of another's
 pub record LeadsParts (b c : BookState) (change : RowChange) : Type 0 where
   pub small : HasSmallSeconds change
   pub needs : (t : Tables) → HaveParts b t → NeedsRow change t

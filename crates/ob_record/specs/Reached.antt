@@ -6,7 +6,7 @@ use Rattle.ob_time.specs.Period.{IsPeriodText}
 use Rattle.ob_book.specs.Acts.{ActState, Referenced, acts, is_accepted, of_commands, start, take_on}
 use Rattle.ob_tables.specs.Rows.{Tables, meta_row, cause_row, node_row}
 use Rattle.ob_tables.specs.declared.table.Table.{Table}
-use Rattle.ob_tables.specs.declared.table.Table.TheVariants.{Meta, Cause, Node, Device, Customer, Entry, Mark, Command, Moved, Posting}
+use Rattle.ob_tables.specs.declared.table.Table.TheVariants.{Meta, Cause, Node, Device, Life, Customer, Entry, Mark, Command, Moved, Posting}
 use Rattle.ob_commit.specs.Amounts.{amount_rows}
 use Rattle.ob_record.specs.Tables.{tables_of}
 
@@ -40,10 +40,11 @@ ReachedAreFew = (b : ActState) → IsReached b → length b.accepted ≤ 1_000_0
 
 -- the rows that a book of this period begins with: its period, cause 0, GRID, and an amount of 0 for each key
 abbrev pub first_rows : Calendar → Tables
-first_rows p Meta = meta_row 1 (day_text p.first_day) (day_count p) p.zone ∷ []
+first_rows p Meta = meta_row 2 (day_text p.first_day) (day_count p) p.zone ∷ []
 first_rows p Cause = cause_row 0 (codes "UNASSIGNED") ∷ []
 first_rows p Node = node_row 0 (codes "GRID") 0 0 ∷ []
 first_rows p Device = []
+first_rows p Life = []
 first_rows p Customer = []
 first_rows p Entry = []
 first_rows p Mark = []

@@ -1,4 +1,4 @@
--- The ten tables of a book and its accepted commands: for each table the list of its rows.
+-- The eleven tables of a book and its accepted commands: for each table the list of its rows.
 use Rattle.std.specs.Prelude.{ℕ, ◌+◌, ◌==◌, List, [], ◌∷◌, ◌++◌, map, Option, Some, None, is_some, unwrap_or, if◌then◌else◌}
 use Rattle.std.specs.List.Sorted.{IsPermutation}
 use Rattle.sqlite.specs.Tree.{Trees}
@@ -16,8 +16,8 @@ use Rattle.ob_state.specs.Next.{next}
 use Rattle.ob_state.specs.Amounts.{amount, moves}
 use Rattle.ob_book.specs.Acts.{ActState, Referenced}
 use Rattle.ob_tables.specs.declared.table.Table.{Table}
-use Rattle.ob_tables.specs.Rows.{Columns, Tables, shown, tree_of, meta_row, cause_row, node_row, device_row, customer_row, entry_row, mark_row, command_row, moved_row}
-use Rattle.ob_tables.specs.declared.table.Table.TheVariants.{Meta, Cause, Node, Device, Customer, Entry, Mark, Command, Moved, Posting}
+use Rattle.ob_tables.specs.Rows.{Columns, Tables, shown, tree_of, meta_row, cause_row, node_row, device_row, life_row, customer_row, entry_row, mark_row, command_row, moved_row}
+use Rattle.ob_tables.specs.declared.table.Table.TheVariants.{Meta, Cause, Node, Device, Life, Customer, Entry, Mark, Command, Moved, Posting}
 use Rattle.ob_commit.specs.Amounts.{amount_rows}
 
 -- the rows that a table of these trees shows, in some order
@@ -45,6 +45,9 @@ row_of_node id node = node_row id node.name (node_kind id node) (unwrap_or node.
 abbrev pub row_of_device : ℕ → NetDevice → Columns
 row_of_device id device = device_row id device.name device.a device.b device.normal
 
+abbrev pub row_of_life : ℕ → NetDevice → Columns
+row_of_life id device = life_row id device.life.since device.life.until
+
 abbrev pub row_of_customer : RollCustomer → Columns
 row_of_customer c = customer_row c.no c.section c.since c.until
 
@@ -68,10 +71,11 @@ moved_rows b n (a ∷ more) =
 -- the rows of the tables: those of the state, those of the accepted commands, what each of them moved, and the
 -- customer-seconds without supply of the state
 abbrev pub tables_of : ActState → Tables
-tables_of b Meta = meta_row 1 (day_text b.book.period.first_day) (day_count b.book.period) b.book.period.zone ∷ []
+tables_of b Meta = meta_row 2 (day_text b.book.period.first_day) (day_count b.book.period) b.book.period.zone ∷ []
 tables_of b Cause = present cause_row 0 b.book.causes
 tables_of b Node = numbered row_of_node 0 b.book.network.nodes
 tables_of b Device = numbered row_of_device 0 b.book.network.devices
+tables_of b Life = numbered row_of_life 0 b.book.network.devices
 tables_of b Customer = map row_of_customer b.book.customers
 tables_of b Entry = map row_of_entry b.book.entries
 tables_of b Mark = present mark_row 0 b.book.marks

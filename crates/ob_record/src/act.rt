@@ -18,7 +18,7 @@ use ob_commit::{Act, RowChange};
 use ob_post::laws::move_laws;
 use ob_sweep::Timeline;
 
-/// The rows of an accepted command: its number, reference and body, the row that it changes, and the amounts that it
+/// The rows of an accepted command: its number, reference and body, the rows that it changes, and the amounts that it
 /// moves.
 pub fn act_of<'t, T: Timeline>(
     book: &Book<T>,

@@ -1,7 +1,7 @@
-//! The row that an accepted command changes beside its own and those of its amounts.
+//! The rows that an accepted command changes beside its own and those of its amounts.
 ghost use Rattle.std.specs.Prelude.{◌≡◌, None};
 ghost use Rattle.ob_command.specs.Commands.{IsEnd};
-ghost use Rattle.ob_command.specs.declared.command.Command.TheVariants.{Cause, Bus, Section, Device, Connect, Revise};
+ghost use Rattle.ob_command.specs.declared.command.Command.TheVariants.{Cause, Bus, Section, Device, Life, Connect, Revise};
 ghost use Rattle.ob_command.specs.declared.command.Command.TheVariants.{Switch, Correct, Withdraw, Mark, Unmark};
 ghost use Rattle.ob_state.specs.Refusals.{refusal};
 ghost use Rattle.ob_state.specs.Next.{next};
@@ -20,7 +20,7 @@ const KIND_OF_BUS: u32 = 1;
 /// The kind of a section.
 const KIND_OF_SECTION: u32 = 2;
 
-/// The row that an accepted command changes beside its own and those of its amounts.
+/// The rows that an accepted command changes beside its own and those of its amounts.
 pub fn change_of<'t, T: Timeline>(book: &Book<T>, command: &'t Command) -> RowChange<'t>
     requires accepted { refusal book.now.state command.now ≡ None }
     ensures { LeadsParts book.now.state (next book.now.state command.now) result }
@@ -29,7 +29,18 @@ pub fn change_of<'t, T: Timeline>(book: &Book<T>, command: &'t Command) -> RowCh
         Command::Cause { code, name } => cause_added(book, *code, name),
         Command::Bus { name } => bus_added(book, name),
         Command::Section { name, feeder } => section_added(book, name, *feeder),
-        Command::Device { name, ends, normal } => device_added(book, name, ends, *normal),
+        Command::Device {
+            name,
+            ends,
+            normal,
+            since,
+            until,
+        } => device_added(book, name, ends, *normal, *since, *until),
+        Command::Life {
+            device,
+            since,
+            until,
+        } => life_set(book, device, *since, *until),
         Command::Connect {
             customer,
             section,
@@ -106,9 +117,12 @@ fn device_added<'t, T: Timeline>(
     name: &'t Name,
     ends: &Ends,
     normal: Pos,
+    since: Moment,
+    until: Option<Moment>,
 ) -> RowChange<'t>
-    requires accepted { refusal book.now.state (Device name.now ends.now normal) ≡ None }
-    ensures { LeadsParts book.now.state (next book.now.state (Device name.now ends.now normal)) result }
+    requires accepted { refusal book.now.state (Device name.now ends.now normal since until) ≡ None }
+    ensures { LeadsParts book.now.state
+        (next book.now.state (Device name.now ends.now normal since until)) result }
 {
     // Both ends are nodes, since the command was accepted.
     let net = book.net();
@@ -124,10 +138,32 @@ fn device_added<'t, T: Timeline>(
         a: u32::from(a),
         b: u32::from(b),
         normal,
+        since: since.second(),
+        until: end_of(until),
     }
 }
 
-// The end of a service as a second.
+fn life_set<'t, T: Timeline>(
+    book: &Book<T>,
+    device: &Name,
+    since: Moment,
+    until: Option<Moment>,
+) -> RowChange<'t>
+    requires accepted { refusal book.now.state (Life device.now since until) ≡ None }
+    ensures { LeadsParts book.now.state (next book.now.state (Life device.now since until)) result }
+{
+    // A device has the name, since the command was accepted.
+    let Some(device) = book.net().device_of(device) else {
+        unreachable!();
+    };
+    RowChange::SetLife {
+        device: u32::from(device),
+        since: since.second(),
+        until: end_of(until),
+    }
+}
+
+// The end of a life or of a service as a second.
 fn end_of(until: Option<Moment>) -> Option<Second>
     ensures value { result ≡ until }
     ensures range { IsEnd until }

@@ -1,4 +1,4 @@
-//! The rows of a book: what the ten tables hold of its accepted commands, and what each further one makes of them.
+//! The rows of a book: what the eleven tables hold of its accepted commands, and what each further one makes of them.
 #![tactic(auto)]
 
 mod act;

@@ -20,6 +20,10 @@ use Rattle.ob_net.specs.Walk.{is_supplied}
 use Rattle.ob_sheet.specs.Supply.{is_deenergized}
 use Rattle.ob_cust.specs.declared.Customer.{Customer}
 use Rattle.ob_cust.specs.WithoutSupply.{is_without_supply}
+use Rattle.ob_sheet.specs.declared.Entry.{Entry}
+use Rattle.ob_sheet.specs.Sheet.{NameDevices}
+use Rattle.ob_sweep.specs.Changed.{IsAfter}
+use Rattle.ob_sweep.specs.declared.change.Change.TheVariants.{Joined}
 use Rattle.ob_sweep.specs.declared.Run.{Run}
 use Rattle.ob_sweep.specs.Deltas.{sections_of, IsDelta}
 use Rattle.ob_sweep.specs.Timeline.{IsSection, runs_at}
@@ -169,11 +173,11 @@ other_devices : (b : BookState) (net : Network) → net.nodes ≡ b.network.node
 other_devices b net same = ap (λ (nodes : List Node). with_network b (record { nodes = nodes; devices = net.devices })) same
 
 -- its home feeders and sections are the same
-pub same_home : (net more : Network) → net.nodes ≡ more.nodes → (v : ℕ) → home_feeder net v ≡ home_feeder more v
-same_home net more same v = ap (λ (nodes : List Node). home_feeder (record { nodes = nodes; devices = [] }) v) same
+pub same_home : (net after : Network) → net.nodes ≡ after.nodes → (v : ℕ) → home_feeder net v ≡ home_feeder after v
+same_home net after same v = ap (λ (nodes : List Node). home_feeder (record { nodes = nodes; devices = [] }) v) same
 
-pub same_section : (net more : Network) → net.nodes ≡ more.nodes → (v : ℕ) → IsSection more v → IsSection net v
-same_section net more same v s = subst IsSome (sym (same_home net more same v)) s
+pub same_section : (net after : Network) → net.nodes ≡ after.nodes → (v : ℕ) → IsSection after v → IsSection net v
+same_section net after same v s = subst IsSome (sym (same_home net after same v)) s
 
 -- what is posted of the touched sections leads from all amounts before a change of the devices to all after it
 pub altered_balance : (b : BookState) (net : Network) → net.nodes ≡ b.network.nodes
@@ -198,10 +202,26 @@ taken_back b name a z normal life =
     ap (λ (ds : List Device). record b { network = record b.network { devices = ds } })
     (ap (λ n. take n devices) one ∙ take-append_seam b.network.devices (devices_end b name a z normal life))
 
+-- and no entry names it
+pub before_last : (b : BookState) (name a z : List ℕ) (normal : Pos) (life : Life) → NameDevices (length b.network.devices) b.entries
+    → All (λ (e : Entry). e.device < length (with_device b.network name a z normal life).devices - 1) b.entries
+before_last b name a z normal life h =
+    let one : length (with_device b.network name a z normal life).devices - 1 ≡ length b.network.devices = omega (arith, length-append b.network.devices (devices_end b name a z normal life)) in
+    subst (λ n. All (λ (e : Entry). e.device < n) b.entries) (sym one) h
+
 -- it has its life
-pub joined_life : (ds : List Device) (d : Device) → slice_get (map (λ (x : Device). x.life) (ds ++ d ∷ [])) (length ds) ≡ Some d.life
+joined_life : (ds : List Device) (d : Device) → slice_get (map (λ (x : Device). x.life) (ds ++ d ∷ [])) (length ds) ≡ Some d.life
 joined_life [] d = refl
 joined_life (x ∷ xs) d = joined_life xs d
+
+-- the network with it is one after the device joined
+pub joined_after : (b : BookState) (name a z : List ℕ) (normal : Pos) (life : Life) (number : ℕ) → number ≡ length b.network.devices
+    → IsAfter (Joined number life) (with_device b.network name a z normal life)
+joined_after b name a z normal life number is =
+    let devices = b.network.devices in
+    let end = devices_end b name a z normal life in
+    let device : Device = record { name = name; a = unwrap_or (node_of b.network a) 0; b = unwrap_or (node_of b.network z) 0; normal = normal; life = life } in
+    (omega (arith, is, length-append devices end), subst (λ n. slice_get (map (λ (x : Device). x.life) (devices ++ device ∷ [])) n ≡ Some life) (sym is) (joined_life devices device))
 
 -- ---- a device with another life
 pub lived_now : (ds : List Device) (k : ℕ) (life : Life) → k < length ds → slice_get (map (λ (x : Device). x.life) (with_life_at ds k life)) k ≡ Some life

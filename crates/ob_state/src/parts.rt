@@ -94,11 +94,12 @@ pub fn with_device<T: Timeline>(
 {
     state.reserve_one()?;
     let _ = state.accepted();
+    let number = state.net.devices();
+    state.add_device(device.name, device.ends, device.normal, device.life);
     let change = Change::Joined {
-        device: state.net.devices(),
+        device: number,
         life: device.life,
     };
-    state.add_device(device.name, device.ends, device.normal, device.life);
     let effect = altered(alloc, state, timeline, &change);
     state.take_back_device();
     effect

@@ -112,8 +112,10 @@ impl State {
         ensures { result ≡ first (node_refusal self.now.state.network name.now ∷ []) }
     {
         let full = usize::from(self.net.nodes()) == MOST_NODES;
-        refuse_if(self.net.node_of(name).is_some(), Refusal::NameTaken)
-            .or(refuse_if(full, Refusal::Full(MOST_NODES as u32)))
+        refuse_if(self.net.node_of(name).is_some(), Refusal::NameTaken).or(refuse_if(
+            full,
+            Refusal::Full(MOST_NODES as u32),
+        ))
     }
 
     fn refuse_device(&self, name: &Name, ends: Ends, life: Life) -> Option<Refusal>

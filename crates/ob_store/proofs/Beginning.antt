@@ -18,7 +18,7 @@ use Rattle.ob_tables.specs.Rows.{Tables}
 use Rattle.ob_tables.specs.Schema.{no_schema}
 use Rattle.ob_tables.specs.Steps.{IsStoreFault}
 use Rattle.ob_tables.specs.declared.table.Table.{Table}
-use Rattle.ob_tables.specs.declared.table.Table.TheVariants.{Meta, Cause, Node, Device, Customer, Entry, Mark, Command, Moved, Posting}
+use Rattle.ob_tables.specs.declared.table.Table.TheVariants.{Meta, Cause, Node, Device, Life, Customer, Entry, Mark, Command, Moved, Posting}
 use Rattle.ob_commit.specs.Keeps.{Keeps}
 use Rattle.ob_commit.specs.NewBook.{new_tables}
 use Rattle.ob_commit.specs.Begins.{Stays, StaysOrBegins}
@@ -69,6 +69,7 @@ module _ (p : Calendar) (first text : List ℕ) (days : ℕ) (zone : List ℕ) (
   first_table Cause = refl
   first_table Node = refl
   first_table Device = refl
+  first_table Life = refl
   first_table Customer = refl
   first_table Entry = refl
   first_table Mark = refl

@@ -7,25 +7,25 @@ use Rattle.sqlite.specs.Tree.{Trees}
 use Rattle.sqlite.specs.Held.{Held, state}
 use Rattle.ob_base.specs.declared.stop.Stop.{Stop}
 use Rattle.ob_book.specs.Acts.{ActState}
-use Rattle.ob_tables.specs.Creation.{before}
 use Rattle.ob_tables.specs.Rows.{shown, tree_of}
 use Rattle.ob_tables.specs.declared.table.Table.{Table}
-use Rattle.ob_tables.specs.declared.table.Table.TheVariants.{Meta, Cause, Node, Device, Customer, Entry, Mark, Command, Moved, Posting}
+use Rattle.ob_tables.specs.declared.table.Table.TheVariants.{Meta, Cause, Node, Device, Life, Customer, Entry, Mark, Command, Moved, Posting}
 use Rattle.ob_record.specs.Tables.{Shows, tables_of}
 use Rattle.ob_compare.specs.Parts.{Compares}
 use Rattle.ob_store.specs.Differing.{IsFirstOff, IsFirstOffOf, IsOff, NoneSo}
-use Rattle.ob_store.specs.Finding.{Finds}
+use Rattle.ob_store.specs.Finding.{Finds, place_of}
 use Rattle.ob_store.proofs.Reading.{fails, read_err, read_ok, then_good, then_more}
 
 -- ---- the tables in their order
 abbrev in_order : List Table
-in_order = Meta ∷ Cause ∷ Node ∷ Device ∷ Customer ∷ Entry ∷ Mark ∷ Command ∷ Moved ∷ Posting ∷ []
+in_order = Meta ∷ Cause ∷ Node ∷ Device ∷ Life ∷ Customer ∷ Entry ∷ Mark ∷ Command ∷ Moved ∷ Posting ∷ []
 
-placed : (t : Table) → get_or in_order (before t) Meta ≡ t
+placed : (t : Table) → get_or in_order (place_of t) Meta ≡ t
 placed Meta = refl
 placed Cause = refl
 placed Node = refl
 placed Device = refl
+placed Life = refl
 placed Customer = refl
 placed Entry = refl
 placed Mark = refl
@@ -33,20 +33,21 @@ placed Command = refl
 placed Moved = refl
 placed Posting = refl
 
-same_place : (t u : Table) → before t ≡ before u → t ≡ u
+same_place : (t u : Table) → place_of t ≡ place_of u → t ≡ u
 same_place t u e = sym (placed t) ∙ ap (λ n. get_or in_order n Meta) e ∙ placed u
 
-one_of_ten : (t : Table) → before t < 10
-one_of_ten Meta = omega arith
-one_of_ten Cause = omega arith
-one_of_ten Node = omega arith
-one_of_ten Device = omega arith
-one_of_ten Customer = omega arith
-one_of_ten Entry = omega arith
-one_of_ten Mark = omega arith
-one_of_ten Command = omega arith
-one_of_ten Moved = omega arith
-one_of_ten Posting = omega arith
+one_of_eleven : (t : Table) → place_of t < 11
+one_of_eleven Meta = omega arith
+one_of_eleven Cause = omega arith
+one_of_eleven Node = omega arith
+one_of_eleven Device = omega arith
+one_of_eleven Life = omega arith
+one_of_eleven Customer = omega arith
+one_of_eleven Entry = omega arith
+one_of_eleven Mark = omega arith
+one_of_eleven Command = omega arith
+one_of_eleven Moved = omega arith
+one_of_eleven Posting = omega arith
 
 below_or_at : (i n : ℕ) → i < n + 1 → (i < n) ⊎ (i ≡ n)
 below_or_at zero zero low = inr refl
@@ -58,17 +59,17 @@ below_or_at (suc i) (suc n) low = elim (below_or_at i n (omega (arith, low))) [
 ]
 
 -- what is so of the tables before one, and of that one, is so of those up to it
-up_to : (P : Table → Type 0) (t : Table) → ((u : Table) → before u < before t → P u) → P t → (u : Table) → before u < before t + 1 → P u
-up_to P t all here u low = elim (below_or_at (before u) (before t) low) [
+up_to : (P : Table → Type 0) (t : Table) → ((u : Table) → place_of u < place_of t → P u) → P t → (u : Table) → place_of u < place_of t + 1 → P u
+up_to P t all here u low = elim (below_or_at (place_of u) (place_of t) low) [
   | inl less ↦ all u less
   | inr same ↦ subst P (same_place t u (sym same)) here
 ]
 
 -- the tables before that of commands
 abbrev pub first_parts : List Table
-first_parts = Meta ∷ Cause ∷ Node ∷ Device ∷ Customer ∷ Entry ∷ Mark ∷ []
+first_parts = Meta ∷ Cause ∷ Node ∷ Device ∷ Life ∷ Customer ∷ Entry ∷ Mark ∷ []
 
-pub part_at : (at : ℕ) → at < 7 → before (get_or first_parts at Meta) ≡ at
+pub part_at : (at : ℕ) → at < 8 → place_of (get_or first_parts at Meta) ≡ at
 part_at zero low = refl
 part_at (suc zero) low = refl
 part_at (suc (suc zero)) low = refl
@@ -76,7 +77,8 @@ part_at (suc (suc (suc zero))) low = refl
 part_at (suc (suc (suc (suc zero)))) low = refl
 part_at (suc (suc (suc (suc (suc zero))))) low = refl
 part_at (suc (suc (suc (suc (suc (suc zero)))))) low = refl
-part_at (suc (suc (suc (suc (suc (suc (suc at))))))) low = absurd (omega (arith, low))
+part_at (suc (suc (suc (suc (suc (suc (suc zero))))))) low = refl
+part_at (suc (suc (suc (suc (suc (suc (suc (suc at)))))))) low = absurd (omega (arith, low))
 
 module _ {S : Type 0} (g : Ghosts S) where
   -- what was found is so of the trees, or tells more of them
@@ -139,15 +141,15 @@ module _ {S : Type 0} (g : Ghosts S) where
         find_as (Next n t) (Next n t) (λ trees. UpTo n trees × NoneSo trees) NoneSo old new r (λ trees found both. both) (λ trees none. none.1)
         (then_more g (λ trees (m : ℕ). UpTo m trees) NoneSo (IsOff b t) NoneSo old mid new n r so it)
 
-    module _ (n : ℕ) (t : Table) (place : before t ≡ n) (old mid new : Held S) (begun : Begun n old mid) where
+    module _ (n : ℕ) (t : Table) (place : place_of t ≡ n) (old mid new : Held S) (begun : Begun n old mid) where
       pub one_right : Finds g (IsOff b t) NoneSo mid new (Ok None) → Begun (n + 1) old new
       one_right it = inr (then_good g (Next n t) NoneSo (λ trees (m : ℕ). UpTo m trees) NoneSo old new None (goes_on n t old mid new (Ok None) begun it) (n + 1) (λ trees both.
-          subst (λ (m : ℕ). (u : Table) → before u < m + 1 → IsSo u trees) place (up_to (λ u. IsSo u trees) t (subst (λ (m : ℕ). UpTo m trees) (sym place) both.0) both.1)))
+          subst (λ (m : ℕ). (u : Table) → place_of u < m + 1 → IsSo u trees) place (up_to (λ u. IsSo u trees) t (subst (λ (m : ℕ). UpTo m trees) (sym place) both.0) both.1)))
 
       pub one_wrong : (k : ℕ) (u : Table) → Finds g (IsOff b t) NoneSo mid new (Ok (Some u)) → Finds g (IsFirstOffOf k b) NoneSo old new (Ok (Some u))
       one_wrong k u it = then_good g (Next n t) NoneSo (IsFirstOffOf k b) NoneSo old new (Some u) (goes_on n t old mid new (Ok (Some u)) begun it) (Some u) (λ trees both. (
         λ shows. both.1.1 (subst (λ v. IsSo v trees) both.1.0 shows),
-        λ o low. both.0 o (subst (λ m. before o < m) (ap before both.1.0 ∙ place) low),
+        λ o low. both.0 o (subst (λ m. place_of o < m) (ap place_of both.1.0 ∙ place) low),
       ))
 
       pub one_failed : (k : ℕ) (stop : Stop) → Finds g (IsOff b t) NoneSo mid new (Err stop) → Finds g (IsFirstOffOf k b) NoneSo old new (Err stop)
@@ -158,31 +160,37 @@ module _ {S : Type 0} (g : Ghosts S) where
     all_right n old new some (inr so) = then_good g (λ trees (m : ℕ). UpTo m trees) NoneSo (IsFirstOffOf n b) NoneSo old new n so None (λ trees all. all)
 
     -- ---- all of them
-    module _ (moved : Bool) (old mid : Held S) where
-      pub before_commands : (u : Table) → Finds g (IsFirstOffOf 7 b) NoneSo old mid (Ok (Some u)) → Finds g (IsFirstOff b moved) NoneSo old mid (Ok (Some u))
-      before_commands u it = then_good g (IsFirstOffOf 7 b) NoneSo (IsFirstOff b moved) NoneSo old mid (Some u) it (Some u) (λ trees differs commands amounts. differs)
+    module _ (counted moved : Bool) (old mid : Held S) where
+      pub before_commands : (u : Table) → Finds g (IsFirstOffOf 8 b) NoneSo old mid (Ok (Some u)) → Finds g (IsFirstOff b counted moved) NoneSo old mid (Ok (Some u))
+      before_commands u it = then_good g (IsFirstOffOf 8 b) NoneSo (IsFirstOff b counted moved) NoneSo old mid (Some u) it (Some u) (λ trees differs commands amounts. differs)
 
-      pub before_failed : (stop : Stop) → Finds g (IsFirstOffOf 7 b) NoneSo old mid (Err stop) → Finds g (IsFirstOff b moved) NoneSo old mid (Err stop)
-      before_failed stop it = fails g (IsFirstOffOf 7 b) NoneSo (IsFirstOff b moved) NoneSo old mid stop (λ trees none. none) it
+      pub before_failed : (stop : Stop) → Finds g (IsFirstOffOf 8 b) NoneSo old mid (Err stop) → Finds g (IsFirstOff b counted moved) NoneSo old mid (Err stop)
+      before_failed stop it = fails g (IsFirstOffOf 8 b) NoneSo (IsFirstOff b counted moved) NoneSo old mid stop (λ trees none. none) it
 
-      module _ (first : Finds g (IsFirstOffOf 7 b) NoneSo old mid (Ok None)) where
-        pub moved_off : moved ≡ false → Finds g (IsFirstOff b moved) NoneSo old mid (Ok (Some Moved))
-        moved_off is = then_good g (IsFirstOffOf 7 b) NoneSo (IsFirstOff b moved) NoneSo old mid None first (Some Moved) (λ trees all commands amounts. (
-          λ shows. absurd (true≢false (sym (amounts.1 shows) ∙ is)),
-          up_to (λ u. IsSo u trees) Command all commands,
+      module _ (first : Finds g (IsFirstOffOf 8 b) NoneSo old mid (Ok None)) where
+        pub commands_off : counted ≡ false → Finds g (IsFirstOff b counted moved) NoneSo old mid (Ok (Some Command))
+        commands_off is = then_good g (IsFirstOffOf 8 b) NoneSo (IsFirstOff b counted moved) NoneSo old mid None first (Some Command) (λ trees all commands amounts. (
+          λ shows. absurd (true≢false (sym (commands.1 shows) ∙ is)),
+          all,
         ))
 
-        pub posted : moved ≡ true → (new : Held S) (r : Result (Option Table) Stop) → Finds g (IsOff b Posting) NoneSo mid new r → Finds g (IsFirstOff b moved) NoneSo old new r
-        posted is new r it =
-            find_as (Next 7 Posting) (IsFirstOff b moved) (λ trees. UpTo 7 trees × NoneSo trees) NoneSo old new r last (λ trees none. none.1)
-            (then_more g (IsFirstOffOf 7 b) NoneSo (IsOff b Posting) NoneSo old mid new None r first it)
-          where
-            nine : (trees : Trees) → UpTo 7 trees → IsSo Command trees → IsSo Moved trees → (u : Table) → before u < 9 → IsSo u trees
-            nine trees all commands amounts = up_to (λ u. IsSo u trees) Moved (up_to (λ u. IsSo u trees) Command all commands) amounts
+        pub moved_off : counted ≡ true → moved ≡ false → Finds g (IsFirstOff b counted moved) NoneSo old mid (Ok (Some Moved))
+        moved_off so is = then_good g (IsFirstOffOf 8 b) NoneSo (IsFirstOff b counted moved) NoneSo old mid None first (Some Moved) (λ trees all commands amounts. (
+          λ shows. absurd (true≢false (sym (amounts.1 shows) ∙ is)),
+          up_to (λ u. IsSo u trees) Command all (commands.0 so),
+        ))
 
-            last : (trees : Trees) (found : Option Table) → Next 7 Posting trees found → IsFirstOff b moved trees found
-            last trees None both commands amounts = λ u. up_to (λ v. IsSo v trees) Posting (nine trees both.0 commands (amounts.0 is)) both.1 u (one_of_ten u)
+        pub posted : counted ≡ true → moved ≡ true → (new : Held S) (r : Result (Option Table) Stop) → Finds g (IsOff b Posting) NoneSo mid new r → Finds g (IsFirstOff b counted moved) NoneSo old new r
+        posted so is new r it =
+            find_as (Next 8 Posting) (IsFirstOff b counted moved) (λ trees. UpTo 8 trees × NoneSo trees) NoneSo old new r last (λ trees none. none.1)
+            (then_more g (IsFirstOffOf 8 b) NoneSo (IsOff b Posting) NoneSo old mid new None r first it)
+          where
+            ten : (trees : Trees) → UpTo 8 trees → IsSo Command trees → IsSo Moved trees → (u : Table) → place_of u < 10 → IsSo u trees
+            ten trees all commands amounts = up_to (λ u. IsSo u trees) Moved (up_to (λ u. IsSo u trees) Command all commands) amounts
+
+            last : (trees : Trees) (found : Option Table) → Next 8 Posting trees found → IsFirstOff b counted moved trees found
+            last trees None both commands amounts = λ u. up_to (λ v. IsSo v trees) Posting (ten trees both.0 (commands.0 so) (amounts.0 is)) both.1 u (one_of_eleven u)
             last trees (Some u) both commands amounts = (
               λ shows. both.1.1 (subst (λ v. IsSo v trees) both.1.0 shows),
-              λ o low. nine trees both.0 commands (amounts.0 is) o (subst (λ v. before o < before v) both.1.0 low),
+              λ o low. ten trees both.0 (commands.0 so) (amounts.0 is) o (subst (λ v. place_of o < place_of v) both.1.0 low),
             )

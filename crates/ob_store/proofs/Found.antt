@@ -59,12 +59,12 @@ module _ {S : Type 0} (g : Ghosts S) {X : Type 0} (P : ActState → Trees → X 
     bad = (it bare refl).bad;
   }
 
-module _ {S : Type 0} (g : Ghosts S) {L : Type 0} (state_of : L → BookState) (moved_of : L → Bool) (l : L) (old mid new : Held S) (first : Finds g (λ trees x. IsLed trees (state_of x) (moved_of x)) HasNoBook old mid (Ok l)) where
+module _ {S : Type 0} (g : Ghosts S) {L : Type 0} (state_of : L → BookState) (counted_of moved_of : L → Bool) (l : L) (old mid new : Held S) (first : Finds g (λ trees x. IsLed trees (state_of x) (counted_of x) (moved_of x)) HasNoBook old mid (Ok l)) where
   abbrev Led : Trees → L → Type 0
-  Led trees x = IsLed trees (state_of x) (moved_of x)
+  Led trees x = IsLed trees (state_of x) (counted_of x) (moved_of x)
 
   abbrev Off : Trees → Option Table → Type 0
-  Off = Each g (λ b. IsFirstOff b (moved_of l)) (state_of l) mid new
+  Off = Each g (λ b. IsFirstOff b (counted_of l) (moved_of l)) (state_of l) mid new
 
   abbrev Both : Trees → Option Table → Type 0
   Both trees found = Led trees l × Off trees found
@@ -73,13 +73,13 @@ module _ {S : Type 0} (g : Ghosts S) {L : Type 0} (state_of : L → BookState) (
   Neither trees = Led trees l × NoneSo trees
 
   abbrev Compared : Result (Option Table) Stop → Type 0
-  Compared r = (b : ActState) → b.book ≡ state_of l → Finds g (IsFirstOff b (moved_of l)) NoneSo mid new r
+  Compared r = (b : ActState) → b.book ≡ state_of l → Finds g (IsFirstOff b (counted_of l) (moved_of l)) NoneSo mid new r
 
   both : (r : Result (Option Table) Stop) → Compared r → Finds g Both Neither old new r
-  both r second = then_more g Led HasNoBook Off NoneSo old mid new l r first (of_each g (λ b. IsFirstOff b (moved_of l)) (state_of l) mid new r second)
+  both r second = then_more g Led HasNoBook Off NoneSo old mid new l r first (of_each g (λ b. IsFirstOff b (counted_of l) (moved_of l)) (state_of l) mid new r second)
 
   abbrev finding : (trees : Trees) (found : Option Table) → Both trees found → Finding trees found
-  finding trees found it = (it.0.book, it.0.is_book, it.1 it.0.book (sym it.0.state) it.0.is_book.commands it.0.moves)
+  finding trees found it = (it.0.book, it.0.is_book, it.1 it.0.book (sym it.0.state) it.0.counts it.0.moves)
 
   -- the first table that differs
   found_ok : (found : Option Table) → Compared (Ok found) → Finds g Finding HasNoBook old new (Ok found)

@@ -22,10 +22,12 @@ use Rattle.ob_state.specs.State.{BookState, empty_book}
 use Rattle.ob_state.specs.Refusals.{refusal}
 use Rattle.ob_state.specs.Next.{next, next_all}
 use Rattle.ob_book.specs.Acts.{ActState, PeriodStays, Referenced, acts, start}
-use Rattle.ob_tables.specs.Rows.{Columns, meta_row, shown, tree_of}
-use Rattle.ob_tables.specs.declared.table.Table.TheVariants.{Meta, Moved}
+use Rattle.ob_tables.specs.Rows.{Columns, shown, tree_of}
+use Rattle.ob_tables.specs.declared.table.Table.TheVariants.{Meta, Command, Moved}
 use Rattle.ob_record.specs.Tables.{Shows, moved_rows, tables_of}
-use Rattle.ob_record.specs.Naming.{RowsNameCommands}
+use Rattle.ob_compare.specs.Ordered.{RowsHaveOneOrder}
+use Rattle.ob_compare.specs.Reading.{heading_row}
+use Rattle.sqlite_value.specs.declared.value.Value.{Value}
 use Rattle.ob_record.specs.Reached.{IsReached, ReachedAreFew}
 use Rattle.ob_compare.specs.Listing.{filed_of}
 use Rattle.ob_compare.specs.Moves.{HasMoved, commands_of, ends_of}
@@ -53,18 +55,18 @@ same_period stays b (c ∷ more) s led = same_period stays (next b c) more s (le
 not_both : {X : Type 0} (o : Option X) (x : X) → o ≡ Some x → o ≡ None → ⊥
 not_both o x some none = absurd (let e : Some x ≡ None = sym some ∙ none in cc)
 
-module _ (trees : Trees) (it : Named) (named : IsNamed trees it) (naming : RowsNameCommands) (accepted : ActsAreAccepted) (b : ActState) (of : IsBookOf trees b) where
+module _ (trees : Trees) (it : Named) (named : IsNamed trees it) (ordered : RowsHaveOneOrder) (accepted : ActsAreAccepted) (b : ActState) (of : IsBookOf trees b) where
   abbrev list : List Referenced
   list = filed_of it.commands.items
 
   -- a book of the tables has the commands that were read
   commands_are : b.accepted ≡ list
-  commands_are = naming b.accepted list of.valid named.valid (IsPermutation-trans _ _ _ (IsPermutation-sym _ _ of.commands) named.commands)
+  commands_are = ordered (map (shown Command) (trees (tree_of Command))) b.accepted list of.valid named.valid of.commands named.commands
 
-  row_is : meta_row 1 it.heading.first_day.items it.heading.days it.heading.zone.items ≡ meta_row 1 (day_text b.book.period.first_day) (day_count b.book.period) b.book.period.zone
+  row_is : heading_row named.heading.0 named.heading.1 it.heading.first_day.items it.heading.days it.heading.zone.items ≡ heading_row of.period.0 of.period.1 (day_text b.book.period.first_day) (day_count b.book.period) b.book.period.zone
   row_is =
-      let rows : meta_row 1 it.heading.first_day.items it.heading.days it.heading.zone.items ∷ [] ≡ meta_row 1 (day_text b.book.period.first_day) (day_count b.book.period) b.book.period.zone ∷ [] =
-      one_permutation _ _ (IsPermutation-trans _ _ _ (IsPermutation-sym _ _ of.heading) named.heading) in
+      let rows : heading_row named.heading.0 named.heading.1 it.heading.first_day.items it.heading.days it.heading.zone.items ∷ [] ≡ heading_row of.period.0 of.period.1 (day_text b.book.period.first_day) (day_count b.book.period) b.book.period.zone ∷ [] =
+      one_permutation _ _ (IsPermutation-trans _ _ _ (IsPermutation-sym _ _ of.period.2) named.heading.2) in
       cc
 
   -- and the period that the heading names
@@ -95,19 +97,19 @@ module _ (trees : Trees) (it : Named) (named : IsNamed trees it) (naming : RowsN
       ap₂ (λ x l. next_all x (commands_of l)) from (sym commands_are) ∙ to
 
 -- the tables are those of no book
-module _ (trees : Trees) (it : Named) (named : IsNamed trees it) (naming : RowsNameCommands) (accepted : ActsAreAccepted) where
+module _ (trees : Trees) (it : Named) (named : IsNamed trees it) (ordered : RowsHaveOneOrder) (accepted : ActsAreAccepted) where
   pub twice : ¬ (AreDistinct (filed_of it.commands.items)) → HasNoBook trees
-  twice not_so b of = not_so (distinct_is trees it named naming accepted b of)
+  twice not_so b of = not_so (distinct_is trees it named ordered accepted b of)
 
   pub no_period : HasNoPeriodOf it.heading → HasNoBook trees
-  no_period none b of = none b.book.period (period_is trees it named naming accepted b of)
+  no_period none b of = none b.book.period (period_is trees it named ordered accepted b of)
 
   pub nowhere : LeadsNowhere it → HasNoBook trees
   nowhere (inl none) b of = no_period none b of
-  nowhere (inr at) b of = not_both (next_all at.0 (commands_of (filed_of it.commands.items))) b.book (led_is trees it named naming accepted b of at.0 at.1) at.2
+  nowhere (inr at) b of = not_both (next_all at.0 (commands_of (filed_of it.commands.items))) b.book (led_is trees it named ordered accepted b of at.0 at.1) at.2
 
 -- the commands lead to the book of the tables
-module _ (trees : Trees) (it : Named) (named : IsNamed trees it) (naming : RowsNameCommands) (few : ReachedAreFew) (accepted : ActsAreAccepted) (reaching : ReachedByCommands) (rows_of : MovedIsOf) (stays : PeriodStays)
+module _ (trees : Trees) (it : Named) (named : IsNamed trees it) (ordered : RowsHaveOneOrder) (few : ReachedAreFew) (accepted : ActsAreAccepted) (reaching : ReachedByCommands) (rows_of : MovedIsOf) (stays : PeriodStays)
     (distinct : AreDistinct (filed_of it.commands.items)) (s : BookState) (by : IsLedBy it s) where
   abbrev book_of : ActState
   book_of = record { book = s; accepted = filed_of it.commands.items }
@@ -129,26 +131,29 @@ module _ (trees : Trees) (it : Named) (named : IsNamed trees it) (naming : RowsN
     in_turn = is_acts;
   }
 
-  row_of : meta_row 1 it.heading.first_day.items it.heading.days it.heading.zone.items ≡ meta_row 1 (day_text s.period.first_day) (day_count s.period) s.period.zone
-  row_of = by.new.row ∙ ap (λ (p : Calendar). meta_row 1 (day_text p.first_day) (day_count p) p.zone) (sym period_of)
+  row_of : (id version : Value) → heading_row id version it.heading.first_day.items it.heading.days it.heading.zone.items ≡ heading_row id version (day_text s.period.first_day) (day_count s.period) s.period.zone
+  row_of id version =
+      ap (λ f. heading_row id version f it.heading.days it.heading.zone.items) by.new.first_day
+      ∙ ap₂ (λ n z. heading_row id version (day_text by.first.period.first_day) n z) by.new.days by.new.zone
+      ∙ ap (λ (p : Calendar). heading_row id version (day_text p.first_day) (day_count p) p.zone) (sym period_of)
 
   is_book_of : IsBookOf trees book_of
   is_book_of = record {
     reached = is_reached;
     valid = named.valid;
     few = few book_of is_reached;
-    heading = subst (λ (r : Columns). Shows trees Meta (r ∷ [])) row_of named.heading;
+    period = (named.heading.0, named.heading.1, subst (λ (r : Columns). Shows trees Meta (r ∷ [])) (row_of named.heading.0 named.heading.1) named.heading.2);
     commands = named.commands;
   }
 
   only_it : (other : ActState) → IsBookOf trees other → other ≡ book_of
   only_it other of =
-      let p : other.book.period ≡ s.period = by.new.only other.book.period (period_is trees it named naming accepted other of) ∙ sym period_of in
-      sym of.reached.in_turn ∙ ap₂ (λ (q : Calendar) l. acts (start q) l) p (commands_are trees it named naming accepted other of) ∙ is_acts
+      let p : other.book.period ≡ s.period = by.new.only other.book.period (period_is trees it named ordered accepted other of) ∙ sym period_of in
+      sym of.reached.in_turn ∙ ap₂ (λ (q : Calendar) l. acts (start q) l) p (commands_are trees it named ordered accepted other of) ∙ is_acts
 
   rows_are : (first : BookState) → IsNewBook it.heading first → moved_rows first 1 (filed_of it.commands.items) ≡ tables_of book_of Moved
   rows_are first new =
-      let p : s.period ≡ first.period = new.only s.period (period_is trees it named naming accepted book_of is_book_of) in
+      let p : s.period ≡ first.period = new.only s.period (period_is trees it named ordered accepted book_of is_book_of) in
       let first_is : first ≡ empty_book s.period = new.new ∙ ap empty_book (sym p) in
       ap (λ (x : BookState). moved_rows x 1 (filed_of it.commands.items)) first_is
       ∙ rows_of s.period (filed_of it.commands.items) (ap (λ (x : ActState). x.accepted) is_acts)
@@ -159,15 +164,16 @@ module _ (trees : Trees) (it : Named) (named : IsNamed trees it) (naming : RowsN
       let rows = map (shown Moved) (trees (tree_of Moved)) in
       let here = at.2 rows (IsPermutation-refl rows) in (
         λ so. let has = here.0 so in subst (IsPermutation rows) (rows_are at.0 at.1) has.2,
-        λ shows. here.1 (s, led_is trees it named naming accepted book_of is_book_of at.0 at.1, subst (IsPermutation rows) (sym (rows_are at.0 at.1)) shows),
+        λ shows. here.1 (s, led_is trees it named ordered accepted book_of is_book_of at.0 at.1, subst (IsPermutation rows) (sym (rows_are at.0 at.1)) shows),
       )
 
-  pub is_led : (moved : Bool) → MovesAre it trees moved → IsLed trees s moved
-  is_led moved are = record {
+  pub is_led : (counted : Bool) → counted ≡ it.counted → (moved : Bool) → MovesAre it trees moved → IsLed trees s counted moved
+  is_led counted counted_is moved are = record {
     book = book_of;
     is_book = is_book_of;
     only = only_it;
     state = refl;
+    counts = subst (λ c. IsTrue c ↔ Shows trees Command (tables_of book_of Command)) (sym counted_is) named.counts;
     moves = moves_are moved are;
   }
 
@@ -183,13 +189,8 @@ module _ (h : Heading) (p : Calendar) (text : List ℕ) (of_text : IsPeriodText 
       (subst (λ n. IsPeriodText (day_text p.first_day) n h.zone.items p) count_is
       (subst (λ f. IsPeriodText f h.days h.zone.items p) (first_is ∙ text_is) of_text))
 
-  own_row : meta_row 1 h.first_day.items h.days h.zone.items ≡ meta_row 1 (day_text p.first_day) (day_count p) p.zone
-  own_row =
-      ap (λ f. meta_row 1 f h.days h.zone.items) (first_is ∙ text_is)
-      ∙ ap₂ (λ n z. meta_row 1 (day_text p.first_day) n z) count_is (sym of_text.zone_is)
-
   pub is_new : (b : BookState) → b ≡ empty_book p → IsNewBook h b
-  is_new b is = subst (λ (x : BookState). IsNewBook h x) (sym is) (record { new = refl; period = own_text; row = own_row; only = only })
+  is_new b is = subst (λ (x : BookState). IsNewBook h x) (sym is) (record { new = refl; period = own_text; first_day = first_is ∙ text_is; days = count_is; zone = sym of_text.zone_is; only = only })
 
 module _ (h : Heading) (f z : List ℕ) (f_is : f ≡ h.first_day.items) (z_is : z ≡ h.zone.items) where
   of_heading : (p : Calendar) → IsPeriodText f h.days z p → IsPeriodText h.first_day.items h.days h.zone.items p

@@ -7,7 +7,7 @@ use Rattle.ob_base.specs.Stop.{out_of_memory}
 use Rattle.ob_base.specs.declared.stop.Stop.{Stop}
 use Rattle.ob_state.specs.State.{BookState}
 use Rattle.ob_book.specs.Acts.{PeriodStays}
-use Rattle.ob_record.specs.Naming.{RowsNameCommands}
+use Rattle.ob_compare.specs.Ordered.{RowsHaveOneOrder}
 use Rattle.ob_record.specs.Reached.{ReachedAreFew}
 use Rattle.ob_compare.specs.Listing.{filed_of}
 use Rattle.ob_compare.specs.Distinct.{ActsAreAccepted, AreDistinct, MovedIsOf, ReachedByCommands}
@@ -21,9 +21,9 @@ use Rattle.ob_store.proofs.Leading.{is_led, no_period, nowhere, twice}
 memory_alone : (stop : Stop) → stop ≡ out_of_memory → stop ≢ bad_book
 memory_alone stop memory bad = absurd (let e : out_of_memory ≡ bad_book = sym memory ∙ bad in cc)
 
-module _ {S : Type 0} (g : Ghosts S) {L : Type 0} (state_of : L → BookState) (moved_of : L → Bool) (it : Named) (old mid : Held S) (first : Finds g IsNamed HasNoBook old mid (Ok it)) (naming : RowsNameCommands) (accepted : ActsAreAccepted) where
+module _ {S : Type 0} (g : Ghosts S) {L : Type 0} (state_of : L → BookState) (counted_of moved_of : L → Bool) (it : Named) (old mid : Held S) (first : Finds g IsNamed HasNoBook old mid (Ok it)) (ordered : RowsHaveOneOrder) (accepted : ActsAreAccepted) where
   abbrev Good : Trees → L → Type 0
-  Good trees l = IsLed trees (state_of l) (moved_of l)
+  Good trees l = IsLed trees (state_of l) (counted_of l) (moved_of l)
 
   abbrev Follows : Trees → Option L → Type 0
   Follows trees found = MovesAre it trees (is_some found)
@@ -39,7 +39,7 @@ module _ {S : Type 0} (g : Ghosts S) {L : Type 0} (state_of : L → BookState) (
 
   -- a reference stands twice
   pub led_twice : ¬ (AreDistinct (filed_of it.commands.items)) → Finds g Good HasNoBook old mid (Err bad_book)
-  led_twice same = then_bad g IsNamed HasNoBook Good HasNoBook old mid it first (λ trees named. twice trees it named naming accepted same)
+  led_twice same = then_bad g IsNamed HasNoBook Good HasNoBook old mid it first (λ trees named. twice trees it named ordered accepted same)
 
   -- memory was refused
   pub led_no_memory : (stop : Stop) → stop ≡ out_of_memory → Finds g Good HasNoBook old mid (Err stop)
@@ -51,17 +51,17 @@ module _ {S : Type 0} (g : Ghosts S) {L : Type 0} (state_of : L → BookState) (
 
     -- the reading failed, or the heading names no period
     pub led_fails : (stop : Stop) → Finds g Follows Lost mid new (Err stop) → Finds g Good HasNoBook old new (Err stop)
-    led_fails stop second = fails g Both Neither Good HasNoBook old new stop (λ trees none. no_period trees it none.0 naming accepted none.1) (both (Err stop) second)
+    led_fails stop second = fails g Both Neither Good HasNoBook old new stop (λ trees none. no_period trees it none.0 ordered accepted none.1) (both (Err stop) second)
 
     -- the commands lead to no book
     pub led_nowhere : (found : Option L) → Finds g Follows Lost mid new (Ok found) → (stop : Stop) → (stop ≡ bad_book) ⊎ (stop ≡ out_of_memory) → (stop ≡ bad_book → LeadsNowhere it) → Finds g Good HasNoBook old new (Err stop)
     led_nowhere found second stop (inl bad) none =
-        subst (λ s. Finds g Good HasNoBook old new (Err s)) (sym bad) (then_bad g Both Neither Good HasNoBook old new found (both (Ok found) second) (λ trees named. nowhere trees it named.0 naming accepted (none bad)))
+        subst (λ s. Finds g Good HasNoBook old new (Err s)) (sym bad) (then_bad g Both Neither Good HasNoBook old new found (both (Ok found) second) (λ trees named. nowhere trees it named.0 ordered accepted (none bad)))
     led_nowhere found second stop (inr memory) none = then_fault g Both Neither Good HasNoBook old new found (both (Ok found) second) stop (read_fault stop (inr memory)) (memory_alone stop memory)
 
     -- they lead to this one
     pub led_at : (found : Option L) → Finds g Follows Lost mid new (Ok found) → ReachedAreFew → ReachedByCommands → MovedIsOf → PeriodStays → AreDistinct (filed_of it.commands.items)
-        → (l : L) → IsLedBy it (state_of l) → is_some found ≡ moved_of l → Finds g Good HasNoBook old new (Ok l)
-    led_at found second few reaching rows_of stays distinct l by moved =
+        → (l : L) → IsLedBy it (state_of l) → counted_of l ≡ it.counted → is_some found ≡ moved_of l → Finds g Good HasNoBook old new (Ok l)
+    led_at found second few reaching rows_of stays distinct l by counted moved =
         then_good g Both Neither Good HasNoBook old new found (both (Ok found) second) l
-        (λ trees named. is_led trees it named.0 naming few accepted reaching rows_of stays distinct (state_of l) by (moved_of l) (subst (MovesAre it trees) moved named.1))
+        (λ trees named. is_led trees it named.0 ordered few accepted reaching rows_of stays distinct (state_of l) by (counted_of l) counted (moved_of l) (subst (MovesAre it trees) moved named.1))

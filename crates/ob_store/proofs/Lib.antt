@@ -13,4 +13,6 @@ pub mod Dropping
 pub mod Leads
 pub mod Differing
 pub mod Found
+pub mod Counting
+pub mod Telling
 pub mod Handing

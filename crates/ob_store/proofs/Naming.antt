@@ -1,48 +1,50 @@
 -- What the readings of the heading and of the commands say of a book.
-use Rattle.std.proofs.Common.{◌≡◌, ◌<◌, ◌^◌, List, map, Option, Some, None, refl, subst, arith}
-use Rattle.std.specs.Prelude.{Vec}
-use Rattle.std.specs.declared.alloc.Global.{Global}
+use Rattle.std.proofs.Common.{◌≡◌, ◌<◌, ◌^◌, List, [], ◌∷◌, map, Option, Some, None, refl, subst, arith}
 use Rattle.std.specs.List.Sorted.{IsPermutation}
 use Rattle.std.proofs.lemmas.List.Sorted.{IsPermutation-refl}
 use Rattle.sqlite.specs.Tree.{Trees}
 use Rattle.ob_tables.specs.Rows.{Columns, shown, tree_of}
 use Rattle.ob_tables.specs.declared.table.Table.TheVariants.{Meta, Command}
-use Rattle.ob_record.specs.Tables.{Shows, tables_of}
+use Rattle.ob_record.specs.Tables.{Shows}
 use Rattle.ob_time.specs.Calendar.{day_count}
 use Rattle.ob_time.specs.Dates.{day_text}
-use Rattle.ob_compare.specs.Reading.{AreFiled, IsCommands, IsHeading}
-use Rattle.ob_compare.specs.declared.filed.Filed.{Filed}
+use Rattle.ob_compare.specs.Reading.{AreFiled, IsCommands, IsHeading, heading_row}
+use Rattle.ob_compare.specs.declared.commands.Commands.{Commands}
 use Rattle.ob_compare.specs.declared.heading.Heading.{Heading}
 use Rattle.ob_store.specs.Finding.{HasNoBook, IsNamed}
-use Rattle.ob_store.specs.declared.named.Named.{Named}
 
 -- the rows of the heading were read so
 abbrev pub HeadingRead : Trees → Option Heading → Type 0
 HeadingRead trees found = (rows : List Columns) → Shows trees Meta rows → IsHeading found rows
 
 -- the rows of the commands were read so
-abbrev pub CommandsRead : Trees → Option (Vec Filed Global) → Type 0
+abbrev pub CommandsRead : Trees → Option Commands → Type 0
 CommandsRead trees found = AreFiled found × ((rows : List Columns) → Shows trees Command rows → IsCommands found rows)
 
 pub no_heading : (trees : Trees) (found : Option Heading) → found ≡ None → HeadingRead trees found → HasNoBook trees
 no_heading trees found none read b it =
     let days = it.reached.period.period.days_in in
     let small : day_count b.book.period < 2 ^ 16 = omega (arith, days) in
-    subst (λ f. HeadingRead trees f) none read (tables_of b Meta) it.heading (day_text b.book.period.first_day) (day_count b.book.period) b.book.period.zone small refl
+    subst (λ f. HeadingRead trees f) none read (heading_row it.period.0 it.period.1 (day_text b.book.period.first_day) (day_count b.book.period) b.book.period.zone ∷ []) it.period.2
+    it.period.0 it.period.1 (day_text b.book.period.first_day) (day_count b.book.period) b.book.period.zone small refl
 
-pub no_commands : (trees : Trees) (found : Option (Vec Filed Global)) → found ≡ None → CommandsRead trees found → HasNoBook trees
+pub no_commands : (trees : Trees) (found : Option Commands) → found ≡ None → CommandsRead trees found → HasNoBook trees
 no_commands trees found none read b it =
-    (subst (λ f. CommandsRead trees f) none read).1 (tables_of b Command) it.commands b.accepted it.few it.valid (IsPermutation-refl (tables_of b Command))
+    let rows = map (shown Command) (trees (tree_of Command)) in
+    (subst (λ f. CommandsRead trees f) none read).1 rows (IsPermutation-refl rows) b.accepted it.few it.valid it.commands
 
-pub named : (trees : Trees) (it : Named) (heading : Option Heading) (commands : Option (Vec Filed Global)) → heading ≡ Some it.heading → commands ≡ Some it.commands → HeadingRead trees heading → CommandsRead trees commands
-    → IsNamed trees it
-named trees it heading commands h_is c_is h_read c_read =
-    let h = subst (λ f. HeadingRead trees f) h_is h_read in
-    let l = subst (λ f. CommandsRead trees f) c_is c_read in
+pub named : (trees : Trees) (h : Heading) (l : Commands) (heading : Option Heading) (commands : Option Commands) → heading ≡ Some h → commands ≡ Some l → HeadingRead trees heading → CommandsRead trees commands
+    → IsNamed trees (record { heading = h; commands = l.commands; counted = l.counted })
+named trees h l heading commands h_is l_is h_read l_read =
+    let head = subst (λ f. HeadingRead trees f) h_is h_read in
+    let list = subst (λ f. CommandsRead trees f) l_is l_read in
     let heads = map (shown Meta) (trees (tree_of Meta)) in
     let rows = map (shown Command) (trees (tree_of Command)) in
+    let one = head heads (IsPermutation-refl heads) in
+    let all = list.1 rows (IsPermutation-refl rows) in
     record {
-      heading = subst (IsPermutation heads) (h heads (IsPermutation-refl heads)) (IsPermutation-refl heads);
-      commands = l.1 rows (IsPermutation-refl rows);
-      valid = l.0.1;
+      heading = (one.0, one.1, subst (IsPermutation heads) one.2 (IsPermutation-refl heads));
+      commands = all.0;
+      counts = all.1;
+      valid = list.0.1;
     }

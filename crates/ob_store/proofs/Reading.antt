@@ -17,7 +17,7 @@ use Rattle.ob_compare.specs.Reading.{IsReadFault, bad_book}
 use Rattle.ob_compare.proofs.Listing.{still_then}
 use Rattle.ob_store.specs.Finding.{Finds}
 
-on_ok : {X E : Type 0} {P Q : Type 0} (r : Result X E) → OnOk r P → (P → Q) → OnOk r Q
+pub on_ok : {X E : Type 0} {P Q : Type 0} (r : Result X E) → OnOk r P → (P → Q) → OnOk r Q
 on_ok (Ok x) p f = f p
 on_ok (Err e) p f = p
 
@@ -25,7 +25,7 @@ pub if_ok : {X E : Type 0} {P Q : X → Type 0} (r : Result X E) → IfOk r P �
 if_ok (Ok x) p f = f x p
 if_ok (Err e) p f = p
 
-if_err : {X E : Type 0} {P Q : E → Type 0} (r : Result X E) → IfErr r P → ((e : E) → P e → Q e) → IfErr r Q
+pub if_err : {X E : Type 0} {P Q : E → Type 0} (r : Result X E) → IfErr r P → ((e : E) → P e → Q e) → IfErr r Q
 if_err (Ok x) p f = p
 if_err (Err e) p f = f e p
 

@@ -1,43 +1,74 @@
 -- What the tables of a database say of a book.
-use Rattle.std.specs.Prelude.{◌≡◌, ◌<◌, [], ◌∷◌, ◌≤◌, length, false, Option, Some, None, Result, IfOk, IfErr, OnOk}
+use Rattle.std.specs.Prelude.{◌≡◌, ◌↔◌, ◌<◌, ◌≤◌, ℕ, List, [], ◌∷◌, length, map, false, IsTrue, Option, Some, None, Result, IfOk, IfErr, OnOk}
 use Rattle.std.specs.List.{AllByRecursion}
 use Rattle.sqlite_trees.specs.declared.store.Store.{Ghosts}
 use Rattle.sqlite.specs.Tree.{Trees}
 use Rattle.sqlite.specs.Held.{Held, state}
 use Rattle.sqlite.specs.State.{HasCleanDisk, IsUnchanged, Survives}
 use Rattle.ob_base.specs.declared.stop.Stop.{Stop}
-use Rattle.ob_book.specs.Acts.{ActState}
-use Rattle.ob_tables.specs.Creation.{before}
+use Rattle.sqlite_value.specs.declared.value.Value.{Value}
+use Rattle.ob_book.specs.Acts.{ActState, Referenced}
 use Rattle.ob_tables.specs.Schema.{book_schema}
 use Rattle.ob_tables.specs.declared.table.Table.{Table}
-use Rattle.ob_tables.specs.declared.table.Table.TheVariants.{Meta, Command}
+use Rattle.ob_tables.specs.declared.table.Table.TheVariants.{Meta, Cause, Node, Device, Life, Customer, Entry, Mark, Command, Moved, Posting}
 use Rattle.ob_record.specs.Reached.{IsReached}
 use Rattle.ob_record.specs.Tables.{Shows, tables_of}
-use Rattle.ob_compare.specs.Reading.{IsReadFault, bad_book, command_rows}
+use Rattle.ob_compare.specs.Ordered.{AreRowsOf}
+use Rattle.ob_compare.specs.Reading.{IsReadFault, bad_book, command_rows, heading_row}
 use Rattle.ob_record.specs.Naming.{IsReferenced}
 use Rattle.ob_compare.specs.Listing.{filed_of}
-use Rattle.ob_tables.specs.Rows.{Tables, meta_row}
+use Rattle.ob_tables.specs.Rows.{Tables, shown, tree_of}
+use Rattle.ob_time.specs.Calendar.{Calendar, day_count}
+use Rattle.ob_time.specs.Dates.{day_text}
 use Rattle.ob_commit.specs.Keeps.{Keeps}
 use Rattle.ob_store.specs.Keeping.{KeepsBook}
 use Rattle.ob_store.specs.declared.named.Named.{Named}
 
--- the heading and the commands in these trees are those of the book, which its commands lead to
+-- the place of a table among those that are compared
+abbrev pub place_of : Table → ℕ
+place_of Meta = 0
+place_of Cause = 1
+place_of Node = 2
+place_of Device = 3
+place_of Life = 4
+place_of Customer = 5
+place_of Entry = 6
+place_of Mark = 7
+place_of Command = 8
+place_of Moved = 9
+place_of Posting = 10
+
+-- `meta` holds one row, with these texts of a heading, whatever its number and its version
+abbrev pub HasHeadingOf : Trees → List ℕ → ℕ → List ℕ → Type 0
+HasHeadingOf trees first_day days zone =
+    (id : Value) × (version : Value) × Shows trees Meta (heading_row id version first_day days zone ∷ [])
+
+-- the heading in these trees names the period
+abbrev pub NamesPeriod : Trees → Calendar → Type 0
+NamesPeriod trees p = HasHeadingOf trees (day_text p.first_day) (day_count p) p.zone
+
+-- the rows of `cmd`, in the order of their numbers, whatever these are, are those of the commands
+abbrev pub NamesCommands : Trees → List Referenced → Type 0
+NamesCommands trees list = AreRowsOf list (map (shown Command) (trees (tree_of Command)))
+
+-- the period and the commands that these trees name are those of the book, which its commands lead to
 pub record IsBookOf (trees : Trees) (b : ActState) : Type 0 where
   pub reached : IsReached b
   -- what references and commands always are, and how many a book takes
   pub valid : AllByRecursion IsReferenced b.accepted
   pub few : length b.accepted ≤ 1_000_000
-  pub heading : Shows trees Meta (tables_of b Meta)
-  pub commands : Shows trees Command (tables_of b Command)
+  pub period : NamesPeriod trees b.book.period
+  pub commands : NamesCommands trees b.accepted
 
 -- they are those of no book
 abbrev pub HasNoBook : Trees → Type 0
 HasNoBook trees = (b : ActState) → ¬ (IsBookOf trees b)
 
--- these are the heading and the commands in the trees
+-- these are the heading and the commands in the trees, and it is told whether the commands are numbered from 1
 pub record IsNamed (trees : Trees) (it : Named) : Type 0 where
-  pub heading : Shows trees Meta (meta_row 1 it.heading.first_day.items it.heading.days it.heading.zone.items ∷ [])
-  pub commands : Shows trees Command (command_rows (filed_of it.commands.items))
+  pub heading : HasHeadingOf trees it.heading.first_day.items it.heading.days it.heading.zone.items
+  pub commands : NamesCommands trees (filed_of it.commands.items)
+  pub counts : IsTrue it.counted ↔ Shows trees Command (command_rows (filed_of it.commands.items))
   pub valid : AllByRecursion IsReferenced (filed_of it.commands.items)
 
 -- each table has the rows of the book; or this is the first that hasn't
@@ -45,13 +76,13 @@ abbrev pub Differs : Trees → ActState → Option Table → Type 0
 Differs trees b None = (table : Table) → Shows trees table (tables_of b table)
 Differs trees b (Some table) =
     (¬ (Shows trees table (tables_of b table)))
-    × ((other : Table) → before other < before table → Shows trees other (tables_of b other))
+    × ((other : Table) → place_of other < place_of table → Shows trees other (tables_of b other))
 
--- the trees hold the ten tables of the book
+-- the trees hold the eleven tables of the book
 abbrev pub HasBook : Trees → ActState → Type 0
 HasBook trees b = IsBookOf trees b × Differs trees b None
 
--- their heading and commands are those of no other book
+-- the period and the commands that they name are those of no other book
 abbrev pub AreOfNoOther : Trees → ActState → Type 0
 AreOfNoOther trees b = (other : ActState) → IsBookOf trees other → other ≡ b
 

@@ -8,8 +8,8 @@ use Rattle.ob_time.specs.Period.{IsPeriodText}
 use Rattle.ob_state.specs.State.{BookState, empty_book}
 use Rattle.ob_state.specs.Next.{next_all}
 use Rattle.ob_book.specs.Acts.{ActState}
-use Rattle.ob_tables.specs.Rows.{Columns, meta_row}
-use Rattle.ob_tables.specs.declared.table.Table.TheVariants.{Moved}
+use Rattle.ob_tables.specs.Rows.{Columns}
+use Rattle.ob_tables.specs.declared.table.Table.TheVariants.{Command, Moved}
 use Rattle.ob_record.specs.Tables.{Shows, tables_of}
 use Rattle.ob_compare.specs.declared.ends.EndNodes.{EndNodes}
 use Rattle.ob_compare.specs.declared.heading.Heading.{Heading}
@@ -27,7 +27,10 @@ HasNoPeriodOf h = HasNoPeriodText h.first_day.items h.days h.zone.items
 pub record IsNewBook (h : Heading) (b : BookState) : Type 0 where
   pub new : b ≡ empty_book b.period
   pub period : IsPeriodText (day_text b.period.first_day) (day_count b.period) b.period.zone b.period
-  pub row : meta_row 1 h.first_day.items h.days h.zone.items ≡ meta_row 1 (day_text b.period.first_day) (day_count b.period) b.period.zone
+  -- its texts are those of the heading
+  pub first_day : h.first_day.items ≡ day_text b.period.first_day
+  pub days : h.days ≡ day_count b.period
+  pub zone : h.zone.items ≡ b.period.zone
   -- it names no other
   pub only : (p : Calendar) → IsPeriodText h.first_day.items h.days h.zone.items p → p ≡ b.period
 
@@ -60,11 +63,13 @@ MovesAre it trees moved =
 abbrev pub HasParts : BookState → List (List ℕ) → List EndNodes → Type 0
 HasParts b names ends = (names ≡ map (λ (n : Node). n.name) b.network.nodes) × (ends ≡ ends_of b.network)
 
--- the state is that of the book, and of no other, whose heading and commands are in the trees
-pub record IsLed (trees : Trees) (s : BookState) (moved : Bool) : Type 0 where
+-- the state is that of the book, and of no other, whose period and commands the trees name
+pub record IsLed (trees : Trees) (s : BookState) (counted moved : Bool) : Type 0 where
   pub book : ActState
   pub is_book : IsBookOf trees book
   pub only : (other : ActState) → IsBookOf trees other → other ≡ book
   pub state : s ≡ book.book
+  -- whether the table of commands is the book's
+  pub counts : IsTrue counted ↔ Shows trees Command (tables_of book Command)
   -- whether the table of moved amounts is the book's
   pub moves : IsTrue moved ↔ Shows trees Moved (tables_of book Moved)

@@ -3,6 +3,7 @@ pub mod Acting
 pub mod Replying
 pub mod Creating
 pub mod Finding
+pub mod Versions
 pub mod Loading
 pub mod Crashing
 pub mod Leading

@@ -52,7 +52,8 @@ impl<S: Alter, T: Timeline> Keeper<S, T> {
     ghost use Rattle.ob_store.specs.MovingOut.{HandsOver, IsBookAfterMoves, MovesAreRows, MovesOut};
     ghost use Rattle.ob_tables.specs.Schema.{book_schema};
     ghost use Rattle.ob_tables.specs.Steps.{IsStoreFault};
-    ghost use Rattle.ob_compare.specs.Reading.{IsReadFault};
+    ghost use Rattle.ob_tables.specs.Creation.{old_schema};
+    ghost use Rattle.ob_store.specs.Versions.{IsLoadFault, Outdated};
     ghost use Rattle.std.specs.Option.{option_map};
 
     /// A keeper over a connection with no open transaction; it has no book yet.
@@ -138,16 +139,19 @@ impl<S: Alter, T: Timeline> Keeper<S, T> {
         }
     }
 
-    /// Reads the book that the tables hold. The tables are those of its accepted commands, all ten of them, or it is refused
-    /// as `BadBook`; a book that the keeper had goes then on as before. Nothing is written.
+    /// Reads the book that the tables hold. `OldVersion` where the heading tells that the book is of version 1, which is looked at
+    /// first. The tables are those of its accepted commands, all eleven of them, or it is refused as `BadBook`; a book that the
+    /// keeper had goes then on as before. Nothing is written.
     pub fn load(&mut self) -> Result<(), Stop>
         ensures found { OnOk result (IsSome self.new.book) }
         ensures dropped { IfErr result (IsBookAfter self.old.book self.new.book) }
-        ensures stops { IfErr result IsReadFault }
+        ensures stops { IfErr result IsLoadFault }
         ensures clean { HasCleanDisk (state S.Store self.new.conn) → HasCleanDisk (state S.Store self.old.conn) }
         ensures survives { Survives (state S.Store self.old.conn) (state S.Store self.new.conn) (λ _. ⊥) }
         ensures loaded { HasCleanDisk (state S.Store self.new.conn) → self.old.conn.schema ≡ book_schema
             → Loaded S.Store self.old self.new result }
+        ensures outdated { HasCleanDisk (state S.Store self.new.conn) → self.old.conn.schema ≡ old_schema
+            → Outdated S.Store self.old self.new result }
         ensures crash { CrashLaw S.Store S.Store }
     {
         crash_law::<S, S>();
@@ -167,16 +171,19 @@ impl<S: Alter, T: Timeline> Keeper<S, T> {
         }
     }
 
-    /// The first of the ten tables, in the order of `Table`, that differs from what the heading and the commands give; None
-    /// where none does. `BadBook` where heading and commands are those of no book. It needs no book, and nothing is written.
+    /// The first of the eleven tables, in the order of `Table`, that differs from what the heading's period and the commands, in
+    /// the order of their numbers, give; None where none does. `OldVersion` where the heading tells that the book is of version 1,
+    /// which is looked at first; `BadBook` where period and commands give no book. It needs no book, and nothing is written.
     pub fn audit(&mut self) -> Result<Option<Table>, Stop>
         ensures found { OnOk result (self.new.book ≡ self.old.book) }
         ensures dropped { IfErr result (IsBookAfter self.old.book self.new.book) }
-        ensures stops { IfErr result IsReadFault }
+        ensures stops { IfErr result IsLoadFault }
         ensures clean { HasCleanDisk (state S.Store self.new.conn) → HasCleanDisk (state S.Store self.old.conn) }
         ensures survives { Survives (state S.Store self.old.conn) (state S.Store self.new.conn) (λ _. ⊥) }
         ensures audited { HasCleanDisk (state S.Store self.new.conn) → self.old.conn.schema ≡ book_schema
             → Audited S.Store self.old self.new result }
+        ensures outdated { HasCleanDisk (state S.Store self.new.conn) → self.old.conn.schema ≡ old_schema
+            → Outdated S.Store self.old self.new result }
     {
         match audit_on::<S, T>(self.alloc, &mut self.conn) {
             Ok(found) => Ok(found),

@@ -22,6 +22,8 @@ pub(crate) struct Led<T: Timeline> {
     pub(crate) book: Book<T>,
     pub(crate) names: Vec<Name>,
     pub(crate) ends: Vec<EndNodes>,
+    /// Whether the table of commands numbers them from 1, with no number left out.
+    pub(crate) counted: bool,
     /// Whether the table of moved amounts holds what the commands move.
     pub(crate) moved: bool,
 }
@@ -47,6 +49,7 @@ fn new_book<T: Timeline>(alloc: Global, heading: &Heading) -> Result<Book<T>, St
 /// A new book of the heading's period, before the commands, with the names of the nodes that they give it.
 fn begin<T: Timeline>(alloc: Global, named: &Named) -> Result<Led<T>, Stop>
     ensures begun { IfOk result (λ led. IsBegun named.now led.book.state led.names.items led.ends.items) }
+    ensures counted { IfOk result (λ led. led.counted ≡ named.now.counted) }
     ensures moved { IfOk result (λ led. led.moved ≡ false) }
     ensures none { IfErr result (λ stop. stop ≡ bad_book → HasNoPeriodOf named.now.heading) }
     ensures faults { IfErr result (λ stop. (stop ≡ bad_book) ⊎ (stop ≡ out_of_memory)) }
@@ -60,6 +63,7 @@ fn begin<T: Timeline>(alloc: Global, named: &Named) -> Result<Led<T>, Stop>
             book,
             names,
             ends: Vec::new(alloc),
+            counted: named.counted,
             moved: false,
         }),
         Err(stop) => Err(stop),
@@ -74,7 +78,8 @@ fn follow<S: Alter, T: Timeline>(
     named: &Named,
 ) -> Result<Option<Led<T>>, Stop>
     ensures led { IfOk result (λ found. IfSome found (λ led. IsLedBy named.now led.book.state
-        × HasParts led.book.state led.names.items led.ends.items × (led.moved ≡ true))) }
+        × HasParts led.book.state led.names.items led.ends.items × (led.moved ≡ true)
+        × (led.counted ≡ named.now.counted))) }
     ensures finds { Finds S.Store (λ trees found. MovesAre named.now trees (is_some found))
         (λ _. HasNoPeriodOf named.now.heading) conn.old conn.new result }
 {
@@ -95,7 +100,8 @@ fn follow<S: Alter, T: Timeline>(
 /// A new book, led along the commands alone.
 fn again<T: Timeline>(alloc: Global, named: &Named) -> Result<Led<T>, Stop>
     ensures led { IfOk result (λ led. IsLedBy named.now led.book.state
-        × HasParts led.book.state led.names.items led.ends.items × (led.moved ≡ false)) }
+        × HasParts led.book.state led.names.items led.ends.items × (led.moved ≡ false)
+        × (led.counted ≡ named.now.counted)) }
     ensures nowhere { IfErr result (λ stop. stop ≡ bad_book → LeadsNowhere named.now) }
     ensures faults { IfErr result (λ stop. (stop ≡ bad_book) ⊎ (stop ≡ out_of_memory)) }
 {
@@ -117,7 +123,7 @@ pub(crate) fn read_led<S: Alter, T: Timeline>(
     conn: &mut Connection<S>,
 ) -> Result<Led<T>, Stop>
     ensures parts { IfOk result (λ led. HasParts led.book.state led.names.items led.ends.items) }
-    ensures finds { Finds S.Store (λ trees led. IsLed trees led.book.state led.moved) HasNoBook
+    ensures finds { Finds S.Store (λ trees led. IsLed trees led.book.state led.counted led.moved) HasNoBook
         conn.old conn.new result }
 {
     next_law();

@@ -12,6 +12,7 @@ mod named;
 mod off;
 mod reply;
 mod stored;
+mod version;
 
 pub use crash::crash_law;
 pub use keeper::Keeper;

@@ -4,10 +4,12 @@ ghost use Rattle.ob_compare.specs.Moves.{ends_of};
 ghost use Rattle.ob_store.specs.Finding.{Finds, HasNoBook};
 ghost use Rattle.ob_store.specs.Leading.{IsLed};
 ghost use Rattle.ob_store.specs.Loading.{Finding, HoldsNoBook, Holding};
+ghost use Rattle.ob_store.specs.Versions.{Tells};
 
 use crate::led::{Led, read_led};
 use crate::named::BAD_BOOK;
 use crate::off::first_off;
+use crate::version::check_version;
 use ob_base::{Fault, Stop};
 use ob_book::Book;
 use ob_compare::are_apart;
@@ -16,8 +18,22 @@ use ob_tables::Table;
 use sqlite::{Alter, Connection};
 use std::alloc::Global;
 
-/// The first table that differs from those of the book whose heading and commands they hold.
+/// The first table that differs from those of the book whose period and commands they name; a book of version 1 is refused
+/// first.
 pub(crate) fn audit_on<S: Alter, T: Timeline>(
+    alloc: Global,
+    conn: &mut Connection<S>,
+) -> Result<Option<Table>, Stop>
+    ensures { Tells S.Store Finding HasNoBook conn.old conn.new result }
+{
+    match check_version(conn) {
+        Ok(()) => find_off::<S, T>(alloc, conn),
+        Err(stop) => Err(stop),
+    }
+}
+
+/// The first table that differs from those of the book whose period and commands they name.
+fn find_off<S: Alter, T: Timeline>(
     alloc: Global,
     conn: &mut Connection<S>,
 ) -> Result<Option<Table>, Stop>
@@ -35,7 +51,7 @@ fn check_led<S: Alter, T: Timeline>(conn: &mut Connection<S>, led: &Led<T>) -> R
     requires named { led.now.names.items ≡ map (λ n. n.name) led.now.book.state.network.nodes }
     requires joined { led.now.ends.items ≡ ends_of led.now.book.state.network }
     // where the led book was read so before
-    ensures { (first : _) → Finds S.Store (λ trees l. IsLed trees l.book.state l.moved) HasNoBook first conn.old
+    ensures { (first : _) → Finds S.Store (λ trees l. IsLed trees l.book.state l.counted l.moved) HasNoBook first conn.old
         (Ok led.now) → Finds S.Store (λ trees done. Holding trees led.now.book.state) HoldsNoBook first conn.new result }
 {
     match first_off(conn, led) {
@@ -51,8 +67,21 @@ fn check_led<S: Alter, T: Timeline>(conn: &mut Connection<S>, led: &Led<T>) -> R
     }
 }
 
-/// The book that the tables hold, all ten of them.
+/// The book that the tables hold, all eleven of them; a book of version 1 is refused first.
 pub(crate) fn load_on<S: Alter, T: Timeline>(
+    alloc: Global,
+    conn: &mut Connection<S>,
+) -> Result<Book<T>, Stop>
+    ensures { Tells S.Store (λ trees book. Holding trees book.state) HoldsNoBook conn.old conn.new result }
+{
+    match check_version(conn) {
+        Ok(()) => load_tables(alloc, conn),
+        Err(stop) => Err(stop),
+    }
+}
+
+/// The book that the tables hold.
+fn load_tables<S: Alter, T: Timeline>(
     alloc: Global,
     conn: &mut Connection<S>,
 ) -> Result<Book<T>, Stop>

@@ -15,6 +15,8 @@ pub(crate) const BAD_BOOK: Stop = Stop::Refused(Refusal::BadBook);
 pub(crate) struct Named {
     pub(crate) heading: Heading,
     pub(crate) commands: Vec<Filed>,
+    /// Whether the commands are numbered from 1, with no number left out.
+    pub(crate) counted: bool,
 }
 
 /// Reads the heading and the commands.
@@ -27,7 +29,11 @@ pub(crate) fn read_named<S: Alter>(alloc: Global, conn: &mut Connection<S>) -> R
         Err(stop) => return Err(stop),
     };
     match read_commands(alloc, conn) {
-        Ok(Some(commands)) => Ok(Named { heading, commands }),
+        Ok(Some(read)) => Ok(Named {
+            heading,
+            commands: read.commands,
+            counted: read.counted,
+        }),
         Ok(None) => Err(BAD_BOOK),
         Err(stop) => Err(stop),
     }

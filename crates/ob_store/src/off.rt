@@ -14,11 +14,12 @@ use ob_tables::Table;
 use sqlite::{Alter, Connection};
 
 /// The tables before that of commands, in their order.
-const FIRST_PARTS: [Table; 7] = [
+const FIRST_PARTS: [Table; 8] = [
     Table::Meta,
     Table::Cause,
     Table::Node,
     Table::Device,
+    Table::Life,
     Table::Customer,
     Table::Entry,
     Table::Mark,
@@ -51,7 +52,7 @@ fn first_part_off<S: Alter, T: Timeline>(
     requires named { led.now.names.items ≡ map (λ n. n.name) led.now.book.state.network.nodes }
     requires joined { led.now.ends.items ≡ ends_of led.now.book.state.network }
     ensures { (b : ActState) → b.book ≡ led.now.book.state
-        → Finds S.Store (IsFirstOffOf 7 b) NoneSo conn.old conn.new result }
+        → Finds S.Store (IsFirstOffOf 8 b) NoneSo conn.old conn.new result }
 {
     'parts: for at in 0..FIRST_PARTS.len() {
         match part_off(conn, led, FIRST_PARTS[at]) {
@@ -63,7 +64,7 @@ fn first_part_off<S: Alter, T: Timeline>(
     Ok(None)
 }
 
-/// The first of the ten tables, in their order, that hasn't the rows of a led book, whose commands are those of the table
+/// The first of the eleven tables, in their order, that hasn't the rows of a led book, whose commands are those of the table
 /// of commands. Nothing is written.
 pub(crate) fn first_off<S: Alter, T: Timeline>(
     conn: &mut Connection<S>,
@@ -72,12 +73,15 @@ pub(crate) fn first_off<S: Alter, T: Timeline>(
     requires named { led.now.names.items ≡ map (λ n. n.name) led.now.book.state.network.nodes }
     requires joined { led.now.ends.items ≡ ends_of led.now.book.state.network }
     ensures { (b : ActState) → b.book ≡ led.now.book.state
-        → Finds S.Store (IsFirstOff b led.now.moved) NoneSo conn.old conn.new result }
+        → Finds S.Store (IsFirstOff b led.now.counted led.now.moved) NoneSo conn.old conn.new result }
 {
     match first_part_off(conn, led) {
         Ok(None) => {}
         Ok(Some(table)) => return Ok(Some(table)),
         Err(stop) => return Err(stop),
+    }
+    if !led.counted {
+        return Ok(Some(Table::Command));
     }
     if !led.moved {
         return Ok(Some(Table::Moved));

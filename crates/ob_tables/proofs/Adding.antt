@@ -30,11 +30,11 @@ use Rattle.sqlite_schema.specs.declared.schema.Keys.TheVariants.{Enforced}
 use Rattle.sqlite.specs.Rowids.TheVariants.{Chosen}
 use Rattle.sqlite.proofs.Callers.{IsPlain, command_of, runs_as}
 use Rattle.ob_base.specs.declared.Pos.{Pos}
-use Rattle.ob_tables.specs.Schema.{book_schema, meta_table, cause_table, node_table, device_table, customer_table, entry_table, mark_table, command_table, moved_table, posting_table}
-use Rattle.ob_tables.specs.Rows.{Columns, tree_of, shown, AreApart, Holds, with_row, Always, number_or_null, position_number, meta_row, cause_row, node_row, device_row, customer_row, entry_row, mark_row, command_row, moved_row, posting_row}
+use Rattle.ob_tables.specs.Schema.{book_schema, meta_table, cause_table, node_table, device_table, customer_table, entry_table, mark_table, command_table, moved_table, posting_table, life_table}
+use Rattle.ob_tables.specs.Rows.{Columns, tree_of, shown, AreApart, Holds, with_row, Always, number_or_null, position_number, meta_row, cause_row, node_row, device_row, life_row, customer_row, entry_row, mark_row, command_row, moved_row, posting_row}
 use Rattle.ob_tables.specs.Steps.{Ran, Makes}
 use Rattle.ob_tables.specs.declared.table.Table.{Table}
-use Rattle.ob_tables.specs.declared.table.Table.TheVariants.{Meta, Cause, Node, Device, Customer, Entry, Mark, Command, Moved, Posting}
+use Rattle.ob_tables.specs.declared.table.Table.TheVariants.{Meta, Cause, Node, Device, Life, Customer, Entry, Mark, Command, Moved, Posting}
 use Rattle.ob_tables.proofs.Statements.{inserted, Rewrites}
 use Rattle.ob_tables.proofs.Trees.{OthersStay, stays, adds, free_of}
 use Rattle.ob_tables.proofs.Put.{put_fresh}
@@ -83,10 +83,10 @@ makes_row table at it terms width text params columns found tree is plain uncoun
     (λ old new row row_is others put fresh apart. subst AreApart (sym (stays new old (tree_of table) Posting others other)) apart)
 
 abbrev meta_insert : List ℕ
-meta_insert = codes "INSERT INTO meta (id, version, day0, days, zone) VALUES (1, 1, ?1, ?2, ?3)"
+meta_insert = codes "INSERT INTO meta (id, version, day0, days, zone) VALUES (1, 2, ?1, ?2, ?3)"
 
 abbrev meta_terms : List Term
-meta_terms = lit (Int (pos 1)) ∷ lit Null ∷ lit (Int (pos 1)) ∷ col 0 0 ∷ col 0 1 ∷ col 0 2 ∷ []
+meta_terms = lit (Int (pos 1)) ∷ lit Null ∷ lit (Int (pos 2)) ∷ col 0 0 ∷ col 0 1 ∷ col 0 2 ∷ []
 
 meta_insert_is : command_of (understood book_schema meta_insert) ≡ Insert 0 (Values meta_terms 6)
 unfolding understood everything
@@ -97,12 +97,12 @@ unfolding understood everything
 meta_insert_plain = (refl, refl)
 
 stored_meta : (first_day : List ℕ) (days : ℕ) (zone : List ℕ) (rows : List Row)
-    → shown Meta (with_rowid Chosen rows (cast_row (record meta_table { tree = 0 }) (eval_all meta_terms ((Text first_day ∷ Int (pos days) ∷ Text zone ∷ []) ∷ [])))) ≡ meta_row 1 first_day days zone
-stored_meta first_day days zone rows = rw (cast_int (pos 1), cast_int (pos days))
+    → shown Meta (with_rowid Chosen rows (cast_row (record meta_table { tree = 0 }) (eval_all meta_terms ((Text first_day ∷ Int (pos days) ∷ Text zone ∷ []) ∷ [])))) ≡ meta_row 2 first_day days zone
+stored_meta first_day days zone rows = rw (cast_int (pos 1), cast_int (pos 2), cast_int (pos days))
 
-pub adds_meta : (old new : State) (first_day : List ℕ) (days : ℕ) (zone : List ℕ) → Ran meta_insert (Text first_day ∷ Int (pos days) ∷ Text zone ∷ []) old new → Makes old new Always (with_row Meta (meta_row 1 first_day days zone))
+pub adds_meta : (old new : State) (first_day : List ℕ) (days : ℕ) (zone : List ℕ) → Ran meta_insert (Text first_day ∷ Int (pos days) ∷ Text zone ∷ []) old new → Makes old new Always (with_row Meta (meta_row 2 first_day days zone))
 adds_meta old new first_day days zone ran =
-    makes_row Meta 0 (record meta_table { tree = 0 }) meta_terms 6 meta_insert _ (meta_row 1 first_day days zone) refl refl meta_insert_is meta_insert_plain refl refl refl (λ new. refl)
+    makes_row Meta 0 (record meta_table { tree = 0 }) meta_terms 6 meta_insert _ (meta_row 2 first_day days zone) refl refl meta_insert_is meta_insert_plain refl refl refl (λ new. refl)
     (stored_meta first_day days zone) (λ e. omega (arith, e)) old new ran
 
 abbrev cause_insert : List ℕ
@@ -196,6 +196,29 @@ pub adds_customer : (old new : State) (id : ℕ) (section : ℕ) (since : ℕ) (
 adds_customer old new id section since until ran =
     makes_row Customer 4 (record customer_table { tree = 7 }) customer_terms 5 customer_insert _ (customer_row id section since until) refl refl customer_insert_is customer_insert_plain refl refl refl (λ new. refl)
     (stored_customer id section since until) (λ e. omega (arith, e)) old new ran
+
+abbrev life_insert : List ℕ
+life_insert = codes "INSERT INTO life (device, since, until) VALUES (?1, ?2, ?3)"
+
+abbrev life_terms : List Term
+life_terms = col 0 0 ∷ lit Null ∷ col 0 1 ∷ col 0 2 ∷ []
+
+life_insert_is : command_of (understood book_schema life_insert) ≡ Insert 10 (Values life_terms 4)
+unfolding understood everything
+life_insert_is = refl
+
+life_insert_plain : IsPlain (understood book_schema life_insert)
+unfolding understood everything
+life_insert_plain = (refl, refl)
+
+stored_life : (device since : ℕ) (until : Option ℕ) (rows : List Row)
+    → shown Life (with_rowid Chosen rows (cast_row (record life_table { tree = 16 }) (eval_all life_terms ((Int (pos device) ∷ Int (pos since) ∷ number_or_null until ∷ []) ∷ [])))) ≡ life_row device since until
+stored_life device since until rows = rw (cast_int (pos device), cast_int (pos since), cast_optional until)
+
+pub adds_life : (old new : State) (device since : ℕ) (until : Option ℕ) → Ran life_insert (Int (pos device) ∷ Int (pos since) ∷ number_or_null until ∷ []) old new → Makes old new Always (with_row Life (life_row device since until))
+adds_life old new device since until ran =
+    makes_row Life 10 (record life_table { tree = 16 }) life_terms 4 life_insert _ (life_row device since until) refl refl life_insert_is life_insert_plain refl refl refl (λ new. refl)
+    (stored_life device since until) (λ e. omega (arith, e)) old new ran
 
 abbrev entry_insert : List ℕ
 entry_insert = codes "INSERT INTO entry (id, rev, device, pos, second, cause, crew, kept) VALUES (?1, 1, ?2, ?3, ?4, ?5, ?6, 1)"

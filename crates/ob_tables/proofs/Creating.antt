@@ -14,12 +14,12 @@ use Rattle.sqlite.specs.Does.{lacks_sequence}
 use Rattle.sqlite.specs.State.{State}
 use Rattle.sqlite_tied.specs.Compute.{everything}
 use Rattle.sqlite.proofs.Callers.{IsPlain, command_of, statement_of, runs_as}
-use Rattle.ob_tables.specs.Schema.{meta_table, cause_table, node_table, device_table, customer_table, entry_table, mark_table, command_table, moved_table, posting_table}
+use Rattle.ob_tables.specs.Schema.{meta_table, cause_table, node_table, device_table, customer_table, entry_table, mark_table, command_table, moved_table, posting_table, life_table}
 use Rattle.ob_tables.specs.Creation.{create_text, before, schema_of_first, MakesUpTo, MakesBook}
 use Rattle.ob_tables.specs.Rows.{tree_of, shown, AreApart}
 use Rattle.ob_tables.specs.Steps.{Ran}
 use Rattle.ob_tables.specs.declared.table.Table.{Table}
-use Rattle.ob_tables.specs.declared.table.Table.TheVariants.{Meta, Cause, Node, Device, Customer, Entry, Mark, Command, Moved, Posting}
+use Rattle.ob_tables.specs.declared.table.Table.TheVariants.{Meta, Cause, Node, Device, Life, Customer, Entry, Mark, Command, Moved, Posting}
 use Rattle.ob_tables.proofs.Statements.{made_table}
 
 still_empty : (old new : Trees) (tables : List sql.Table) → AllByRecursion (λ t. new t.tree ≡ old t.tree) tables → AllByRecursion (λ t. old t.tree ≡ []) tables → AllByRecursion (λ t. new t.tree ≡ []) tables
@@ -96,6 +96,10 @@ posting_after : MakesAfter 9 (create_text Posting) posting_table
 unfolding understood everything
 posting_after = record { next = refl; defines = refl; is = refl; plain = (refl, refl); whole = refl; uncounted = refl }
 
+life_after : MakesAfter 10 (create_text Life) life_table
+unfolding understood everything
+life_after = record { next = refl; defines = refl; is = refl; plain = (refl, refl); whole = refl; uncounted = refl }
+
 pub makes_table : (table : Table) (old new : State) → Ran (create_text table) [] old new → MakesUpTo (before table) (before table + 1) old new
 makes_table Meta = makes_after 0 (create_text Meta) meta_table meta_after
 makes_table Cause = makes_after 1 (create_text Cause) cause_table cause_after
@@ -107,8 +111,9 @@ makes_table Mark = makes_after 6 (create_text Mark) mark_table mark_after
 makes_table Command = makes_after 7 (create_text Command) command_table command_after
 makes_table Moved = makes_after 8 (create_text Moved) moved_table moved_after
 makes_table Posting = makes_after 9 (create_text Posting) posting_table posting_after
+makes_table Life = makes_after 10 (create_text Life) life_table life_after
 
-no_row : (trees : Trees) → AllByRecursion (λ t. trees t.tree ≡ []) (schema_of_first 10).tables → (table : Table) → trees (tree_of table) ≡ []
+no_row : (trees : Trees) → AllByRecursion (λ t. trees t.tree ≡ []) (schema_of_first 11).tables → (table : Table) → trees (tree_of table) ≡ []
 no_row trees h Meta = h.0
 no_row trees h Cause = h.1.0
 no_row trees h Node = h.1.1.0
@@ -119,12 +124,13 @@ no_row trees h Mark = h.1.1.1.1.1.1.0
 no_row trees h Command = h.1.1.1.1.1.1.1.0
 no_row trees h Moved = h.1.1.1.1.1.1.1.1.0
 no_row trees h Posting = h.1.1.1.1.1.1.1.1.1.0
+no_row trees h Life = h.1.1.1.1.1.1.1.1.1.1.0
 
 apart_none : AreApart []
 apart_none = record { numbers = tt; apart = λ id. omega arith }
 
--- ten tables without rows are those of a book
-pub makes_book : (old new : State) → MakesUpTo 0 10 old new → MakesBook old new
+-- eleven tables without rows are those of a book
+pub makes_book : (old new : State) → MakesUpTo 0 11 old new → MakesBook old new
 makes_book old new it = record {
   live = it.live (it.stays (omega arith));
   stays = it.stays (omega arith);

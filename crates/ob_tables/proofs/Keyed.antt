@@ -32,11 +32,11 @@ use Rattle.sqlite_rules.specs.Cast.{cast_row}
 use Rattle.sqlite_tied.specs.Compute.{everything}
 use Rattle.sqlite.proofs.Callers.{IsPlain, command_of, runs_as}
 use Rattle.ob_base.specs.declared.Pos.{Pos}
-use Rattle.ob_tables.specs.Schema.{book_schema, customer_table, entry_table, mark_table}
-use Rattle.ob_tables.specs.Rows.{Columns, Tables, tree_of, shown, AreApart, number, number_or_null, position_number, bit, is_key, change_where, with_change, without_key, customer_row, entry_row, mark_row, serve, correct, withdraw, HasCustomer, HasEntry, HasMark}
+use Rattle.ob_tables.specs.Schema.{book_schema, customer_table, entry_table, mark_table, life_table}
+use Rattle.ob_tables.specs.Rows.{Columns, Tables, tree_of, shown, AreApart, number, number_or_null, position_number, bit, is_key, change_where, with_change, without_key, customer_row, life_row, entry_row, mark_row, serve, relive, correct, withdraw, HasCustomer, HasLife, HasEntry, HasMark}
 use Rattle.ob_tables.specs.Steps.{Ran, Makes}
 use Rattle.ob_tables.specs.declared.table.Table.{Table}
-use Rattle.ob_tables.specs.declared.table.Table.TheVariants.{Customer, Entry, Mark, Posting}
+use Rattle.ob_tables.specs.declared.table.Table.TheVariants.{Life, Customer, Entry, Mark, Posting}
 use Rattle.ob_tables.proofs.Queries.{whole}
 use Rattle.ob_tables.proofs.Statements.{updated, updated_schema, deleted, deleted_schema}
 use Rattle.ob_tables.proofs.Posting.{single}
@@ -286,3 +286,33 @@ pub drops_mark : (old new : State) (day : ℕ) → Ran mark_delete (Int (pos day
 drops_mark old new day ran =
     makes_without Mark 6 mark_table by_key (col 1 0 ∷ []) mark_delete _ day (HasMark day) refl mark_delete_plain (λ r. refl) refl (λ r. refl) (λ e. omega (arith, e)) refl mark_delete_is (λ olds. refl)
     (λ t need. (mark_row day need.0, record { one = need.1; keyed = refl })) old new ran
+
+abbrev life_update : List ℕ
+life_update = codes "UPDATE life SET since = ?2, until = ?3 WHERE device = ?1"
+
+abbrev life_shows : List Term
+life_shows = col 1 0 ∷ col 1 0 ∷ lit Null ∷ col 0 1 ∷ col 0 2 ∷ []
+
+life_update_is : command_of (understood book_schema life_update) ≡ Update 10 (record { lets = []; body = whole by_key life_shows 16 })
+unfolding understood everything
+life_update_is = refl
+
+life_update_plain : IsPlain (understood book_schema life_update)
+unfolding understood everything
+life_update_plain = (refl, refl)
+
+abbrev life_anew : Value → ℕ → Option ℕ → Row
+life_anew device since until = cast_row (record life_table { tree = 16 }) (device ∷ Null ∷ Int (pos since) ∷ number_or_null until ∷ [])
+
+life_relived : (device since : ℕ) (until : Option ℕ) → shown Life (life_anew (Int (pos device)) since until) ≡ Int (pos device) ∷ Int (pos since) ∷ number_or_null until ∷ []
+life_relived device since until = rw (cast_int (pos device), cast_int (pos since), cast_optional until)
+
+pub relives : (old new : State) (device since : ℕ) (until : Option ℕ) → Ran life_update (Int (pos device) ∷ Int (pos since) ∷ number_or_null until ∷ []) old new → Makes old new (HasLife device) (with_change Life device (relive since until))
+relives old new device since until ran =
+    makes_change Life 10 life_table by_key life_shows life_update _ device (HasLife device) refl life_update_plain (λ r. refl) refl (λ r. refl) (λ e. omega (arith, e)) refl (relive since until) life_update_is (λ olds it. refl)
+    (λ t need. (
+      life_row device need.since need.until,
+      record { one = need.row; keyed = refl },
+      λ r is. ap (λ (c : Columns). shown Life (life_anew (column c 0) since until)) is ∙ life_relived device since until,
+    ))
+    old new ran

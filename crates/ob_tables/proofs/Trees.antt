@@ -11,7 +11,7 @@ use Rattle.sqlite_rules.specs.Edit.{is_taken, are_fresh}
 use Rattle.ob_tables.specs.Schema.{book_schema}
 use Rattle.ob_tables.specs.Rows.{Columns, Tables, tree_of, shown, AreApart, Holds, with_table, with_row}
 use Rattle.ob_tables.specs.declared.table.Table.{Table}
-use Rattle.ob_tables.specs.declared.table.Table.TheVariants.{Meta, Cause, Node, Device, Customer, Entry, Mark, Command, Moved, Posting}
+use Rattle.ob_tables.specs.declared.table.Table.TheVariants.{Meta, Cause, Node, Device, Life, Customer, Entry, Mark, Command, Moved, Posting}
 use Rattle.ob_tables.proofs.Put.{put_fresh}
 
 abbrev pub OthersStay : ℕ → Trees → Trees → Type 0
@@ -28,12 +28,13 @@ stays f g tree Mark h apart = h.1.1.1.1.1.1.0 apart
 stays f g tree Command h apart = h.1.1.1.1.1.1.1.0 apart
 stays f g tree Moved h apart = h.1.1.1.1.1.1.1.1.0 apart
 stays f g tree Posting h apart = h.1.1.1.1.1.1.1.1.1.0 apart
+stays f g tree Life h apart = h.1.1.1.1.1.1.1.1.1.1.0 apart
 
 -- the table that a tree holds
 abbrev table_at : ℕ → Table
 table_at n =
     if n == 0 then Meta else if n == 1 then Cause else if n == 3 then Node else if n == 5 then Device else if n == 7 then Customer else
-    if n == 8 then Entry else if n == 9 then Mark else if n == 10 then Command else if n == 12 then Moved else Posting
+    if n == 8 then Entry else if n == 9 then Mark else if n == 10 then Command else if n == 12 then Moved else if n == 16 then Life else Posting
 
 found_at : (a : Table) → table_at (tree_of a) ≡ a
 found_at Meta = refl
@@ -46,6 +47,7 @@ found_at Mark = refl
 found_at Command = refl
 found_at Moved = refl
 found_at Posting = refl
+found_at Life = refl
 
 -- the tables after one of them was changed
 pub changes : (table : Table) (old new : Trees) (change : List Columns → List Columns) (t : Tables) → OthersStay (tree_of table) new old

@@ -13,7 +13,7 @@ use Rattle.ob_tables.specs.Schema.{book_tables, no_schema, book_schema}
 use Rattle.ob_tables.specs.Rows.{Tables, Holds}
 use Rattle.ob_tables.specs.Steps.{Silent, IsStoreFault}
 use Rattle.ob_tables.specs.declared.table.Table.{Table}
-use Rattle.ob_tables.specs.declared.table.Table.TheVariants.{Meta, Cause, Node, Device, Customer, Entry, Mark, Command, Moved, Posting}
+use Rattle.ob_tables.specs.declared.table.Table.TheVariants.{Meta, Cause, Node, Device, Life, Customer, Entry, Mark, Command, Moved, Posting}
 
 -- the text that makes a table
 abbrev pub create_text : Table → List ℕ
@@ -28,6 +28,9 @@ create_text Device =
     codes "CREATE TABLE device (id INTEGER PRIMARY KEY, name TEXT NOT NULL UNIQUE, "
     ++ codes "a INTEGER NOT NULL REFERENCES node (id), b INTEGER NOT NULL REFERENCES node (id), "
     ++ codes "normal INTEGER NOT NULL CHECK (normal >= 0 AND normal <= 1)) STRICT"
+create_text Life =
+    codes "CREATE TABLE life (device INTEGER PRIMARY KEY REFERENCES device (id), "
+    ++ codes "since INTEGER NOT NULL, until INTEGER) STRICT"
 create_text Customer =
     codes "CREATE TABLE customer (id INTEGER PRIMARY KEY, "
     ++ codes "section INTEGER NOT NULL REFERENCES node (id), since INTEGER NOT NULL, "
@@ -62,10 +65,15 @@ before Mark = 6
 before Command = 7
 before Moved = 8
 before Posting = 9
+before Life = 10
 
 -- the schema of the first tables
 abbrev pub schema_of_first : ℕ → Schema
 schema_of_first n = fold created no_schema (take n book_tables)
+
+-- the schema of version 1: all tables but that of lives, which is made last
+abbrev pub old_schema : Schema
+old_schema = schema_of_first 10
 
 -- the first tables are there, without rows
 pub record HasEmpty (n : ℕ) (db : Database) : Type 0 where

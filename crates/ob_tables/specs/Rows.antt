@@ -1,4 +1,4 @@
--- The rows of the ten tables as a query shows them, and what holds them.
+-- The rows of the eleven tables as a query shows them, and what holds them.
 use Rattle.std.specs.Prelude.{◌≡◌, ℕ, ◌==◌, ◌&&◌, ◌≤◌, ℤ, pos, Bool, true, false, not, List, [], ◌∷◌, ◌++◌, Option, Some, None, IsTrue, ⊤, length, map, filter, if◌then◌else◌, codes}
 use Rattle.std.specs.List.{AllByRecursion}
 use Rattle.std.specs.List.Sorted.{IsPermutation}
@@ -12,13 +12,14 @@ use Rattle.sqlite.specs.declared.types.Value.TheVariants.{Null, Int, Text}
 use Rattle.ob_base.specs.declared.Pos.{Pos}
 use Rattle.ob_base.specs.declared.Pos.TheVariants.{Opened, Closed}
 use Rattle.ob_tables.specs.declared.table.Table.{Table}
-use Rattle.ob_tables.specs.declared.table.Table.TheVariants.{Meta, Cause, Node, Device, Customer, Entry, Mark, Command, Moved, Posting}
+use Rattle.ob_tables.specs.declared.table.Table.TheVariants.{Meta, Cause, Node, Device, Life, Customer, Entry, Mark, Command, Moved, Posting}
 
 abbrev pub table_name : Table → List ℕ
 table_name Meta = codes "meta"
 table_name Cause = codes "cause"
 table_name Node = codes "node"
 table_name Device = codes "device"
+table_name Life = codes "life"
 table_name Customer = codes "customer"
 table_name Entry = codes "entry"
 table_name Mark = codes "mark"
@@ -46,6 +47,7 @@ tree_of Mark = 9
 tree_of Command = 10
 tree_of Moved = 12
 tree_of Posting = 14
+tree_of Life = 16
 
 -- where the columns stand in a stored row: the key is its rowid, or else the rowid isn't shown
 abbrev pub places_of : Table → List ℕ
@@ -53,6 +55,7 @@ places_of Meta = 0 ∷ 2 ∷ 3 ∷ 4 ∷ 5 ∷ []
 places_of Cause = 0 ∷ 2 ∷ []
 places_of Node = 0 ∷ 2 ∷ 3 ∷ 4 ∷ []
 places_of Device = 0 ∷ 2 ∷ 3 ∷ 4 ∷ 5 ∷ []
+places_of Life = 0 ∷ 2 ∷ 3 ∷ []
 places_of Customer = 0 ∷ 2 ∷ 3 ∷ 4 ∷ []
 places_of Entry = 0 ∷ 2 ∷ 3 ∷ 4 ∷ 5 ∷ 6 ∷ 7 ∷ 8 ∷ []
 places_of Mark = 0 ∷ 2 ∷ []
@@ -105,6 +108,10 @@ node_row id name kind feeder = number id ∷ Text name ∷ number kind ∷ numbe
 -- a device between two nodes, with its normal position
 abbrev pub device_row : ℕ → List ℕ → ℕ → ℕ → Pos → Columns
 device_row id name a b normal = number id ∷ Text name ∷ number a ∷ number b ∷ number (position_number normal) ∷ []
+
+-- the life of a device, from `since` until before `until`, or without end
+abbrev pub life_row : ℕ → ℕ → Option ℕ → Columns
+life_row device since until = number device ∷ number since ∷ number_or_null until ∷ []
 
 -- a customer of a section, in service from `since` until before `until`, or without end
 abbrev pub customer_row : ℕ → ℕ → ℕ → Option ℕ → Columns
@@ -190,6 +197,10 @@ withdraw revision row =
     column row 0 ∷ number revision ∷ column row 2 ∷ column row 3 ∷ column row 4 ∷ column row 5 ∷ column row 6
     ∷ number (bit false) ∷ []
 
+-- a life's row with other ends
+abbrev pub relive : ℕ → Option ℕ → Columns → Columns
+relive since until row = column row 0 ∷ number since ∷ number_or_null until ∷ []
+
 -- of any tables
 abbrev pub Always : Tables → Type 0
 Always tables = ⊤
@@ -204,6 +215,12 @@ pub record HasCustomer (id : ℕ) (tables : Tables) : Type 0 where
   pub since : ℕ
   pub until : Option ℕ
   pub row : HasRow Customer id (customer_row id section since until) tables
+
+-- there is one row of the life of this device
+pub record HasLife (device : ℕ) (tables : Tables) : Type 0 where
+  pub since : ℕ
+  pub until : Option ℕ
+  pub row : HasRow Life device (life_row device since until) tables
 
 -- there is one row of this entry
 pub record HasEntry (id : ℕ) (tables : Tables) : Type 0 where

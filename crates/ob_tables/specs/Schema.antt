@@ -1,4 +1,4 @@
--- The tables of a book, version 1.
+-- The tables of a book, version 2.
 use Rattle.std.specs.Prelude.{true, false, [], ◌∷◌, Some, None, codes, List, ℕ, pos, fold}
 use Rattle.sqlite.specs.Collation.TheVariants.{Binary}
 use Rattle.sqlite.specs.declared.types.Value.TheVariants.{Null, Int}
@@ -144,10 +144,16 @@ abbrev pub posting_table : Table
 posting_table = by_columns (codes "posting") (1 ∷ 2 ∷ [])
     (integer (codes "dim") ∷ integer (codes "k") ∷ integer (codes "amount") ∷ []) (compares Ge 3 0 ∷ []) []
 
+abbrev pub life_columns : List Column
+life_columns = loose (codes "device") ∷ integer (codes "since") ∷ loose (codes "until") ∷ []
+
+abbrev pub life_table : Table
+life_table = record (by_id (codes "life") life_columns) { references = refers 0 (codes "device") (codes "id") ∷ [] }
+
 abbrev pub book_tables : List Table
 book_tables =
     meta_table ∷ cause_table ∷ node_table ∷ device_table ∷ customer_table ∷ entry_table ∷ mark_table ∷ command_table
-    ∷ moved_table ∷ posting_table ∷ []
+    ∷ moved_table ∷ posting_table ∷ life_table ∷ []
 
 abbrev pub no_schema : Schema
 no_schema = record { tables = []; indexes = []; views = [] }

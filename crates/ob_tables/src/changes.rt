@@ -1,7 +1,7 @@
 //! The statements that change a row or take one away, each in a function of its own.
 ghost use Rattle.std.specs.Prelude.{◌≡◌, ◌<◌, ◌^◌, IfSome};
 ghost use Rattle.ob_tables.specs.Steps.{Changes};
-ghost use Rattle.ob_tables.specs.Rows.{with_change, serve, HasCustomer, correct, withdraw, HasEntry, without_key, HasMark, with_posting, HasPosting};
+ghost use Rattle.ob_tables.specs.Rows.{with_change, serve, HasCustomer, relive, HasLife, correct, withdraw, HasEntry, without_key, HasMark, with_posting, HasPosting};
 ghost use Rattle.ob_tables.specs.declared.table.Table.{Table as ATable};
 
 use crate::run::{int, large, large_or_null, position, run};
@@ -25,6 +25,25 @@ pub fn set_service<S: Alter>(
         tx,
         "UPDATE customer SET since = ?2, until = ?3 WHERE id = ?1",
         &[int(no), large(since), large_or_null(until)],
+    )
+}
+
+/// Gives a device another life.
+pub fn set_life<S: Alter>(
+    tx: &mut Transaction<'_, S>,
+    device: u32,
+    since: u64,
+    until: Option<u64>,
+) -> Result<(), Stop>
+    requires since { since < 2 ^ 63 }
+    requires until { IfSome until (λ end. end < 2 ^ 63) }
+    ensures { Changes S.Store tx.old.conn tx.new.conn result (HasLife device)
+        (with_change ATable.Life device (relive since until)) }
+{
+    run(
+        tx,
+        "UPDATE life SET since = ?2, until = ?3 WHERE device = ?1",
+        &[int(device), large(since), large_or_null(until)],
     )
 }
 

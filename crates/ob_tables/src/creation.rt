@@ -7,11 +7,11 @@ use crate::table::Table;
 use ob_base::Stop;
 use sqlite::{Alter, Transaction};
 
-/// Makes the ten tables, without rows. It fails where one of them stands already.
+/// Makes the eleven tables, without rows. It fails where one of them stands already.
 pub fn create_tables<S: Alter>(tx: &mut Transaction<'_, S>) -> Result<(), Stop>
     ensures { Creates S.Store tx.old.conn tx.new.conn result MakesBook }
 {
-    'tables: for at in 0..10 {
+    'tables: for at in 0..11 {
         create_table(tx, table_after(at))?;
     }
     Ok(())
@@ -19,7 +19,7 @@ pub fn create_tables<S: Alter>(tx: &mut Transaction<'_, S>) -> Result<(), Stop>
 
 /// The table that is made after so many.
 fn table_after(count: usize) -> Table
-    requires { count < 10 }
+    requires { count < 11 }
     ensures { before result ≡ count }
 {
     match count {
@@ -32,7 +32,8 @@ fn table_after(count: usize) -> Table
         6 => Table::Mark,
         7 => Table::Command,
         8 => Table::Moved,
-        _ => Table::Posting,
+        9 => Table::Posting,
+        _ => Table::Life,
     }
 }
 
@@ -59,6 +60,9 @@ fn text_of(table: Table) -> &'static str
         Table::Device => "CREATE TABLE device (id INTEGER PRIMARY KEY, name TEXT NOT NULL UNIQUE, \
              a INTEGER NOT NULL REFERENCES node (id), b INTEGER NOT NULL REFERENCES node (id), \
              normal INTEGER NOT NULL CHECK (normal >= 0 AND normal <= 1)) STRICT",
+        Table::Life =>
+            "CREATE TABLE life (device INTEGER PRIMARY KEY REFERENCES device (id), since INTEGER NOT \
+             NULL, until INTEGER) STRICT",
         Table::Customer => "CREATE TABLE customer (id INTEGER PRIMARY KEY, \
              section INTEGER NOT NULL REFERENCES node (id), since INTEGER NOT NULL, \
              until INTEGER) STRICT",

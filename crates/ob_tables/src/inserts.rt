@@ -1,7 +1,7 @@
 //! The statements that add a row, each in a function of its own.
 ghost use Rattle.std.specs.Prelude.{◌≡◌, ◌<◌, ◌^◌, true, IfSome};
 ghost use Rattle.ob_tables.specs.Steps.{Changes};
-ghost use Rattle.ob_tables.specs.Rows.{Always, with_row, meta_row, cause_row, node_row, device_row, customer_row, entry_row, mark_row, command_row, moved_row, posting_row};
+ghost use Rattle.ob_tables.specs.Rows.{Always, with_row, meta_row, cause_row, node_row, device_row, life_row, customer_row, entry_row, mark_row, command_row, moved_row, posting_row};
 ghost use Rattle.ob_tables.specs.declared.table.Table.{Table as ATable};
 
 use crate::run::{int, large, large_or_null, position, run, signed};
@@ -9,7 +9,7 @@ use ob_base::{Pos, Stop};
 use sqlite::{Alter, Transaction};
 use sqlite_value::value::ValueRef;
 
-/// Adds the one row of `meta`, of version 1. It fails where the row stands already.
+/// Adds the one row of `meta`, of version 2. It fails where the row stands already.
 pub fn add_meta<'t, S: Alter>(
     tx: &mut Transaction<'_, S>,
     first_day: &'t [u8],
@@ -17,11 +17,11 @@ pub fn add_meta<'t, S: Alter>(
     zone: &'t [u8],
 ) -> Result<(), Stop>
     ensures { Changes S.Store tx.old.conn tx.new.conn result Always
-        (with_row ATable.Meta (meta_row 1 first_day.now days zone.now)) }
+        (with_row ATable.Meta (meta_row 2 first_day.now days zone.now)) }
 {
     run(
         tx,
-        "INSERT INTO meta (id, version, day0, days, zone) VALUES (1, 1, ?1, ?2, ?3)",
+        "INSERT INTO meta (id, version, day0, days, zone) VALUES (1, 2, ?1, ?2, ?3)",
         &[ValueRef::Text(first_day), int(days), ValueRef::Text(zone)],
     )
 }
@@ -101,6 +101,25 @@ pub fn add_customer<S: Alter>(
         tx,
         "INSERT INTO customer (id, section, since, until) VALUES (?1, ?2, ?3, ?4)",
         &[int(no), int(section), large(since), large_or_null(until)],
+    )
+}
+
+/// Adds the life of a device. It fails where it stands already, and where there is no such device.
+pub fn add_life<S: Alter>(
+    tx: &mut Transaction<'_, S>,
+    device: u32,
+    since: u64,
+    until: Option<u64>,
+) -> Result<(), Stop>
+    requires since { since < 2 ^ 63 }
+    requires until { IfSome until (λ end. end < 2 ^ 63) }
+    ensures { Changes S.Store tx.old.conn tx.new.conn result Always
+        (with_row ATable.Life (life_row device since until)) }
+{
+    run(
+        tx,
+        "INSERT INTO life (device, since, until) VALUES (?1, ?2, ?3)",
+        &[int(device), large(since), large_or_null(until)],
     )
 }
 

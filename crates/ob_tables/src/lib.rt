@@ -1,7 +1,7 @@
 //! The tables of a book, and the statements that read and write them.
 //!
-//! Keeps the ten tables and one function for each statement, which runs inside a transaction of the caller. Promises of
-//! each what it makes of the rows that the tables show: a row more, one written anew, one less, or none, and what was
+//! Keeps the eleven tables and one function for each statement, which runs inside a transaction of the caller. Promises
+//! of each what it makes of the rows that the tables show: a row more, one written anew, one less, or none, and what was
 //! found. A statement that breaks a rule of its table fails. What writes the rows of a command in one transaction stands
 //! above it.
 #![tactic(auto)]
@@ -13,11 +13,11 @@ mod reads;
 mod run;
 mod table;
 
-pub use changes::{correct_entry, drop_mark, set_posting, set_service, withdraw_entry};
+pub use changes::{correct_entry, drop_mark, set_life, set_posting, set_service, withdraw_entry};
 pub use creation::create_tables;
 pub use inserts::{
-    add_cause, add_command, add_customer, add_device, add_entry, add_mark, add_meta, add_moved,
-    add_node, add_posting,
+    add_cause, add_command, add_customer, add_device, add_entry, add_life, add_mark, add_meta,
+    add_moved, add_node, add_posting,
 };
 pub use reads::find_commands;
 pub use run::{int, signed, stop_of};

@@ -1,6 +1,6 @@
-//! The ten tables.
+//! The eleven tables.
 
-/// A table of a book, in the order in which they are made.
+/// A table of a book. They are made in this order, but for the lives, which are made last.
 #[derive(Clone, Copy)]
 pub enum Table {
     /// The version of the tables, the first day, the count of days and the zone: one row.
@@ -11,6 +11,8 @@ pub enum Table {
     Node,
     /// The switching devices, by number.
     Device,
+    /// The lives of the devices, by the number of the device.
+    Life,
     /// The customers and their service, by number.
     Customer,
     /// The entries of the switching sheet, by number.
@@ -38,6 +40,7 @@ impl Table {
             Table::Cause => "cause",
             Table::Node => "node",
             Table::Device => "device",
+            Table::Life => "life",
             Table::Customer => "customer",
             Table::Entry => "entry",
             Table::Mark => "mark",

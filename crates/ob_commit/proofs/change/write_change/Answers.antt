@@ -12,3 +12,6 @@ returns-in-WithdrawEntry g c = changes_as g.S.Store _ _ _ _ _ c.in-WithdrawEntry
 
 pub returns-in-DropMark : goal.returns-in-DropMark
 returns-in-DropMark g c = changes_as g.S.Store _ _ _ _ _ c.in-DropMark.is c.drop_mark.ensures
+
+pub returns-in-SetLife : goal.returns-in-SetLife
+returns-in-SetLife g c = changes_as g.S.Store _ _ _ _ _ c.in-SetLife.is c.set_life.ensures

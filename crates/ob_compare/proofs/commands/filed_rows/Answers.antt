@@ -1,4 +1,5 @@
-use Rattle.std.proofs.Common.{List, ◌≡◌, ◌+◌, ◌≤◌, [], ◌∷◌, ◌++◌, length, inl, sym, ap, subst, ◌∙◌, arith}
+use Rattle.std.proofs.Common.{List, ◌≡◌, ◌+◌, ◌≤◌, Some, [], ◌∷◌, ◌++◌, length, inl, sym, ap, subst, ◌∙◌, arith, rules, ℤ, pos, IsTrue, to_z-of_z, w64}
+use Rattle.std.specs.Prelude.{FitsSigned, ◌↔◌}
 use Rattle.std.specs.List.{AllByRecursion}
 use Rattle.sqlite.specs.Effect.{Database}
 use Rattle.sqlite.specs.State.{HasCleanDisk}
@@ -7,14 +8,16 @@ use Rattle.sqlite.specs.Given.{HasGiven}
 use Rattle.sqlite.proofs.Callers.{unchanged_then}
 use Rattle.ob_tables.specs.Steps.{IsStoreFault}
 use Rattle.ob_tables.specs.declared.table.Table.TheVariants.{Command}
-use Rattle.ob_compare.specs.Listing.{Lists, Ends, filed_of}
+use Rattle.ob_compare.specs.Listing.{Lists, Ends, filed_of, referenced}
 use Rattle.ob_compare.specs.declared.filed.Filed.{Filed}
-use Rattle.ob_compare.specs.Reading.{AreFiled, IsDue, Stands, command_listing, command_rows}
+use Rattle.ob_compare.specs.Ordered.{rows_under}
+use Rattle.ob_compare.specs.Reading.{AreFiled, IsNext, Stands, command_listing}
 use Rattle.ob_record.specs.Naming.{IsReferenced}
 use Rattle.ob_compare.proofs.Listing.{still_then}
 use Rattle.ob_compare.proofs.Passing.{clean_before, no_value, of_error, unchanged_after}
 use Rattle.ob_compare.proofs.Selects.{is_listing}
-use Rattle.ob_compare.proofs.Standing.{all_referenced, one_filed, all_filed, other_filed, too_many, pushed_length}
+use Rattle.ob_compare.proofs.Standing.{all_referenced, pushed_length}
+use Rattle.ob_compare.proofs.Ordered.{IsRead, all_read, one_read, other_read, rows_read, too_many}
 use Rattle.ob_compare.proofs.commands.filed_rows.Goals as goal
 
 pub returns-in-Other-clause-read : goal.returns-in-Other-clause-read
@@ -23,12 +26,13 @@ returns-in-Other-clause-read g c late live has given shows there =
     let mid = state g.S.Store c.commands.rows.conn.now in
     let new = c.next_filed.new.rows.conn.now in
     let early : HasCleanDisk mid = omega (arith, c.next_filed.ensures.survives.clean, late) in
-    let was = c.commands.invariant.4 early in
-    let schema = ap (λ (d : Database). d.schema) (was.0 live).0.now_is ∙ has in
-    let front = command_rows (filed_of c.commands.list.items) in
-    let next = subst (λ n. Stands g.S.Store (c.commands.at + 1) n new front) c.in-Other.is (c.in_ok-filed.ensures.stands late schema front (was.1 live has given)) in
-    let db : (state g.S.Store new).now ≡ old.now = (c.in_ok-filed.ensures.same late).0.now_is ∙ (was.0 live).0.now_is in
-    other_filed old.now c.commands.list.items c.commands.at next.0 next.1 shows c.commands.invariant.3 (subst (λ (d : Database). Lists command_listing d (front ++ (next.0 ∷ next.1))) db next.2) next.3 there
+    let was = c.commands.invariant.4 early live in
+    let schema = ap (λ (d : Database). d.schema) was.0.now_is ∙ has in
+    let pairs = c.commands.invariant.7 in
+    let front = rows_under pairs in
+    let next = subst (λ n. Stands g.S.Store c.commands.last n new front) c.in-Other.is (c.in_ok-number.ensures.stands late schema front (c.commands.invariant.9 early live has given)) in
+    let db : (state g.S.Store new).now ≡ old.now = (c.in_ok-number.ensures.same late).0.now_is ∙ was.0.now_is in
+    other_read old.now c.commands.commands.items c.commands.last c.commands.counted pairs next.0 next.1 shows c.commands.invariant.8 (subst (λ (d : Database). Lists command_listing d (front ++ (next.0 ∷ next.1))) db next.2) next.3 there
 
 pub returns-in-End-clause-read : goal.returns-in-End-clause-read
 returns-in-End-clause-read g c late live has given shows there =
@@ -36,12 +40,13 @@ returns-in-End-clause-read g c late live has given shows there =
     let mid = state g.S.Store c.commands.rows.conn.now in
     let new = c.next_filed.new.rows.conn.now in
     let early : HasCleanDisk mid = omega (arith, c.next_filed.ensures.survives.clean, late) in
-    let was = c.commands.invariant.4 early in
-    let schema = ap (λ (d : Database). d.schema) (was.0 live).0.now_is ∙ has in
-    let front = command_rows (filed_of c.commands.list.items) in
-    let next = subst (λ n. Stands g.S.Store (c.commands.at + 1) n new front) c.in-End.is (c.in_ok-filed.ensures.stands late schema front (was.1 live has given)) in
-    let db : (state g.S.Store new).now ≡ old.now = (c.in_ok-filed.ensures.same late).0.now_is ∙ (was.0 live).0.now_is in
-    all_filed old.now c.commands.list.items shows (subst (λ (d : Database). Lists command_listing d front) db next) there
+    let was = c.commands.invariant.4 early live in
+    let schema = ap (λ (d : Database). d.schema) was.0.now_is ∙ has in
+    let pairs = c.commands.invariant.7 in
+    let front = rows_under pairs in
+    let next = subst (λ n. Stands g.S.Store c.commands.last n new front) c.in-End.is (c.in_ok-number.ensures.stands late schema front (c.commands.invariant.9 early live has given)) in
+    let db : (state g.S.Store new).now ≡ old.now = (c.in_ok-number.ensures.same late).0.now_is ∙ was.0.now_is in
+    all_read old.now (record { commands = c.commands.commands; counted = c.commands.counted }) c.commands.last pairs shows c.commands.invariant.8 (subst (λ (d : Database). Lists command_listing d front) db next) there
 
 pub commands-preserved : goal.commands-preserved
 commands-preserved g c =
@@ -49,23 +54,31 @@ commands-preserved g c =
     let mid = state g.S.Store c.commands.rows.conn.now in
     let new = c.next_filed.new.rows.conn.now in
     let step = c.next_filed.ensures in
-    let pushed : c.push.new.self.items ≡ c.commands.list.items ++ c.in-Due.filed ∷ [] = c.in_ok-push-in-Due.ensures.items in (
+    let pairs = c.commands.invariant.7 in
+    let n = c.in-Higher.number in
+    let fits : FitsSigned w64 n = search rules in
+    let f = c.in-Higher.filed in
+    let pushed : c.push.new.self.items ≡ c.commands.commands.items ++ f ∷ [] = c.in_ok-push-in-Higher.ensures.items in
+    let next = subst (IsNext c.commands.last) c.in-Higher.is c.in_ok-number.ensures.valid in (
       step.same_reference ∙ c.commands.invariant.0,
       still_then old mid (state g.S.Store new) c.commands.invariant.1 step.survives,
       λ idle. step.mode (c.commands.invariant.2 idle),
-      ap length pushed ∙ pushed_length c.commands.list.items c.in-Due.filed c.commands.at c.commands.invariant.3,
-      λ late.
+      ap length pushed ∙ pushed_length c.commands.commands.items f c.commands.at c.commands.invariant.3,
+      λ late live.
           let early : HasCleanDisk mid = omega (arith, step.survives.clean, late) in
-          let was = c.commands.invariant.4 early in (
-            λ live. unchanged_then old mid (state g.S.Store new) (was.0 live) (c.in_ok-filed.ensures.same late),
-            λ live has given.
-                let schema = ap (λ (d : Database). d.schema) (was.0 live).0.now_is ∙ has in
-                let front = command_rows (filed_of c.commands.list.items) in
-                let next = subst (λ n. Stands g.S.Store (c.commands.at + 1) n new front) c.in-Due.is (c.in_ok-filed.ensures.stands late schema front (was.1 live has given)) in
-                subst (HasGiven g.S.Store command_listing.text [] new) (one_filed c.commands.list.items c.commands.at c.in-Due.filed c.commands.invariant.3 ∙ ap (λ items. command_rows (filed_of items)) (sym pushed)) next,
-          ),
-      subst (λ (items : List Filed). AllByRecursion IsReferenced (filed_of items)) (sym pushed) (all_referenced c.commands.list.items c.in-Due.filed c.commands.invariant.5 (subst IsDue c.in-Due.is c.in_ok-filed.ensures.valid)),
+          unchanged_then old mid (state g.S.Store new) (c.commands.invariant.4 early live) (c.in_ok-number.ensures.same late),
+      subst (λ (items : List Filed). AllByRecursion IsReferenced (filed_of items)) (sym pushed) (all_referenced c.commands.commands.items f c.commands.invariant.5 next.1),
       λ t keeps. step.kept t (c.commands.invariant.6 t keeps),
+      pairs ++ (n, referenced f) ∷ [],
+      subst (λ (k : ℤ). IsRead c.push.new.self.items (Some k) c.goes_on_counting-counted.result (pairs ++ (n, referenced f) ∷ [])) (sym (to_z-of_z fits))
+          (subst (λ (items : List Filed). IsRead items (Some n) c.goes_on_counting-counted.result (pairs ++ (n, referenced f) ∷ [])) (sym pushed)
+          (one_read c.commands.commands.items c.commands.last c.commands.counted c.goes_on_counting-counted.result pairs n f (c.commands.at + 1) (omega (arith, c.commands.invariant.3)) c.commands.invariant.8 next.0 (subst (λ (k : ℤ). IsTrue c.goes_on_counting-counted.result ↔ (IsTrue c.commands.counted × (k ≡ pos (c.commands.at + 1)))) (to_z-of_z fits) c.goes_on_counting-counted.ensures))),
+      λ late live has given.
+          let early : HasCleanDisk mid = omega (arith, step.survives.clean, late) in
+          let was = c.commands.invariant.4 early live in
+          let schema = ap (λ (d : Database). d.schema) was.0.now_is ∙ has in
+          let there = subst (λ n. Stands g.S.Store c.commands.last n new (rows_under pairs)) c.in-Higher.is (c.in_ok-number.ensures.stands late schema (rows_under pairs) (c.commands.invariant.9 early live has given)) in
+          subst (HasGiven g.S.Store command_listing.text [] new) (rows_read pairs n f) there,
     )
 
 pub returns-then-branch-clause-read : goal.returns-then-branch-clause-read
@@ -74,12 +87,13 @@ returns-then-branch-clause-read g c late live has given shows there =
     let mid = state g.S.Store c.commands.rows.conn.now in
     let new = c.is_over.new.rows.conn.now in
     let early : HasCleanDisk mid = omega (arith, c.is_over.ensures.survives.clean, late) in
-    let was = c.commands.invariant.4 early in
-    let schema = ap (λ (d : Database). d.schema) (was.0 live).0.now_is ∙ has in
-    let front = command_rows (filed_of c.commands.list.items) in
-    let ends = subst (λ b. Ends g.S.Store command_listing b new front) c.if-branch.true (c.in_ok-is_over.ensures.over late schema command_listing (is_listing Command) front (was.1 live has given)) in
-    let db : (state g.S.Store new).now ≡ old.now = (c.in_ok-is_over.ensures.same late).0.now_is ∙ (was.0 live).0.now_is in
-    all_filed old.now c.commands.list.items shows (subst (λ (d : Database). Lists command_listing d front) db ends) there
+    let was = c.commands.invariant.4 early live in
+    let schema = ap (λ (d : Database). d.schema) was.0.now_is ∙ has in
+    let pairs = c.commands.invariant.7 in
+    let front = rows_under pairs in
+    let ends = subst (λ b. Ends g.S.Store command_listing b new front) c.if-branch.true (c.in_ok-is_over.ensures.over late schema command_listing (is_listing Command) front (c.commands.invariant.9 early live has given)) in
+    let db : (state g.S.Store new).now ≡ old.now = (c.in_ok-is_over.ensures.same late).0.now_is ∙ was.0.now_is in
+    all_read old.now (record { commands = c.commands.commands; counted = c.commands.counted }) c.commands.last pairs shows c.commands.invariant.8 (subst (λ (d : Database). Lists command_listing d front) db ends) there
 
 pub returns-else-branch-clause-read : goal.returns-else-branch-clause-read
 returns-else-branch-clause-read g c late live has given shows there =
@@ -87,61 +101,62 @@ returns-else-branch-clause-read g c late live has given shows there =
     let mid = state g.S.Store c.commands.rows.conn.now in
     let new = c.is_over.new.rows.conn.now in
     let early : HasCleanDisk mid = omega (arith, c.is_over.ensures.survives.clean, late) in
-    let was = c.commands.invariant.4 early in
-    let schema = ap (λ (d : Database). d.schema) (was.0 live).0.now_is ∙ has in
-    let front = command_rows (filed_of c.commands.list.items) in
-    let ends = subst (λ b. Ends g.S.Store command_listing b new front) c.if-branch.false (c.in_ok-is_over.ensures.over late schema command_listing (is_listing Command) front (was.1 live has given)) in
-    let db : (state g.S.Store new).now ≡ old.now = (c.in_ok-is_over.ensures.same late).0.now_is ∙ (was.0 live).0.now_is in
-    let many : 1000000 ≤ length c.commands.list.items = omega (arith, c.commands-test.false, c.commands.invariant.3) in
-    too_many old.now c.commands.list.items ends.0 ends.1 shows many (subst (λ (d : Database). Lists command_listing d (front ++ (ends.0 ∷ ends.1))) db ends.2) there
+    let was = c.commands.invariant.4 early live in
+    let schema = ap (λ (d : Database). d.schema) was.0.now_is ∙ has in
+    let pairs = c.commands.invariant.7 in
+    let front = rows_under pairs in
+    let ends = subst (λ b. Ends g.S.Store command_listing b new front) c.if-branch.false (c.in_ok-is_over.ensures.over late schema command_listing (is_listing Command) front (c.commands.invariant.9 early live has given)) in
+    let db : (state g.S.Store new).now ≡ old.now = (c.in_ok-is_over.ensures.same late).0.now_is ∙ was.0.now_is in
+    let many : 1000000 ≤ length c.commands.commands.items = omega (arith, c.commands-test.false, c.commands.invariant.3) in
+    too_many old.now c.commands.commands.items c.commands.last c.commands.counted pairs ends.0 ends.1 shows c.commands.invariant.8 many (subst (λ (d : Database). Lists command_listing d (front ++ (ends.0 ∷ ends.1))) db ends.2) there
 
-pub returns-in_err-filed-clause-same_reference : goal.returns-in_err-filed-clause-same_reference
-returns-in_err-filed-clause-same_reference g c = c.next_filed.ensures.same_reference ∙ c.commands.invariant.0
+pub returns-in_err-number-clause-same_reference : goal.returns-in_err-number-clause-same_reference
+returns-in_err-number-clause-same_reference g c = c.next_filed.ensures.same_reference ∙ c.commands.invariant.0
 
-pub returns-in_err-filed-clause-survives : goal.returns-in_err-filed-clause-survives
-returns-in_err-filed-clause-survives g c = still_then (state g.S.Store c.args.rows.now.conn.now) (state g.S.Store c.commands.rows.conn.now) (state g.S.Store c.next_filed.new.rows.conn.now) c.commands.invariant.1 c.next_filed.ensures.survives
+pub returns-in_err-number-clause-survives : goal.returns-in_err-number-clause-survives
+returns-in_err-number-clause-survives g c = still_then (state g.S.Store c.args.rows.now.conn.now) (state g.S.Store c.commands.rows.conn.now) (state g.S.Store c.next_filed.new.rows.conn.now) c.commands.invariant.1 c.next_filed.ensures.survives
 
-pub returns-in_err-filed-clause-kept : goal.returns-in_err-filed-clause-kept
-returns-in_err-filed-clause-kept g c t keeps = c.next_filed.ensures.kept t (c.commands.invariant.6 t keeps)
+pub returns-in_err-number-clause-kept : goal.returns-in_err-number-clause-kept
+returns-in_err-number-clause-kept g c t keeps = c.next_filed.ensures.kept t (c.commands.invariant.6 t keeps)
 
-pub returns-in_err-filed-clause-mode : goal.returns-in_err-filed-clause-mode
-returns-in_err-filed-clause-mode g c idle = c.next_filed.ensures.mode (c.commands.invariant.2 idle)
+pub returns-in_err-number-clause-mode : goal.returns-in_err-number-clause-mode
+returns-in_err-number-clause-mode g c idle = c.next_filed.ensures.mode (c.commands.invariant.2 idle)
 
-pub returns-in_err-filed-clause-faults : goal.returns-in_err-filed-clause-faults
-returns-in_err-filed-clause-faults g c = of_error c.from_residual.result IsStoreFault c.from_residual.ensures.1 (λ stop is. subst IsStoreFault (sym is) c.in_err-filed.ensures.faults)
+pub returns-in_err-number-clause-faults : goal.returns-in_err-number-clause-faults
+returns-in_err-number-clause-faults g c = of_error c.from_residual.result IsStoreFault c.from_residual.ensures.1 (λ stop is. subst IsStoreFault (sym is) c.in_err-number.ensures.faults)
 
-pub returns-in_err-filed-clause-valid : goal.returns-in_err-filed-clause-valid
-returns-in_err-filed-clause-valid g c = no_value c.from_residual.result AreFiled c.from_residual.ensures.0
+pub returns-in_err-number-clause-valid : goal.returns-in_err-number-clause-valid
+returns-in_err-number-clause-valid g c = no_value c.from_residual.result AreFiled c.from_residual.ensures.0
 
-pub returns-in_err-filed-clause-same : goal.returns-in_err-filed-clause-same
-returns-in_err-filed-clause-same g c late = no_value c.from_residual.result _ c.from_residual.ensures.0
+pub returns-in_err-number-clause-same : goal.returns-in_err-number-clause-same
+returns-in_err-number-clause-same g c late = no_value c.from_residual.result _ c.from_residual.ensures.0
 
-pub returns-in_err-filed-clause-read : goal.returns-in_err-filed-clause-read
-returns-in_err-filed-clause-read g c late = no_value c.from_residual.result _ c.from_residual.ensures.0
+pub returns-in_err-number-clause-read : goal.returns-in_err-number-clause-read
+returns-in_err-number-clause-read g c late = no_value c.from_residual.result _ c.from_residual.ensures.0
 
-pub returns-in_err-push-in-Due-clause-same_reference : goal.returns-in_err-push-in-Due-clause-same_reference
-returns-in_err-push-in-Due-clause-same_reference g c = c.next_filed.ensures.same_reference ∙ c.commands.invariant.0
+pub returns-in_err-push-in-Higher-clause-same_reference : goal.returns-in_err-push-in-Higher-clause-same_reference
+returns-in_err-push-in-Higher-clause-same_reference g c = c.next_filed.ensures.same_reference ∙ c.commands.invariant.0
 
-pub returns-in_err-push-in-Due-clause-survives : goal.returns-in_err-push-in-Due-clause-survives
-returns-in_err-push-in-Due-clause-survives g c = still_then (state g.S.Store c.args.rows.now.conn.now) (state g.S.Store c.commands.rows.conn.now) (state g.S.Store c.next_filed.new.rows.conn.now) c.commands.invariant.1 c.next_filed.ensures.survives
+pub returns-in_err-push-in-Higher-clause-survives : goal.returns-in_err-push-in-Higher-clause-survives
+returns-in_err-push-in-Higher-clause-survives g c = still_then (state g.S.Store c.args.rows.now.conn.now) (state g.S.Store c.commands.rows.conn.now) (state g.S.Store c.next_filed.new.rows.conn.now) c.commands.invariant.1 c.next_filed.ensures.survives
 
-pub returns-in_err-push-in-Due-clause-kept : goal.returns-in_err-push-in-Due-clause-kept
-returns-in_err-push-in-Due-clause-kept g c t keeps = c.next_filed.ensures.kept t (c.commands.invariant.6 t keeps)
+pub returns-in_err-push-in-Higher-clause-kept : goal.returns-in_err-push-in-Higher-clause-kept
+returns-in_err-push-in-Higher-clause-kept g c t keeps = c.next_filed.ensures.kept t (c.commands.invariant.6 t keeps)
 
-pub returns-in_err-push-in-Due-clause-mode : goal.returns-in_err-push-in-Due-clause-mode
-returns-in_err-push-in-Due-clause-mode g c idle = c.next_filed.ensures.mode (c.commands.invariant.2 idle)
+pub returns-in_err-push-in-Higher-clause-mode : goal.returns-in_err-push-in-Higher-clause-mode
+returns-in_err-push-in-Higher-clause-mode g c idle = c.next_filed.ensures.mode (c.commands.invariant.2 idle)
 
-pub returns-in_err-push-in-Due-clause-faults : goal.returns-in_err-push-in-Due-clause-faults
-returns-in_err-push-in-Due-clause-faults g c = of_error c.from_residual-in_err-push-in-Due.result IsStoreFault c.from_residual-in_err-push-in-Due.ensures.1 (λ stop is. inl is)
+pub returns-in_err-push-in-Higher-clause-faults : goal.returns-in_err-push-in-Higher-clause-faults
+returns-in_err-push-in-Higher-clause-faults g c = of_error c.from_residual-in_err-push-in-Higher.result IsStoreFault c.from_residual-in_err-push-in-Higher.ensures.1 (λ stop is. inl is)
 
-pub returns-in_err-push-in-Due-clause-valid : goal.returns-in_err-push-in-Due-clause-valid
-returns-in_err-push-in-Due-clause-valid g c = no_value c.from_residual-in_err-push-in-Due.result AreFiled c.from_residual-in_err-push-in-Due.ensures.0
+pub returns-in_err-push-in-Higher-clause-valid : goal.returns-in_err-push-in-Higher-clause-valid
+returns-in_err-push-in-Higher-clause-valid g c = no_value c.from_residual-in_err-push-in-Higher.result AreFiled c.from_residual-in_err-push-in-Higher.ensures.0
 
-pub returns-in_err-push-in-Due-clause-same : goal.returns-in_err-push-in-Due-clause-same
-returns-in_err-push-in-Due-clause-same g c late = no_value c.from_residual-in_err-push-in-Due.result _ c.from_residual-in_err-push-in-Due.ensures.0
+pub returns-in_err-push-in-Higher-clause-same : goal.returns-in_err-push-in-Higher-clause-same
+returns-in_err-push-in-Higher-clause-same g c late = no_value c.from_residual-in_err-push-in-Higher.result _ c.from_residual-in_err-push-in-Higher.ensures.0
 
-pub returns-in_err-push-in-Due-clause-read : goal.returns-in_err-push-in-Due-clause-read
-returns-in_err-push-in-Due-clause-read g c late = no_value c.from_residual-in_err-push-in-Due.result _ c.from_residual-in_err-push-in-Due.ensures.0
+pub returns-in_err-push-in-Higher-clause-read : goal.returns-in_err-push-in-Higher-clause-read
+returns-in_err-push-in-Higher-clause-read g c late = no_value c.from_residual-in_err-push-in-Higher.result _ c.from_residual-in_err-push-in-Higher.ensures.0
 
 pub returns-in-Other-clause-same_reference : goal.returns-in-Other-clause-same_reference
 returns-in-Other-clause-same_reference g c = c.next_filed.ensures.same_reference ∙ c.commands.invariant.0
@@ -159,7 +174,7 @@ pub returns-in-Other-clause-same : goal.returns-in-Other-clause-same
 returns-in-Other-clause-same g c late =
     let mid = state g.S.Store c.commands.rows.conn.now in
     let new = state g.S.Store c.next_filed.new.rows.conn.now in
-    unchanged_after (state g.S.Store c.args.rows.now.conn.now) mid new (c.commands.invariant.4 (clean_before mid new c.next_filed.ensures.survives late)).0 (c.in_ok-filed.ensures.same late)
+    unchanged_after (state g.S.Store c.args.rows.now.conn.now) mid new (c.commands.invariant.4 (clean_before mid new c.next_filed.ensures.survives late)) (c.in_ok-number.ensures.same late)
 
 pub returns-in-End-clause-same_reference : goal.returns-in-End-clause-same_reference
 returns-in-End-clause-same_reference g c = c.next_filed.ensures.same_reference ∙ c.commands.invariant.0
@@ -180,7 +195,7 @@ pub returns-in-End-clause-same : goal.returns-in-End-clause-same
 returns-in-End-clause-same g c late =
     let mid = state g.S.Store c.commands.rows.conn.now in
     let new = state g.S.Store c.next_filed.new.rows.conn.now in
-    unchanged_after (state g.S.Store c.args.rows.now.conn.now) mid new (c.commands.invariant.4 (clean_before mid new c.next_filed.ensures.survives late)).0 (c.in_ok-filed.ensures.same late)
+    unchanged_after (state g.S.Store c.args.rows.now.conn.now) mid new (c.commands.invariant.4 (clean_before mid new c.next_filed.ensures.survives late)) (c.in_ok-number.ensures.same late)
 
 pub returns-in_err-is_over-clause-same_reference : goal.returns-in_err-is_over-clause-same_reference
 returns-in_err-is_over-clause-same_reference g c = c.is_over.ensures.same_reference ∙ c.commands.invariant.0
@@ -225,7 +240,7 @@ pub returns-then-branch-clause-same : goal.returns-then-branch-clause-same
 returns-then-branch-clause-same g c late =
     let mid = state g.S.Store c.commands.rows.conn.now in
     let new = state g.S.Store c.is_over.new.rows.conn.now in
-    unchanged_after (state g.S.Store c.args.rows.now.conn.now) mid new (c.commands.invariant.4 (clean_before mid new c.is_over.ensures.survives late)).0 (c.in_ok-is_over.ensures.same late)
+    unchanged_after (state g.S.Store c.args.rows.now.conn.now) mid new (c.commands.invariant.4 (clean_before mid new c.is_over.ensures.survives late)) (c.in_ok-is_over.ensures.same late)
 
 pub returns-else-branch-clause-same_reference : goal.returns-else-branch-clause-same_reference
 returns-else-branch-clause-same_reference g c = c.is_over.ensures.same_reference ∙ c.commands.invariant.0
@@ -243,4 +258,4 @@ pub returns-else-branch-clause-same : goal.returns-else-branch-clause-same
 returns-else-branch-clause-same g c late =
     let mid = state g.S.Store c.commands.rows.conn.now in
     let new = state g.S.Store c.is_over.new.rows.conn.now in
-    unchanged_after (state g.S.Store c.args.rows.now.conn.now) mid new (c.commands.invariant.4 (clean_before mid new c.is_over.ensures.survives late)).0 (c.in_ok-is_over.ensures.same late)
+    unchanged_after (state g.S.Store c.args.rows.now.conn.now) mid new (c.commands.invariant.4 (clean_before mid new c.is_over.ensures.survives late)) (c.in_ok-is_over.ensures.same late)

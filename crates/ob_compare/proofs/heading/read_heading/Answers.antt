@@ -1,6 +1,7 @@
 use Rattle.std.proofs.Common.{List, sym, subst}
 use Rattle.sqlite.specs.Held.{state}
 use Rattle.sqlite.specs.Order.{Row}
+use Rattle.ob_tables.specs.Schema.{book_schema}
 use Rattle.ob_tables.specs.declared.table.Table.TheVariants.{Meta}
 use Rattle.ob_compare.specs.Faults.{HasNoMeaning}
 use Rattle.ob_compare.specs.Reading.{IsHeading}
@@ -13,20 +14,20 @@ pub returns-in-Ok-clause-survives : goal.returns-in-Ok-clause-survives
 returns-in-Ok-clause-survives g c = c.list_all.ensures.survives meta_listing (is_listing Meta) (sym c.select_of.ensures)
 
 pub returns-in-Ok-clause-same : goal.returns-in-Ok-clause-same
-returns-in-Ok-clause-same g c clean = ok_always c.heading_in.result (λ has. (c.in-Ok.ensures.listed clean meta_listing (is_listing Meta) (sym c.select_of.ensures) has).1)
+returns-in-Ok-clause-same g c clean = ok_always c.heading_in.result (λ has. (c.in-Ok.ensures.listed clean book_schema meta_listing (is_listing Meta) (sym c.select_of.ensures) has).1)
 
 pub returns-in-Ok-clause-read : goal.returns-in-Ok-clause-read
 returns-in-Ok-clause-read g c clean =
     let old = state g.S.Store c.args.conn.now in
     if_ok c.heading_in.result c.heading_in.ensures.heading (λ found is has rows shows.
     let there : IsHeading found c.in-Ok.rows.items = subst (λ (l : List Row). IsHeading found l) c.deref.ensures.value is in
-    heading_read old.now c.in-Ok.rows.items rows found (c.in-Ok.ensures.listed clean meta_listing (is_listing Meta) (sym c.select_of.ensures) has).0 shows there)
+    heading_read old.now c.in-Ok.rows.items rows found (c.in-Ok.ensures.listed clean book_schema meta_listing (is_listing Meta) (sym c.select_of.ensures) has).0 shows there)
 
 pub returns-in-Err-clause-survives : goal.returns-in-Err-clause-survives
 returns-in-Err-clause-survives g c = c.list_all.ensures.survives meta_listing (is_listing Meta) (sym c.select_of.ensures)
 
 pub returns-in-Err-clause-foreign : goal.returns-in-Err-clause-foreign
-returns-in-Err-clause-foreign g c clean bad = c.in-Err.ensures.foreign clean bad meta_listing (is_listing Meta) (sym c.select_of.ensures)
+returns-in-Err-clause-foreign g c clean bad = c.in-Err.ensures.foreign clean bad book_schema meta_listing (is_listing Meta) (sym c.select_of.ensures)
 
 pub returns-in-Ok-clause-empty : goal.returns-in-Ok-clause-empty
 returns-in-Ok-clause-empty g c none = let it = c.in-Ok.ensures.missed (no_meaning c.args.conn.now.schema c.select_of.result.now none c.select_of.ensures) in (it.0, λ late. absurd (it.1 late))

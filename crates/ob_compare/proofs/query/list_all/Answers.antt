@@ -13,12 +13,12 @@ returns-in-Ok-query_all-clause-survives g c l means text =
     listing_quiet l means old mid new c.in-Ok.statement.text (λ clean. let it = c.in-Ok.ensures.prepared clean in (it.0 ∙ sym text, it.1)) c.prepare.ensures.survives c.query_all.ensures.survives
 
 pub returns-in-Ok-query_all-clause-listed : goal.returns-in-Ok-query_all-clause-listed
-returns-in-Ok-query_all-clause-listed g c late l means text has =
+returns-in-Ok-query_all-clause-listed g c late schema l means text has =
     let old = state g.S.Store c.args.conn.now in
     let mid = state g.S.Store c.prepare.new.conn in
     let new = state g.S.Store c.query_all.new.conn in
     let early : HasCleanDisk mid = omega (arith, c.query_all.ensures.survives.clean, late) in
-    listing_whole l means old mid new c.in-Ok.statement.text (λ clean. let it = c.in-Ok.ensures.prepared clean in (it.0 ∙ sym text, it.1)) has early c.in-Ok-query_all.rows.items (c.in-Ok-query_all.ensures.ok late)
+    listing_whole schema l means old mid new c.in-Ok.statement.text (λ clean. let it = c.in-Ok.ensures.prepared clean in (it.0 ∙ sym text, it.1)) has early c.in-Ok-query_all.rows.items (c.in-Ok-query_all.ensures.ok late)
 
 pub returns-clause-survives : goal.returns-clause-survives
 returns-clause-survives g c l means text =

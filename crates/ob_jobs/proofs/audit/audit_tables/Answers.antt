@@ -10,4 +10,5 @@ returns g c =
       clean = all.clean;
       survives = all.survives;
       audited = all.audited;
+      outdated = all.outdated;
     }

@@ -10,4 +10,5 @@ returns g c =
       clean = all.clean;
       survives = all.survives;
       loaded = all.loaded;
+      outdated = all.outdated;
     }

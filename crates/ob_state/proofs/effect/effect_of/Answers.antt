@@ -1,10 +1,12 @@
-use Rattle.std.proofs.Common.{sym, subst, refl, inl, inr}
+use Rattle.std.proofs.Common.{sym, subst, refl, inl, inr, ◌+◌, ◌≤◌}
+use Rattle.ob_base.specs.declared.life.Life.{Life as ALife}
 use Rattle.ob_command.specs.declared.command.Command.{Command}
-use Rattle.ob_command.specs.declared.command.Command.TheVariants.{Cause, Mark, Unmark}
+use Rattle.ob_command.specs.declared.command.Command.TheVariants.{Cause, Device, Life, Mark, Unmark}
 use Rattle.ob_state.specs.declared.effect.Effect.{Effect}
 use Rattle.ob_state.specs.declared.retiming.Retiming.TheVariants.{Same}
 use Rattle.ob_state.specs.Next.{next}
 use Rattle.ob_state.specs.Effects.{IsEffect}
+use Rattle.ob_state.specs.Searches.{most_searches}
 use Rattle.ob_state.proofs.Leading.{nothing_moved}
 use Rattle.ob_state.proofs.effect.effect_of.Goals as goal
 
@@ -28,10 +30,18 @@ pub returns-in-Section-clause-searches : goal.returns-in-Section-clause-searches
 returns-in-Section-clause-searches g c = rw c.in-Section.is c.with_section.ensures.searches
 
 pub returns-in-Device-clause-searches : goal.returns-in-Device-clause-searches
-returns-in-Device-clause-searches g c = rw c.in-Device.is c.with_device.ensures.searches
+returns-in-Device-clause-searches g c =
+    let b = c.args.state.now.state in
+    rw c.in-Device.is
+    (subst (λ (l : ALife). c.with_device.new.state.searches ≤ c.args.state.now.searches + most_searches g.T.Timeline.bound b (Device c.in-Device.name c.in-Device.ends c.in-Device.normal l.since l.until))
+    c.life_from.ensures c.with_device.ensures.searches)
 
 pub returns-in-Life-clause-searches : goal.returns-in-Life-clause-searches
-returns-in-Life-clause-searches g c = rw c.in-Life.is c.with_life.ensures.searches
+returns-in-Life-clause-searches g c =
+    let b = c.args.state.now.state in
+    rw c.in-Life.is
+    (subst (λ (l : ALife). c.with_life.new.state.searches ≤ c.args.state.now.searches + most_searches g.T.Timeline.bound b (Life c.in-Life.device l.since l.until))
+    c.life_from-in-Life.ensures c.with_life.ensures.searches)
 
 pub returns-in-Switch-clause-searches : goal.returns-in-Switch-clause-searches
 returns-in-Switch-clause-searches g c = rw c.in-Switch.is c.entered.ensures.searches

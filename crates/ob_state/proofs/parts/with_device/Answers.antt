@@ -1,14 +1,18 @@
-use Rattle.std.proofs.Common.{◌≡◌, ◌∙◌, ap, sym, subst, ◌+◌}
+use Rattle.std.proofs.Common.{◌≡◌, ◌∙◌, ap, sym, subst, ◌+◌, ◌-◌, ◌<◌, length}
+use Rattle.std.specs.List.{All}
 use Rattle.std.specs.Result.{IfOk}
 use Rattle.std.proofs.lemmas.Result.{IfOk-weaker}
 use Rattle.ob_net.specs.Network.{with_device}
+use Rattle.ob_sheet.specs.declared.Entry.{Entry}
+use Rattle.ob_sweep.specs.Changed.{IsAfter}
+use Rattle.ob_sweep.specs.declared.change.Change.TheVariants.{Joined}
 use Rattle.ob_command.specs.declared.command.Command.TheVariants.{Device}
 use Rattle.ob_state.specs.Next.{changed}
 use Rattle.ob_state.specs.State.{BookState}
-use Rattle.ob_state.specs.States.{AreRunsOf}
+use Rattle.ob_state.specs.States.{AreRunsOf, BookValue, IsSoundState}
 use Rattle.ob_state.specs.Effects.{IsEffect, with_network, without_device}
 use Rattle.ob_state.proofs.Leading.{effect_next}
-use Rattle.ob_state.proofs.NetworkChanges.{taken_back}
+use Rattle.ob_state.proofs.NetworkChanges.{before_last, joined_after, taken_back}
 use Rattle.ob_state.proofs.parts.with_device.Goals as goal
 
 pub altered-effect-requires-clause-runs : goal.altered-effect-requires-clause-runs
@@ -20,6 +24,25 @@ altered-effect-requires-clause-runs g c =
     let added : c.add_device.new.self.state ≡ d = c.add_device.ensures.state ∙ ap (λ (s : BookState). changed s (Device new.name new.ends new.normal new.life.since new.life.until)) c.in_ok-reserve_one.ensures.state in
     subst (λ (s : BookState). AreRunsOf (without_device s) lists) (sym added)
     (subst (λ (s : BookState). AreRunsOf s lists) (sym (taken_back b new.name new.ends.a new.ends.b new.normal new.life)) c.requires.runs)
+
+pub altered-effect-requires-clause-after : goal.altered-effect-requires-clause-after
+altered-effect-requires-clause-after g c =
+    let b = c.args.state.now.state in
+    let new = c.args.device in
+    let added = c.add_device.ensures.state ∙ ap (λ (s : BookState). changed s (Device new.name new.ends new.normal new.life.since new.life.until)) c.in_ok-reserve_one.ensures.state in
+    let number : c.devices-number.result ≡ length b.network.devices =
+    c.devices-number.ensures.count ∙ ap (λ (s : BookValue). length s.state.network.devices) c.state.view_is ∙ ap (λ (s : BookState). length s.network.devices) c.in_ok-reserve_one.ensures.state in
+    subst (λ (s : BookState). IsAfter (Joined c.devices-number.result new.life) s.network) (sym added)
+    (joined_after b new.name new.ends.a new.ends.b new.normal new.life c.devices-number.result number)
+
+pub take_back_device-requires-clause-entries : goal.take_back_device-requires-clause-entries
+take_back_device-requires-clause-entries g c =
+    let b = c.args.state.now.state in
+    let new = c.args.device in
+    let added = c.add_device.ensures.state ∙ ap (λ (s : BookState). changed s (Device new.name new.ends new.normal new.life.since new.life.until)) c.in_ok-reserve_one.ensures.state in
+    let sound = subst IsSoundState c.in_ok-reserve_one.ensures.state c.accepted.ensures.sound in
+    subst (λ (s : BookState). All (λ (e : Entry). e.device < length s.network.devices - 1) s.entries) (sym (c.altered-effect.ensures.state ∙ added))
+    (before_last b new.name new.ends.a new.ends.b new.normal new.life sound.state.devices)
 
 pub returns-clause-effect : goal.returns-clause-effect
 returns-clause-effect g c =

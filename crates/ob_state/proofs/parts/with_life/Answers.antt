@@ -1,11 +1,9 @@
-use Rattle.std.proofs.Common.{◌≡◌, ◌∙◌, ap, sym, subst, ◌+◌, ◌≤◌, ℕ, map, Option, Some, slice_get, unwrap_or, arith}
-use Rattle.std.specs.Option.{option_and_then, option_map, option_map_or}
+use Rattle.std.proofs.Common.{◌≡◌, ◌∙◌, ap, sym, subst, ◌+◌, ◌<◌, ◌≤◌, ℕ, length, Option, Some, unwrap_or, arith}
+use Rattle.std.specs.Option.{option_and_then, option_map}
 use Rattle.std.specs.Result.{IfOk}
 use Rattle.std.proofs.lemmas.Result.{IfOk-weaker}
 use Rattle.ob_base.specs.declared.life.Life.{Life as ALife}
-use Rattle.ob_net.specs.declared.net.Device.{Device}
 use Rattle.ob_net.specs.Network.{Network, device_of, with_life}
-use Rattle.ob_sweep.specs.declared.change.Change.{Change}
 use Rattle.ob_sweep.specs.declared.change.Change.TheVariants.{Lived}
 use Rattle.ob_command.specs.declared.command.Command.TheVariants.{Life}
 use Rattle.ob_state.specs.Next.{changed}
@@ -14,7 +12,8 @@ use Rattle.ob_state.specs.State.{BookState}
 use Rattle.ob_state.specs.States.{AreRunsOf, BookValue}
 use Rattle.ob_state.specs.Effects.{IsEffect, before_change, with_network}
 use Rattle.ob_state.proofs.Leading.{effect_next}
-use Rattle.ob_state.proofs.NetworkChanges.{lived_back}
+use Rattle.ob_state.proofs.Kept.{count_lived}
+use Rattle.ob_state.proofs.NetworkChanges.{lived_back, lived_now}
 use Rattle.ob_state.proofs.parts.with_life.Goals as goal
 
 pub altered-effect-requires-clause-runs : goal.altered-effect-requires-clause-runs
@@ -27,6 +26,23 @@ altered-effect-requires-clause-runs g c =
     let has : life_at b.network k ≡ Some old = ap (λ (s : BookValue). life_at s.state.network k) (sym c.state.view_is) ∙ c.life_of-old.ensures.life in
     subst (λ (s : BookState). AreRunsOf (before_change (Lived k old life) s) lists) (sym c.set_life.ensures.state)
     (subst (λ (s : BookState). AreRunsOf s lists) (sym (lived_back b k old life has)) c.requires.runs)
+
+pub altered-effect-requires-clause-after : goal.altered-effect-requires-clause-after
+altered-effect-requires-clause-after g c =
+    let b = c.args.state.now.state in
+    let k = c.in-Some.device in
+    let here : k < length c.state.inside.net.network.devices = rw c.in-Some.is at c.device_of.ensures.exists in
+    let within = subst (λ (s : BookValue). k < length s.state.network.devices) c.state.view_is here in
+    subst (λ (s : BookState). life_at s.network k ≡ Some c.args.life) (sym c.set_life.ensures.state) (lived_now b.network.devices k c.args.life within)
+
+pub set_life-requires-2-clause-device : goal.set_life-requires-2-clause-device
+set_life-requires-2-clause-device g c =
+    let b = c.args.state.now.state in
+    let k = c.in-Some.device in
+    let here : k < length c.state.inside.net.network.devices = rw c.in-Some.is at c.device_of.ensures.exists in
+    let within = subst (λ (s : BookValue). k < length s.state.network.devices) c.state.view_is here in
+    let count = count_lived b.network.devices k c.args.life in
+    subst (λ (s : BookState). k < length s.network.devices) (sym (c.altered-effect.ensures.state ∙ c.set_life.ensures.state)) (omega (arith, within, count))
 
 pub returns-clause-state : goal.returns-clause-state
 returns-clause-state g c =

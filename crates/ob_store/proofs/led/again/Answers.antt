@@ -16,6 +16,7 @@ returns-in-Ok-true-clause-led g c =
       has_parts it first begun.new c.deref.result.now c.deref.ensures.value s led c.in-Ok.led.names.items it.commands.items refl begun.named
           c.in-Ok.led.ends.items c.lead.new.noted.items begun.no_ends (c.lead.ensures.noted (c.in-Ok-true.is ∙ ap Ok c.in-Ok-true.field-0-test)),
       c.in-Ok.ensures.moved,
+      c.in-Ok.ensures.counted,
     )
 
 pub returns-in-Ok-false-clause-nowhere : goal.returns-in-Ok-false-clause-nowhere

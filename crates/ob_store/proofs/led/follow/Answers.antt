@@ -20,6 +20,7 @@ returns-in-Ok-true-clause-led g c =
       has_parts it first c.in-Ok.ensures.begun.new c.deref.result.now c.deref.ensures.value s led c.in-Ok.led.names.items it.commands.items refl c.in-Ok.ensures.begun.named
           c.in-Ok.led.ends.items c.holds_moves.new.noted.items c.in-Ok.ensures.begun.no_ends (c.holds_moves.ensures.noted (c.in-Ok-true.is ∙ ap Ok c.in-Ok-true.field-0-test)),
       refl,
+      c.in-Ok.ensures.counted,
     )
 
 pub returns-in-Ok-true-clause-finds : goal.returns-in-Ok-true-clause-finds
@@ -32,7 +33,7 @@ returns-in-Ok-true-clause-finds g c =
     read_ok g.S.Store (λ trees (found : Bool). MovesAre it trees found) (λ _. HasNoPeriodOf it.heading) old new c.in-Ok-true.field-0 e.mode e.survives e.clean e.kept e.same (λ clean schema.
     moves_found it c.in-Ok.led.book.state c.in-Ok.ensures.begun.new c.deref.result.now c.deref.ensures.value (state g.S.Store old).now.trees c.in-Ok-true.field-0 c.in-Ok-true.field-0 refl (e.moved clean schema)) in
     then_good g.S.Store (λ trees (found : Bool). MovesAre it trees found) (λ _. HasNoPeriodOf it.heading) (λ trees found. MovesAre it trees (is_some found)) (λ _. HasNoPeriodOf it.heading) old new c.in-Ok-true.field-0 read
-    (Some (record { book = c.holds_moves.new.book; names = c.in-Ok.led.names; ends = c.holds_moves.new.noted; moved = true })) (λ trees are. subst (MovesAre it trees) c.in-Ok-true.field-0-test are)
+    (Some (record { book = c.holds_moves.new.book; names = c.in-Ok.led.names; ends = c.holds_moves.new.noted; counted = c.in-Ok.led.counted; moved = true })) (λ trees are. subst (MovesAre it trees) c.in-Ok-true.field-0-test are)
 
 pub returns-in-Ok-false-clause-finds : goal.returns-in-Ok-false-clause-finds
 returns-in-Ok-false-clause-finds g c =

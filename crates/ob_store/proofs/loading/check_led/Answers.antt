@@ -13,12 +13,12 @@ use Rattle.ob_store.proofs.loading.check_led.Goals as goal
 
 pub returns-in-Ok-Some : goal.returns-in-Ok-Some
 returns-in-Ok-Some g c first read =
-    found_off g.S.Store (λ (l : Led g.row.T.Denot). l.book.state) (λ (l : Led g.row.T.Denot). l.moved) c.args.led.now first c.args.conn.now c.first_off.new.conn read (λ trees (done : ⊤). Holding trees c.args.led.now.book.state) _
-    (λ b is. subst (λ o. Finds g.S.Store (IsFirstOff b c.args.led.now.moved) NoneSo c.args.conn.now c.first_off.new.conn (Ok o)) c.in-Ok-Some.field-0-is (c.in-Ok-Some.ensures b is))
+    found_off g.S.Store (λ (l : Led g.row.T.Denot). l.book.state) (λ (l : Led g.row.T.Denot). l.counted) (λ (l : Led g.row.T.Denot). l.moved) c.args.led.now first c.args.conn.now c.first_off.new.conn read (λ trees (done : ⊤). Holding trees c.args.led.now.book.state) _
+    (λ b is. subst (λ o. Finds g.S.Store (IsFirstOff b c.args.led.now.counted c.args.led.now.moved) NoneSo c.args.conn.now c.first_off.new.conn (Ok o)) c.in-Ok-Some.field-0-is (c.in-Ok-Some.ensures b is))
 
 pub returns-in-Err : goal.returns-in-Err
 returns-in-Err g c first read =
-    found_err g.S.Store (λ (l : Led g.row.T.Denot). l.book.state) (λ (l : Led g.row.T.Denot). l.moved) c.args.led.now first c.args.conn.now c.first_off.new.conn read (λ trees (done : ⊤). Holding trees c.args.led.now.book.state) HoldsNoBook c.in-Err.stop c.in-Err.ensures
+    found_err g.S.Store (λ (l : Led g.row.T.Denot). l.book.state) (λ (l : Led g.row.T.Denot). l.counted) (λ (l : Led g.row.T.Denot). l.moved) c.args.led.now first c.args.conn.now c.first_off.new.conn read (λ trees (done : ⊤). Holding trees c.args.led.now.book.state) HoldsNoBook c.in-Err.stop c.in-Err.ensures
 
 pub returns-in-Ok-true : goal.returns-in-Ok-true
 returns-in-Ok-true g c first read =
@@ -26,8 +26,8 @@ returns-in-Ok-true g c first read =
     let mid = c.first_off.new.conn in
     let end = c.are_apart.new.conn in
     let third : Finds g.S.Store Apart NoneSo mid end (Ok c.in-Ok-true.field-0) = read_ok g.S.Store Apart NoneSo mid end c.in-Ok-true.field-0 e.mode e.survives e.clean e.kept e.same e.apart in
-    loads g.S.Store (λ (l : Led g.row.T.Denot). l.book.state) (λ (l : Led g.row.T.Denot). l.moved) c.args.led.now first c.args.conn.now mid read end
-    (λ b is. subst (λ o. Finds g.S.Store (IsFirstOff b c.args.led.now.moved) NoneSo c.args.conn.now mid (Ok o)) c.in-Ok-None.field-0-is (c.in-Ok-None.ensures b is))
+    loads g.S.Store (λ (l : Led g.row.T.Denot). l.book.state) (λ (l : Led g.row.T.Denot). l.counted) (λ (l : Led g.row.T.Denot). l.moved) c.args.led.now first c.args.conn.now mid read end
+    (λ b is. subst (λ o. Finds g.S.Store (IsFirstOff b c.args.led.now.counted c.args.led.now.moved) NoneSo c.args.conn.now mid (Ok o)) c.in-Ok-None.field-0-is (c.in-Ok-None.ensures b is))
     (λ (done : ⊤). c.args.led.now.book.state) tt refl c.in-Ok-true.field-0 c.in-Ok-true.field-0-test third
 
 pub returns-in-Ok-false : goal.returns-in-Ok-false
@@ -36,8 +36,8 @@ returns-in-Ok-false g c first read =
     let mid = c.first_off.new.conn in
     let end = c.are_apart.new.conn in
     let third : Finds g.S.Store Apart NoneSo mid end (Ok c.in-Ok-false.field-0) = read_ok g.S.Store Apart NoneSo mid end c.in-Ok-false.field-0 e.mode e.survives e.clean e.kept e.same e.apart in
-    broken g.S.Store (λ (l : Led g.row.T.Denot). l.book.state) (λ (l : Led g.row.T.Denot). l.moved) c.args.led.now first c.args.conn.now mid read end
-    (λ b is. subst (λ o. Finds g.S.Store (IsFirstOff b c.args.led.now.moved) NoneSo c.args.conn.now mid (Ok o)) c.in-Ok-None.field-0-is (c.in-Ok-None.ensures b is))
+    broken g.S.Store (λ (l : Led g.row.T.Denot). l.book.state) (λ (l : Led g.row.T.Denot). l.counted) (λ (l : Led g.row.T.Denot). l.moved) c.args.led.now first c.args.conn.now mid read end
+    (λ b is. subst (λ o. Finds g.S.Store (IsFirstOff b c.args.led.now.counted c.args.led.now.moved) NoneSo c.args.conn.now mid (Ok o)) c.in-Ok-None.field-0-is (c.in-Ok-None.ensures b is))
     (λ trees (done : ⊤). Holding trees c.args.led.now.book.state) HoldsNoBook c.in-Ok-false.field-0 third
 
 no_other : (stop : Stop) → IsStoreFault stop → stop ≢ bad_book
@@ -51,6 +51,6 @@ returns-in-Err-are_apart g c first read =
     let mid = c.first_off.new.conn in
     let end = c.are_apart.new.conn in
     let third : Finds g.S.Store Apart NoneSo mid end (Err it.stop) = read_err g.S.Store Apart NoneSo mid end it.stop e.mode e.survives e.clean e.kept (inl e.faults) (λ clean bad. absurd (no_other it.stop e.faults bad)) in
-    apart_err g.S.Store (λ (l : Led g.row.T.Denot). l.book.state) (λ (l : Led g.row.T.Denot). l.moved) c.args.led.now first c.args.conn.now mid read end
-    (λ b is. subst (λ o. Finds g.S.Store (IsFirstOff b c.args.led.now.moved) NoneSo c.args.conn.now mid (Ok o)) c.in-Ok-None.field-0-is (c.in-Ok-None.ensures b is))
+    apart_err g.S.Store (λ (l : Led g.row.T.Denot). l.book.state) (λ (l : Led g.row.T.Denot). l.counted) (λ (l : Led g.row.T.Denot). l.moved) c.args.led.now first c.args.conn.now mid read end
+    (λ b is. subst (λ o. Finds g.S.Store (IsFirstOff b c.args.led.now.counted c.args.led.now.moved) NoneSo c.args.conn.now mid (Ok o)) c.in-Ok-None.field-0-is (c.in-Ok-None.ensures b is))
     (λ trees (done : ⊤). Holding trees c.args.led.now.book.state) HoldsNoBook it.stop third

@@ -17,7 +17,7 @@ returns-in-Ok-Some-read_commands g c =
     let second = read_ok g.S.Store CommandsRead HasNoBook c.read_heading.new.conn c.read_commands.new.conn l.field-0 l.ensures.mode l.ensures.survives l.ensures.clean l.ensures.kept l.ensures.same (λ clean schema. (l.ensures.valid, l.ensures.read clean schema)) in
     let both = then_more g.S.Store HeadingRead HasNoBook CommandsRead HasNoBook c.args.conn.now c.read_heading.new.conn c.read_commands.new.conn h.field-0 _ first second in
     then_good g.S.Store (λ trees z. HeadingRead trees h.field-0 × CommandsRead trees z) (λ trees. HeadingRead trees h.field-0 × HasNoBook trees) IsNamed HasNoBook c.args.conn.now c.read_commands.new.conn l.field-0 both
-    (record { heading = h.heading; commands = l.commands }) (λ trees read. named trees (record { heading = h.heading; commands = l.commands }) h.field-0 l.field-0 h.field-0-is l.field-0-is read.0 read.1)
+    (record { heading = h.heading; commands = l.read.commands; counted = l.read.counted }) (λ trees read. named trees h.heading l.read h.field-0 l.field-0 h.field-0-is l.field-0-is read.0 read.1)
 
 pub returns-in-Ok-None-read_commands : goal.returns-in-Ok-None-read_commands
 returns-in-Ok-None-read_commands g c =

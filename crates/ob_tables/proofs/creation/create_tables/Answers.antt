@@ -29,7 +29,7 @@ pub returns : goal.returns
 returns g c =
     let old = state g.S.Store c.args.tx.now.conn.now in
     let now = state g.S.Store c.tables.tx.conn.now in
-    let all : c.tables.at ≡ 10 = omega (arith, c.tables-test.false, c.tables.auto.at-end) in
+    let all : c.tables.at ≡ 11 = omega (arith, c.tables-test.false, c.tables.auto.at-end) in
     record {
       same_reference = c.tables.invariant.0;
       silent = c.tables.invariant.1;

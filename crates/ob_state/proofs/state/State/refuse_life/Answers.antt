@@ -9,5 +9,5 @@ pub returns : goal.returns
 returns c =
     let unknown = contrary _ _ c.is_none-unknown.ensures in
     let in_order = life_refused (is_none (device_of c.self.inside.net.network c.args.device.now)) (ends_later c.args.life) in
-    rw (c.or.ensures, c.refuse_if.ensures, unknown, c.device_of.ensures.device, c.refuse_if-2.ensures, c.ends_later.ensures)
+    rw (c.or.ensures, c.refuse_if.ensures, unknown, c.device_of.ensures.device, c.refuse_if-2.ensures, c.ends_later-bad.ensures)
     (rw (← c.self.view_is) in_order)

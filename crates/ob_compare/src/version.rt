@@ -1,0 +1,52 @@
+//! The version of a book, read from its heading.
+ghost use Rattle.std.specs.Prelude.{◌≡◌, ◌↔◌, false, IsTrue, IfOk, IfErr, OnOk};
+ghost use Rattle.sqlite.specs.Held.{state};
+ghost use Rattle.sqlite.specs.State.{HasCleanDisk, IsUnchanged, Survives};
+ghost use Rattle.ob_tables.specs.Schema.{no_schema};
+ghost use Rattle.ob_tables.specs.Rows.{Tables};
+ghost use Rattle.ob_tables.specs.declared.table.Table.{Table as ATable};
+ghost use Rattle.ob_commit.specs.Keeps.{Keeps};
+ghost use Rattle.ob_compare.specs.Faults.{HasNoMeaning, IsMissed, IsReadFault, bad_book};
+ghost use Rattle.ob_compare.specs.Parts.{select_of};
+ghost use Rattle.ob_compare.specs.Version.{HasVersion, IsOfBook, IsVersionRow};
+
+use crate::columns::has_number;
+use crate::listed::select_of;
+use crate::query::list_all;
+use ob_base::Stop;
+use ob_tables::Table;
+use sqlite::{Alter, Connection, Row};
+
+/// Whether there is one row, with this version.
+fn is_version(rows: &[Row], version: u32) -> bool
+    ensures { IsTrue result ↔ IsVersionRow version rows.now }
+{
+    rows.len() == 1 && has_number(&rows[0], 1, version)
+}
+
+/// Whether `meta` holds one row, with this version: of a book of the tables that there are now, or of those of version 1.
+/// Nothing is written. A database without the table is refused as no book's.
+pub fn has_version<S: Alter>(conn: &mut Connection<S>, version: u32) -> Result<bool, Stop>
+    ensures mode { conn.old.in_transaction ≡ false → conn.new.in_transaction ≡ false }
+    ensures survives { Survives (state S.Store conn.old) (state S.Store conn.new) (λ _. ⊥) }
+    ensures kept { (t : Tables) → Keeps (state S.Store conn.old) t → Keeps (state S.Store conn.new) t }
+    ensures clean { HasCleanDisk (state S.Store conn.new) → HasCleanDisk (state S.Store conn.old) }
+    ensures faults { IfErr result IsReadFault }
+    ensures foreign { HasCleanDisk (state S.Store conn.new)
+        → IfErr result (λ stop. stop ≡ bad_book → ¬ (IsOfBook conn.old.schema)) }
+    ensures missed { HasNoMeaning conn.old.schema (select_of ATable.Meta)
+        → Survives (state S.Store conn.old) (state S.Store conn.new) (λ _. ⊥)
+        × (HasCleanDisk (state S.Store conn.new) → IsMissed (state S.Store conn.old) (state S.Store conn.new) result) }
+    ensures empty { conn.old.schema ≡ no_schema
+        → Survives (state S.Store conn.old) (state S.Store conn.new) (λ _. ⊥)
+        × (HasCleanDisk (state S.Store conn.new) → IsMissed (state S.Store conn.old) (state S.Store conn.new) result) }
+    ensures same { HasCleanDisk (state S.Store conn.new) → OnOk result (IsOfBook conn.old.schema
+        → IsUnchanged (state S.Store conn.old) (state S.Store conn.new)) }
+    ensures version { HasCleanDisk (state S.Store conn.new) → IfOk result (λ is. IsOfBook conn.old.schema
+        → IsTrue is ↔ HasVersion version (state S.Store conn.old).now.trees) }
+{
+    match list_all(conn, select_of(Table::Meta)) {
+        Ok(rows) => Ok(is_version(&rows, version)),
+        Err(stop) => Err(stop),
+    }
+}
