@@ -9,7 +9,7 @@ use Rattle.ob_compare.specs.Apart.{IsAbove}
 use Rattle.ob_compare.specs.Ordered.{AreAbove, AreRowsOf, Numbered, rows_under}
 use Rattle.ob_compare.specs.Reading.{command_rows}
 
-pairs_from : ℕ → List Referenced → List Numbered
+abbrev pairs_from : ℕ → List Referenced → List Numbered
 pairs_from n [] = []
 pairs_from n (a ∷ list) = (pos n, a) ∷ pairs_from (n + 1) list
 

@@ -53,7 +53,7 @@ not_two : (row : Columns) (first_day : List ℕ) (days : ℕ) (zone : List ℕ) 
 not_two row first_day days zone same one =
     let is : meta_row 2 first_day days zone ≡ row = cc in
     let two : number 2 ≡ number 1 = ap (λ r. column r 1) is ∙ one in
-    absurd (let n : 2 ≡ 1 = cc in omega (arith, n))
+    absurd (let n : ◌≡◌ {A = ℕ} 2 1 = cc in omega (arith, n))
 
 module _ {R : Type 0} (h : Ghosts R) (keeper new : KeeperValue R) (Is : ActState → Type 0) (b : ActState) (is : Is b) (of : IsBookOf (trees_in h keeper.conn) b)
     (leaves : Leaves (tables_of b) (trees_in h keeper.conn)) where

@@ -2,6 +2,7 @@
 use Rattle.std.proofs.Common.{◌≡◌, ◌≢◌, ◌⊎◌, inl, inr, Bool, true, false, true≢false, IsTrue, is_some, Result, Ok, Err, refl, sym, ap, subst, ◌∙◌}
 use Rattle.std.specs.Prelude.{⊤, codes, IfErr}
 use Rattle.sqlite_schema.specs.Names.{table_named}
+use Rattle.sqlite_tied.specs.Compute.{everything}
 use Rattle.sqlite_trees.specs.declared.store.Store.{Ghosts}
 use Rattle.sqlite.specs.Tree.{Trees}
 use Rattle.sqlite.specs.Schema.{Schema}
@@ -26,13 +27,15 @@ use Rattle.ob_store.specs.Versions.{AnyTrees, IsLoadFault, Tells, old_version}
 use Rattle.ob_store.proofs.Reading.{if_err, if_ok, on_ok}
 
 -- ---- the schema tells whether there is a table of lives
-has_lives : Schema → Bool
+abbrev has_lives : Schema → Bool
 has_lives schema = is_some (table_named schema (codes "life"))
 
 lives_now : has_lives book_schema ≡ true
+unfolding everything
 lives_now = refl
 
 no_lives : has_lives old_schema ≡ false
+unfolding everything
 no_lives = refl
 
 -- ---- one stop is no other
@@ -72,7 +75,7 @@ module _ {S : Type 0} (g : Ghosts S) where
     module _ (same : HasCleanDisk (state g new) → IsOfBook old.schema → IsUnchanged (state g old) (state g new)) (is : Bool) (version : HasCleanDisk (state g new) → IsOfBook old.schema → (IsTrue is → HasVersion 1 (state g old).now.trees) × (HasVersion 1 (state g old).now.trees → IsTrue is)) where
       -- it is 1
       pub outdated : is ≡ true → Tells g AnyTrees NoneSo old new (Err old_version)
-      outdated yes = record {
+      outdated so = record {
         mode = mode;
         clean = clean;
         survives = survives;
@@ -82,7 +85,7 @@ module _ {S : Type 0} (g : Ghosts S) where
         same_bad = λ c stop of. (same c of).0.now_is;
         good = λ c. tt;
         bad = λ c bad has. absurd (bad_alone (sym bad));
-        outdated = λ c stop of. (version c of).0 yes;
+        outdated = λ c stop of. (version c of).0 so;
         never = λ c. tt;
         lacking = λ c bad has. absurd (bad_alone (sym bad));
       }
@@ -162,8 +165,8 @@ module _ {S : Type 0} (g : Ghosts S) where
     seen : HasCleanDisk (state g new) → old.schema ≡ book_schema → (state g mid).now ≡ (state g old).now
     seen c has = (unchanged c has).0.now_is
 
-    none : HasCleanDisk (state g new) → old.schema ≡ book_schema → ¬ (HasVersion 1 (state g old).now.trees)
-    none c has = (first.good (second.clean c) has).0
+    not_old : HasCleanDisk (state g new) → old.schema ≡ book_schema → ¬ (HasVersion 1 (state g old).now.trees)
+    not_old c has = (first.good (second.clean c) has).0
 
     pub then_tables : Tells g Good Bad old new r
     then_tables = record {
@@ -177,8 +180,8 @@ module _ {S : Type 0} (g : Ghosts S) where
         | inl has ↦ step (either_stop stop fault is) (there c has) ∙ seen c has
         | inr has ↦ absurd (first.never (second.clean c) has)
       ]);
-      good = λ c. if_ok r (second.good c) (λ x found has. (none c has, subst (λ (d : Database). Good d.trees x) (seen c has) (found (there c has))));
-      bad = λ c. if_err r (second.bad c) (λ stop found is has. (none c has, subst (λ (d : Database). Bad d.trees) (seen c has) (found is (there c has))));
+      good = λ c. if_ok r (second.good c) (λ x found has. (not_old c has, subst (λ (d : Database). Good d.trees x) (seen c has) (found (there c has))));
+      bad = λ c. if_err r (second.bad c) (λ stop found is has. (not_old c has, subst (λ (d : Database). Bad d.trees) (seen c has) (found is (there c has))));
       outdated = λ c. if_err r (read_only X r second.faults) (λ stop other is of. absurd (other is));
       never = λ c. on_ok r (second.same c) (λ step has. first.never (second.clean c) has);
       lacking = λ c. if_err r (second.bad c) (λ stop found is has. absurd (first.never (second.clean c) has));

@@ -1,0 +1,4 @@
+mod Bodies
+mod Examples
+mod Reached
+mod Whole

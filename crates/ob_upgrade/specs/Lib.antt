@@ -1,0 +1,4 @@
+pub mod Old
+pub mod OldFigures
+pub mod Laws
+pub mod Reading

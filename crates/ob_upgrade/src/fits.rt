@@ -1,0 +1,42 @@
+//! Which commands version 1 could accept.
+ghost use Rattle.std.specs.Prelude.{◌≡◌, ◌&&◌, is_none};
+ghost use Rattle.ob_state.specs.State.{BookState};
+ghost use Rattle.ob_state.specs.Refusals.{refusal};
+ghost use Rattle.ob_upgrade.specs.Old.{fits_old, is_old, is_part, old_accepts};
+
+use crate::laws::version_law;
+use ob_command::Command;
+use ob_sheet::Sheet;
+
+/// Whether version 1 had the command, where the sheet is this one: a device lived without end from the first second on, no life
+/// could be set, and once the sheet held an entry, kept or withdrawn, the network took no more parts. Of these commands version
+/// 1 accepted those that are accepted today.
+pub fn fits_version_one(sheet: &Sheet, command: &Command) -> bool
+    ensures fits { result ≡ fits_old sheet.now.entries command.now }
+    ensures accepted { (b : BookState) → b.entries ≡ sheet.now.entries
+        → old_accepts b command.now ≡ (result && is_none (refusal b command.now)) }
+{
+    version_law();
+    is_old(command) && !(is_part(command) && sheet.len() > 0)
+}
+
+// Whether it is a command of version 1.
+pub(crate) fn is_old(command: &Command) -> bool
+    ensures { result ≡ is_old command.now }
+{
+    match command {
+        Command::Device { since, until, .. } => since.second() == 0 && until.is_none(),
+        Command::Life { .. } => false,
+        _ => true,
+    }
+}
+
+// Whether it adds a part to the network.
+fn is_part(command: &Command) -> bool
+    ensures { result ≡ is_part command.now }
+{
+    matches!(
+        command,
+        Command::Bus { .. } | Command::Section { .. } | Command::Device { .. }
+    )
+}

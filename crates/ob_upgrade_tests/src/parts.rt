@@ -1,0 +1,59 @@
+//! Which commands version 1 could accept: its network took no more parts once the sheet held an entry.
+use ob_base::Crew;
+use ob_base::Pos::Opened;
+use ob_command::read_body;
+use ob_sheet::Sheet;
+use ob_upgrade::fits_version_one;
+use std::process::Abort;
+use std::test::Fail;
+
+const PARTS: &'static str = "bus BUS-A
+section S1 7
+device B1 GRID S1 closed 0 -";
+
+const OTHERS: &'static str = "cause 3 STORM
+connect 11 S3 1704072600 -
+switch B1 open 1704070800 3 K1
+withdraw 1 1
+mark 2024-02-29 K1";
+
+const NEW: &'static str = "device B1 GRID S1 closed 1 -
+device B1 GRID S1 closed 0 1704073200
+life T1 0 -";
+
+// Whether each of the commands with these bodies fits a sheet.
+fn fit(rt: &impl Abort, sheet: &Sheet, bodies: &str, expected: bool) -> Result<(), Fail> {
+    for body in bodies.lines() {
+        let command = read_body(body.as_bytes()).ok_or("a command")?;
+        assert!(rt; fits_version_one(sheet, &command) == expected);
+    }
+    Ok(())
+}
+
+#[test]
+fn parts_come_first(rt: HostRuntime) -> Result<(), Fail> {
+    let mut sheet = Sheet::new(rt.alloc());
+    fit(&rt, &sheet, PARTS, true)?;
+    fit(&rt, &sheet, OTHERS, true)?;
+    fit(&rt, &sheet, NEW, false)?;
+    switch_once(&mut sheet)?;
+    fit_behind_an_entry(&rt, &sheet)?;
+    assert!(rt; sheet.withdraw(1, 1).is_ok());
+    fit_behind_an_entry(&rt, &sheet)
+}
+
+fn switch_once(sheet: &mut Sheet) -> Result<(), Fail> {
+    let crew = Crew::read(b"K1").ok_or("a crew")?;
+    if sheet.is_full() {
+        return Err("no entry".into());
+    }
+    sheet.reserve_one()?;
+    sheet.enter(0, Opened, 5, 3, crew);
+    Ok(())
+}
+
+fn fit_behind_an_entry(rt: &impl Abort, sheet: &Sheet) -> Result<(), Fail> {
+    fit(rt, sheet, PARTS, false)?;
+    fit(rt, sheet, OTHERS, true)?;
+    fit(rt, sheet, NEW, false)
+}
