@@ -306,12 +306,12 @@ const BREAKER_LEFT: &[Row] = &[
 ];
 
 // A bus, and a section on it with a customer, are there behind the outage; 40,000 seconds after the start of 2024 a device joins
-// the bus to the other one.
+// the bus to the other one for 10,000 seconds.
 const BUILT: &'static str =
-    "{\"moved\":[[\"cause\",0,-46400],[\"feeder\",9,-46400],[\"day\",0,-46400]],\"no\":30}";
+    "{\"moved\":[[\"cause\",0,-10000],[\"feeder\",9,-10000],[\"day\",0,-10000]],\"no\":30}";
 
 const PARTS_TOTALS: &'static str =
-    "{\"cause\":[[0,40000],[3,9000]],\"day\":[[0,49000]],\"feeder\":[[1,9000],[9,40000]],\"total\":49000}";
+    "{\"cause\":[[0,76400],[3,9000]],\"day\":[[0,85400]],\"feeder\":[[1,9000],[9,76400]],\"total\":85400}";
 
 const PARTS_JOIN: &[Row] = &[
     TAKES_BASE,
@@ -354,7 +354,7 @@ const PARTS_JOIN: &[Row] = &[
     (
         Ask::Post(
             "/commands",
-            "{\"kind\":\"device\",\"ref\":\"P5\",\"f1\":\"X3\",\"f2\":\"BUS-A\",\"f3\":\"BUS-B\",\"f4\":\"closed\",\"f5\":\"1704107200\"}",
+            "{\"kind\":\"device\",\"ref\":\"P5\",\"f1\":\"X3\",\"f2\":\"BUS-A\",\"f3\":\"BUS-B\",\"f4\":\"closed\",\"f5\":\"1704107200\",\"f6\":\"1704117200\"}",
         ),
         Ok(1),
         Reply::Json("200 OK", BUILT),

@@ -209,18 +209,18 @@ const BREAKER_LEFT: &[Step] = &[
 ];
 
 // Behind the outage: a bus, and a section on it with a customer, are there; 40,000 seconds after the start of 2024 a device
-// joins the bus to the other one.
+// joins the bus to the other one for 10,000 seconds.
 const PARTS: &'static str = "\
 kind,ref,f1,f2,f3,f4,f5,f6
 bus,P1,BUS-B,,,,,
 section,P2,S9,9,,,,
 connect,P3,11,S9,1704067200,,,
 device,P4,X2,BUS-B,S9,closed,,
-device,P5,X3,BUS-A,BUS-B,closed,1704107200,
+device,P5,X3,BUS-A,BUS-B,closed,1704107200,1704117200
 ";
 
 const PARTS_TOTALS: &'static str =
-    "{\"cause\":[[0,40000],[3,9000]],\"day\":[[0,49000]],\"feeder\":[[1,9000],[9,40000]],\"total\":49000}";
+    "{\"cause\":[[0,76400],[3,9000]],\"day\":[[0,85400]],\"feeder\":[[1,9000],[9,76400]],\"total\":85400}";
 
 const PARTS_MOVES: &'static str = "\
 cmd,dim,key,delta
@@ -236,9 +236,9 @@ cmd,dim,key,delta
 28,cause,0,86400
 28,feeder,9,86400
 28,day,0,86400
-30,cause,0,-46400
-30,feeder,9,-46400
-30,day,0,-46400
+30,cause,0,-10000
+30,feeder,9,-10000
+30,day,0,-10000
 ";
 
 // The first 21 rows of the outage, whose devices have no columns of a life, add nothing to those of the base, whose devices
