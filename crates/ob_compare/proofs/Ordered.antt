@@ -1,5 +1,5 @@
 -- Commands whose rows have numbers that rise.
-use Rattle.std.proofs.Common.{◌≡◌, ℕ, suc, ℤ, pos, ◌+◌, ◌≤◌, get_or, List, [], ◌∷◌, ◌++◌, map, length, Bool, true, Option, Some, None, IsTrue, Less, Ordering, Equal, Greater, false, refl, sym, ap, ap₂, subst, ◌∙◌, arith, length-append}
+use Rattle.std.proofs.Common.{◌≡◌, ℕ, ℤ, pos, ◌+◌, ◌≤◌, get_or, List, [], ◌∷◌, ◌++◌, map, length, Bool, true, Option, Some, None, IsTrue, Less, Ordering, Equal, Greater, refl, sym, ap, ap₂, subst, ◌∙◌, arith, length-append}
 use Rattle.std.specs.Prelude.{◌<ℤ◌, ◌↔◌}
 use Rattle.std.specs.List.{AllByRecursion}
 use Rattle.std.specs.List.Sorted.{IsPermutation, IsSorted, IsStrictlySortedBy}
@@ -25,7 +25,7 @@ use Rattle.ob_compare.specs.Apart.{IsAbove}
 use Rattle.ob_compare.specs.declared.commands.Commands.{Commands}
 use Rattle.ob_compare.specs.declared.filed.Filed.{Filed}
 use Rattle.ob_compare.specs.Listing.{Lists, list_query, keyed, referenced, filed_of}
-use Rattle.ob_compare.specs.Ordered.{AreAbove, AreInOrder, AreRowsOf, Numbered, RowsHaveOneOrder, row_under, rows_under}
+use Rattle.ob_compare.specs.Ordered.{AreAbove, AreInOrder, Numbered, RowsHaveOneOrder, row_under, rows_under}
 use Rattle.ob_compare.specs.Reading.{IsCommands, IsFiled, command_listing, command_rows}
 use Rattle.ob_compare.proofs.Listing.{lists_rows, shows}
 use Rattle.ob_compare.proofs.Same.{same_when_sorted}

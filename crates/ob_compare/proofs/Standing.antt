@@ -1,10 +1,10 @@
 -- The commands that a listing of their table holds.
-use Rattle.std.proofs.Common.{◌≡◌, ◌≢◌, ℕ, suc, ◌+◌, ◌<◌, ◌≤◌, pos, List, [], ◌∷◌, ◌++◌, map, length, Some, None, Less, refl, sym, ap, subst, ◌∙◌, arith, length-append}
+use Rattle.std.proofs.Common.{◌≡◌, ℕ, suc, ◌+◌, ◌<◌, pos, List, [], ◌∷◌, ◌++◌, map, length, Some, Less, refl, ap, subst, ◌∙◌, arith, length-append}
 use Rattle.std.specs.List.{AllByRecursion}
 use Rattle.std.specs.List.Sorted.{IsPermutation, IsStrictlySortedBy}
 use Rattle.std.specs.Ordering.{int_cmp}
 use Rattle.std.proofs.lemmas.Bool.Decides.{nat_tests}
-use Rattle.std.proofs.lemmas.List.Sorted.{IsPermutation-sym, IsPermutation-trans}
+use Rattle.std.proofs.lemmas.List.Sorted.{IsPermutation-trans}
 use Rattle.sqlite_value.proofs.OrderLemmas.{value_cmp-Int}
 use Rattle.sqlite.specs.Order.{Row}
 use Rattle.sqlite.specs.Query.{output_cmp}
@@ -19,7 +19,7 @@ use Rattle.ob_tables.specs.Rows.{Columns}
 use Rattle.ob_tables.specs.declared.table.Table.TheVariants.{Command}
 use Rattle.ob_record.specs.Tables.{Shows, numbered, row_of_command}
 use Rattle.ob_compare.specs.declared.filed.Filed.{Filed}
-use Rattle.ob_compare.specs.Listing.{Lists, list_query, keyed, referenced, filed_of}
+use Rattle.ob_compare.specs.Listing.{Lists, list_query, keyed, filed_of}
 use Rattle.ob_compare.specs.Reading.{IsFiled, command_listing, command_rows}
 use Rattle.ob_record.specs.Naming.{IsReferenced}
 use Rattle.ob_compare.proofs.Selects.{is_listing}

@@ -1,5 +1,5 @@
 //! Commands under references that stand once, and the states that they lead to.
-ghost use Rattle.std.specs.Prelude.{◌≡◌, ◌≢◌, ◌↔◌, ℕ, List, map, length, AllPairs, IsSorted, IsTrue, IfOk, IfErr};
+ghost use Rattle.std.specs.Prelude.{◌≡◌, ◌≢◌, ◌↔◌, ℕ, List, AllPairs, IsSorted, IsTrue, IfOk, IfErr};
 ghost use Rattle.ob_base.specs.Stop.{out_of_memory};
 ghost use Rattle.ob_compare.specs.Listing.{filed_of};
 ghost use Rattle.ob_compare.specs.Distinct.{AreDistinct, texts_of, text_order, shown_texts};

@@ -1,5 +1,5 @@
 //! The rows of a table against what stands at the places of a part of a book, one after another.
-ghost use Rattle.std.specs.Prelude.{◌≡◌, ◌↔◌, ◌<◌, ℕ, List, Option, Some, None, []};
+ghost use Rattle.std.specs.Prelude.{◌≡◌, ◌↔◌, ◌<◌, List, Option, Some, None, []};
 ghost use Rattle.std.specs.Prelude.{false, is_some, length, slice_index_or, IsTrue, IfOk, IfErr, OnOk, ◌∷◌};
 ghost use Rattle.std.specs.List.Sorted.{IsStrictlySortedBy};
 ghost use Rattle.sqlite.specs.Order.{Row as ARow};

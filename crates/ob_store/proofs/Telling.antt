@@ -1,6 +1,6 @@
 -- The version of a book, and then its tables.
 use Rattle.std.proofs.Common.{◌≡◌, ◌≢◌, ◌⊎◌, inl, inr, Bool, true, false, true≢false, IsTrue, is_some, Result, Ok, Err, refl, sym, ap, subst, ◌∙◌}
-use Rattle.std.specs.Prelude.{⊤, codes, IfErr}
+use Rattle.std.specs.Prelude.{codes, IfErr}
 use Rattle.sqlite_schema.specs.Names.{table_named}
 use Rattle.sqlite_tied.specs.Compute.{everything}
 use Rattle.sqlite_trees.specs.declared.store.Store.{Ghosts}
@@ -23,7 +23,7 @@ use Rattle.ob_compare.specs.Version.{HasVersion, IsOfBook}
 use Rattle.ob_compare.proofs.Listing.{still_then}
 use Rattle.ob_store.specs.Finding.{Finds}
 use Rattle.ob_store.specs.Differing.{NoneSo}
-use Rattle.ob_store.specs.Versions.{AnyTrees, IsLoadFault, Tells, old_version}
+use Rattle.ob_store.specs.Versions.{AnyTrees, Tells, old_version}
 use Rattle.ob_store.proofs.Reading.{if_err, if_ok, on_ok}
 
 -- ---- the schema tells whether there is a table of lives

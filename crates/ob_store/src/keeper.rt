@@ -139,9 +139,9 @@ impl<S: Alter, T: Timeline> Keeper<S, T> {
         }
     }
 
-    /// Reads the book that the tables hold. `OldVersion` where the heading tells that the book is of version 1, which is looked at
-    /// first. The tables are those of its accepted commands, all eleven of them, or it is refused as `BadBook`; a book that the
-    /// keeper had goes then on as before. Nothing is written.
+    /// Reads the book that the tables hold. `OldVersion` where the heading tells that the book is of version 1, which is
+    /// looked at first. The tables are those of its accepted commands, all eleven of them, or it is refused as `BadBook`; a
+    /// book that the keeper had goes then on as before. Nothing is written.
     pub fn load(&mut self) -> Result<(), Stop>
         ensures found { OnOk result (IsSome self.new.book) }
         ensures dropped { IfErr result (IsBookAfter self.old.book self.new.book) }
@@ -171,9 +171,10 @@ impl<S: Alter, T: Timeline> Keeper<S, T> {
         }
     }
 
-    /// The first of the eleven tables, in the order of `Table`, that differs from what the heading's period and the commands, in
-    /// the order of their numbers, give; None where none does. `OldVersion` where the heading tells that the book is of version 1,
-    /// which is looked at first; `BadBook` where period and commands give no book. It needs no book, and nothing is written.
+    /// The first of the eleven tables, in the order of `Table`, that differs from what the heading's period and the commands,
+    /// in the order of their numbers, give; None where none does. `OldVersion` where the heading tells that the book is of
+    /// version 1, which is looked at first; `BadBook` where period and commands give no book. It needs no book, and nothing
+    /// is written.
     pub fn audit(&mut self) -> Result<Option<Table>, Stop>
         ensures found { OnOk result (self.new.book ≡ self.old.book) }
         ensures dropped { IfErr result (IsBookAfter self.old.book self.new.book) }

@@ -1,4 +1,4 @@
-use Rattle.std.proofs.Common.{◌≡◌, true, false}
+use Rattle.std.proofs.Common.{true, false}
 use Rattle.ob_store.proofs.Telling.{current, lacks, outdated, unversioned}
 use Rattle.ob_store.proofs.version.check_version.Goals as goal
 

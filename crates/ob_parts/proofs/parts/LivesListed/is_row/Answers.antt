@@ -1,4 +1,4 @@
-use Rattle.std.proofs.Common.{◌≡◌, ◌<◌, IsTrue, ◌∙◌, Some, length, map, ap, subst, arith}
+use Rattle.std.proofs.Common.{◌≡◌, ◌<◌, IsTrue, ◌∙◌, Some, length, map, subst, arith}
 use Rattle.std.specs.Prelude.{◌↔◌}
 use Rattle.ob_net.specs.declared.net.Device.{Device}
 use Rattle.ob_record.specs.Tables.{row_of_life}
