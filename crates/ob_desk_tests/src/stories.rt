@@ -2,7 +2,7 @@
 //! the same once it is loaded again.
 use crate::desk::{Desk, Trial, over_a_book};
 use crate::imports::{OUTAGE, TAKES_OUTAGE};
-use crate::script::{Ask, Reply, Row, Script};
+use crate::script::{Ask, Reply, Row, Script, are_answered};
 use std::alloc::{AllocError, Global};
 use std::process::Abort;
 
@@ -90,8 +90,7 @@ const TIE_LEFT: &[Row] = &[
     (Ask::Get("/commands/27"), Ok(1), Reply::Json("200 OK", BACK)),
 ];
 
-// A second way from the bus to S1 is there 5,000 seconds after the start of 2024, and supplies it. Behind it come devices and
-// lives that are refused, all under one reference.
+// A second way from the bus to S1 is there 5,000 seconds after the start of 2024, and supplies it.
 const JOINED: &'static str =
     "{\"moved\":[[\"cause\",3,-4400],[\"feeder\",1,-4400],[\"day\",0,-4400]],\"no\":26}";
 
@@ -123,98 +122,6 @@ const DEVICE_JOINS: &[Row] = &[
         ),
         Ok(1),
         Reply::Json("200 OK", JOINED),
-    ),
-    (
-        Ask::Post(
-            "/commands",
-            "{\"kind\":\"device\",\"ref\":\"J2\",\"f1\":\"B1\",\"f2\":\"BUS-A\",\"f3\":\"S9\",\"f4\":\"closed\",\"f5\":\"1704072200\",\"f6\":\"1704072200\"}",
-        ),
-        Ok(1),
-        Reply::Json(UNPROCESSABLE, "{\"name\":\"UnknownName\",\"refused\":2}"),
-    ),
-    (
-        Ask::Post(
-            "/commands",
-            "{\"kind\":\"device\",\"ref\":\"J2\",\"f1\":\"B1\",\"f2\":\"BUS-A\",\"f3\":\"S1\",\"f4\":\"closed\",\"f5\":\"1704072200\",\"f6\":\"1704072200\"}",
-        ),
-        Ok(1),
-        Reply::Json(CONFLICT, "{\"name\":\"NameTaken\",\"refused\":3}"),
-    ),
-    (
-        Ask::Post(
-            "/commands",
-            "{\"kind\":\"device\",\"ref\":\"J2\",\"f1\":\"X2\",\"f2\":\"BUS-A\",\"f3\":\"S1\",\"f4\":\"closed\",\"f5\":\"1704072200\",\"f6\":\"1704072199\"}",
-        ),
-        Ok(1),
-        Reply::Json(UNPROCESSABLE, "{\"name\":\"BadLife\",\"refused\":18}"),
-    ),
-    (
-        Ask::Post(
-            "/commands",
-            "{\"kind\":\"life\",\"ref\":\"J2\",\"f1\":\"B2\",\"f2\":\"1704067210\",\"f3\":\"1704067210\"}",
-        ),
-        Ok(1),
-        Reply::Json(UNPROCESSABLE, "{\"name\":\"BadLife\",\"refused\":18}"),
-    ),
-    (
-        Ask::Post(
-            "/commands",
-            "{\"kind\":\"life\",\"ref\":\"J2\",\"f1\":\"X9\",\"f2\":\"1704067210\",\"f3\":\"1704067210\"}",
-        ),
-        Ok(1),
-        Reply::Json(UNPROCESSABLE, "{\"name\":\"UnknownName\",\"refused\":2}"),
-    ),
-    (
-        Ask::Post(
-            "/commands",
-            "{\"kind\":\"bus\",\"ref\":\"J2\",\"f1\":\"BUS-A\"}",
-        ),
-        Ok(1),
-        Reply::Json(CONFLICT, "{\"name\":\"NameTaken\",\"refused\":3}"),
-    ),
-    (
-        Ask::Post(
-            "/commands",
-            "{\"kind\":\"device\",\"ref\":\"J2\",\"f1\":\"X2\",\"f2\":\"BUS-A\",\"f3\":\"S1\",\"f4\":\"closed\",\"f5\":5000}",
-        ),
-        Ok(1),
-        Reply::Json(
-            UNPROCESSABLE,
-            "{\"detail\":7,\"name\":\"BadField\",\"refused\":1}",
-        ),
-    ),
-    (
-        Ask::Post(
-            "/commands",
-            "{\"kind\":\"device\",\"ref\":\"J2\",\"f1\":\"X2\",\"f2\":\"BUS-A\",\"f3\":\"S1\",\"f4\":\"closed\",\"f6\":\"-\"}",
-        ),
-        Ok(1),
-        Reply::Json(
-            UNPROCESSABLE,
-            "{\"detail\":8,\"name\":\"BadField\",\"refused\":1}",
-        ),
-    ),
-    (
-        Ask::Post(
-            "/commands",
-            "{\"kind\":\"life\",\"ref\":\"J2\",\"f1\":\"B2\",\"f3\":\"-\"}",
-        ),
-        Ok(1),
-        Reply::Json(
-            UNPROCESSABLE,
-            "{\"detail\":5,\"name\":\"BadField\",\"refused\":1}",
-        ),
-    ),
-    (
-        Ask::Post(
-            "/commands",
-            "{\"kind\":\"life\",\"ref\":\"J2\",\"f1\":\"B2\",\"f4\":\"x\"}",
-        ),
-        Ok(1),
-        Reply::Json(
-            UNPROCESSABLE,
-            "{\"detail\":6,\"name\":\"BadField\",\"refused\":1}",
-        ),
     ),
 ];
 
@@ -380,34 +287,12 @@ const PARTS_JOINED: &[Row] = &[
 ];
 
 // Streams on a new book, how many commands it then has, and what is shown of it, also once it is loaded again.
+#[derive(Drop)]
 struct Story {
     told: &'static [Row],
     commands: u32,
     shown: &'static [Row],
 }
-
-const STORIES: &[Story] = &[
-    Story {
-        told: TIE_LEAVES,
-        commands: 27,
-        shown: TIE_LEFT,
-    },
-    Story {
-        told: DEVICE_JOINS,
-        commands: 26,
-        shown: DEVICE_JOINED,
-    },
-    Story {
-        told: BREAKER_LEAVES,
-        commands: 24,
-        shown: BREAKER_LEFT,
-    },
-    Story {
-        told: PARTS_JOIN,
-        commands: 30,
-        shown: PARTS_JOINED,
-    },
-];
 
 impl Trial for Story {
     fn run<A: Abort, D: Desk>(
@@ -433,11 +318,145 @@ impl Trial for Story {
 }
 
 #[test]
-fn devices_join_and_leave(rt: HostRuntime) -> Result<(), AllocError> {
-    for story in STORIES {
-        over_a_book(&rt, rt.alloc(), story)?;
-    }
-    Ok(())
+fn a_tie_leaves_and_has_its_whole_life_again(rt: HostRuntime) -> Result<(), AllocError> {
+    let story = Story {
+        told: TIE_LEAVES,
+        commands: 27,
+        shown: TIE_LEFT,
+    };
+    over_a_book(&rt, rt.alloc(), &story)
+}
+
+#[test]
+fn a_device_joins(rt: HostRuntime) -> Result<(), AllocError> {
+    let story = Story {
+        told: DEVICE_JOINS,
+        commands: 26,
+        shown: DEVICE_JOINED,
+    };
+    over_a_book(&rt, rt.alloc(), &story)
+}
+
+#[test]
+fn a_breaker_leaves(rt: HostRuntime) -> Result<(), AllocError> {
+    let story = Story {
+        told: BREAKER_LEAVES,
+        commands: 24,
+        shown: BREAKER_LEFT,
+    };
+    over_a_book(&rt, rt.alloc(), &story)
+}
+
+#[test]
+fn parts_join(rt: HostRuntime) -> Result<(), AllocError> {
+    let story = Story {
+        told: PARTS_JOIN,
+        commands: 30,
+        shown: PARTS_JOINED,
+    };
+    over_a_book(&rt, rt.alloc(), &story)
+}
+
+// Devices and lives that are refused, all under one reference.
+const REFUSED: &[Row] = &[
+    TAKES_OUTAGE,
+    (
+        Ask::Post(
+            "/commands",
+            "{\"kind\":\"device\",\"ref\":\"J2\",\"f1\":\"B1\",\"f2\":\"BUS-A\",\"f3\":\"S9\",\"f4\":\"closed\",\"f5\":\"1704072200\",\"f6\":\"1704072200\"}",
+        ),
+        Ok(1),
+        Reply::Json(UNPROCESSABLE, "{\"name\":\"UnknownName\",\"refused\":2}"),
+    ),
+    (
+        Ask::Post(
+            "/commands",
+            "{\"kind\":\"device\",\"ref\":\"J2\",\"f1\":\"B1\",\"f2\":\"BUS-A\",\"f3\":\"S1\",\"f4\":\"closed\",\"f5\":\"1704072200\",\"f6\":\"1704072200\"}",
+        ),
+        Ok(1),
+        Reply::Json(CONFLICT, "{\"name\":\"NameTaken\",\"refused\":3}"),
+    ),
+    (
+        Ask::Post(
+            "/commands",
+            "{\"kind\":\"device\",\"ref\":\"J2\",\"f1\":\"X2\",\"f2\":\"BUS-A\",\"f3\":\"S1\",\"f4\":\"closed\",\"f5\":\"1704072200\",\"f6\":\"1704072199\"}",
+        ),
+        Ok(1),
+        Reply::Json(UNPROCESSABLE, "{\"name\":\"BadLife\",\"refused\":18}"),
+    ),
+    (
+        Ask::Post(
+            "/commands",
+            "{\"kind\":\"life\",\"ref\":\"J2\",\"f1\":\"B2\",\"f2\":\"1704067210\",\"f3\":\"1704067210\"}",
+        ),
+        Ok(1),
+        Reply::Json(UNPROCESSABLE, "{\"name\":\"BadLife\",\"refused\":18}"),
+    ),
+    (
+        Ask::Post(
+            "/commands",
+            "{\"kind\":\"life\",\"ref\":\"J2\",\"f1\":\"X9\",\"f2\":\"1704067210\",\"f3\":\"1704067210\"}",
+        ),
+        Ok(1),
+        Reply::Json(UNPROCESSABLE, "{\"name\":\"UnknownName\",\"refused\":2}"),
+    ),
+    (
+        Ask::Post(
+            "/commands",
+            "{\"kind\":\"bus\",\"ref\":\"J2\",\"f1\":\"BUS-A\"}",
+        ),
+        Ok(1),
+        Reply::Json(CONFLICT, "{\"name\":\"NameTaken\",\"refused\":3}"),
+    ),
+    (
+        Ask::Post(
+            "/commands",
+            "{\"kind\":\"device\",\"ref\":\"J2\",\"f1\":\"X2\",\"f2\":\"BUS-A\",\"f3\":\"S1\",\"f4\":\"closed\",\"f5\":5000}",
+        ),
+        Ok(1),
+        Reply::Json(
+            UNPROCESSABLE,
+            "{\"detail\":7,\"name\":\"BadField\",\"refused\":1}",
+        ),
+    ),
+    (
+        Ask::Post(
+            "/commands",
+            "{\"kind\":\"device\",\"ref\":\"J2\",\"f1\":\"X2\",\"f2\":\"BUS-A\",\"f3\":\"S1\",\"f4\":\"closed\",\"f6\":\"-\"}",
+        ),
+        Ok(1),
+        Reply::Json(
+            UNPROCESSABLE,
+            "{\"detail\":8,\"name\":\"BadField\",\"refused\":1}",
+        ),
+    ),
+    (
+        Ask::Post(
+            "/commands",
+            "{\"kind\":\"life\",\"ref\":\"J2\",\"f1\":\"B2\",\"f3\":\"-\"}",
+        ),
+        Ok(1),
+        Reply::Json(
+            UNPROCESSABLE,
+            "{\"detail\":5,\"name\":\"BadField\",\"refused\":1}",
+        ),
+    ),
+    (
+        Ask::Post(
+            "/commands",
+            "{\"kind\":\"life\",\"ref\":\"J2\",\"f1\":\"B2\",\"f4\":\"x\"}",
+        ),
+        Ok(1),
+        Reply::Json(
+            UNPROCESSABLE,
+            "{\"detail\":6,\"name\":\"BadField\",\"refused\":1}",
+        ),
+    ),
+];
+
+#[test]
+fn refused_devices_and_lives(rt: HostRuntime) -> Result<(), AllocError> {
+    are_answered(&rt, rt.alloc(), REFUSED, 25)
 }
 
 // The network of the outage and its customers, without a switching. Each device is there from 0 on, which is to say always.
