@@ -7,25 +7,37 @@ use Rattle.sqlite_catalog.specs.Listing.{IsSound}
 use Rattle.sqlite.specs.Held.{Held, state}
 use Rattle.sqlite.specs.State.{State, HasCleanDisk}
 use Rattle.ob_base.specs.declared.stop.Stop.{Stop}
-use Rattle.ob_tables.specs.Schema.{book_schema}
-use Rattle.ob_tables.specs.Rows.{Tables, Holds}
+use Rattle.ob_tables.specs.Rows.{Tables}
+use Rattle.ob_tables.specs.Versions.{HoldsIn, schema_of}
+use Rattle.ob_tables.specs.declared.version.Version.{Version}
+use Rattle.ob_tables.specs.declared.version.Version.TheVariants.{Two}
 use Rattle.ob_tables.specs.Steps.{Silent, Makes, IsStoreFault}
 
--- a whole database: its catalog lists the tables of a book, whose rules its rows obey, and these are the rows
-pub record Leaves (t : Tables) (trees : Trees) : Type 0 where
-  pub sound : IsSound book_schema trees
-  pub holds : Holds trees t
+-- a whole database of a version: its catalog lists the version's tables, whose rules its rows obey, and these are the rows
+pub record LeavesIn (version : Version) (t : Tables) (trees : Trees) : Type 0 where
+  pub sound : IsSound (schema_of version) trees
+  pub holds : HoldsIn version trees t
 
--- it shows these tables, and has committed them
-pub record IsSettled (s : State) (t : Tables) : Type 0 where
-  pub schema : s.now.schema ≡ book_schema
+-- it shows these tables of a version, and has committed them
+pub record IsSettledIn (version : Version) (s : State) (t : Tables) : Type 0 where
+  pub schema : s.now.schema ≡ schema_of version
   pub committed : s.committed ≡ s.now
-  pub holds : Holds s.now.trees t
+  pub holds : HoldsIn version s.now.trees t
 
--- the store keeps these tables, and so does whatever a crash leaves
-pub record Keeps (s : State) (t : Tables) : Type 0 where
-  pub settled : HasCleanDisk s → IsTrue s.is_open → IsSettled s t
-  pub left : HasCleanDisk s → (trees : Trees) → s.may_leave trees → Leaves t trees
+-- the store keeps these tables of a version, and so does whatever a crash leaves
+pub record KeepsIn (version : Version) (s : State) (t : Tables) : Type 0 where
+  pub settled : HasCleanDisk s → IsTrue s.is_open → IsSettledIn version s t
+  pub left : HasCleanDisk s → (trees : Trees) → s.may_leave trees → LeavesIn version t trees
+
+-- the same of the version that is written
+abbrev pub Leaves : Tables → Trees → Type 0
+Leaves t trees = LeavesIn Two t trees
+
+abbrev pub IsSettled : State → Tables → Type 0
+IsSettled s t = IsSettledIn Two s t
+
+abbrev pub Keeps : State → Tables → Type 0
+Keeps s t = KeepsIn Two s t
 
 -- while it is open it keeps the first ones; a crash leaves these or the others
 pub record KeepsEither (s : State) (t u : Tables) : Type 0 where

@@ -16,6 +16,7 @@ mod creation;
 mod known;
 mod moves;
 mod stored;
+mod upgrade;
 mod writing;
 
 pub use act::{Act, commit_act};
@@ -23,3 +24,4 @@ pub use change::RowChange;
 pub use creation::commit_new;
 pub use known::{Known, look_up};
 pub use stored::stored_moves;
+pub use upgrade::{NewBody, commit_upgrade};

@@ -201,6 +201,14 @@ withdraw revision row =
 abbrev pub relive : ℕ → Option ℕ → Columns → Columns
 relive since until row = column row 0 ∷ number since ∷ number_or_null until ∷ []
 
+-- a command's row with another body
+abbrev pub rebody : List ℕ → Columns → Columns
+rebody body row = column row 0 ∷ column row 1 ∷ Text body ∷ []
+
+-- the heading's row with another version
+abbrev pub reversion : ℕ → Columns → Columns
+reversion version row = column row 0 ∷ number version ∷ column row 2 ∷ column row 3 ∷ column row 4 ∷ []
+
 -- of any tables
 abbrev pub Always : Tables → Type 0
 Always tables = ⊤
@@ -221,6 +229,20 @@ pub record HasLife (device : ℕ) (tables : Tables) : Type 0 where
   pub since : ℕ
   pub until : Option ℕ
   pub row : HasRow Life device (life_row device since until) tables
+
+-- there is one row of the command of this number
+pub record HasCommand (id : ℕ) (tables : Tables) : Type 0 where
+  pub reference : List ℕ
+  pub body : List ℕ
+  pub row : HasRow Command id (command_row id reference body) tables
+
+-- there is one heading
+pub record HasHeading (tables : Tables) : Type 0 where
+  pub version : ℕ
+  pub first_day : List ℕ
+  pub days : ℕ
+  pub zone : List ℕ
+  pub row : HasRow Meta 1 (meta_row version first_day days zone) tables
 
 -- there is one row of this entry
 pub record HasEntry (id : ℕ) (tables : Tables) : Type 0 where

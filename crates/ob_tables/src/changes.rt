@@ -1,7 +1,7 @@
 //! The statements that change a row or take one away, each in a function of its own.
 ghost use Rattle.std.specs.Prelude.{◌≡◌, ◌<◌, ◌^◌, IfSome};
 ghost use Rattle.ob_tables.specs.Steps.{Changes};
-ghost use Rattle.ob_tables.specs.Rows.{with_change, serve, HasCustomer, relive, HasLife, correct, withdraw, HasEntry, without_key, HasMark, with_posting, HasPosting};
+ghost use Rattle.ob_tables.specs.Rows.{with_change, serve, HasCustomer, relive, HasLife, rebody, HasCommand, reversion, HasHeading, correct, withdraw, HasEntry, without_key, HasMark, with_posting, HasPosting};
 ghost use Rattle.ob_tables.specs.declared.table.Table.{Table as ATable};
 
 use crate::run::{int, large, large_or_null, position, run};
@@ -44,6 +44,30 @@ pub fn set_life<S: Alter>(
         tx,
         "UPDATE life SET since = ?2, until = ?3 WHERE device = ?1",
         &[int(device), large(since), large_or_null(until)],
+    )
+}
+
+/// Gives a command another body text.
+pub fn set_body<S: Alter>(tx: &mut Transaction<'_, S>, no: u32, body: &[u8]) -> Result<(), Stop>
+    ensures { Changes S.Store tx.old.conn tx.new.conn result (HasCommand no)
+        (with_change ATable.Command no (rebody body.now)) }
+{
+    run(
+        tx,
+        "UPDATE cmd SET body = ?2 WHERE id = ?1",
+        &[int(no), ValueRef::Text(body)],
+    )
+}
+
+/// Gives the heading another version.
+pub fn set_version<S: Alter>(tx: &mut Transaction<'_, S>, version: u32) -> Result<(), Stop>
+    ensures { Changes S.Store tx.old.conn tx.new.conn result HasHeading
+        (with_change ATable.Meta 1 (reversion version)) }
+{
+    run(
+        tx,
+        "UPDATE meta SET version = ?2 WHERE id = ?1",
+        &[int(1), int(version)],
     )
 }
 

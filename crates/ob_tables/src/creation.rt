@@ -1,6 +1,7 @@
 //! The statements that make the tables.
 ghost use Rattle.std.specs.Prelude.{◌≡◌, ◌<◌, ◌+◌};
 ghost use Rattle.ob_tables.specs.Creation.{before, create_text, MakesUpTo, MakesBook, Creates};
+ghost use Rattle.ob_tables.specs.Versions.{MakesLife};
 
 use crate::run::run;
 use crate::table::Table;
@@ -15,6 +16,13 @@ pub fn create_tables<S: Alter>(tx: &mut Transaction<'_, S>) -> Result<(), Stop>
         create_table(tx, table_after(at))?;
     }
     Ok(())
+}
+
+/// Makes the table of lives over the tables of version 1, without rows. It fails where a table of that name stands already.
+pub fn create_life<S: Alter>(tx: &mut Transaction<'_, S>) -> Result<(), Stop>
+    ensures { Creates S.Store tx.old.conn tx.new.conn result MakesLife }
+{
+    run(tx, text_of(Table::Life), &[])
 }
 
 /// The table that is made after so many.

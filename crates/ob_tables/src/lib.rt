@@ -12,9 +12,13 @@ mod inserts;
 mod reads;
 mod run;
 mod table;
+mod version;
 
-pub use changes::{correct_entry, drop_mark, set_life, set_posting, set_service, withdraw_entry};
-pub use creation::create_tables;
+pub use changes::{
+    correct_entry, drop_mark, set_body, set_life, set_posting, set_service, set_version,
+    withdraw_entry,
+};
+pub use creation::{create_life, create_tables};
 pub use inserts::{
     add_cause, add_command, add_customer, add_device, add_entry, add_life, add_mark, add_meta,
     add_moved, add_node, add_posting,
@@ -22,3 +26,4 @@ pub use inserts::{
 pub use reads::find_commands;
 pub use run::{int, signed, stop_of};
 pub use table::Table;
+pub use version::Version;

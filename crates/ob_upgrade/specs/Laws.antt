@@ -5,7 +5,7 @@ use Rattle.ob_post.specs.declared.Dim.{Dim}
 use Rattle.ob_post.specs.declared.Moved.{Moved}
 use Rattle.ob_time.specs.Calendar.{Calendar}
 use Rattle.ob_index.specs.declared.figures.Which.{Which}
-use Rattle.ob_command.specs.Commands.{body_text}
+use Rattle.ob_command.specs.Commands.{IsCommand, body_text}
 use Rattle.ob_command.specs.declared.command.Command.{Command}
 use Rattle.ob_state.specs.Amounts.{amount, moves}
 use Rattle.ob_state.specs.Next.{next, next_all}
@@ -59,3 +59,8 @@ abbrev pub BodiesGrow : Type 0
 BodiesGrow =
     (command : Command) → is_old command ≡ true
     → body_text command ≡ old_body_text command ++ (if is_device command then codes " 0 -" else [])
+
+-- two commands of version 1 had two body texts
+abbrev pub OldBodiesDiffer : Type 0
+OldBodiesDiffer =
+    (c d : Command) → IsCommand c → IsCommand d → is_old c ≡ true → is_old d ≡ true → old_body_text c ≡ old_body_text d → c ≡ d

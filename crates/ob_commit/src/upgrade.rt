@@ -1,0 +1,87 @@
+//! The tables of version 1 made those of version 2, committed together.
+ghost use Rattle.std.specs.Prelude.{◌≡◌, false, OnOk, IfErr};
+ghost use Rattle.sqlite.specs.Held.{state};
+ghost use Rattle.sqlite.specs.State.{Survives};
+ghost use Rattle.ob_base.specs.Stop.{out_of_memory};
+ghost use Rattle.ob_tables.specs.Steps.{IsStoreFault};
+ghost use Rattle.ob_tables.specs.Rows.{Always, Tables};
+ghost use Rattle.ob_tables.specs.declared.version.Version.{Version as AVersion};
+ghost use Rattle.ob_commit.specs.Keeps.{ChangesOpen, Keeps, KeepsIn};
+ghost use Rattle.ob_commit.specs.Upgrade.{CanUpgrade, HasBodies, KeepsOldOr, LeavesUpgraded, UpgradesOpen, with_bodies, with_lives, with_upgrade};
+
+use ob_base::{Fault, Stop};
+use ob_tables::{add_life, create_life, set_body, set_version};
+use sqlite::{Alter, Connection, Transaction};
+
+/// The body text that the command of a number has from now on.
+#[derive(Drop)]
+pub struct NewBody {
+    /// The number.
+    pub no: u32,
+    /// The text.
+    pub body: Vec<u8>,
+}
+
+/// Gives commands other body texts.
+fn write_bodies<S: Alter>(tx: &mut Transaction<'_, S>, bodies: &[NewBody]) -> Result<(), Stop>
+    ensures { ChangesOpen S.Store tx.old.conn tx.new.conn result (HasBodies bodies.now) (with_bodies bodies.now) }
+{
+    'bodies: for at in 0..bodies.len() {
+        set_body(tx, bodies[at].no, &bodies[at].body)?;
+    }
+    Ok(())
+}
+
+/// Gives so many devices, from number 0 on, a life without end from the first second on.
+fn write_lives<S: Alter>(tx: &mut Transaction<'_, S>, devices: u32) -> Result<(), Stop>
+    ensures { ChangesOpen S.Store tx.old.conn tx.new.conn result Always (with_lives devices) }
+{
+    'lives: for at in 0..devices {
+        add_life(tx, at, 0, None)?;
+    }
+    Ok(())
+}
+
+/// Makes of the tables of version 1 those of version 2: with the table of lives, a whole one for each of so many devices,
+/// with these bodies and with version 2.
+fn write_upgrade<S: Alter>(
+    tx: &mut Transaction<'_, S>,
+    bodies: &[NewBody],
+    devices: u32,
+) -> Result<(), Stop>
+    ensures { UpgradesOpen S.Store tx.old.conn tx.new.conn result (CanUpgrade bodies.now devices)
+        (with_upgrade bodies.now devices) }
+{
+    create_life(tx)?;
+    write_bodies(tx, bodies)?;
+    write_lives(tx, devices)?;
+    set_version(tx, 2)
+}
+
+/// Commits what makes the tables of version 1 those of version 2, all or nothing: the table of lives, a life without end from
+/// the first second on for each of so many devices, these body texts, and the version.
+pub fn commit_upgrade<S: Alter>(
+    conn: &mut Connection<S>,
+    bodies: &[NewBody],
+    devices: u32,
+) -> Result<(), Stop>
+    requires mode { conn.old.in_transaction ≡ false }
+    ensures mode { conn.new.in_transaction ≡ false }
+    ensures faults { IfErr result IsStoreFault }
+    ensures done { OnOk result ((t : Tables) → KeepsIn AVersion.One (state S.Store conn.old) t
+        → CanUpgrade bodies.now devices t → Keeps (state S.Store conn.new) (with_upgrade bodies.now devices t)) }
+    ensures undone { IfErr result (λ stop. stop ≡ out_of_memory → (t : Tables)
+        → KeepsIn AVersion.One (state S.Store conn.old) t → KeepsIn AVersion.One (state S.Store conn.new) t) }
+    ensures either { IfErr result (λ stop. (t : Tables) → KeepsIn AVersion.One (state S.Store conn.old) t
+        → CanUpgrade bodies.now devices t
+        → KeepsOldOr (state S.Store conn.new) t (with_upgrade bodies.now devices t)) }
+    ensures survives { Survives (state S.Store conn.old) (state S.Store conn.new)
+        (LeavesUpgraded (state S.Store conn.old) (CanUpgrade bodies.now devices) (with_upgrade bodies.now devices)) }
+{
+    let mut tx = conn.transaction();
+    write_upgrade(&mut tx, bodies, devices)?;
+    match tx.commit() {
+        Ok(()) => Ok(()),
+        Err(_) => Err(Stop::Fault(Fault::Store)),
+    }
+}
