@@ -6,6 +6,7 @@ pub mod Answered
 pub mod Beginning
 pub mod Reading
 pub mod Naming
+pub mod Laws
 pub mod Leading
 pub mod Holding
 pub mod Crashing

@@ -1,0 +1,2 @@
+pub mod OldTables
+pub mod Laws
