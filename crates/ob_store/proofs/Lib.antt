@@ -20,4 +20,4 @@ pub mod Handing
 pub mod OldTelling
 pub mod OldParts
 pub mod OldBooks
-pub mod Migrating
+pub mod Upgrading

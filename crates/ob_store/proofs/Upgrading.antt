@@ -44,12 +44,12 @@ use Rattle.ob_store.proofs.Telling.{has_lives, lives_now, no_lives}
 -- ---- the tables that a store shows outside a transaction it keeps
 pub keeps_old : (s : State) (t : Tables) → IsTrue s.is_open → IsLive s → (IsTrue s.is_open → s.now ≡ s.committed) → (IsTrue s.is_open → (trees : Trees) → s.may_leave trees → trees ≡ s.committed.trees) → s.now.schema ≡ old_schema
     → HoldsOld s.now.trees t → KeepsIn One s t
-keeps_old s t open live settled leaves schema holds = record {
-  settled = λ clean is. record { schema = schema; committed = sym (settled open); holds = holds };
+keeps_old s t opened live settled leaves schema holds = record {
+  settled = λ clean is. record { schema = schema; committed = sym (settled opened); holds = holds };
   left = λ clean trees may.
-      let is : trees ≡ s.now.trees = leaves open trees may ∙ ap (λ (d : Database). d.trees) (sym (settled open)) in
+      let is : trees ≡ s.now.trees = leaves opened trees may ∙ ap (λ (d : Database). d.trees) (sym (settled opened)) in
       record {
-        sound = subst (IsSound old_schema) (sym is) (subst (λ x. IsSound x s.now.trees) schema (live open).0);
+        sound = subst (IsSound old_schema) (sym is) (subst (λ x. IsSound x s.now.trees) schema (live opened).0);
         holds = subst (λ x. HoldsOld x t) (sym is) holds;
       };
 }
@@ -69,7 +69,7 @@ two_rows row other same one two =
 
 two_versions : (trees : Trees) → HasVersion 1 trees → HasVersion 2 trees → ⊥
 two_versions trees one two =
-    two_rows one.0 two.0 (one_permutation _ _ (IsPermutation-trans _ _ _ (IsPermutation-sym _ _ one.1) two.1)) one.2 two.2
+    two_rows one.0 two.0 (sym (one_permutation _ _ (IsPermutation-trans _ _ _ (IsPermutation-sym _ _ one.1) two.1))) one.2 two.2
 
 -- ---- the upgrade of the book that was found
 module _ {S : Type 0} (g : Ghosts S) (old_law : OldIsReached) (old new : Held S) (it : Upgrade)
@@ -130,10 +130,10 @@ module _ {S : Type 0} (g : Ghosts S) where
     crash = λ clean trees may. inl (no_more (state g old) (state g new) s clean trees may);
   }
 
-  -- a book of version 1 that an open store keeps is the one that its tables hold
+  -- a book of version 1 that an opened store keeps is the one that its tables hold
   kept_has : (conn : Held S) → HasCleanDisk (state g conn) → IsTrue (state g conn).is_open → (b : ActState) → KeepsOldBook (state g conn) b → (conn.schema ≡ old_schema) × HasOldBook (state g conn).now.trees b
-  kept_has conn clean open b keeps =
-      let it = keeps.kept.settled clean open in
+  kept_has conn clean opened b keeps =
+      let it = keeps.kept.settled clean opened in
       (it.schema, record { reached = keeps.reached; valid = keeps.valid; tables = it.holds.rows })
 
   -- no book of version 1 stands where the heading tells another version
@@ -174,10 +174,10 @@ module _ {S : Type 0} (g : Ghosts S) where
         clean = (at One).clean;
         survives = still old new (at One).survives;
         faults = tt;
-        migrated = λ clean schema. ((at One).good clean schema, reads_old (IsTold One) (IsUntold One) (Ok true) clean (at One), ((at One).same clean schema).0.now_is);
-        current = λ clean schema. ((at Two).good clean schema, reads_now (IsTold Two) (IsUntold Two) (Ok true) clean (at Two), ((at Two).same clean schema).0.now_is);
-        kept = λ clean open b keeps.
-            let has = kept_has old ((at One).clean clean) open b keeps in
+        migrated = λ clean schema. ((at One).good clean schema, (reads_old (IsTold One) (IsUntold One) (Ok true) clean (at One), ((at One).same clean schema).0.now_is));
+        current = λ clean schema. ((at Two).good clean schema, (reads_now (IsTold Two) (IsUntold Two) (Ok true) clean (at Two), ((at Two).same clean schema).0.now_is));
+        kept = λ clean opened b keeps.
+            let has = kept_has old ((at One).clean clean) opened b keeps in
             two_not_one (state g old).now.trees ((at One).good clean has.0) b has.1;
       }
 
@@ -194,13 +194,13 @@ module _ {S : Type 0} (g : Ghosts S) where
           subst (λ s. Migrated g old new (Err s)) (sym store) stays
       not_migrated clean schema (inr bad) =
           let none = it.bad clean bad schema in
-          subst (λ s. Migrated g old new (Err s)) (sym bad) (none.0, none.1, reads_old Good Foreign (Err stop) clean it, it.same_bad clean bad schema)
+          subst (λ s. Migrated g old new (Err s)) (sym bad) (none.0, none.1, (reads_old Good Foreign (Err stop) clean it, it.same_bad clean bad schema))
 
       not_kept : HasCleanDisk (state g new) → IsTrue (state g old).is_open → (b : ActState) → KeepsOldBook (state g old) b → IsReadFault stop → MigratesKept g new b (Err stop)
-      not_kept clean open b keeps (inl (inl memory)) = subst (λ s. MigratesKept g new b (Err s)) (sym memory) (keeps_on it.kept b keeps)
-      not_kept clean open b keeps (inl (inr store)) = subst (λ s. MigratesKept g new b (Err s)) (sym store) (as_either b (keeps_on it.kept b keeps))
-      not_kept clean open b keeps (inr bad) =
-          let has = kept_has old (it.clean clean) open b keeps in
+      not_kept clean opened b keeps (inl (inl memory)) = subst (λ s. MigratesKept g new b (Err s)) (sym memory) (keeps_on it.kept b keeps)
+      not_kept clean opened b keeps (inl (inr store)) = subst (λ s. MigratesKept g new b (Err s)) (sym store) (as_either b (keeps_on it.kept b keeps))
+      not_kept clean opened b keeps (inr bad) =
+          let has = kept_has old (it.clean clean) opened b keeps in
           absurd ((it.bad clean bad has.0).1 b has.1)
 
       pub stopped : (HasCleanDisk (state g new) → old.schema ≡ book_schema → LeftAsItWas g old new (Err stop)) → Migrates g old new (Err stop)
@@ -210,7 +210,7 @@ module _ {S : Type 0} (g : Ghosts S) where
         faults = it.faults;
         migrated = λ clean schema. not_migrated clean schema it.faults;
         current = current;
-        kept = λ clean open b keeps. not_kept clean open b keeps it.faults;
+        kept = λ clean opened b keeps. not_kept clean opened b keeps it.faults;
       }
 
     -- ---- at the heading
@@ -219,7 +219,7 @@ module _ {S : Type 0} (g : Ghosts S) where
       left_now clean schema (inl (inl memory)) = subst (λ s. LeftAsItWas g old new (Err s)) (sym memory) (reads_now (IsTold Two) (IsUntold Two) (Err stop) clean (told Two))
       left_now clean schema (inl (inr store)) = subst (λ s. LeftAsItWas g old new (Err s)) (sym store) (reads_now (IsTold Two) (IsUntold Two) (Err stop) clean (told Two))
       left_now clean schema (inr bad) =
-          subst (λ s. LeftAsItWas g old new (Err s)) (sym bad) ((told Two).bad clean bad schema, reads_now (IsTold Two) (IsUntold Two) (Err stop) clean (told Two), (told Two).same_bad clean bad schema)
+          subst (λ s. LeftAsItWas g old new (Err s)) (sym bad) ((told Two).bad clean bad schema, (reads_now (IsTold Two) (IsUntold Two) (Err stop) clean (told Two), (told Two).same_bad clean bad schema))
 
       pub untold : Migrates g old new (Err stop)
       untold =
@@ -253,9 +253,9 @@ module _ {S : Type 0} (g : Ghosts S) where
       read = both (Ok up) second
 
       kept_leaves : HasCleanDisk (state g new) → (trees : Trees) → LeavesUpgraded (state g end) (CanUpgrade up.bodies.items up.devices) (with_upgrade up.bodies.items up.devices) trees → LeavesKept (state g old) trees
-      kept_leaves clean trees leaves open b keeps =
+      kept_leaves clean trees leaves opened b keeps =
           let mid_clean = clean_then clean in
-          let has = kept_has old (read.clean mid_clean) open b keeps in
+          let has = kept_has old (read.clean mid_clean) opened b keeps in
           let found = (read.good mid_clean has.0).1 in
           let same : b ≡ found.0 = found.1.1 b has.1 in
           let makes : IsUpgradeOf b up = subst (λ (x : ActState). IsUpgradeOf x up) (sym same) found.3 in
@@ -288,10 +288,10 @@ module _ {S : Type 0} (g : Ghosts S) where
       not_current : HasCleanDisk (state g new) → old.schema ≡ book_schema → ⊥
       not_current clean schema = not_now (second.clean (clean_then clean)) schema
 
-      -- the book of version 1 that an open store kept
-      of_kept : (clean : HasCleanDisk (state g new)) (open : IsTrue (state g old).is_open) (b : ActState) (keeps : KeepsOldBook (state g old) b) → Upgraded g end new b r
-      of_kept clean open b keeps =
-          let schema = (kept_has old (read.clean (clean_then clean)) open b keeps).0 in
+      -- the book of version 1 that an opened store kept
+      of_kept : (clean : HasCleanDisk (state g new)) (opened : IsTrue (state g old).is_open) (b : ActState) (keeps : KeepsOldBook (state g old) b) → Upgraded g end new b r
+      of_kept clean opened b keeps =
+          let schema = (kept_has old (read.clean (clean_then clean)) opened b keeps).0 in
           subst (λ x. Upgraded g end new x r) (sym (it_is clean schema b keeps)) (upgraded_so clean schema)
 
   module _ (old mid : Held S) (is : Bool) (other : is ≡ false) (told : (v : Version) → Finds g v (IsTold v) (IsUntold v) old mid (Ok is)) (end : Held S) (up : Upgrade) (second : Finds g One Upgradable HoldsNoOldBook mid end (Ok up))
@@ -308,7 +308,7 @@ module _ {S : Type 0} (g : Ghosts S) where
           let it = found old mid is other told end up second new clean_then survives (Ok tt) upgrades clean schema in
           (it.0, it.1, upgraded_so old mid is other told end up second new clean_then survives (Ok tt) upgrades clean schema);
       current = λ clean schema. not_current old mid is other told end up second new clean_then survives (Ok tt) upgrades clean schema;
-      kept = λ clean open b keeps. of_kept old mid is other told end up second new clean_then survives (Ok tt) upgrades clean open b keeps;
+      kept = λ clean opened b keeps. of_kept old mid is other told end up second new clean_then survives (Ok tt) upgrades clean opened b keeps;
     }
 
     module _ (stop : Stop) (upgrades : UpgradesTo (Err stop)) where
@@ -356,5 +356,5 @@ module _ {S : Type 0} (g : Ghosts S) where
         faults = inl fault;
         migrated = λ clean schema. failed_so clean schema fault;
         current = λ clean schema. absurd (not_current old mid is other told end up second new clean_then survives (Err stop) upgrades clean schema);
-        kept = λ clean open b keeps. failed_kept fault b (of_kept old mid is other told end up second new clean_then survives (Err stop) upgrades clean open b keeps);
+        kept = λ clean opened b keeps. failed_kept fault b (of_kept old mid is other told end up second new clean_then survives (Err stop) upgrades clean opened b keeps);
       }
