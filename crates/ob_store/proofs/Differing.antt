@@ -16,7 +16,7 @@ use Rattle.ob_parts.specs.Parts.{parts_in}
 use Rattle.ob_tables.specs.declared.version.Version.TheVariants.{Two}
 use Rattle.ob_store.specs.Differing.{IsFirstOff, IsFirstOffOf, IsOff, NoneSo}
 use Rattle.ob_store.specs.Finding.{Finds, place_of}
-use Rattle.ob_store.proofs.Reading.{fails, read_err, read_ok, then_good, then_more}
+use Rattle.ob_store.proofs.Reading.{fails, find_as, read_err, read_ok, then_good, then_more}
 
 -- ---- the tables in their order
 abbrev in_order : List Table
@@ -51,7 +51,7 @@ one_of_eleven Command = omega arith
 one_of_eleven Moved = omega arith
 one_of_eleven Posting = omega arith
 
-below_or_at : (i n : ℕ) → i < n + 1 → (i < n) ⊎ (i ≡ n)
+pub below_or_at : (i n : ℕ) → i < n + 1 → (i < n) ⊎ (i ≡ n)
 below_or_at zero zero low = inr refl
 below_or_at zero (suc n) low = inl (omega arith)
 below_or_at (suc i) zero low = absurd (omega (arith, low))
@@ -83,22 +83,6 @@ part_at (suc (suc (suc (suc (suc (suc (suc zero))))))) low = refl
 part_at (suc (suc (suc (suc (suc (suc (suc (suc at)))))))) low = absurd (omega (arith, low))
 
 module _ {S : Type 0} (g : Ghosts S) where
-  -- what was found is so of the trees, or tells more of them
-  find_as : {X : Type 0} (Good Good' : Trees → X → Type 0) (Bad Bad' : Trees → Type 0) (old new : Held S) (r : Result X Stop) → ((trees : Trees) (x : X) → Good trees x → Good' trees x) → ((trees : Trees) → Bad trees → Bad' trees)
-      → Finds g Two Good Bad old new r → Finds g Two Good' Bad' old new r
-  find_as Good Good' Bad Bad' old new (Ok x) better worse it = record {
-    mode = it.mode;
-    clean = it.clean;
-    survives = it.survives;
-    kept = it.kept;
-    faults = it.faults;
-    same = it.same;
-    same_bad = λ clean. tt;
-    good = λ clean has. better (state g old).now.trees x (it.good clean has);
-    bad = λ clean. tt;
-  }
-  find_as Good Good' Bad Bad' old new (Err stop) better worse it = fails g Two Good Bad Good' Bad' old new stop worse it
-
   module _ (b : ActState) where
     abbrev IsSo : Table → Trees → Type 0
     IsSo t trees = Shows trees t (tables_of b t)
@@ -153,10 +137,10 @@ module _ {S : Type 0} (g : Ghosts S) where
 
     goes_on : (n : ℕ) (t : Table) (old mid new : Held S) (r : Result (Option Table) Stop) → Begun n old mid → Finds g Two (IsOff b t) NoneSo mid new r → Finds g Two (Next n t) NoneSo old new r
     goes_on n t old mid new r (inl first) it =
-        find_as (IsOff b t) (Next n t) NoneSo NoneSo old new r (λ trees found off. (λ u low. absurd (omega (arith, low, first.0)), off)) (λ trees none. none)
+        find_as g Two (IsOff b t) (Next n t) NoneSo NoneSo old new r (λ trees found off. (λ u low. absurd (omega (arith, low, first.0)), off)) (λ trees none. none)
         (subst (λ (m : Held S). Finds g Two (IsOff b t) NoneSo m new r) first.1 it)
     goes_on n t old mid new r (inr so) it =
-        find_as (Next n t) (Next n t) (λ trees. UpTo n trees × NoneSo trees) NoneSo old new r (λ trees found both. both) (λ trees none. none.1)
+        find_as g Two (Next n t) (Next n t) (λ trees. UpTo n trees × NoneSo trees) NoneSo old new r (λ trees found both. both) (λ trees none. none.1)
         (then_more g Two (λ trees (m : ℕ). UpTo m trees) NoneSo (IsOff b t) NoneSo old mid new n r so it)
 
     module _ (n : ℕ) (t : Table) (place : place_of t ≡ n) (old mid new : Held S) (begun : Begun n old mid) where
@@ -200,7 +184,7 @@ module _ {S : Type 0} (g : Ghosts S) where
 
         pub posted : counted ≡ true → moved ≡ true → (new : Held S) (r : Result (Option Table) Stop) → Finds g Two (IsOff b Posting) NoneSo mid new r → Finds g Two (IsFirstOff b counted moved) NoneSo old new r
         posted so is new r it =
-            find_as (Next 8 Posting) (IsFirstOff b counted moved) (λ trees. UpTo 8 trees × NoneSo trees) NoneSo old new r last (λ trees none. none.1)
+            find_as g Two (Next 8 Posting) (IsFirstOff b counted moved) (λ trees. UpTo 8 trees × NoneSo trees) NoneSo old new r last (λ trees none. none.1)
             (then_more g Two (IsFirstOffOf 8 b) NoneSo (IsOff b Posting) NoneSo old mid new None r first it)
           where
             ten : (trees : Trees) → UpTo 8 trees → IsSo Command trees → IsSo Moved trees → (u : Table) → place_of u < 10 → IsSo u trees

@@ -25,7 +25,7 @@ abbrev pub Apart : Trees → Bool → Type 0
 Apart trees is = IsTrue is ↔ AreApart (trees 14)
 
 -- a store that is broken is no other book
-store_alone : Fault Store ≢ bad_book
+pub store_alone : Fault Store ≢ bad_book
 store_alone bad = absurd cc
 
 -- what is found of each book with a state is found of all of them

@@ -103,9 +103,9 @@ module _ (few : ReachedAreFew) (accepted : ActsAreAccepted) (reaching : ReachedB
       few = λ b r. few b (old b r).0;
         accepted = λ b r. (distinct_now b (old b r).0, ((one b.book.period b).0 r.in_turn).1);
       reached = λ p list s is text distinct led.
-          let now : acts (start p) list ≡ record { book = s; accepted = list } = reaching p list s distinct (today p list s led) in
-          let then : old_acts (start p) list ≡ record { book = s; accepted = list } = (one p (record { book = s; accepted = list })).1 (now, led) in
-          record { period = dated_as p s is text; in_turn = ap (λ (q : Calendar). old_acts (start q) list) is ∙ then };
+          let now : acts (start p) list ≡ record { book = s; accepted = list } = reaching p list s distinct (today p (commands_of list) s led) in
+          let before : old_acts (start p) list ≡ record { book = s; accepted = list } = (one p (record { book = s; accepted = list })).1 (now, led) in
+          record { period = dated_as p s is text; in_turn = ap (λ (q : Calendar). old_acts (start q) list) is ∙ before };
       moved = λ b r. moved_now b (old b r).0 ∙ sym (alike b r Moved tt);
       stays = λ p list s led. same_period stays (empty_book p) list s (today p list s led);
     }

@@ -17,3 +17,7 @@ pub mod Found
 pub mod Counting
 pub mod Telling
 pub mod Handing
+pub mod OldTelling
+pub mod OldParts
+pub mod OldBooks
+pub mod Upgrading

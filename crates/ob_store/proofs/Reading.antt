@@ -71,6 +71,22 @@ module _ {S : Type 0} (g : Ghosts S) (v : Version) where
     bad = λ clean is schema. worse (state g old).now.trees (it.bad clean is schema);
   }
 
+  -- what was found is so of the trees, or tells more of them
+  pub find_as : {X : Type 0} (Good Good' : Trees → X → Type 0) (Bad Bad' : Trees → Type 0) (old new : Held S) (r : Result X Stop) → ((trees : Trees) (x : X) → Good trees x → Good' trees x) → ((trees : Trees) → Bad trees → Bad' trees)
+      → Finds g v Good Bad old new r → Finds g v Good' Bad' old new r
+  find_as Good Good' Bad Bad' old new (Ok x) better worse it = record {
+    mode = it.mode;
+    clean = it.clean;
+    survives = it.survives;
+    kept = it.kept;
+    faults = it.faults;
+    same = it.same;
+    same_bad = λ clean. tt;
+    good = λ clean has. better (state g old).now.trees x (it.good clean has);
+    bad = λ clean. tt;
+  }
+  find_as Good Good' Bad Bad' old new (Err stop) better worse it = fails Good Bad Good' Bad' old new stop worse it
+
   module _ {X Y : Type 0} (Good : Trees → X → Type 0) (Bad : Trees → Type 0) (Good' : Trees → Y → Type 0) (Bad' : Trees → Type 0) (old mid : Held S) (x : X) (first : Finds g v Good Bad old mid (Ok x)) where
     -- what was read leads to an error that says nothing of the tables
     pub then_fault : (stop : Stop) → IsReadFault stop → stop ≢ bad_book → Finds g v Good' Bad' old mid (Err stop)

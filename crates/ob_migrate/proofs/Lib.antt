@@ -1,0 +1,6 @@
+mod Bodies
+mod Changed
+mod Renewed
+mod Rowing
+mod Same
+mod Upgrades
