@@ -15,9 +15,10 @@ use Rattle.sqlite.specs.State.{State}
 use Rattle.sqlite_tied.specs.Compute.{everything}
 use Rattle.sqlite.proofs.Callers.{IsPlain, command_of, statement_of, runs_as}
 use Rattle.ob_tables.specs.Schema.{meta_table, cause_table, node_table, device_table, customer_table, entry_table, mark_table, command_table, moved_table, posting_table, life_table}
-use Rattle.ob_tables.specs.Creation.{create_text, before, schema_of_first, MakesUpTo, MakesBook}
-use Rattle.ob_tables.specs.Rows.{tree_of, shown, AreApart}
+use Rattle.ob_tables.specs.Creation.{create_text, before, schema_of_first, old_schema, MakesUpTo, MakesBook}
+use Rattle.ob_tables.specs.Rows.{Tables, tree_of, shown, AreApart}
 use Rattle.ob_tables.specs.Steps.{Ran}
+use Rattle.ob_tables.specs.Versions.{HoldsOld, MakesLife, without_lives}
 use Rattle.ob_tables.specs.declared.table.Table.{Table}
 use Rattle.ob_tables.specs.declared.table.Table.TheVariants.{Meta, Cause, Node, Device, Life, Customer, Entry, Mark, Command, Moved, Posting}
 use Rattle.ob_tables.proofs.Statements.{made_table}
@@ -158,3 +159,33 @@ up_to_then a b c n m same one two =
       made = λ has. step.made (one.made has);
       sound = λ low has. step.sound (omega arith) (one.made has);
     }
+
+-- the table of lives, over those of version 1
+pub makes_life : (old new : State) → Ran (create_text Life) [] old new → MakesLife old new
+makes_life old new ran =
+    let w = λ (has : old.now.schema ≡ old_schema). runs_as (create_text Life) [] old new old_schema has CreateTable life_after.is life_after.plain ran.0 ran.1 in
+    let made = λ (has : old.now.schema ≡ old_schema). made_table old_schema life_table _ old new [] ran.0 (ap table_defined_by life_after.whole ∙ life_after.defines) life_after.uncounted has (w has) in
+    record {
+      live = ran.2.was_open;
+      stays = ran.2.is_open;
+      inside = ran.2.mode;
+      schema = λ has. (made has).0 ∙ sym life_after.next;
+      sound = λ has _. (w has).sound;
+      holds = λ has t held. record {
+        rows = lived old.now.trees new.now.trees t (made has).1 (made has).2 held;
+        apart = subst AreApart (sym (made has).2.1.1.1.1.1.1.1.1.1.0) held.apart;
+      };
+    }
+  where
+    lived : (f g : Trees) (t : Tables) → g 16 ≡ [] → AllByRecursion (λ it. g it.tree ≡ f it.tree) old_schema.tables → HoldsOld f t → (table : Table) → IsPermutation (map (shown table) (g (tree_of table))) (without_lives t table)
+    lived f g t none kept held Meta = subst (λ rows. IsPermutation (map (shown Meta) rows) (t Meta)) (sym kept.0) (held.rows Meta tt)
+    lived f g t none kept held Cause = subst (λ rows. IsPermutation (map (shown Cause) rows) (t Cause)) (sym kept.1.0) (held.rows Cause tt)
+    lived f g t none kept held Node = subst (λ rows. IsPermutation (map (shown Node) rows) (t Node)) (sym kept.1.1.0) (held.rows Node tt)
+    lived f g t none kept held Device = subst (λ rows. IsPermutation (map (shown Device) rows) (t Device)) (sym kept.1.1.1.0) (held.rows Device tt)
+    lived f g t none kept held Customer = subst (λ rows. IsPermutation (map (shown Customer) rows) (t Customer)) (sym kept.1.1.1.1.0) (held.rows Customer tt)
+    lived f g t none kept held Entry = subst (λ rows. IsPermutation (map (shown Entry) rows) (t Entry)) (sym kept.1.1.1.1.1.0) (held.rows Entry tt)
+    lived f g t none kept held Mark = subst (λ rows. IsPermutation (map (shown Mark) rows) (t Mark)) (sym kept.1.1.1.1.1.1.0) (held.rows Mark tt)
+    lived f g t none kept held Command = subst (λ rows. IsPermutation (map (shown Command) rows) (t Command)) (sym kept.1.1.1.1.1.1.1.0) (held.rows Command tt)
+    lived f g t none kept held Moved = subst (λ rows. IsPermutation (map (shown Moved) rows) (t Moved)) (sym kept.1.1.1.1.1.1.1.1.0) (held.rows Moved tt)
+    lived f g t none kept held Posting = subst (λ rows. IsPermutation (map (shown Posting) rows) (t Posting)) (sym kept.1.1.1.1.1.1.1.1.1.0) (held.rows Posting tt)
+    lived f g t none kept held Life = subst (λ rows. IsPermutation (map (shown Life) rows) []) (sym none) (IsPermutation-refl [])

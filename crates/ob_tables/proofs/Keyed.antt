@@ -32,11 +32,11 @@ use Rattle.sqlite_rules.specs.Cast.{cast_row}
 use Rattle.sqlite_tied.specs.Compute.{everything}
 use Rattle.sqlite.proofs.Callers.{IsPlain, command_of, runs_as}
 use Rattle.ob_base.specs.declared.Pos.{Pos}
-use Rattle.ob_tables.specs.Schema.{book_schema, customer_table, entry_table, mark_table, life_table}
-use Rattle.ob_tables.specs.Rows.{Columns, Tables, tree_of, shown, AreApart, number, number_or_null, position_number, bit, is_key, change_where, with_change, without_key, customer_row, life_row, entry_row, mark_row, serve, relive, correct, withdraw, HasCustomer, HasLife, HasEntry, HasMark}
+use Rattle.ob_tables.specs.Schema.{book_schema, meta_table, customer_table, entry_table, mark_table, command_table, life_table}
+use Rattle.ob_tables.specs.Rows.{Columns, Tables, tree_of, shown, AreApart, number, number_or_null, position_number, bit, is_key, change_where, with_change, without_key, meta_row, customer_row, life_row, entry_row, mark_row, command_row, serve, relive, rebody, reversion, correct, withdraw, HasCustomer, HasLife, HasCommand, HasHeading, HasEntry, HasMark}
 use Rattle.ob_tables.specs.Steps.{Ran, Makes}
 use Rattle.ob_tables.specs.declared.table.Table.{Table}
-use Rattle.ob_tables.specs.declared.table.Table.TheVariants.{Life, Customer, Entry, Mark, Posting}
+use Rattle.ob_tables.specs.declared.table.Table.TheVariants.{Meta, Life, Customer, Entry, Mark, Command, Posting}
 use Rattle.ob_tables.proofs.Queries.{whole}
 use Rattle.ob_tables.proofs.Statements.{updated, updated_schema, deleted, deleted_schema}
 use Rattle.ob_tables.proofs.Posting.{single}
@@ -314,5 +314,65 @@ relives old new device since until ran =
       life_row device need.since need.until,
       record { one = need.row; keyed = refl },
       λ r is. ap (λ (c : Columns). shown Life (life_anew (column c 0) since until)) is ∙ life_relived device since until,
+    ))
+    old new ran
+
+abbrev body_update : List ℕ
+body_update = codes "UPDATE cmd SET body = ?2 WHERE id = ?1"
+
+abbrev body_shows : List Term
+body_shows = col 1 0 ∷ col 1 0 ∷ lit Null ∷ col 1 2 ∷ col 0 1 ∷ []
+
+body_update_is : command_of (understood book_schema body_update) ≡ Update 7 (record { lets = []; body = whole by_key body_shows 10 })
+unfolding understood everything
+body_update_is = refl
+
+body_update_plain : IsPlain (understood book_schema body_update)
+unfolding understood everything
+body_update_plain = (refl, refl)
+
+abbrev command_anew : Value → Value → List ℕ → Row
+command_anew id reference body = cast_row (record command_table { tree = 10 }) (id ∷ Null ∷ reference ∷ Text body ∷ [])
+
+command_rebodied : (id : ℕ) (reference body : List ℕ) → shown Command (command_anew (Int (pos id)) (Text reference) body) ≡ Int (pos id) ∷ Text reference ∷ Text body ∷ []
+command_rebodied id reference body = rw (cast_int (pos id))
+
+pub rebodies : (old new : State) (id : ℕ) (body : List ℕ) → Ran body_update (Int (pos id) ∷ Text body ∷ []) old new → Makes old new (HasCommand id) (with_change Command id (rebody body))
+rebodies old new id body ran =
+    makes_change Command 7 command_table by_key body_shows body_update _ id (HasCommand id) refl body_update_plain (λ r. refl) refl (λ r. refl) (λ e. omega (arith, e)) refl (rebody body) body_update_is (λ olds it. refl)
+    (λ t need. (
+      command_row id need.reference need.body,
+      record { one = need.row; keyed = refl },
+      λ r is. ap (λ (c : Columns). shown Command (command_anew (column c 0) (column c 1) body)) is ∙ command_rebodied id need.reference body,
+    ))
+    old new ran
+
+abbrev version_update : List ℕ
+version_update = codes "UPDATE meta SET version = ?2 WHERE id = ?1"
+
+abbrev version_shows : List Term
+version_shows = col 1 0 ∷ col 1 0 ∷ lit Null ∷ col 0 1 ∷ col 1 3 ∷ col 1 4 ∷ col 1 5 ∷ []
+
+version_update_is : command_of (understood book_schema version_update) ≡ Update 0 (record { lets = []; body = whole by_key version_shows 0 })
+unfolding understood everything
+version_update_is = refl
+
+version_update_plain : IsPlain (understood book_schema version_update)
+unfolding understood everything
+version_update_plain = (refl, refl)
+
+abbrev meta_anew : Value → ℕ → Value → Value → Value → Row
+meta_anew id version first_day days zone = cast_row (record meta_table { tree = 0 }) (id ∷ Null ∷ Int (pos version) ∷ first_day ∷ days ∷ zone ∷ [])
+
+meta_reversioned : (version : ℕ) (first_day : List ℕ) (days : ℕ) (zone : List ℕ) → shown Meta (meta_anew (Int (pos 1)) version (Text first_day) (Int (pos days)) (Text zone)) ≡ Int (pos 1) ∷ Int (pos version) ∷ Text first_day ∷ Int (pos days) ∷ Text zone ∷ []
+meta_reversioned version first_day days zone = rw (cast_int (pos 1), cast_int (pos version), cast_int (pos days))
+
+pub reversions : (old new : State) (version : ℕ) → Ran version_update (Int (pos 1) ∷ Int (pos version) ∷ []) old new → Makes old new HasHeading (with_change Meta 1 (reversion version))
+reversions old new version ran =
+    makes_change Meta 0 meta_table by_key version_shows version_update _ 1 HasHeading refl version_update_plain (λ r. refl) refl (λ r. refl) (λ e. omega (arith, e)) refl (reversion version) version_update_is (λ olds it. refl)
+    (λ t need. (
+      meta_row need.version need.first_day need.days need.zone,
+      record { one = need.row; keyed = refl },
+      λ r is. ap (λ (c : Columns). shown Meta (meta_anew (column c 0) version (column c 2) (column c 3) (column c 4))) is ∙ meta_reversioned version need.first_day need.days need.zone,
     ))
     old new ran

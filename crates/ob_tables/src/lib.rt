@@ -2,7 +2,8 @@
 //!
 //! Keeps the eleven tables and one function for each statement, which runs inside a transaction of the caller. Promises
 //! of each what it makes of the rows that the tables show: a row more, one written anew, one less, or none, and what was
-//! found. A statement that breaks a rule of its table fails. What writes the rows of a command in one transaction stands
+//! found. A statement that breaks a rule of its table fails. The ten tables of version 1 are known too: over them the
+//! eleventh, that of lives, is made, and their rows stay. What writes the rows of a command in one transaction stands
 //! above it.
 #![tactic(auto)]
 

@@ -1,0 +1,8 @@
+use Rattle.ob_tables.proofs.Running.{changes}
+use Rattle.ob_tables.proofs.Keyed.{rebodies}
+use Rattle.ob_tables.proofs.changes.set_body.Goals as goal
+
+pub returns : goal.returns
+returns g c =
+    changes g.S.Store _ _ _ _ _ c.run.ensures (λ ran. rebodies _ _ c.args.no c.args.body.now
+    (rw (c.int.ensures) at ran))
