@@ -41,7 +41,8 @@ IsSettled s t = IsSettledIn Two s t
 abbrev pub Keeps : State → Tables → Type 0
 Keeps s t = KeepsIn Two s t
 
--- while it is open it keeps the first ones, of this version; a crash leaves these, or the others, of the version that is written
+-- while it is open it keeps the first ones, of this version; a crash leaves these, or the others, of the version that
+-- is written
 pub record KeepsEitherIn (version : Version) (s : State) (t u : Tables) : Type 0 where
   pub settled : HasCleanDisk s → IsTrue s.is_open → IsSettledIn version s t
   pub left : HasCleanDisk s → (trees : Trees) → s.may_leave trees → LeavesIn version t trees ⊎ Leaves u trees
