@@ -1,5 +1,5 @@
 # Completion of outagebook for fish.
-set -l jobs total init import export table audit serve help
+set -l jobs total init import export table audit migrate serve help
 complete -c outagebook -f
 complete -c outagebook -s h -l help -d 'Print help'
 complete -c outagebook -n "not __fish_seen_subcommand_from $jobs" -a total -d 'Count the customer-seconds of a text on standard input'
@@ -8,10 +8,11 @@ complete -c outagebook -n "not __fish_seen_subcommand_from $jobs" -a import -d '
 complete -c outagebook -n "not __fish_seen_subcommand_from $jobs" -a export -d 'Write what a book\'s commands moved as CSV'
 complete -c outagebook -n "not __fish_seen_subcommand_from $jobs" -a table -d 'Print the annual table of a book'
 complete -c outagebook -n "not __fish_seen_subcommand_from $jobs" -a audit -d 'Compare the tables of a book with its commands'
+complete -c outagebook -n "not __fish_seen_subcommand_from $jobs" -a migrate -d 'Make a book of version 1 one of version 2'
 complete -c outagebook -n "not __fish_seen_subcommand_from $jobs" -a serve -d 'Serve a book over HTTP on 127.0.0.1'
 complete -c outagebook -n "not __fish_seen_subcommand_from $jobs" -a help -d 'Print help'
-complete -c outagebook -n '__fish_seen_subcommand_from help' -a 'total init import export table audit serve'
-complete -c outagebook -n '__fish_seen_subcommand_from init import export table audit serve' -l book -r -F -d 'The file of the book'
+complete -c outagebook -n '__fish_seen_subcommand_from help' -a 'total init import export table audit migrate serve'
+complete -c outagebook -n '__fish_seen_subcommand_from init import export table audit migrate serve' -l book -r -F -d 'The file of the book'
 complete -c outagebook -n '__fish_seen_subcommand_from init' -l first -x -d 'The first day of the period'
 complete -c outagebook -n '__fish_seen_subcommand_from init' -l days -x -d 'How many days the period has'
 complete -c outagebook -n '__fish_seen_subcommand_from init' -l zone -x -d 'The time zone, as a POSIX rule'

@@ -1,4 +1,5 @@
 mod Rising
+mod Versions
 mod Numbered
 mod Network
 mod Keyed

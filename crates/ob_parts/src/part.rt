@@ -6,11 +6,12 @@ ghost use Rattle.ob_state.specs.Amounts.{amount};
 ghost use Rattle.ob_book.specs.Acts.{ActState};
 ghost use Rattle.ob_commit.specs.Amounts.{amount_rows};
 ghost use Rattle.ob_tables.specs.Rows.{meta_row};
+ghost use Rattle.ob_tables.specs.Versions.{Has, version_number};
 ghost use Rattle.ob_tables.specs.declared.table.Table.{Table as ATable};
-ghost use Rattle.ob_record.specs.Tables.{tables_of};
+ghost use Rattle.ob_tables.specs.declared.version.Version.{Version as AVersion};
 ghost use Rattle.ob_compare.specs.Moves.{ends_of};
 ghost use Rattle.ob_compare.specs.Parts.{Compares};
-ghost use Rattle.ob_parts.specs.Parts.{IsPart};
+ghost use Rattle.ob_parts.specs.Parts.{IsPart, parts_in};
 
 use crate::parts::{
     holds_amounts, holds_causes, holds_customers, holds_devices, holds_entries, holds_heading,
@@ -20,19 +21,29 @@ use ob_base::{Name, Stop};
 use ob_book::Book;
 use ob_compare::EndNodes;
 use ob_sweep::Timeline;
-use ob_tables::Table;
+use ob_tables::{Table, Version};
 use ob_time::Period;
 use sqlite::{Alter, Connection};
 
-/// Whether the table of the heading holds that of a period. Nothing is written.
-fn holds_period<S: Alter>(conn: &mut Connection<S>, period: &Period) -> Result<bool, Stop>
-    ensures { Compares S.Store ATable.Meta
-        (meta_row 2 (day_text period.now.first_day) (day_count period.now) period.now.zone ∷ [])
+/// Whether the table of the heading holds that of a period in this version. Nothing is written.
+fn holds_period<S: Alter>(
+    conn: &mut Connection<S>,
+    period: &Period,
+    version: Version,
+) -> Result<bool, Stop>
+    ensures { (v : AVersion) → Has v ATable.Meta → Compares S.Store v ATable.Meta
+        (meta_row (version_number version) (day_text period.now.first_day) (day_count period.now) period.now.zone ∷ [])
         conn.old conn.new result }
 {
     let days = period.days();
     match period.date_text(0) {
-        Ok(first_day) => holds_heading(conn, first_day.as_bytes(), days, period.zone_text()),
+        Ok(first_day) => holds_heading(
+            conn,
+            version.number(),
+            first_day.as_bytes(),
+            days,
+            period.zone_text(),
+        ),
         Err(stop) => Err(stop),
     }
 }
@@ -42,30 +53,32 @@ fn holds_posted<S: Alter, T: Timeline>(
     conn: &mut Connection<S>,
     book: &Book<T>,
 ) -> Result<bool, Stop>
-    ensures { Compares S.Store ATable.Posting (amount_rows (day_count book.now.state.period) (amount book.now.state))
-        conn.old conn.new result }
+    ensures { (v : AVersion) → Has v ATable.Posting → Compares S.Store v ATable.Posting
+        (amount_rows (day_count book.now.state.period) (amount book.now.state)) conn.old conn.new result }
 {
     holds_amounts(conn, book.postings(), book.period().days())
 }
 
-/// Whether a table holds what a book has of it: any table but those of commands and of what they moved. Of the book's
-/// network these are the names of the nodes and the ends of the devices. Nothing is written. A database without the
-/// table is refused as no book's.
+/// Whether a table of a version holds what a book has of it: any table that the version has but those of commands and
+/// of what they moved. Of the book's network these are the names of the nodes and the ends of the devices. Nothing is
+/// written. A database without the table is refused as no book's.
 pub fn holds_part<S: Alter, T: Timeline>(
     conn: &mut Connection<S>,
     book: &Book<T>,
     names: &[Name],
     ends: &[EndNodes],
+    version: Version,
     table: Table,
 ) -> Result<bool, Stop>
     requires part { IsPart table }
+    requires has { Has version table }
     requires names { names.now ≡ map (λ n. n.name) book.now.state.network.nodes }
     requires ends { ends.now ≡ ends_of book.now.state.network }
     ensures { (b : ActState) → b.book ≡ book.now.state
-        → Compares S.Store table (tables_of b table) conn.old conn.new result }
+        → Compares S.Store version table (parts_in version b table) conn.old conn.new result }
 {
     match table {
-        Table::Meta => holds_period(conn, book.period()),
+        Table::Meta => holds_period(conn, book.period(), version),
         Table::Cause => holds_causes(conn, book),
         Table::Node => holds_nodes(conn, book.net(), names),
         Table::Device => holds_devices(conn, book.net(), ends),

@@ -2,6 +2,8 @@
 ghost use Rattle.std.specs.Prelude.{◌≡◌, [], ◌∷◌, ◌==◌, ◌↔◌, is_some, if◌then◌else◌};
 ghost use Rattle.std.specs.Prelude.{◌<◌, ◌+◌, Some, IsTrue, length, map, slice_get};
 ghost use Rattle.ob_tables.specs.declared.table.Table.{Table as ATable};
+ghost use Rattle.ob_tables.specs.declared.version.Version.{Version as AVersion};
+ghost use Rattle.ob_tables.specs.Versions.{Has};
 ghost use Rattle.ob_commit.specs.Amounts.{all_keys, amount_rows};
 ghost use Rattle.ob_post.specs.Keys.{IsKey};
 ghost use Rattle.ob_post.specs.Postings.{amount_of, day_count};
@@ -23,9 +25,10 @@ use ob_sweep::Timeline;
 use ob_tables::Table;
 use sqlite::{Alter, Connection, Row};
 
-/// The one row of the heading: version 2, the first day, the count of days and the zone.
+/// The one row of the heading: its version, the first day, the count of days and the zone.
 #[derive(Drop)]
 struct HeadingRow<'b> {
+    version: u32,
     first_day: &'b [u8],
     days: u16,
     zone: &'b [u8],
@@ -38,7 +41,7 @@ impl<'b> Listed for HeadingRow<'b> {
 
     ghost table = { ATable.Meta };
 
-    ghost places = { λ h. Some (meta_row 2 h.first_day.now h.days h.zone.now) ∷ [] };
+    ghost places = { λ h. Some (meta_row h.version h.first_day.now h.days h.zone.now) ∷ [] };
 
     fn table(&self) -> Table {
         Table::Meta
@@ -57,7 +60,7 @@ impl<'b> Listed for HeadingRow<'b> {
             row,
             &[
                 Field::Number(1),
-                Field::Number(2),
+                Field::Number(u64::from(self.version)),
                 Field::Words(self.first_day),
                 Field::Number(u64::from(self.days)),
                 Field::Words(self.zone),
@@ -66,17 +69,21 @@ impl<'b> Listed for HeadingRow<'b> {
     }
 }
 
-/// Whether the table of the heading holds that of version 2 with this first day, so many days and this zone, and no
-/// more. Nothing is written.
+/// Whether the table of the heading holds that of this version with this first day, so many days and this zone, and
+/// no more. Nothing is written.
 pub(crate) fn holds_heading<S: Alter>(
     conn: &mut Connection<S>,
+    version: u32,
     first_day: &[u8],
     days: u16,
     zone: &[u8],
 ) -> Result<bool, Stop>
-    ensures { Compares S.Store ATable.Meta (meta_row 2 first_day.now days zone.now ∷ []) conn.old conn.new result }
+    ensures { (v : AVersion) → Has v ATable.Meta
+        → Compares S.Store v ATable.Meta (meta_row version first_day.now days zone.now ∷ [])
+        conn.old conn.new result }
 {
     let heading = HeadingRow {
+        version,
         first_day,
         days,
         zone,
@@ -132,7 +139,8 @@ impl<'b> Listed for Customers<'b> {
 
 /// Whether the table of customers holds those of a roll. Nothing is written.
 pub(crate) fn holds_customers<S: Alter>(conn: &mut Connection<S>, roll: &Roll) -> Result<bool, Stop>
-    ensures { Compares S.Store ATable.Customer (map row_of_customer roll.now.customers) conn.old conn.new result }
+    ensures { (v : AVersion) → Has v ATable.Customer
+        → Compares S.Store v ATable.Customer (map row_of_customer roll.now.customers) conn.old conn.new result }
 {
     // They rise by number, by a clause of this call.
     let _ = roll.customers();
@@ -197,7 +205,8 @@ fn is_row_of_entry(row: &Row, entry: &Entry) -> bool
 
 /// Whether the table of entries holds those of a sheet. Nothing is written.
 pub(crate) fn holds_entries<S: Alter>(conn: &mut Connection<S>, sheet: &Sheet) -> Result<bool, Stop>
-    ensures { Compares S.Store ATable.Entry (map row_of_entry sheet.now.entries) conn.old conn.new result }
+    ensures { (v : AVersion) → Has v ATable.Entry
+        → Compares S.Store v ATable.Entry (map row_of_entry sheet.now.entries) conn.old conn.new result }
 {
     // They are numbered, by a clause of this call.
     let _ = sheet.entry(0);
@@ -248,7 +257,8 @@ pub(crate) fn holds_causes<S: Alter, T: Timeline>(
     conn: &mut Connection<S>,
     book: &Book<T>,
 ) -> Result<bool, Stop>
-    ensures { Compares S.Store ATable.Cause (present cause_row 0 book.now.state.causes) conn.old conn.new result }
+    ensures { (v : AVersion) → Has v ATable.Cause
+        → Compares S.Store v ATable.Cause (present cause_row 0 book.now.state.causes) conn.old conn.new result }
 {
     holds(conn, &Causes { book })
 }
@@ -309,7 +319,8 @@ pub(crate) fn holds_marks<S: Alter>(
     days: u16,
 ) -> Result<bool, Stop>
     requires { days ≡ length marks.now }
-    ensures { Compares S.Store ATable.Mark (present mark_row 0 marks.now) conn.old conn.new result }
+    ensures { (v : AVersion) → Has v ATable.Mark
+        → Compares S.Store v ATable.Mark (present mark_row 0 marks.now) conn.old conn.new result }
 {
     holds(conn, &Days { marks, days })
 }
@@ -378,7 +389,8 @@ pub(crate) fn holds_devices<S: Alter>(
     ends: &[EndNodes],
 ) -> Result<bool, Stop>
     requires { ends.now ≡ ends_of net.now.network }
-    ensures { Compares S.Store ATable.Device (numbered row_of_device 0 net.now.network.devices)
+    ensures { (v : AVersion) → Has v ATable.Device
+        → Compares S.Store v ATable.Device (numbered row_of_device 0 net.now.network.devices)
         conn.old conn.new result }
 {
     holds(conn, &Devices { net, ends })
@@ -429,7 +441,8 @@ impl<'b> Listed for Lives<'b> {
 
 /// Whether the table of lives holds those of a network's devices. Nothing is written.
 pub(crate) fn holds_lives<S: Alter>(conn: &mut Connection<S>, net: &Net) -> Result<bool, Stop>
-    ensures { Compares S.Store ATable.Life (numbered row_of_life 0 net.now.network.devices) conn.old conn.new result }
+    ensures { (v : AVersion) → Has v ATable.Life
+        → Compares S.Store v ATable.Life (numbered row_of_life 0 net.now.network.devices) conn.old conn.new result }
 {
     holds(conn, &Lives { net })
 }
@@ -501,7 +514,8 @@ pub(crate) fn holds_nodes<S: Alter>(
     names: &[Name],
 ) -> Result<bool, Stop>
     requires { names.now ≡ map (λ n. n.name) net.now.network.nodes }
-    ensures { Compares S.Store ATable.Node (numbered row_of_node 0 net.now.network.nodes) conn.old conn.new result }
+    ensures { (v : AVersion) → Has v ATable.Node
+        → Compares S.Store v ATable.Node (numbered row_of_node 0 net.now.network.nodes) conn.old conn.new result }
 {
     holds(conn, &Nodes { net, names })
 }
@@ -577,7 +591,8 @@ pub(crate) fn holds_amounts<S: Alter>(
     days: u16,
 ) -> Result<bool, Stop>
     requires { days ≡ day_count postings.now }
-    ensures { Compares S.Store ATable.Posting (amount_rows days (amount_of postings.now)) conn.old conn.new result }
+    ensures { (v : AVersion) → Has v ATable.Posting
+        → Compares S.Store v ATable.Posting (amount_rows days (amount_of postings.now)) conn.old conn.new result }
 {
     holds(conn, &Amounts { postings, days })
 }

@@ -8,19 +8,21 @@ use Rattle.sqlite.specs.State.{HasCleanDisk, IsUnchanged, Survives}
 use Rattle.ob_base.specs.declared.stop.Stop.{Stop}
 use Rattle.sqlite_value.specs.declared.value.Value.{Value}
 use Rattle.ob_book.specs.Acts.{ActState, Referenced}
-use Rattle.ob_tables.specs.Schema.{book_schema}
 use Rattle.ob_tables.specs.declared.table.Table.{Table}
 use Rattle.ob_tables.specs.declared.table.Table.TheVariants.{Meta, Cause, Node, Device, Life, Customer, Entry, Mark, Command, Moved, Posting}
-use Rattle.ob_record.specs.Reached.{IsReached}
+use Rattle.ob_tables.specs.declared.version.Version.{Version}
+use Rattle.ob_tables.specs.declared.version.Version.TheVariants.{Two}
+use Rattle.ob_tables.specs.Versions.{schema_of}
 use Rattle.ob_record.specs.Tables.{Shows, tables_of}
 use Rattle.ob_compare.specs.Ordered.{AreRowsOf}
 use Rattle.ob_compare.specs.Reading.{IsReadFault, bad_book, command_rows, heading_row}
-use Rattle.ob_record.specs.Naming.{IsReferenced}
+use Rattle.ob_compare.specs.Versioned.{IsReferencedIn}
 use Rattle.ob_compare.specs.Listing.{filed_of}
 use Rattle.ob_tables.specs.Rows.{Tables, shown, tree_of}
 use Rattle.ob_time.specs.Calendar.{Calendar, day_count}
 use Rattle.ob_time.specs.Dates.{day_text}
-use Rattle.ob_commit.specs.Keeps.{Keeps}
+use Rattle.ob_commit.specs.Keeps.{KeepsIn}
+use Rattle.ob_store.specs.Books.{IsReachedIn}
 use Rattle.ob_store.specs.Keeping.{KeepsBook}
 use Rattle.ob_store.specs.declared.named.Named.{Named}
 
@@ -47,29 +49,36 @@ HasHeadingOf trees first_day days zone =
 abbrev pub NamesPeriod : Trees → Calendar → Type 0
 NamesPeriod trees p = HasHeadingOf trees (day_text p.first_day) (day_count p) p.zone
 
--- the rows of `cmd`, in the order of their numbers, whatever these are, are those of the commands
-abbrev pub NamesCommands : Trees → List Referenced → Type 0
-NamesCommands trees list = AreRowsOf list (map (shown Command) (trees (tree_of Command)))
+-- the rows of `cmd`, in the order of their numbers, whatever these are, are those of a version's commands
+abbrev pub NamesCommands : Version → Trees → List Referenced → Type 0
+NamesCommands version trees list = AreRowsOf version list (map (shown Command) (trees (tree_of Command)))
 
--- the period and the commands that these trees name are those of the book, which its commands lead to
-pub record IsBookOf (trees : Trees) (b : ActState) : Type 0 where
-  pub reached : IsReached b
+-- the period and the commands that these trees name are those of the book of a version, which its commands lead to
+pub record IsBookIn (version : Version) (trees : Trees) (b : ActState) : Type 0 where
+  pub reached : IsReachedIn version b
   -- what references and commands always are, and how many a book takes
-  pub valid : AllByRecursion IsReferenced b.accepted
+  pub valid : AllByRecursion (IsReferencedIn version) b.accepted
   pub few : length b.accepted ≤ 1_000_000
   pub period : NamesPeriod trees b.book.period
-  pub commands : NamesCommands trees b.accepted
+  pub commands : NamesCommands version trees b.accepted
 
--- they are those of no book
+-- they are those of no book of the version
+abbrev pub HasNoBookIn : Version → Trees → Type 0
+HasNoBookIn version trees = (b : ActState) → ¬ (IsBookIn version trees b)
+
+-- the same of the version that is written
+abbrev pub IsBookOf : Trees → ActState → Type 0
+IsBookOf trees b = IsBookIn Two trees b
+
 abbrev pub HasNoBook : Trees → Type 0
-HasNoBook trees = (b : ActState) → ¬ (IsBookOf trees b)
+HasNoBook trees = HasNoBookIn Two trees
 
--- these are the heading and the commands in the trees, and it is told whether the commands are numbered from 1
-pub record IsNamed (trees : Trees) (it : Named) : Type 0 where
+-- these are the heading and the commands of a version in the trees, and it is told whether the commands are numbered from 1
+pub record IsNamed (version : Version) (trees : Trees) (it : Named) : Type 0 where
   pub heading : HasHeadingOf trees it.heading.first_day.items it.heading.days it.heading.zone.items
-  pub commands : NamesCommands trees (filed_of it.commands.items)
-  pub counts : IsTrue it.counted ↔ Shows trees Command (command_rows (filed_of it.commands.items))
-  pub valid : AllByRecursion IsReferenced (filed_of it.commands.items)
+  pub commands : NamesCommands version trees (filed_of it.commands.items)
+  pub counts : IsTrue it.counted ↔ Shows trees Command (command_rows version (filed_of it.commands.items))
+  pub valid : AllByRecursion (IsReferencedIn version) (filed_of it.commands.items)
 
 -- each table has the rows of the book; or this is the first that hasn't
 abbrev pub Differs : Trees → ActState → Option Table → Type 0
@@ -96,17 +105,20 @@ module _ {S : Type 0} (g : Ghosts S) where
   abbrev pub ShowsTheSame : Held S → Held S → Type 0
   ShowsTheSame old new = OnlyReads old new × ((state g new).now ≡ (state g old).now)
 
-  -- the tables were read, and nothing was written: what was found is so of them, and where they are told to be no book's
-  -- they aren't
+module _ {S : Type 0} (g : Ghosts S) (version : Version) where
+  -- the tables of a version were read, and nothing was written: what was found is so of them, and where they are told to be
+  -- no book's they aren't
   pub record Finds {X : Type 0} (Good : Trees → X → Type 0) (Bad : Trees → Type 0) (old new : Held S) (result : Result X Stop) : Type 0 where
     pub mode : old.in_transaction ≡ false → new.in_transaction ≡ false
     pub clean : HasCleanDisk (state g new) → HasCleanDisk (state g old)
     -- a crash leaves no more than before, whatever the schema
     pub survives : Survives (state g old) (state g new) (λ _. ⊥)
     -- and what the store keeps it keeps on
-    pub kept : (t : Tables) → Keeps (state g old) t → Keeps (state g new) t
+    pub kept : (t : Tables) → KeepsIn version (state g old) t → KeepsIn version (state g new) t
     pub faults : IfErr result IsReadFault
-    pub same : HasCleanDisk (state g new) → OnOk result (old.schema ≡ book_schema → IsUnchanged (state g old) (state g new))
-    pub same_bad : HasCleanDisk (state g new) → IfErr result (λ stop. stop ≡ bad_book → old.schema ≡ book_schema → (state g new).now ≡ (state g old).now)
-    pub good : HasCleanDisk (state g new) → IfOk result (λ x. old.schema ≡ book_schema → Good (state g old).now.trees x)
-    pub bad : HasCleanDisk (state g new) → IfErr result (λ stop. stop ≡ bad_book → old.schema ≡ book_schema → Bad (state g old).now.trees)
+    pub same : HasCleanDisk (state g new) → OnOk result (old.schema ≡ schema_of version → IsUnchanged (state g old) (state g new))
+    pub same_bad : HasCleanDisk (state g new)
+        → IfErr result (λ stop. stop ≡ bad_book → old.schema ≡ schema_of version → (state g new).now ≡ (state g old).now)
+    pub good : HasCleanDisk (state g new) → IfOk result (λ x. old.schema ≡ schema_of version → Good (state g old).now.trees x)
+    pub bad : HasCleanDisk (state g new)
+        → IfErr result (λ stop. stop ≡ bad_book → old.schema ≡ schema_of version → Bad (state g old).now.trees)

@@ -10,14 +10,18 @@ use Rattle.ob_state.specs.Next.{next_all}
 use Rattle.ob_book.specs.Acts.{ActState}
 use Rattle.ob_tables.specs.Rows.{Columns}
 use Rattle.ob_tables.specs.declared.table.Table.TheVariants.{Command, Moved}
-use Rattle.ob_record.specs.Tables.{Shows, tables_of}
+use Rattle.ob_tables.specs.declared.version.Version.{Version}
+use Rattle.ob_tables.specs.declared.version.Version.TheVariants.{Two}
+use Rattle.ob_record.specs.Tables.{Shows}
 use Rattle.ob_compare.specs.declared.ends.EndNodes.{EndNodes}
 use Rattle.ob_compare.specs.declared.heading.Heading.{Heading}
 use Rattle.ob_compare.specs.Listing.{filed_of}
 use Rattle.ob_compare.specs.Moves.{HasMoved, commands_of, ends_of}
+use Rattle.ob_compare.specs.Versioned.{next_all_in}
 use Rattle.ob_store.specs.declared.named.Named.{Named}
+use Rattle.ob_store.specs.Books.{tables_in}
 use Rattle.ob_store.specs.Creating.{HasNoPeriodText}
-use Rattle.ob_store.specs.Finding.{IsBookOf}
+use Rattle.ob_store.specs.Finding.{IsBookIn}
 
 -- the heading names no period
 abbrev pub HasNoPeriodOf : Heading → Type 0
@@ -41,11 +45,11 @@ pub record IsBegun (it : Named) (b : BookState) (names : List (List ℕ)) (ends 
       → names ≡ map (λ (n : Node). n.name) s.network.nodes
   pub no_ends : ends ≡ []
 
--- the commands lead a new book of the heading's period to this one
-pub record IsLedBy (it : Named) (b : BookState) : Type 0 where
+-- the commands, each accepted by a version in its turn, lead a new book of the heading's period to this one
+pub record IsLedBy (version : Version) (it : Named) (b : BookState) : Type 0 where
   pub first : BookState
   pub new : IsNewBook it.heading first
-  pub led : next_all first (commands_of (filed_of it.commands.items)) ≡ Some b
+  pub led : next_all_in version first (commands_of (filed_of it.commands.items)) ≡ Some b
 
 -- the heading names no period, or a command isn't accepted in its turn
 abbrev pub LeadsNowhere : Named → Type 0
@@ -53,23 +57,27 @@ LeadsNowhere it =
     HasNoPeriodOf it.heading
     ⊎ ((first : BookState) × IsNewBook it.heading first × (next_all first (commands_of (filed_of it.commands.items)) ≡ None))
 
--- whether the table of moved amounts has the rows of what the commands move, each accepted in its turn
-abbrev pub MovesAre : Named → Trees → Bool → Type 0
-MovesAre it trees moved =
+-- whether the table of moved amounts has the rows of what the commands move, each accepted by a version in its turn
+abbrev pub MovesAre : Version → Named → Trees → Bool → Type 0
+MovesAre version it trees moved =
     (first : BookState) × IsNewBook it.heading first
-    × ((rows : List Columns) → Shows trees Moved rows → IsTrue moved ↔ HasMoved rows first (filed_of it.commands.items))
+    × ((rows : List Columns) → Shows trees Moved rows → IsTrue moved ↔ HasMoved version rows first (filed_of it.commands.items))
 
 -- the names of a book's nodes, and the ends of its devices
 abbrev pub HasParts : BookState → List (List ℕ) → List EndNodes → Type 0
 HasParts b names ends = (names ≡ map (λ (n : Node). n.name) b.network.nodes) × (ends ≡ ends_of b.network)
 
--- the state is that of the book, and of no other, whose period and commands the trees name
-pub record IsLed (trees : Trees) (s : BookState) (counted moved : Bool) : Type 0 where
+-- the state is that of the book of a version, and of no other, whose period and commands the trees name
+pub record IsLedIn (version : Version) (trees : Trees) (s : BookState) (counted moved : Bool) : Type 0 where
   pub book : ActState
-  pub is_book : IsBookOf trees book
-  pub only : (other : ActState) → IsBookOf trees other → other ≡ book
+  pub is_book : IsBookIn version trees book
+  pub only : (other : ActState) → IsBookIn version trees other → other ≡ book
   pub state : s ≡ book.book
   -- whether the table of commands is the book's
-  pub counts : IsTrue counted ↔ Shows trees Command (tables_of book Command)
+  pub counts : IsTrue counted ↔ Shows trees Command (tables_in version book Command)
   -- whether the table of moved amounts is the book's
-  pub moves : IsTrue moved ↔ Shows trees Moved (tables_of book Moved)
+  pub moves : IsTrue moved ↔ Shows trees Moved (tables_in version book Moved)
+
+-- the same of the version that is written
+abbrev pub IsLed : Trees → BookState → Bool → Bool → Type 0
+IsLed trees s counted moved = IsLedIn Two trees s counted moved

@@ -2,10 +2,13 @@ pub mod Keeping
 pub mod Acting
 pub mod Replying
 pub mod Creating
+pub mod Books
 pub mod Finding
 pub mod Versions
 pub mod Loading
 pub mod Crashing
+pub mod Migrating
+pub mod Upgrading
 pub mod Leading
 pub mod Differing
 pub mod MovingOut

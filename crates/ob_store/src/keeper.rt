@@ -3,6 +3,7 @@ use crate::acting::act_on;
 use crate::crash::crash_law;
 use crate::creating::create_on;
 use crate::loading::{audit_on, load_on};
+use crate::migrating::migrate_on;
 use crate::moving::{Halt, MoveSink, hand_out, moves_law};
 use crate::reply::Reply;
 use crate::stored::reply_at;
@@ -10,6 +11,7 @@ use ob_base::{Fault, Ref, Stop};
 use ob_book::{Book, Command};
 use ob_sweep::Timeline;
 use ob_tables::Table;
+use ob_upgrade::version_law;
 use sqlite::{Alter, Connection};
 use std::alloc::Global;
 use std::marker::Model;
@@ -39,7 +41,7 @@ impl<S: Alter, T: Timeline> Model for Keeper<S, T> {
 }
 
 impl<S: Alter, T: Timeline> Keeper<S, T> {
-    ghost use Rattle.std.specs.Prelude.{◌≡◌, ◌↔◌, false, None, Some, Err, IsSome, IfErr, OnOk};
+    ghost use Rattle.std.specs.Prelude.{◌≡◌, ◌↔◌, false, None, Some, Err, IsSome, IsTrue, IfErr, OnOk};
     ghost use Rattle.sqlite.specs.Held.{state};
     ghost use Rattle.sqlite.specs.State.{HasCleanDisk, Survives};
     ghost use Rattle.ob_book.specs.Acts.{ActState};
@@ -49,10 +51,13 @@ impl<S: Alter, T: Timeline> Keeper<S, T> {
     ghost use Rattle.ob_store.specs.Replying.{Replied};
     ghost use Rattle.ob_store.specs.Creating.{Created};
     ghost use Rattle.ob_store.specs.Loading.{Audited, Loaded};
+    ghost use Rattle.ob_store.specs.Migrating.{KeepsOldBook, LeavesKept, LeftAsItWas, Migrated, MigratesKept};
+    ghost use Rattle.ob_upgrade.specs.Laws.{AcceptedByBoth, SameFigures};
     ghost use Rattle.ob_store.specs.MovingOut.{HandsOver, IsBookAfterMoves, MovesAreRows, MovesOut};
     ghost use Rattle.ob_tables.specs.Schema.{book_schema};
     ghost use Rattle.ob_tables.specs.Steps.{IsStoreFault};
     ghost use Rattle.ob_tables.specs.Creation.{old_schema};
+    ghost use Rattle.ob_compare.specs.Reading.{IsReadFault};
     ghost use Rattle.ob_store.specs.Versions.{IsLoadFault, Outdated};
     ghost use Rattle.std.specs.Option.{option_map};
 
@@ -188,6 +193,39 @@ impl<S: Alter, T: Timeline> Keeper<S, T> {
     {
         match audit_on::<S, T>(self.alloc, &mut self.conn) {
             Ok(found) => Ok(found),
+            Err(Stop::Fault(Fault::Store)) => {
+                self.book = None;
+                Err(Stop::Fault(Fault::Store))
+            }
+            Err(stop) => Err(stop),
+        }
+    }
+
+    /// Makes the tables of version 1 those of version 2, in one transaction: every device then lives without end from the first
+    /// second on. It answers true; false where the heading tells version 2, and then nothing is changed. `BadBook` where the
+    /// tables aren't those of a book of version 1. It needs no book, and the one that the keeper has stays as it is.
+    pub fn migrate(&mut self) -> Result<bool, Stop>
+        ensures found { OnOk result (self.new.book ≡ self.old.book) }
+        ensures dropped { IfErr result (IsBookAfter self.old.book self.new.book) }
+        ensures stops { IfErr result IsReadFault }
+        ensures clean { HasCleanDisk (state S.Store self.new.conn) → HasCleanDisk (state S.Store self.old.conn) }
+        // a crash leaves no more than before, but for the tables of version 2 of the book of version 1 that the store kept
+        ensures survives { Survives (state S.Store self.old.conn) (state S.Store self.new.conn)
+            (LeavesKept (state S.Store self.old.conn)) }
+        ensures migrated { HasCleanDisk (state S.Store self.new.conn) → self.old.conn.schema ≡ old_schema
+            → Migrated S.Store self.old.conn self.new.conn result }
+        ensures current { HasCleanDisk (state S.Store self.new.conn) → self.old.conn.schema ≡ book_schema
+            → LeftAsItWas S.Store self.old.conn self.new.conn result }
+        ensures kept { HasCleanDisk (state S.Store self.new.conn) → IsTrue (state S.Store self.old.conn).is_open
+            → (b : ActState) → KeepsOldBook (state S.Store self.old.conn) b
+            → MigratesKept S.Store self.new.conn b result }
+        // the book has the amounts and the counts that version 1 gave it, and its commands are accepted now as then
+        ensures figures { SameFigures }
+        ensures accepted { AcceptedByBoth }
+    {
+        version_law();
+        match migrate_on::<S, T>(self.alloc, &mut self.conn) {
+            Ok(done) => Ok(done),
             Err(Stop::Fault(Fault::Store)) => {
                 self.book = None;
                 Err(Stop::Fault(Fault::Store))

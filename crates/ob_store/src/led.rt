@@ -2,6 +2,7 @@
 ghost use Rattle.std.specs.Prelude.{◌≡◌, ◌⊎◌, false, true, is_some, IfOk, IfErr, IfSome};
 ghost use Rattle.ob_base.specs.Stop.{out_of_memory};
 ghost use Rattle.ob_compare.specs.Reading.{bad_book};
+ghost use Rattle.ob_tables.specs.declared.version.Version.{Version as AVersion};
 ghost use Rattle.ob_store.specs.Finding.{Finds, HasNoBook};
 ghost use Rattle.ob_store.specs.Leading.{HasNoPeriodOf, HasParts, IsBegun, IsLed, IsLedBy, IsNewBook, LeadsNowhere, MovesAre};
 
@@ -11,7 +12,9 @@ use ob_book::{Book, next_law};
 use ob_compare::{EndNodes, Heading, are_distinct, holds_moves, lead, names_of, reaching_law};
 use ob_record::naming_law;
 use ob_sweep::Timeline;
+use ob_tables::Version;
 use ob_time::Period;
+use ob_upgrade::version_law;
 use sqlite::{Alter, Connection};
 use std::alloc::Global;
 
@@ -70,24 +73,26 @@ fn begin<T: Timeline>(alloc: Global, named: &Named) -> Result<Led<T>, Stop>
     }
 }
 
-/// A new book, led along the commands while what they move is compared with its table; None where that has other rows, or
-/// a command isn't accepted.
-fn follow<S: Alter, T: Timeline>(
+/// A new book, led along the commands of a version while what they move is compared with its table; None where that has other
+/// rows, or the version doesn't accept a command.
+pub(crate) fn follow<S: Alter, T: Timeline>(
     alloc: Global,
     conn: &mut Connection<S>,
     named: &Named,
+    version: Version,
 ) -> Result<Option<Led<T>>, Stop>
-    ensures led { IfOk result (λ found. IfSome found (λ led. IsLedBy named.now led.book.state
+    ensures led { IfOk result (λ found. IfSome found (λ led. IsLedBy version named.now led.book.state
         × HasParts led.book.state led.names.items led.ends.items × (led.moved ≡ true)
         × (led.counted ≡ named.now.counted))) }
-    ensures finds { Finds S.Store (λ trees found. MovesAre named.now trees (is_some found))
+    ensures finds { Finds S.Store version (λ trees found. MovesAre version named.now trees (is_some found))
         (λ _. HasNoPeriodOf named.now.heading) conn.old conn.new result }
 {
+    version_law();
     let mut led: Led<T> = match begin(alloc, named) {
         Ok(led) => led,
         Err(stop) => return Err(stop),
     };
-    match holds_moves(conn, &mut led.book, &named.commands, &mut led.ends) {
+    match holds_moves(conn, &mut led.book, &named.commands, &mut led.ends, version) {
         Ok(true) => {
             led.moved = true;
             Ok(Some(led))
@@ -99,7 +104,7 @@ fn follow<S: Alter, T: Timeline>(
 
 /// A new book, led along the commands alone.
 fn again<T: Timeline>(alloc: Global, named: &Named) -> Result<Led<T>, Stop>
-    ensures led { IfOk result (λ led. IsLedBy named.now led.book.state
+    ensures led { IfOk result (λ led. IsLedBy AVersion.Two named.now led.book.state
         × HasParts led.book.state led.names.items led.ends.items × (led.moved ≡ false)
         × (led.counted ≡ named.now.counted)) }
     ensures nowhere { IfErr result (λ stop. stop ≡ bad_book → LeadsNowhere named.now) }
@@ -123,13 +128,13 @@ pub(crate) fn read_led<S: Alter, T: Timeline>(
     conn: &mut Connection<S>,
 ) -> Result<Led<T>, Stop>
     ensures parts { IfOk result (λ led. HasParts led.book.state led.names.items led.ends.items) }
-    ensures finds { Finds S.Store (λ trees led. IsLed trees led.book.state led.counted led.moved) HasNoBook
+    ensures finds { Finds S.Store AVersion.Two (λ trees led. IsLed trees led.book.state led.counted led.moved) HasNoBook
         conn.old conn.new result }
 {
     next_law();
     naming_law();
     reaching_law();
-    let named = match read_named(alloc, conn) {
+    let named = match read_named(alloc, conn, Version::Two) {
         Ok(named) => named,
         Err(stop) => return Err(stop),
     };
@@ -138,7 +143,7 @@ pub(crate) fn read_led<S: Alter, T: Timeline>(
         Ok(false) => return Err(BAD_BOOK),
         Err(stop) => return Err(stop),
     }
-    match follow(alloc, conn, &named) {
+    match follow(alloc, conn, &named, Version::Two) {
         Ok(Some(led)) => Ok(led),
         Ok(None) => match again(alloc, &named) {
             Ok(led) => Ok(led),

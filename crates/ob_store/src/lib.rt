@@ -7,6 +7,7 @@ mod creating;
 mod keeper;
 mod led;
 mod loading;
+mod migrating;
 mod moving;
 mod named;
 mod off;

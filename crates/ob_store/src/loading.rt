@@ -1,6 +1,7 @@
 //! The book that the tables hold, and the first of them that differs from one.
 ghost use Rattle.std.specs.Prelude.{◌≡◌, Ok, map};
 ghost use Rattle.ob_compare.specs.Moves.{ends_of};
+ghost use Rattle.ob_tables.specs.declared.version.Version.{Version as AVersion};
 ghost use Rattle.ob_store.specs.Finding.{Finds, HasNoBook};
 ghost use Rattle.ob_store.specs.Leading.{IsLed};
 ghost use Rattle.ob_store.specs.Loading.{Finding, HoldsNoBook, Holding};
@@ -37,7 +38,7 @@ fn find_off<S: Alter, T: Timeline>(
     alloc: Global,
     conn: &mut Connection<S>,
 ) -> Result<Option<Table>, Stop>
-    ensures { Finds S.Store Finding HasNoBook conn.old conn.new result }
+    ensures { Finds S.Store AVersion.Two Finding HasNoBook conn.old conn.new result }
 {
     let led: Led<T> = match read_led(alloc, conn) {
         Ok(led) => led,
@@ -51,8 +52,8 @@ fn check_led<S: Alter, T: Timeline>(conn: &mut Connection<S>, led: &Led<T>) -> R
     requires named { led.now.names.items ≡ map (λ n. n.name) led.now.book.state.network.nodes }
     requires joined { led.now.ends.items ≡ ends_of led.now.book.state.network }
     // where the led book was read so before
-    ensures { (first : _) → Finds S.Store (λ trees l. IsLed trees l.book.state l.counted l.moved) HasNoBook first conn.old
-        (Ok led.now) → Finds S.Store (λ trees done. Holding trees led.now.book.state) HoldsNoBook first conn.new result }
+    ensures { (first : _) → Finds S.Store AVersion.Two (λ trees l. IsLed trees l.book.state l.counted l.moved) HasNoBook first conn.old
+        (Ok led.now) → Finds S.Store AVersion.Two (λ trees done. Holding trees led.now.book.state) HoldsNoBook first conn.new result }
 {
     match first_off(conn, led) {
         Ok(None) => {}
@@ -85,7 +86,7 @@ fn load_tables<S: Alter, T: Timeline>(
     alloc: Global,
     conn: &mut Connection<S>,
 ) -> Result<Book<T>, Stop>
-    ensures { Finds S.Store (λ trees book. Holding trees book.state) HoldsNoBook conn.old conn.new result }
+    ensures { Finds S.Store AVersion.Two (λ trees book. Holding trees book.state) HoldsNoBook conn.old conn.new result }
 {
     let led: Led<T> = match read_led(alloc, conn) {
         Ok(led) => led,

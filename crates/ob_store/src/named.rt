@@ -1,9 +1,10 @@
 //! The heading and the commands that the tables hold.
-ghost use Rattle.std.specs.Prelude.{◌≡◌, false};
-ghost use Rattle.ob_store.specs.Finding.{Finds, HasNoBook, IsNamed};
+ghost use Rattle.std.specs.Prelude.{◌≤◌, length, IfOk};
+ghost use Rattle.ob_store.specs.Finding.{Finds, HasNoBookIn, IsNamed};
 
 use ob_base::{Refusal, Stop};
 use ob_compare::{Filed, Heading, read_commands, read_heading};
+use ob_tables::Version;
 use sqlite::{Alter, Connection};
 use std::alloc::Global;
 
@@ -19,16 +20,21 @@ pub(crate) struct Named {
     pub(crate) counted: bool,
 }
 
-/// Reads the heading and the commands.
-pub(crate) fn read_named<S: Alter>(alloc: Global, conn: &mut Connection<S>) -> Result<Named, Stop>
-    ensures { Finds S.Store IsNamed HasNoBook conn.old conn.new result }
+/// Reads the heading and the commands of a version.
+pub(crate) fn read_named<S: Alter>(
+    alloc: Global,
+    conn: &mut Connection<S>,
+    version: Version,
+) -> Result<Named, Stop>
+    ensures few { IfOk result (λ named. length named.commands.items ≤ 1_000_000) }
+    ensures finds { Finds S.Store version (IsNamed version) (HasNoBookIn version) conn.old conn.new result }
 {
     let heading = match read_heading(alloc, conn) {
         Ok(Some(heading)) => heading,
         Ok(None) => return Err(BAD_BOOK),
         Err(stop) => return Err(stop),
     };
-    match read_commands(alloc, conn) {
+    match read_commands(alloc, conn, version) {
         Ok(Some(read)) => Ok(Named {
             heading,
             commands: read.commands,

@@ -3,6 +3,7 @@ ghost use Rattle.std.specs.Prelude.{◌≡◌, map};
 ghost use Rattle.ob_book.specs.Acts.{ActState};
 ghost use Rattle.ob_compare.specs.Moves.{ends_of};
 ghost use Rattle.ob_parts.specs.Parts.{IsPart};
+ghost use Rattle.ob_tables.specs.declared.version.Version.{Version as AVersion};
 ghost use Rattle.ob_store.specs.Finding.{Finds};
 ghost use Rattle.ob_store.specs.Differing.{IsFirstOff, IsFirstOffOf, IsOff, NoneSo};
 
@@ -10,7 +11,7 @@ use crate::led::Led;
 use ob_base::Stop;
 use ob_parts::holds_part;
 use ob_sweep::Timeline;
-use ob_tables::Table;
+use ob_tables::{Table, Version};
 use sqlite::{Alter, Connection};
 
 /// The tables before that of commands, in their order.
@@ -35,9 +36,9 @@ fn part_off<S: Alter, T: Timeline>(
     requires named { led.now.names.items ≡ map (λ n. n.name) led.now.book.state.network.nodes }
     requires joined { led.now.ends.items ≡ ends_of led.now.book.state.network }
     ensures { (b : ActState) → b.book ≡ led.now.book.state
-        → Finds S.Store (IsOff b table) NoneSo conn.old conn.new result }
+        → Finds S.Store AVersion.Two (IsOff b table) NoneSo conn.old conn.new result }
 {
-    match holds_part(conn, &led.book, &led.names, &led.ends, table) {
+    match holds_part(conn, &led.book, &led.names, &led.ends, Version::Two, table) {
         Ok(true) => Ok(None),
         Ok(false) => Ok(Some(table)),
         Err(stop) => Err(stop),
@@ -52,7 +53,7 @@ fn first_part_off<S: Alter, T: Timeline>(
     requires named { led.now.names.items ≡ map (λ n. n.name) led.now.book.state.network.nodes }
     requires joined { led.now.ends.items ≡ ends_of led.now.book.state.network }
     ensures { (b : ActState) → b.book ≡ led.now.book.state
-        → Finds S.Store (IsFirstOffOf 8 b) NoneSo conn.old conn.new result }
+        → Finds S.Store AVersion.Two (IsFirstOffOf 8 b) NoneSo conn.old conn.new result }
 {
     'parts: for at in 0..FIRST_PARTS.len() {
         match part_off(conn, led, FIRST_PARTS[at]) {
@@ -73,7 +74,7 @@ pub(crate) fn first_off<S: Alter, T: Timeline>(
     requires named { led.now.names.items ≡ map (λ n. n.name) led.now.book.state.network.nodes }
     requires joined { led.now.ends.items ≡ ends_of led.now.book.state.network }
     ensures { (b : ActState) → b.book ≡ led.now.book.state
-        → Finds S.Store (IsFirstOff b led.now.counted led.now.moved) NoneSo conn.old conn.new result }
+        → Finds S.Store AVersion.Two (IsFirstOff b led.now.counted led.now.moved) NoneSo conn.old conn.new result }
 {
     match first_part_off(conn, led) {
         Ok(None) => {}

@@ -11,10 +11,13 @@ use ob_compare::has_version;
 use sqlite::{Alter, Connection};
 
 /// The version before this one.
-const OLD: u32 = 1;
+pub(crate) const OLD: u32 = 1;
+
+/// This version.
+pub(crate) const NEW: u32 = 2;
 
 /// Whether the database has a table with the name of that of lives.
-fn has_lives<S: Alter>(conn: &Connection<S>) -> bool
+pub(crate) fn has_lives<S: Alter>(conn: &Connection<S>) -> bool
     ensures { result ≡ is_some (table_named (state S.Store conn.now).now.schema (codes "life")) }
 {
     conn.schema().table_named(b"life").is_some()

@@ -5,7 +5,7 @@ use Rattle.clap.specs.Walk.{walked}
 use Rattle.clap.specs.Words.{Text}
 use Rattle.clap.specs.declared.error.kind.ErrorKind.TheVariants as kind
 use Rattle.ob_words.specs.Jobs.{errors_of, job_of}
-use Rattle.ob_words.specs.declared.job.Job.TheVariants.{Total, Init, Import, Export, Table, Audit, Serve}
+use Rattle.ob_words.specs.declared.job.Job.TheVariants.{Total, Init, Import, Export, Table, Audit, Migrate, Serve}
 
 total_is_a_job : job_of (codes "outagebook" ∷ codes "total" ∷ []) ≡ Some Total
 unfolding defaults_fault walk_fault walked
@@ -31,6 +31,11 @@ audit_of_a_book : job_of (codes "outagebook" ∷ codes "audit" ∷ codes "--book
     ≡ Some (Audit (codes "a.db"))
 unfolding defaults_fault walk_fault walked
 audit_of_a_book = refl
+
+migrate_of_a_book : job_of (codes "outagebook" ∷ codes "migrate" ∷ codes "--book=a.db" ∷ [])
+    ≡ Some (Migrate (codes "a.db"))
+unfolding defaults_fault walk_fault walked
+migrate_of_a_book = refl
 
 -- `init` from 2026-01-01 for these days, with these words after them
 abbrev init_words : Text → List Text → List Text

@@ -58,6 +58,10 @@ table_app = over_book (codes "table")
 abbrev pub audit_app : App
 audit_app = over_book (codes "audit")
 
+-- `migrate --book FILE`
+abbrev pub migrate_app : App
+migrate_app = over_book (codes "migrate")
+
 -- `import --book FILE INPUT`
 abbrev pub import_app : App
 import_app = with_rule (over_book (codes "import")) (word_rule (codes "INPUT"))
@@ -87,4 +91,4 @@ with_subcommands a (s ∷ rest) = with_subcommands (with_subcommand a s.top) res
 -- the command line of the program
 abbrev pub outagebook_app : App
 outagebook_app = with_subcommands bare_app
-    (total_app ∷ init_app ∷ import_app ∷ export_app ∷ table_app ∷ audit_app ∷ serve_app ∷ [])
+    (total_app ∷ init_app ∷ import_app ∷ export_app ∷ table_app ∷ audit_app ∷ migrate_app ∷ serve_app ∷ [])

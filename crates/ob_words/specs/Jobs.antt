@@ -8,7 +8,7 @@ use Rattle.ob_base.specs.declared.stop.Fault.TheVariants.{OutOfMemory}
 use Rattle.ob_words.specs.Commands.{outagebook_app}
 use Rattle.ob_words.specs.Values.{with_count, with_number, with_word}
 use Rattle.ob_words.specs.declared.job.Job.{Job}
-use Rattle.ob_words.specs.declared.job.Job.TheVariants.{Total, Init, Import, Export, Table, Audit, Serve}
+use Rattle.ob_words.specs.declared.job.Job.TheVariants.{Total, Init, Import, Export, Table, Audit, Migrate, Serve}
 use Rattle.ob_words.specs.declared.read.WrongWords.{WrongWords}
 use Rattle.ob_words.specs.declared.read.WrongWords.TheVariants as wrong
 
@@ -30,6 +30,9 @@ table_job rows = with_word (codes "book") rows (λ book. Some (Table book))
 abbrev pub audit_job : List Row → Option Job
 audit_job rows = with_word (codes "book") rows (λ book. Some (Audit book))
 
+abbrev pub migrate_job : List Row → Option Job
+migrate_job rows = with_word (codes "book") rows (λ book. Some (Migrate book))
+
 abbrev pub serve_job : List Row → Option Job
 serve_job rows = with_word (codes "book") rows (λ book. with_number (codes "port") rows (λ port.
     with_count (codes "streams") rows (λ streams. Some (Serve book port streams))))
@@ -43,6 +46,7 @@ job_named p =
     else if bytes_eq p.0 (codes "export") then export_job p.1
     else if bytes_eq p.0 (codes "table") then table_job p.1
     else if bytes_eq p.0 (codes "audit") then audit_job p.1
+    else if bytes_eq p.0 (codes "migrate") then migrate_job p.1
     else if bytes_eq p.0 (codes "serve") then serve_job p.1
     else None
 

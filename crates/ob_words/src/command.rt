@@ -3,7 +3,7 @@ ghost use Rattle.std.specs.Prelude.{◌≡◌, IfOk, codes, false};
 ghost use Rattle.clap.specs.Words.{app_of, rule_of};
 ghost use Rattle.clap.specs.declared.builder.command.Command.TheViews.{out-Command};
 ghost use Rattle.ob_words.specs.Commands.{audit_app, bare_app, book_rule, count_rule, default_streams, export_app};
-ghost use Rattle.ob_words.specs.Commands.{import_app, init_app, number_rule, outagebook_app, over_book, required_rule};
+ghost use Rattle.ob_words.specs.Commands.{import_app, init_app, migrate_app, number_rule, outagebook_app, over_book, required_rule};
 ghost use Rattle.ob_words.specs.Commands.{serve_app, table_app, total_app, word_rule};
 
 use clap::{Arg, Command, value_parser};
@@ -131,6 +131,17 @@ fn audit_command<'a>(alloc: Global) -> Result<Command<'a>, AllocError>
     )
 }
 
+fn migrate_command<'a>(alloc: Global) -> Result<Command<'a>, AllocError>
+    ensures app { IfOk result (λ c. app_of c ≡ migrate_app) }
+    ensures local { IfOk result (λ c. (out-Command c).has_globals ≡ false) }
+{
+    book_command(
+        alloc,
+        "migrate",
+        "Makes a book of version 1 one of version 2",
+    )
+}
+
 fn serve_command<'a>(alloc: Global) -> Result<Command<'a>, AllocError>
     ensures app { IfOk result (λ c. app_of c ≡ serve_app) }
     ensures local { IfOk result (λ c. (out-Command c).has_globals ≡ false) }
@@ -167,5 +178,6 @@ pub(crate) fn outagebook_command<'a>(alloc: Global) -> Result<Command<'a>, Alloc
         .subcommand(export_command(alloc)?)?
         .subcommand(table_command(alloc)?)?
         .subcommand(audit_command(alloc)?)?
+        .subcommand(migrate_command(alloc)?)?
         .subcommand(serve_command(alloc)?)
 }

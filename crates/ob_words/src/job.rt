@@ -72,6 +72,11 @@ pub enum Job {
         /// The book's file.
         book: Word,
     },
+    /// Make a book of version 1 one of version 2.
+    Migrate {
+        /// The book's file.
+        book: Word,
+    },
     /// Serve a book over HTTP on 127.0.0.1.
     Serve {
         /// The book's file.

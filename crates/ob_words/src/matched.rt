@@ -1,7 +1,7 @@
 //! The job that a subcommand's matches give.
 ghost use Rattle.std.specs.Prelude.{◌≡◌, IfOk, option_and_then};
 ghost use Rattle.clap.specs.Words.{first_of, found_of, rows_of, subcommand_rows_of};
-ghost use Rattle.ob_words.specs.Jobs.{audit_job, export_job, import_job, init_job, job_named, serve_job, table_job};
+ghost use Rattle.ob_words.specs.Jobs.{audit_job, export_job, import_job, init_job, job_named, migrate_job, serve_job, table_job};
 ghost use Rattle.ob_words.specs.Values.{count_given, number_given};
 
 use crate::job::{Job, Word};
@@ -88,6 +88,15 @@ fn audit_from(alloc: Global, matches: &ArgMatches<'_>) -> Result<Option<Job>, Al
     }
 }
 
+fn migrate_from(alloc: Global, matches: &ArgMatches<'_>) -> Result<Option<Job>, AllocError>
+    ensures { IfOk result (λ r. r ≡ migrate_job (rows_of (found_of matches.now))) }
+{
+    match word_of(alloc, matches, "book")? {
+        Some(book) => Ok(Some(Job::Migrate { book })),
+        None => Ok(None),
+    }
+}
+
 fn serve_from(alloc: Global, matches: &ArgMatches<'_>) -> Result<Option<Job>, AllocError>
     ensures { IfOk result (λ r. r ≡ serve_job (rows_of (found_of matches.now))) }
 {
@@ -114,6 +123,7 @@ fn job_from(alloc: Global, name: &str, matches: &ArgMatches<'_>) -> Result<Optio
         "export" => export_from(alloc, matches),
         "table" => table_from(alloc, matches),
         "audit" => audit_from(alloc, matches),
+        "migrate" => migrate_from(alloc, matches),
         "serve" => serve_from(alloc, matches),
         _ => Ok(None),
     }

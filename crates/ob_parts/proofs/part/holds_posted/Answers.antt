@@ -9,9 +9,9 @@ use Rattle.ob_parts.proofs.Keyed.{same_rows}
 use Rattle.ob_parts.proofs.part.holds_posted.Goals as goal
 
 pub returns : goal.returns
-returns g c =
+returns g c v has =
     let b = c.args.book.now.state in
     let posted = amount_of c.postings.result.now in
     let days_are = c.days.ensures.value ∙ ap day_count (c.deref.ensures ∙ c.period.ensures) in
     let rows = ap (λ n. amount_rows n posted) days_are ∙ same_rows posted (amount b) (day_count b.period) c.postings.ensures.posted.amounts in
-    subst (λ e. Compares g.S.Store Posting e c.args.conn.now c.holds_amounts.new.conn c.holds_amounts.result) rows c.holds_amounts.ensures
+    subst (λ e. Compares g.S.Store v Posting e c.args.conn.now c.holds_amounts.new.conn c.holds_amounts.result) rows (c.holds_amounts.ensures v has)

@@ -14,4 +14,4 @@ holds-requires g c =
     record { rises = subst (IsStrictlySortedBy (row_cmp Posting)) (sym (standing_all (amount_row amount) (all_keys c.args.days))) (amounts_rise amount c.args.days) }
 
 pub returns : goal.returns
-returns g c = subst (λ e. Compares g.S.Store Posting e c.args.conn.now c.holds.new.conn c.holds.result) (standing_all (amount_row (amount_of c.args.postings.now)) (all_keys c.args.days)) c.holds.ensures
+returns g c v has = subst (λ e. Compares g.S.Store v Posting e c.args.conn.now c.holds.new.conn c.holds.result) (standing_all (amount_row (amount_of c.args.postings.now)) (all_keys c.args.days)) (c.holds.ensures v has)

@@ -13,4 +13,4 @@ holds-requires g c =
     record { rises = subst (IsStrictlySortedBy (row_cmp Cause)) (sym (standing_placed cause_row 0 causes)) (rise_present (λ (code : ℕ) (name : List ℕ). Text name ∷ []) 0 causes) }
 
 pub returns : goal.returns
-returns g c = subst (λ e. Compares g.S.Store Cause e c.args.conn.now c.holds.new.conn c.holds.result) (standing_placed cause_row 0 c.args.book.now.state.causes) c.holds.ensures
+returns g c v has = subst (λ e. Compares g.S.Store v Cause e c.args.conn.now c.holds.new.conn c.holds.result) (standing_placed cause_row 0 c.args.book.now.state.causes) (c.holds.ensures v has)

@@ -16,4 +16,4 @@ holds-requires g c =
     record { rises = subst (IsStrictlySortedBy (row_cmp Customer)) (sym (standing_all row_of_customer cs)) rising }
 
 pub returns : goal.returns
-returns g c = subst (λ e. Compares g.S.Store Customer e c.args.conn.now c.holds.new.conn c.holds.result) (standing_all row_of_customer c.args.roll.now.customers) c.holds.ensures
+returns g c v has = subst (λ e. Compares g.S.Store v Customer e c.args.conn.now c.holds.new.conn c.holds.result) (standing_all row_of_customer c.args.roll.now.customers) (c.holds.ensures v has)

@@ -18,6 +18,6 @@ holds-requires g c =
     }
 
 pub returns : goal.returns
-returns g c =
+returns g c v has =
     let xs = c.args.net.now.network.devices in
-    subst (λ e. Compares g.S.Store Device e c.args.conn.now c.holds.new.conn c.holds.result) (standing_placed row_of_device 0 (map Some xs) ∙ present_all row_of_device 0 xs) c.holds.ensures
+    subst (λ e. Compares g.S.Store v Device e c.args.conn.now c.holds.new.conn c.holds.result) (standing_placed row_of_device 0 (map Some xs) ∙ present_all row_of_device 0 xs) (c.holds.ensures v has)

@@ -19,4 +19,4 @@ holds-requires g c =
     record { rises = subst (IsStrictlySortedBy (row_cmp Entry)) (sym (standing_all row_of_entry es)) rising }
 
 pub returns : goal.returns
-returns g c = subst (λ e. Compares g.S.Store Entry e c.args.conn.now c.holds.new.conn c.holds.result) (standing_all row_of_entry c.args.sheet.now.entries) c.holds.ensures
+returns g c v has = subst (λ e. Compares g.S.Store v Entry e c.args.conn.now c.holds.new.conn c.holds.result) (standing_all row_of_entry c.args.sheet.now.entries) (c.holds.ensures v has)

@@ -13,4 +13,4 @@ holds-requires g c =
     record { rises = subst (IsStrictlySortedBy (row_cmp Mark)) (sym (standing_placed mark_row 0 marks)) (rise_present (λ (day : ℕ) (engineer : List ℕ). Text engineer ∷ []) 0 marks) }
 
 pub returns : goal.returns
-returns g c = subst (λ e. Compares g.S.Store Mark e c.args.conn.now c.holds.new.conn c.holds.result) (standing_placed mark_row 0 c.args.marks.now) c.holds.ensures
+returns g c v has = subst (λ e. Compares g.S.Store v Mark e c.args.conn.now c.holds.new.conn c.holds.result) (standing_placed mark_row 0 c.args.marks.now) (c.holds.ensures v has)

@@ -1,0 +1,100 @@
+-- What becomes of a store whose tables of version 1 are to be made those of version 2.
+use Rattle.std.specs.Prelude.{◌≡◌, ◌⊎◌, Bool, true, false, Result, Ok, Err, IsTrue}
+use Rattle.std.specs.List.{AllByRecursion}
+use Rattle.sqlite_trees.specs.declared.store.Store.{Ghosts}
+use Rattle.sqlite.specs.Tree.{Trees}
+use Rattle.sqlite.specs.Held.{Held, state}
+use Rattle.sqlite.specs.State.{State}
+use Rattle.ob_base.specs.declared.stop.Stop.{Stop}
+use Rattle.ob_base.specs.declared.stop.Stop.TheVariants.{Refused, Fault}
+use Rattle.ob_base.specs.declared.stop.Refusal.TheVariants.{BadBook}
+use Rattle.ob_base.specs.declared.stop.Fault.TheVariants.{OutOfMemory, Store}
+use Rattle.ob_book.specs.Acts.{ActState}
+use Rattle.ob_tables.specs.declared.version.Version.TheVariants.{One}
+use Rattle.ob_commit.specs.Keeps.{KeepsIn, Leaves}
+use Rattle.ob_commit.specs.Upgrade.{KeepsOldOr}
+use Rattle.ob_record.specs.Naming.{IsReferenced}
+use Rattle.ob_record.specs.Tables.{tables_of}
+use Rattle.ob_compare.specs.Version.{HasVersion}
+use Rattle.ob_migrate.specs.OldTables.{HasOldBook, IsOldReached, old_tables_of}
+use Rattle.ob_store.specs.Finding.{OnlyReads, ShowsTheSame}
+use Rattle.ob_store.specs.Keeping.{KeepsBook}
+use Rattle.ob_store.specs.Loading.{trees_in}
+
+-- the store keeps the tables of version 1 of a book and its accepted commands, and a crash leaves nothing else
+pub record KeepsOldBook (s : State) (b : ActState) : Type 0 where
+  pub kept : KeepsIn One s (old_tables_of b)
+  pub reached : IsOldReached b
+  -- what references and commands always are
+  pub valid : AllByRecursion IsReferenced b.accepted
+
+-- while it is open the store keeps the tables of version 1 of a book; a crash leaves these, or those of version 2 of the book
+pub record KeepsEitherVersion (s : State) (b : ActState) : Type 0 where
+  pub kept : KeepsOldOr s (old_tables_of b) (tables_of b)
+  pub reached : IsOldReached b
+  pub valid : AllByRecursion IsReferenced b.accepted
+
+-- the tables are those of no book of version 1
+abbrev pub HoldsNoOldBook : Trees → Type 0
+HoldsNoOldBook trees = (b : ActState) → ¬ (HasOldBook trees b)
+
+-- they are those of this book of version 1, and of no other
+abbrev pub HoldsOldBook : Trees → ActState → Type 0
+HoldsOldBook trees b = HasOldBook trees b × ((other : ActState) → HasOldBook trees other → other ≡ b)
+
+-- a whole database of version 2, of the book whose tables of version 1 these trees hold
+abbrev pub LeavesUpgradeOf : Trees → Trees → Type 0
+LeavesUpgradeOf was trees = (b : ActState) × HasOldBook was b × Leaves (tables_of b) trees
+
+-- a whole database of version 2, of any book of version 1 that the store kept while it was open
+abbrev pub LeavesKept : State → Trees → Type 0
+LeavesKept s trees = IsTrue s.is_open → (b : ActState) → KeepsOldBook s b → Leaves (tables_of b) trees
+
+module _ {S : Type 0} (g : Ghosts S) where
+  -- nothing was written: a book of version 1 that the store keeps it keeps on, and a crash leaves no more than before
+  pub record OnlyReadsOld (old new : Held S) : Type 0 where
+    pub kept : (b : ActState) → KeepsOldBook (state g old) b → KeepsOldBook (state g new) b
+    pub left : (trees : Trees) → (state g new).may_leave trees → (state g old).may_leave trees
+
+  -- and what it shows is what it showed
+  abbrev pub ShowsTheSameOld : Held S → Held S → Type 0
+  ShowsTheSameOld old new = OnlyReadsOld old new × ((state g new).now ≡ (state g old).now)
+
+  -- what a fault of the store leaves: while it is open the store keeps a book of version 1 that it kept; a crash leaves what it
+  -- left before, or the tables of version 2 of the book whose tables of version 1 stood there
+  pub record StaysOrUpgrades (old new : Held S) : Type 0 where
+    pub kept : (b : ActState) → KeepsOldBook (state g old) b → KeepsEitherVersion (state g new) b
+    pub left : (trees : Trees) → (state g new).may_leave trees
+        → (state g old).may_leave trees ⊎ LeavesUpgradeOf (trees_in g old) trees
+
+  -- over the tables of version 1: the store keeps the book that they hold, in those of version 2; or the heading tells
+  -- version 2; or the tables are those of no book of version 1; or memory was refused, or the store failed
+  abbrev pub Migrated : Held S → Held S → Result Bool Stop → Type 0
+  Migrated old new (Ok true) = (b : ActState) × HoldsOldBook (trees_in g old) b × KeepsBook (state g new) b
+  Migrated old new (Ok false) = HasVersion 2 (trees_in g old) × ShowsTheSameOld old new
+  Migrated old new (Err (Refused BadBook)) =
+      (¬ (HasVersion 2 (trees_in g old))) × HoldsNoOldBook (trees_in g old) × ShowsTheSameOld old new
+  Migrated old new (Err (Refused refusal)) = ⊥
+  Migrated old new (Err (Fault OutOfMemory)) = OnlyReadsOld old new
+  Migrated old new (Err (Fault Store)) = StaysOrUpgrades old new
+  Migrated old new (Err (Fault fault)) = ⊥
+
+  -- over the tables of version 2 nothing is written: the heading tells that version, or another one
+  abbrev pub LeftAsItWas : Held S → Held S → Result Bool Stop → Type 0
+  LeftAsItWas old new (Ok true) = ⊥
+  LeftAsItWas old new (Ok false) = HasVersion 2 (trees_in g old) × ShowsTheSame g old new
+  LeftAsItWas old new (Err (Refused BadBook)) = (¬ (HasVersion 2 (trees_in g old))) × ShowsTheSame g old new
+  LeftAsItWas old new (Err (Refused refusal)) = ⊥
+  LeftAsItWas old new (Err (Fault OutOfMemory)) = OnlyReads g old new
+  LeftAsItWas old new (Err (Fault Store)) = OnlyReads g old new
+  LeftAsItWas old new (Err (Fault fault)) = ⊥
+
+  -- what became of a book of version 1 that an open store kept: the store keeps it in the tables of version 2; or, where
+  -- memory was refused, in those of version 1; or, after a fault of the store, a crash leaves the ones or the others
+  abbrev pub MigratesKept : Held S → ActState → Result Bool Stop → Type 0
+  MigratesKept new b (Ok true) = KeepsBook (state g new) b
+  MigratesKept new b (Ok false) = ⊥
+  MigratesKept new b (Err (Refused refusal)) = ⊥
+  MigratesKept new b (Err (Fault OutOfMemory)) = KeepsOldBook (state g new) b
+  MigratesKept new b (Err (Fault Store)) = KeepsEitherVersion (state g new) b
+  MigratesKept new b (Err (Fault fault)) = ⊥

@@ -1,0 +1,214 @@
+//! The tables of version 1 made those of version 2.
+ghost use Rattle.std.specs.Prelude.{◌≡◌, ◌↔◌, ◌≤◌, ◌×◌, false, length, map, Ok, IsTrue, IfOk, IfErr};
+ghost use Rattle.sqlite.specs.Held.{state};
+ghost use Rattle.sqlite.specs.State.{HasCleanDisk, Survives};
+ghost use Rattle.ob_book.specs.Acts.{ActState};
+ghost use Rattle.ob_commit.specs.Upgrade.{CanUpgrade, LeavesUpgraded, with_upgrade};
+ghost use Rattle.ob_compare.specs.Moves.{ends_of};
+ghost use Rattle.ob_migrate.specs.OldTables.{HasOldBook};
+ghost use Rattle.ob_tables.specs.Creation.{old_schema};
+ghost use Rattle.ob_tables.specs.Rows.{AreApart};
+ghost use Rattle.ob_tables.specs.Steps.{IsStoreFault};
+ghost use Rattle.ob_tables.specs.declared.version.Version.{Version as AVersion};
+ghost use Rattle.ob_store.specs.Differing.{NoneSo};
+ghost use Rattle.ob_store.specs.Finding.{Finds, IsNamed};
+ghost use Rattle.ob_store.specs.Leading.{HasParts, IsLedIn};
+ghost use Rattle.ob_store.specs.Migrating.{HoldsNoOldBook};
+ghost use Rattle.ob_store.specs.Upgrading.{HasOldParts, HasOldRows, IsTold, IsUntold, IsUpgradeOf, Migrates, Upgradable, Upgraded};
+
+use crate::led::{Led, follow};
+use crate::named::{BAD_BOOK, Named, read_named};
+use crate::version::{NEW, OLD, has_lives};
+use ob_base::{Fault, Stop};
+use ob_book::next_law;
+use ob_commit::{NewBody, commit_upgrade};
+use ob_compare::{are_apart, are_distinct, has_version, reaching_law};
+use ob_migrate::{new_bodies, upgrade_law};
+use ob_parts::holds_part;
+use ob_record::naming_law;
+use ob_sweep::Timeline;
+use ob_tables::{Table, Version};
+use ob_upgrade::version_law;
+use sqlite::{Alter, Connection};
+use std::alloc::Global;
+
+/// The tables of version 1 but for that of commands and that of what they moved.
+const OLD_PARTS: [Table; 8] = [
+    Table::Meta,
+    Table::Cause,
+    Table::Node,
+    Table::Device,
+    Table::Customer,
+    Table::Entry,
+    Table::Mark,
+    Table::Posting,
+];
+
+/// What makes the tables of version 1 those of version 2.
+#[derive(Drop)]
+pub(crate) struct Upgrade {
+    /// The body texts that commands have from now on.
+    pub(crate) bodies: Vec<NewBody>,
+    /// How many devices there are.
+    pub(crate) devices: u32,
+}
+
+/// Whether the heading tells version 2. If not it tells version 1, and there is no table of lives, or the tables are those of
+/// no book of version 1.
+fn tells_new<S: Alter>(conn: &mut Connection<S>) -> Result<bool, Stop>
+    ensures { (v : AVersion) → Finds S.Store v (IsTold v) (IsUntold v) conn.old conn.new result }
+{
+    match has_version(conn, NEW) {
+        Ok(true) => return Ok(true),
+        Ok(false) => {}
+        Err(stop) => return Err(stop),
+    }
+    match has_version(conn, OLD) {
+        Ok(true) => {}
+        Ok(false) => return Err(BAD_BOOK),
+        Err(stop) => return Err(stop),
+    }
+    if has_lives(conn) {
+        Err(BAD_BOOK)
+    } else {
+        Ok(false)
+    }
+}
+
+/// Whether the tables of version 1, those of commands and of what they moved aside, have the rows of a led book.
+fn has_old_rows<S: Alter, T: Timeline>(conn: &mut Connection<S>, led: &Led<T>) -> Result<bool, Stop>
+    requires named { led.now.names.items ≡ map (λ n. n.name) led.now.book.state.network.nodes }
+    requires joined { led.now.ends.items ≡ ends_of led.now.book.state.network }
+    ensures { Finds S.Store AVersion.One (λ trees is. IsTrue is ↔ HasOldRows trees led.now.book.state) NoneSo
+        conn.old conn.new result }
+{
+    'parts: for at in 0..OLD_PARTS.len() {
+        let part = OLD_PARTS[at];
+        match holds_part(conn, &led.book, &led.names, &led.ends, Version::One, part) {
+            Ok(true) => {}
+            Ok(false) => return Ok(false),
+            Err(stop) => return Err(stop),
+        }
+    }
+    Ok(true)
+}
+
+/// Refuses a led book as `BadBook` where its tables of version 1 aren't those that stand. Nothing is written.
+fn check_old<S: Alter, T: Timeline>(conn: &mut Connection<S>, led: &Led<T>) -> Result<(), Stop>
+    requires named { led.now.names.items ≡ map (λ n. n.name) led.now.book.state.network.nodes }
+    requires joined { led.now.ends.items ≡ ends_of led.now.book.state.network }
+    ensures { Finds S.Store AVersion.One (λ trees done. HasOldParts trees led.now.book.state)
+        (λ trees. ¬ (HasOldRows trees led.now.book.state)) conn.old conn.new result }
+{
+    match has_old_rows(conn, led) {
+        Ok(true) => {}
+        Ok(false) => return Err(BAD_BOOK),
+        Err(stop) => return Err(stop),
+    }
+    match are_apart(conn) {
+        Ok(true) => Ok(()),
+        // two rows under one row number: the file is broken
+        Ok(false) => Err(Stop::Fault(Fault::Store)),
+        Err(stop) => Err(stop),
+    }
+}
+
+/// Leads a new book along the commands of version 1 that were read, while what they move is compared with its table.
+fn lead_old<S: Alter, T: Timeline>(
+    alloc: Global,
+    conn: &mut Connection<S>,
+    named: &Named,
+) -> Result<Led<T>, Stop>
+    ensures parts { IfOk result (λ led. HasParts led.book.state led.names.items led.ends.items) }
+    // where the commands were read so before
+    ensures finds { (first : _) → Finds S.Store AVersion.One (IsNamed AVersion.One) HoldsNoOldBook first conn.old
+        (Ok named.now) → Finds S.Store AVersion.One (λ trees led. IsNamed AVersion.One trees named.now
+        × IsLedIn AVersion.One trees led.book.state true true) HoldsNoOldBook first conn.new result }
+{
+    next_law();
+    naming_law();
+    reaching_law();
+    version_law();
+    upgrade_law();
+    if !named.counted {
+        return Err(BAD_BOOK);
+    }
+    match are_distinct(alloc, &named.commands) {
+        Ok(true) => {}
+        Ok(false) => return Err(BAD_BOOK),
+        Err(stop) => return Err(stop),
+    }
+    match follow(alloc, conn, named, Version::One) {
+        Ok(Some(led)) => Ok(led),
+        Ok(None) => Err(BAD_BOOK),
+        Err(stop) => Err(stop),
+    }
+}
+
+/// What makes the tables of version 1 those of version 2, where they are those of a book. Nothing is written.
+fn find_old<S: Alter, T: Timeline>(alloc: Global, conn: &mut Connection<S>) -> Result<Upgrade, Stop>
+    ensures { Finds S.Store AVersion.One Upgradable HoldsNoOldBook conn.old conn.new result }
+{
+    upgrade_law();
+    let named = match read_named(alloc, conn, Version::One) {
+        Ok(named) => named,
+        Err(stop) => return Err(stop),
+    };
+    let led: Led<T> = match lead_old(alloc, conn, &named) {
+        Ok(led) => led,
+        Err(stop) => return Err(stop),
+    };
+    match check_old(conn, &led) {
+        Ok(()) => {}
+        Err(stop) => return Err(stop),
+    }
+    match new_bodies(alloc, &named.commands) {
+        Ok(bodies) => Ok(Upgrade {
+            bodies,
+            devices: u32::from(led.book.net().devices()),
+        }),
+        Err(stop) => Err(stop),
+    }
+}
+
+/// Makes the tables of version 1 of the book that was found those of version 2, in one transaction.
+fn upgrade<S: Alter>(conn: &mut Connection<S>, it: &Upgrade) -> Result<(), Stop>
+    requires mode { conn.old.in_transaction ≡ false }
+    ensures mode { conn.new.in_transaction ≡ false }
+    ensures faults { IfErr result IsStoreFault }
+    ensures survives { Survives (state S.Store conn.old) (state S.Store conn.new) (LeavesUpgraded (state S.Store conn.old)
+        (CanUpgrade it.now.bodies.items it.now.devices) (with_upgrade it.now.bodies.items it.now.devices)) }
+    ensures upgraded { HasCleanDisk (state S.Store conn.new) → IsTrue (state S.Store conn.old).is_open
+        → conn.old.schema ≡ old_schema → (b : ActState) → HasOldBook (state S.Store conn.old).now.trees b
+        → AreApart ((state S.Store conn.old).now.trees 14) → IsUpgradeOf b it.now → Upgraded S.Store conn.new b result }
+{
+    upgrade_law();
+    // outside a transaction what a connection shows is what was committed, and what is open is a whole database
+    prove!(conn.is_autocommit());
+    let _schema = conn.schema();
+    commit_upgrade(conn, &it.bodies, it.devices)
+}
+
+/// Makes the tables of version 1 those of version 2: true; false where the heading tells version 2, and nothing is written.
+pub(crate) fn migrate_on<S: Alter, T: Timeline>(
+    alloc: Global,
+    conn: &mut Connection<S>,
+) -> Result<bool, Stop>
+    requires mode { conn.old.in_transaction ≡ false }
+    ensures mode { conn.new.in_transaction ≡ false }
+    ensures migrates { Migrates S.Store conn.old conn.new result }
+{
+    match tells_new(conn) {
+        Ok(true) => return Ok(false),
+        Ok(false) => {}
+        Err(stop) => return Err(stop),
+    }
+    let found = match find_old::<S, T>(alloc, conn) {
+        Ok(found) => found,
+        Err(stop) => return Err(stop),
+    };
+    match upgrade(conn, &found) {
+        Ok(()) => Ok(true),
+        Err(stop) => Err(stop),
+    }
+}
