@@ -23,8 +23,19 @@ makes_then a b c m n l f h enough one two = record {
   holds = λ has t held needs. two.holds (one.schema has) (f t) (one.holds has t held (enough t needs).0) (enough t needs).1;
 }
 
+-- two changes that make the same of any tables
+pub makes_as : (a b : State) (needs : Tables → Type 0) (f h : Tables → Tables) → ((t : Tables) → f t ≡ h t) → Makes a b needs f → Makes a b needs h
+makes_as a b needs f h same it = record {
+  live = it.live;
+  stays = it.stays;
+  inside = it.inside;
+  schema = it.schema;
+  sound = it.sound;
+  holds = λ has t held need. subst (Holds b.now.trees) (same t) (it.holds has t held need);
+}
+
 -- one more element
-more : {A X : Type 0} (f : A → X → A) (a : A) (xs : List X) (n : ℕ) (d : X) → n < length xs → fold f a (take (suc n) xs) ≡ f (fold f a (take n xs)) (get_or xs n d)
+pub more : {A X : Type 0} (f : A → X → A) (a : A) (xs : List X) (n : ℕ) (d : X) → n < length xs → fold f a (take (suc n) xs) ≡ f (fold f a (take n xs)) (get_or xs n d)
 more f a [] n d low = absurd (omega (arith, low))
 more f a (x ∷ xs) zero d low = refl
 more f a (x ∷ xs) (suc n) d low = more f (f a x) xs n d (omega (arith, low))

@@ -12,7 +12,7 @@ pub record CanWrite (p : PostedAmounts) (act : Act) : Type 0 where
   pub change : HasSmallSeconds act.change
   pub moves : All (CanMove p) act.moves.now
 
--- the tables with the row that it changes, and with its own
+-- the tables with the rows that it changes, and with its own
 abbrev pub with_command : Act → Tables → Tables
 with_command act tables =
     with_row Command (command_row act.no act.reference.now act.body.now) (changed_by act.change tables)

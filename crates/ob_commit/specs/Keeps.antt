@@ -4,10 +4,12 @@ use Rattle.std.specs.Borrow.{MutBor}
 use Rattle.sqlite_trees.specs.declared.store.Store.{Ghosts}
 use Rattle.sqlite.specs.Tree.{Trees}
 use Rattle.sqlite_catalog.specs.Listing.{IsSound}
+use Rattle.sqlite.specs.Effect.{IsDatabase}
 use Rattle.sqlite.specs.Held.{Held, state}
 use Rattle.sqlite.specs.State.{State, HasCleanDisk}
 use Rattle.ob_base.specs.declared.stop.Stop.{Stop}
-use Rattle.ob_tables.specs.Rows.{Tables}
+use Rattle.ob_tables.specs.Rows.{Holds, Tables}
+use Rattle.ob_tables.specs.Schema.{book_schema}
 use Rattle.ob_tables.specs.Versions.{HoldsIn, schema_of}
 use Rattle.ob_tables.specs.declared.version.Version.{Version}
 use Rattle.ob_tables.specs.declared.version.Version.TheVariants.{Two}
@@ -39,14 +41,34 @@ IsSettled s t = IsSettledIn Two s t
 abbrev pub Keeps : State → Tables → Type 0
 Keeps s t = KeepsIn Two s t
 
--- while it is open it keeps the first ones; a crash leaves these or the others
-pub record KeepsEither (s : State) (t u : Tables) : Type 0 where
-  pub settled : HasCleanDisk s → IsTrue s.is_open → IsSettled s t
-  pub left : HasCleanDisk s → (trees : Trees) → s.may_leave trees → Leaves t trees ⊎ Leaves u trees
+-- while it is open it keeps the first ones, of this version; a crash leaves these, or the others, of the version that
+-- is written
+pub record KeepsEitherIn (version : Version) (s : State) (t u : Tables) : Type 0 where
+  pub settled : HasCleanDisk s → IsTrue s.is_open → IsSettledIn version s t
+  pub left : HasCleanDisk s → (trees : Trees) → s.may_leave trees → LeavesIn version t trees ⊎ Leaves u trees
 
--- the tables with the change, of tables that the store kept and that were as is needed
+abbrev pub KeepsEither : State → Tables → Tables → Type 0
+KeepsEither s t u = KeepsEitherIn Two s t u
+
+-- the tables with the change, of tables of this version that the store kept and that were as is needed
+abbrev pub LeavesChangedIn : Version → State → (Tables → Type 0) → (Tables → Tables) → Trees → Type 0
+LeavesChangedIn version s needs change trees = (t : Tables) → KeepsIn version s t → needs t → Leaves (change t) trees
+
 abbrev pub LeavesChanged : State → (Tables → Type 0) → (Tables → Tables) → Trees → Type 0
-LeavesChanged s needs change trees = (t : Tables) → Keeps s t → needs t → Leaves (change t) trees
+LeavesChanged s needs change trees = LeavesChangedIn Two s needs change trees
+
+-- inside a transaction over the tables of this version those of the version that is written were made of them so, where
+-- they were as is needed
+pub record MakesOf (version : Version) (old new : State) (needs : Tables → Type 0) (change : Tables → Tables)
+    : Type 0 where
+  pub live : IsTrue old.is_open
+  pub stays : IsTrue new.is_open
+  pub inside : IsTrue new.in_transaction
+  pub schema : old.now.schema ≡ schema_of version → new.now.schema ≡ book_schema
+  -- a whole database stays one
+  pub sound : old.now.schema ≡ schema_of version → IsDatabase old.now → IsDatabase new.now
+  pub holds : old.now.schema ≡ schema_of version → (tables : Tables) → HoldsIn version old.now.trees tables → needs tables
+      → Holds new.now.trees (change tables)
 
 module _ {S : Type 0} (g : Ghosts S) where
   -- statements inside a transaction of an open store changed the tables so, where they were as is needed, or one

@@ -1,41 +1,30 @@
 -- What is left of the tables of version 1 once they were to be made those of version 2.
-use Rattle.std.specs.Prelude.{◌≡◌, ◌⊎◌, ℕ, zero, suc, List, [], ◌∷◌, None, ⊤, fold, IsTrue, Result, IfErr, OnOk}
+use Rattle.std.specs.Prelude.{◌≡◌, ℕ, zero, suc, List, [], ◌∷◌, None, ⊤, fold, IsTrue, Result, IfErr, OnOk}
 use Rattle.std.specs.Borrow.{MutBor}
 use Rattle.sqlite_trees.specs.declared.store.Store.{Ghosts}
-use Rattle.sqlite.specs.Effect.{IsDatabase}
 use Rattle.sqlite.specs.Held.{Held, state}
 use Rattle.sqlite.specs.State.{State, HasCleanDisk}
 use Rattle.sqlite.specs.Tree.{Trees}
 use Rattle.ob_base.specs.declared.stop.Stop.{Stop}
-use Rattle.ob_tables.specs.Creation.{old_schema}
-use Rattle.ob_tables.specs.Rows.{HasCommand, HasHeading, Holds, Tables, life_row, rebody, reversion, with_change, with_row}
-use Rattle.ob_tables.specs.Schema.{book_schema}
+use Rattle.ob_tables.specs.Rows.{HasCommand, HasHeading, Tables, life_row, rebody, reversion, with_change, with_row}
 use Rattle.ob_tables.specs.Steps.{IsStoreFault, Silent}
-use Rattle.ob_tables.specs.Versions.{HoldsOld, without_lives}
+use Rattle.ob_tables.specs.Versions.{without_lives}
 use Rattle.ob_tables.specs.declared.table.Table.TheVariants.{Command, Life, Meta}
 use Rattle.ob_tables.specs.declared.version.Version.TheVariants.{One}
-use Rattle.ob_commit.specs.Keeps.{IsSettledIn, KeepsIn, Leaves, LeavesIn}
+use Rattle.ob_commit.specs.Keeps.{KeepsEitherIn, LeavesChangedIn, MakesOf}
 use Rattle.ob_commit.specs.declared.upgrade.NewBody.{NewBody}
 
 -- while it is open it keeps these tables of version 1; a crash leaves them, or these of version 2
-pub record KeepsOldOr (s : State) (t u : Tables) : Type 0 where
-  pub settled : HasCleanDisk s → IsTrue s.is_open → IsSettledIn One s t
-  pub left : HasCleanDisk s → (trees : Trees) → s.may_leave trees → LeavesIn One t trees ⊎ Leaves u trees
+abbrev pub KeepsOldOr : State → Tables → Tables → Type 0
+KeepsOldOr s t u = KeepsEitherIn One s t u
 
 -- inside a transaction over the tables of version 1 those of version 2 were made of them so, where they were as is needed
-pub record Upgrades (old new : State) (needs : Tables → Type 0) (change : Tables → Tables) : Type 0 where
-  pub live : IsTrue old.is_open
-  pub stays : IsTrue new.is_open
-  pub inside : IsTrue new.in_transaction
-  pub schema : old.now.schema ≡ old_schema → new.now.schema ≡ book_schema
-  -- and they are a whole database
-  pub sound : old.now.schema ≡ old_schema → IsDatabase old.now → IsDatabase new.now
-  pub holds : old.now.schema ≡ old_schema → (tables : Tables) → HoldsOld old.now.trees tables → needs tables
-      → Holds new.now.trees (change tables)
+abbrev pub Upgrades : State → State → (Tables → Type 0) → (Tables → Tables) → Type 0
+Upgrades old new needs change = MakesOf One old new needs change
 
 -- the tables with the change, of tables of version 1 that the store kept and that were as is needed
 abbrev pub LeavesUpgraded : State → (Tables → Type 0) → (Tables → Tables) → Trees → Type 0
-LeavesUpgraded s needs change trees = (t : Tables) → KeepsIn One s t → needs t → Leaves (change t) trees
+LeavesUpgraded s needs change trees = LeavesChangedIn One s needs change trees
 
 -- a command has another body
 abbrev pub with_body : NewBody → Tables → Tables

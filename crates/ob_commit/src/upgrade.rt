@@ -27,7 +27,8 @@ fn write_bodies<S: Alter>(tx: &mut Transaction<'_, S>, bodies: &[NewBody]) -> Re
     ensures { ChangesOpen S.Store tx.old.conn tx.new.conn result (HasBodies bodies.now) (with_bodies bodies.now) }
 {
     'bodies: for at in 0..bodies.len() {
-        set_body(tx, bodies[at].no, &bodies[at].body)?;
+        let it = &bodies[at];
+        set_body(tx, it.no, &it.body)?;
     }
     Ok(())
 }
@@ -78,6 +79,8 @@ pub fn commit_upgrade<S: Alter>(
     ensures survives { Survives (state S.Store conn.old) (state S.Store conn.new)
         (LeavesUpgraded (state S.Store conn.old) (CanUpgrade bodies.now devices) (with_upgrade bodies.now devices)) }
 {
+    // what is open is a whole database
+    let _schema = conn.schema();
     let mut tx = conn.transaction();
     write_upgrade(&mut tx, bodies, devices)?;
     match tx.commit() {
