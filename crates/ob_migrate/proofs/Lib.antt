@@ -1,4 +1,3 @@
-mod Bodies
 mod Changed
 mod Renewed
 mod Rowing

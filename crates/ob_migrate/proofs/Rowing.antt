@@ -1,5 +1,5 @@
 -- Rows of commands under their numbers, where the commands of some numbers get other body texts; and rows of lives.
-use Rattle.std.proofs.Common.{◌≡◌, ◌∙◌, ℕ, ◌+◌, ◌<◌, ◌≤◌, ◌==◌, Bool, true, false, zero, suc, List, [], ◌∷◌, ◌++◌, append_assoc, append-nil, map, filter, length, None, if◌then◌else◌, refl, sym, ap, ap₂, inl, inr, arith}
+use Rattle.std.proofs.Common.{◌≡◌, ◌∙◌, ℕ, ◌+◌, ◌<◌, ◌≤◌, ◌==◌, true, false, zero, suc, List, [], ◌∷◌, ◌++◌, map, filter, length, None, if◌then◌else◌, refl, sym, ap, ap₂, inl, inr, arith}
 use Rattle.std.specs.Prelude.{⊤}
 use Rattle.std.specs.List.{AllByRecursion}
 use Rattle.std.proofs.lemmas.Bool.{cases_Bool}
@@ -8,8 +8,7 @@ use Rattle.sqlite.specs.Order.{column}
 use Rattle.ob_command.specs.Commands.{body_text}
 use Rattle.ob_book.specs.Acts.{Referenced}
 use Rattle.ob_upgrade.specs.Old.{is_device, old_body_text}
-use Rattle.ob_tables.specs.Rows.{Columns, HasCommand, Tables, change_where, command_row, is_key, life_row, number, rebody, with_row}
-use Rattle.ob_tables.specs.declared.table.Table.{Table}
+use Rattle.ob_tables.specs.Rows.{Columns, Tables, change_where, command_row, is_key, life_row, number, rebody}
 use Rattle.ob_tables.specs.declared.table.Table.TheVariants.{Command, Life}
 use Rattle.ob_commit.specs.Upgrade.{HasBodies, with_bodies, with_body, with_lives}
 use Rattle.ob_commit.specs.declared.upgrade.NewBody.{NewBody}
