@@ -59,5 +59,6 @@ fn put_line(row: &Row, text: &mut Vec<u8>) -> Result<(), AllocError> {
 
 fn put_text(found: &String, text: &mut Vec<u8>) -> Result<(), AllocError> {
     text.extend_from_slice(found.as_bytes())?;
-    text.push(b'\n')
+    text.push(b'\n')?;
+    Ok(())
 }
