@@ -1,8 +1,8 @@
 //! Files of version 1 that are made files of version 2: what the program of that version printed of them is what is shown
 //! of them then.
+use crate::office::over_statements;
 use crate::old_fortnight::{OLD_FORTNIGHT, OLD_TABLE};
 use crate::old_outages::{OUTAGES, OUTAGES_FILE, OUTAGES_MOVES, OUTAGES_TABLE};
-use crate::office::over_statements;
 use crate::script::{Outcome, Script, Step};
 use ob_net::Refusal;
 use std::alloc::{AllocError, Global};

@@ -1,14 +1,11 @@
 //! Tables of version 1 that are made those of version 2, and tables that are left as they are.
 use crate::books::{leaves, loads, outage, shown, take};
-use crate::office::{InMemory, OLD_VERSION, Office};
+use crate::office::{InMemory, NO_OLD_BOOK, OLD_VERSION, Office};
 use crate::old::{TO_VERSION_ONE, told};
 use crate::scripts::{CORRECTED, JOINS_IN_OUTAGE};
 use ob_net::{Life, Refusal, Stop};
 use std::alloc::Global;
 use std::process::Abort;
-
-/// The tables are those of no book of version 1.
-const NO_BOOK: Result<bool, Stop> = Err(Stop::Refused(Refusal::BadBook));
 
 // The outage as a book of version 1, which is no book of today.
 fn old_outage<O: Office>(rt: &impl Abort, alloc: Global) -> Result<O, Stop> {
@@ -25,18 +22,23 @@ fn is_migrated<O: Office>(rt: &impl Abort, office: &mut O) {
     assert!(rt; office.migrates() == Ok(false));
 }
 
-// The tables of the outage, made of those of version 1, hold the book of the outage: what it shows, its replies, a whole life
-// for each device, and row by row what the outage left in them.
+// Of version 1 the tables of the outage are made, row by row, those that the outage leaves today.
+fn has_rows_of_today<O: Office>(rt: &impl Abort, alloc: Global, rows: &[u8]) -> Result<O, Stop> {
+    let mut office: O = old_outage(rt, alloc)?;
+    is_migrated(rt, &mut office);
+    let (office, found) = office.with_rows(alloc)?;
+    assert!(rt; found.as_slice() == rows);
+    Ok(office)
+}
+
+// They hold the book of the outage: what it shows, its replies, and a whole life for each device.
 fn becomes_todays<O: Office>(rt: &impl Abort, alloc: Global) -> Result<(), Stop> {
-    let mut office: O = outage(rt, alloc)?;
-    let shown = shown(alloc, &mut office)?;
-    let (_, rows) = office.with_rows(alloc)?;
-    let mut old: O = old_outage(rt, alloc)?;
-    is_migrated(rt, &mut old);
-    let (mut new, found) = old.with_rows(alloc)?;
-    assert!(rt; found == rows);
-    loads(rt, alloc, &mut new, &shown)?;
-    live_always(rt, new.lives(alloc)?.as_slice());
+    let mut today: O = outage(rt, alloc)?;
+    let shown = shown(alloc, &mut today)?;
+    let (_, rows) = today.with_rows(alloc)?;
+    let mut office: O = has_rows_of_today(rt, alloc, &rows)?;
+    loads(rt, alloc, &mut office, &shown)?;
+    live_always(rt, office.lives(alloc)?.as_slice());
     Ok(())
 }
 
@@ -62,7 +64,7 @@ const FOUND: &'static [&'static str] = &[
     "SELECT amount FROM posting WHERE dim = 1 AND k = 3",
 ];
 
-fn has_rows_of_today<O: Office>(rt: &impl Abort, alloc: Global) -> Result<(), Stop> {
+fn has_found<O: Office>(rt: &impl Abort, alloc: Global) -> Result<(), Stop> {
     let mut office: O = old_outage(rt, alloc)?;
     is_migrated(rt, &mut office);
     let found = office.finds(alloc, FOUND)?;
@@ -72,7 +74,7 @@ fn has_rows_of_today<O: Office>(rt: &impl Abort, alloc: Global) -> Result<(), St
 
 #[test]
 fn rows_of_the_outage(rt: HostRuntime) -> Result<(), Stop> {
-    has_rows_of_today::<InMemory>(&rt, rt.alloc())
+    has_found::<InMemory>(&rt, rt.alloc())
 }
 
 // A device's command under its reference is known, another one is none, and a device may join from then on.
@@ -149,7 +151,7 @@ const MARKED: &'static str = "N26 mark 2024-01-01 E1 => 26";
 fn are_no_book<O: Office>(rt: &impl Abort, alloc: Global, cases: &[&str]) -> Result<(), Stop> {
     for sql in cases {
         let old: O = told(rt, alloc, MARKED, TO_VERSION_ONE)?;
-        is_left(rt, alloc, old.changed(alloc, sql)?, &NO_BOOK, sql)?;
+        is_left(rt, alloc, old.changed(alloc, sql)?, &NO_OLD_BOOK, sql)?;
     }
     Ok(())
 }
@@ -239,7 +241,10 @@ const LATER_PARTS: &'static [(&'static str, &'static str)] = &[
         "UPDATE cmd SET body = 'device X1 BUS-A S3 closed' WHERE id = 26",
     ),
     ("N26 life T1 0 - => 26", ""),
-    ("N26 withdraw 3 1 => 26: cause 3 246600, feeder 1 246600, day 0 246600\nN27 bus BUS-B => 27", ""),
+    (
+        "N26 withdraw 3 1 => 26: cause 3 246600, feeder 1 246600, day 0 246600\nN27 bus BUS-B => 27",
+        "",
+    ),
 ];
 
 fn is_no_old_story<O: Office>(
@@ -249,7 +254,7 @@ fn is_no_old_story<O: Office>(
 ) -> Result<(), Stop> {
     let (then, sql) = *case;
     let old: O = told(rt, alloc, then, TO_VERSION_ONE)?;
-    is_left(rt, alloc, old.changed(alloc, sql)?, &NO_BOOK, then)?;
+    is_left(rt, alloc, old.changed(alloc, sql)?, &NO_OLD_BOOK, then)?;
     Ok(())
 }
 
@@ -273,7 +278,7 @@ fn parts_behind_a_switching(rt: HostRuntime) -> Result<(), Stop> {
 fn has_another_number<O: Office>(rt: &impl Abort, alloc: Global) -> Result<(), Stop> {
     let sql = "UPDATE meta SET version = 1";
     let today: O = told(rt, alloc, "", sql)?;
-    is_left(rt, alloc, today, &NO_BOOK, sql)?;
+    is_left(rt, alloc, today, &NO_OLD_BOOK, sql)?;
     let sql = "UPDATE meta SET version = 2";
     let old: O = told(rt, alloc, "", TO_VERSION_ONE)?;
     let mut office = is_left(rt, alloc, old.changed(alloc, sql)?, &Ok(false), sql)?;
@@ -291,7 +296,7 @@ fn another_number_in_the_heading(rt: HostRuntime) -> Result<(), Stop> {
 fn are_nothing<O: Office>(rt: &impl Abort, alloc: Global, cases: &[&str]) -> Result<(), Stop> {
     for sql in cases {
         let office = O::opens(alloc)?.changed(alloc, sql)?;
-        is_left(rt, alloc, office, &NO_BOOK, sql)?;
+        is_left(rt, alloc, office, &NO_OLD_BOOK, sql)?;
     }
     Ok(())
 }

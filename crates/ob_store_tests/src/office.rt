@@ -14,6 +14,9 @@ pub const BAD_BOOK: Result<(), Stop> = Err(Stop::Refused(Refusal::BadBook));
 /// The tables are those of a book of version 1.
 pub const OLD_VERSION: Result<(), Stop> = Err(Stop::Refused(Refusal::OldVersion(1)));
 
+/// The tables are no book's of version 1, nor is their version 2.
+pub const NO_OLD_BOOK: Result<bool, Stop> = Err(Stop::Refused(Refusal::BadBook));
+
 /// A call that needs a book, where there is none.
 const REOPEN: Stop = Stop::Fault(Fault::Reopen);
 

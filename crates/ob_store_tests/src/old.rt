@@ -16,12 +16,7 @@ pub const TO_VERSION_ONE: &'static str = "\
     UPDATE meta SET version = 1";
 
 /// A keeper over the tables that these statements make of those of the outage and what was told afterwards.
-pub fn told<O: Office>(
-    rt: &impl Abort,
-    alloc: Global,
-    then: &str,
-    sql: &str,
-) -> Result<O, Stop> {
+pub fn told<O: Office>(rt: &impl Abort, alloc: Global, then: &str, sql: &str) -> Result<O, Stop> {
     let mut office: O = outage(rt, alloc)?;
     take(rt, alloc, &mut office, then)?;
     office.changed(alloc, sql)
