@@ -211,7 +211,14 @@ fn follows<S: Alter, T: Timeline>(
     'commands: for at in 0..commands.len() {
         // A book has a million commands at most, so that the number is small.
         let _ = book.accepted();
-        match takes_on(rows, book, at as u32 + 1, &commands[at].command, noted, version) {
+        match takes_on(
+            rows,
+            book,
+            at as u32 + 1,
+            &commands[at].command,
+            noted,
+            version,
+        ) {
             Ok(true) => {}
             Ok(false) => return Ok(false),
             Err(stop) => return Err(stop),

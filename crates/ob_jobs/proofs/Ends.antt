@@ -1,14 +1,15 @@
 -- How a job ends: its work, and the text that tells it.
-use Rattle.std.proofs.Common.{◌≡◌, ℕ, List, Option, Some, Result, Ok, Err, refl, sym, subst}
+use Rattle.std.proofs.Common.{◌≡◌, ◌≢◌, ℕ, List, Option, Some, Result, Ok, Err, inl, inr, refl, sym, subst, ◌∙◌}
 use Rattle.std.specs.Bool.{⊤}
 use Rattle.ob_base.specs.declared.stop.Stop.{Stop}
 use Rattle.ob_base.specs.declared.stop.Stop.TheVariants.{Refused, Fault}
 use Rattle.ob_base.specs.declared.stop.Fault.TheVariants.{OutOfMemory, Store, Reopen, Input, Output}
+use Rattle.ob_compare.specs.Reading.{IsReadFault}
 use Rattle.ob_state.specs.State.{BookState}
 use Rattle.ob_book.specs.Views.{annual_table_of_book}
 use Rattle.ob_stream.specs.declared.watched.Watched.{Watched}
 use Rattle.ob_jobs.specs.Tabling.{HasTable, table_text}
-use Rattle.ob_jobs.specs.Telling.{Tells, Told}
+use Rattle.ob_jobs.specs.Telling.{Tells, Told, WritesNothing}
 
 module _ {X W : Type 0} (Works : Result X Stop → Type 0) (text : X → List ℕ) (contents : W → Option (List ℕ)) (old new : Watched W) where
   -- the work was done, and the writer failed on its text
@@ -20,6 +21,22 @@ module _ {X W : Type 0} (Works : Result X Stop → Type 0) (text : X → List �
   untold (Fault Reopen) x works told = absurd told
   untold (Fault Input) x works told = absurd told
   untold (Fault Output) x works told = (x, works, told)
+
+  -- it stopped, other than by a fault of output
+  pub stopped : (stop : Stop) → Works (Err stop) → stop ≢ Fault Output → WritesNothing contents old new
+      → Tells Works text contents old new (Err stop)
+  stopped (Refused refusal) works other nothing = (works, nothing)
+  stopped (Fault OutOfMemory) works other nothing = (works, nothing)
+  stopped (Fault Store) works other nothing = (works, nothing)
+  stopped (Fault Reopen) works other nothing = (works, nothing)
+  stopped (Fault Input) works other nothing = (works, nothing)
+  stopped (Fault Output) works other nothing = absurd (other refl)
+
+-- no reading of tables ends with a fault of output
+pub other_than_output : (stop : Stop) → IsReadFault stop → stop ≢ Fault Output
+other_than_output stop (inl (inl memory)) output = let same = sym memory ∙ output in cc
+other_than_output stop (inl (inr store)) output = let same = sym store ∙ output in cc
+other_than_output stop (inr bad) output = let same = sym bad ∙ output in cc
 
 -- the work gave nothing but its text, and that was told
 ended : {W : Type 0} (Works : Result ⊤ Stop → Type 0) (text : List ℕ) (contents : W → Option (List ℕ)) (old new : Watched W)

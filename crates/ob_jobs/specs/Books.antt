@@ -11,8 +11,9 @@ use Rattle.ob_words.specs.declared.status.Unfinished.{Unfinished}
 use Rattle.ob_jobs.specs.After.{TellsAfter}
 use Rattle.ob_jobs.specs.Endings.{audit_end, import_end, job_end}
 use Rattle.ob_jobs.specs.Importing.{TellsExport, TellsImport}
-use Rattle.ob_jobs.specs.Lines.{audit_line, created_line}
+use Rattle.ob_jobs.specs.Lines.{audit_line, created_line, migrate_line}
 use Rattle.ob_jobs.specs.Loads.{AuditOf, LoadsThen, OpensThen}
+use Rattle.ob_jobs.specs.Migrations.{MigrationOf}
 use Rattle.ob_jobs.specs.Tabling.{HasTable, table_text}
 use Rattle.ob_jobs.specs.Telling.{Tells}
 
@@ -32,6 +33,12 @@ module _ {S : Type 0} (g : Ghosts S) where
       → Result ⊤ Unfinished → Type 0
   AuditsBook contents old new before after result =
       EndsAs audit_end (TellsAfter (AuditOf g old new) audit_line contents before after) result
+
+  -- the tables of version 1 are made those of version 2; no book is loaded
+  abbrev pub MigratesBook : {W : Type 0} → (W → Option (List ℕ)) → KeeperValue S → KeeperValue S → Watched W → Watched W
+      → Result ⊤ Unfinished → Type 0
+  MigratesBook contents old new before after result =
+      EndsAs job_end (Tells (MigrationOf g old new) migrate_line contents before after) result
 
   -- the book is loaded, and its annual table is printed
   abbrev pub PrintsBook : {W : Type 0} → (W → Option (List ℕ)) → KeeperValue S → KeeperValue S → Watched W → Watched W

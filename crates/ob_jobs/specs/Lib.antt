@@ -4,5 +4,6 @@ pub mod Tabling
 pub mod After
 pub mod Importing
 pub mod Loads
+pub mod Migrations
 pub mod Endings
 pub mod Books

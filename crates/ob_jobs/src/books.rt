@@ -1,15 +1,16 @@
 //! The program's jobs, from the opened store of a book to their end.
-ghost use Rattle.ob_jobs.specs.Books.{AuditsBook, ExportsFromBook, ExportsOutput, ImportsInput, ImportsIntoBook, MakesBook, PrintsBook, ServesBook};
+ghost use Rattle.ob_jobs.specs.Books.{AuditsBook, ExportsFromBook, ExportsOutput, ImportsInput, ImportsIntoBook, MakesBook, MigratesBook, PrintsBook, ServesBook};
 ghost use Rattle.std.specs.Prelude.{◌≡◌};
 ghost use Rattle.ob_jobs.specs.Loads.{LoadOf, LoadsThen};
 ghost use Rattle.ob_jobs.specs.Tabling.{HasTable, table_text};
 ghost use Rattle.ob_jobs.specs.Telling.{Tells};
 
 use crate::audit::run_audit;
-use crate::ending::{end_of_audit, end_of_export, end_of_import, end_of_job};
+use crate::ending::{end_of_audit, end_of_import, end_of_job};
 use crate::export::run_export;
 use crate::import::run_import;
 use crate::init::run_init;
+use crate::migrate::run_migrate;
 use crate::opening::{OpenInput, OpenOutput, ServeBook};
 use crate::table::run_table;
 use ob_base::{Fault, Stop};
@@ -51,6 +52,16 @@ pub fn audit_book<S: Alter, T: Timeline, W: Write>(
     ensures { AuditsBook S.Store W.contents keeper.old keeper.new writer.old writer.new result }
 {
     end_of_audit(run_audit(alloc, keeper, writer))
+}
+
+/// Makes a book of version 1 one of version 2, as [`run_migrate`].
+pub fn migrate_book<S: Alter, T: Timeline, W: Write>(
+    keeper: &mut Keeper<S, T>,
+    writer: &mut Watched<W>,
+) -> Result<(), Unfinished>
+    ensures { MigratesBook S.Store W.contents keeper.old keeper.new writer.old writer.new result }
+{
+    end_of_job(run_migrate(keeper, writer))
 }
 
 /// Loads a book and prints its annual table, as [`run_table`].
@@ -138,7 +149,7 @@ pub fn export_from_book<O: OpenOutput, S: Alter, T: Timeline, W: Write>(
     ensures { ExportsFromBook S.Store O.opens O.Output.contents W.contents keeper.old keeper.new output.old output.new
         writer.old writer.new result }
 {
-    end_of_export(export_loaded(alloc, keeper, output, writer))
+    end_of_job(export_loaded(alloc, keeper, output, writer))
 }
 
 fn export_loaded<O: OpenOutput, S: Alter, T: Timeline, W: Write>(

@@ -8,11 +8,11 @@ use ob_tables::Table;
 use ob_words::Unfinished;
 
 /// The end of a job that is done or stopped.
-pub(crate) fn end_of_job(job: Result<(), Stop>) -> Result<(), Unfinished>
+pub(crate) fn end_of_job<X: Copy>(job: Result<X, Stop>) -> Result<(), Unfinished>
     ensures { result ≡ job_end job }
 {
     match job {
-        Ok(()) => Ok(()),
+        Ok(_) => Ok(()),
         Err(stop) => Err(Unfinished::Stopped(stop, None)),
     }
 }
@@ -26,16 +26,6 @@ pub(crate) fn end_of_import(job: Result<ImportReport, Stop>) -> Result<(), Unfin
             None => Ok(()),
             Some((row, refusal)) => Err(Unfinished::Stopped(Stop::Refused(refusal), Some(row))),
         },
-        Err(stop) => Err(Unfinished::Stopped(stop, None)),
-    }
-}
-
-/// The end of an export.
-pub(crate) fn end_of_export(job: Result<u64, Stop>) -> Result<(), Unfinished>
-    ensures { result ≡ job_end job }
-{
-    match job {
-        Ok(_) => Ok(()),
         Err(stop) => Err(Unfinished::Stopped(stop, None)),
     }
 }

@@ -1,5 +1,5 @@
 //! The program's jobs on a kept book: to make one, to import commands and export what they moved, to print its annual table,
-//! to compare its tables with its commands, and to serve it.
+//! to compare its tables with its commands, to make one of version 1 one of version 2, and to serve it.
 //!
 //! Keeps two public functions for each job: its work over a keeper that has its book, a reader or writer, and a writer for what
 //! is told; and the job from the opened store to its end, which first loads the book where the work needs one, and only then
@@ -14,17 +14,19 @@ mod ending;
 mod export;
 mod import;
 mod init;
+mod migrate;
 mod opening;
 mod table;
 mod tell;
 
 pub use audit::run_audit;
 pub use books::{
-    audit_book, export_from_book, import_into_book, make_book, print_book, serve_book,
+    audit_book, export_from_book, import_into_book, make_book, migrate_book, print_book, serve_book,
 };
 pub use export::run_export;
 pub use import::run_import;
 pub use init::run_init;
+pub use migrate::run_migrate;
 pub use ob_import::{Progress, Silent};
 pub use opening::{OpenInput, OpenOutput, ServeBook};
 pub use table::run_table;

@@ -1,5 +1,5 @@
 -- The laws that join the tables of a book of version 1 and those of the same book today.
-use Rattle.std.specs.Prelude.{◌≡◌, ℕ, List, ⊤, length, true}
+use Rattle.std.specs.Prelude.{◌≡◌, List, ⊤, length, true}
 use Rattle.std.specs.List.{AllByRecursion}
 use Rattle.std.specs.List.Sorted.{IsPermutation}
 use Rattle.sqlite.specs.Tree.{Trees}
@@ -10,7 +10,7 @@ use Rattle.ob_book.specs.Acts.{ActState, Referenced}
 use Rattle.ob_upgrade.specs.Laws.{LiveAlways}
 use Rattle.ob_upgrade.specs.Old.{is_old}
 use Rattle.ob_tables.specs.declared.table.Table.{Table}
-use Rattle.ob_tables.specs.declared.table.Table.TheVariants.{Meta, Cause, Node, Device, Life, Customer, Entry, Mark, Command, Moved, Posting}
+use Rattle.ob_tables.specs.declared.table.Table.TheVariants.{Meta, Life, Command}
 use Rattle.ob_commit.specs.Upgrade.{CanUpgrade, with_upgrade}
 use Rattle.ob_commit.specs.declared.upgrade.NewBody.{NewBody}
 use Rattle.ob_record.specs.Reached.{IsReached}

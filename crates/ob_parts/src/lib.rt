@@ -1,7 +1,8 @@
 //! Each table against the part of a book that it holds.
 //!
-//! Says of each part of a book which rows its table has, place by place, in each version of the tables, and compares
-//! the two by the loop of `ob_compare`. Promises that a table passes just where its rows are those of the book, and that nothing is written.
+//! Says of each part of a book which rows its table has in each version of the tables, place by place, and compares the
+//! two by the loop of `ob_compare`. Promises that a table passes just where its rows are those of the book, and that
+//! nothing is written.
 #![tactic(auto)]
 
 mod fields;

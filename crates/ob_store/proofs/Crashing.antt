@@ -23,6 +23,7 @@ use Rattle.ob_base.specs.declared.stop.Refusal.TheVariants.{BadField, UnknownNam
 use Rattle.ob_book.specs.Acts.{ActState}
 use Rattle.ob_tables.specs.Schema.{book_schema}
 use Rattle.ob_tables.specs.declared.table.Table.TheVariants.{Meta, Command}
+use Rattle.ob_tables.specs.declared.version.Version.TheVariants.{Two}
 use Rattle.ob_commit.specs.Keeps.{Leaves}
 use Rattle.ob_record.specs.Naming.{IsReferenced}
 use Rattle.ob_record.specs.Reached.{IsReached, ReachedAreFew}
@@ -33,7 +34,7 @@ use Rattle.ob_store.specs.Loading.{HoldsNoBook, Loaded, trees_in}
 use Rattle.ob_store.specs.Crashing.{CrashLaw, HasLoaded, OpensAfterCrash, Restores}
 
 -- the catalog of a database lists one schema
-one_schema : (s t : Schema) (trees : Trees) → IsSound s trees → IsSound t trees → s ≡ t
+pub one_schema : (s t : Schema) (trees : Trees) → IsSound s trees → IsSound t trees → s ≡ t
 one_schema s t trees one other =
     let it = reads _ s one.lists in
     read_once _ s t it.tables it.indexes it.views (reads _ t other.lists)
@@ -45,7 +46,7 @@ book_left few trees b reached valid leaves = record {
   valid = valid;
   few = few b reached;
   period = (number 1, number 2, leaves.holds.rows Meta);
-  commands = rows_counted b.accepted (leaves.holds.rows Command);
+  commands = rows_counted Two b.accepted (leaves.holds.rows Command);
 }
 
 -- a heading of version 2 is of no other

@@ -13,6 +13,7 @@ use Rattle.ob_tables.specs.Rows.{AreApart}
 use Rattle.ob_tables.specs.declared.table.Table.{Table}
 use Rattle.ob_record.specs.Tables.{Shows, tables_of}
 use Rattle.ob_compare.specs.Reading.{bad_book}
+use Rattle.ob_tables.specs.declared.version.Version.TheVariants.{Two}
 use Rattle.ob_store.specs.Finding.{Finds, HasNoBook}
 use Rattle.ob_store.specs.Differing.{IsFirstOff, NoneSo}
 use Rattle.ob_store.specs.Leading.{IsLed}
@@ -24,7 +25,7 @@ abbrev pub Apart : Trees → Bool → Type 0
 Apart trees is = IsTrue is ↔ AreApart (trees 14)
 
 -- a store that is broken is no other book
-store_alone : Fault Store ≢ bad_book
+pub store_alone : Fault Store ≢ bad_book
 store_alone bad = absurd cc
 
 -- what is found of each book with a state is found of all of them
@@ -35,7 +36,7 @@ module _ {S : Type 0} (g : Ghosts S) {X : Type 0} (P : ActState → Trees → X 
   abbrev pub Each : Trees → X → Type 0
   Each trees x = (b : ActState) → b.book ≡ s → P b trees x
 
-  pub of_each : (r : Result X Stop) → ((b : ActState) → b.book ≡ s → Finds g (P b) NoneSo old new r) → Finds g Each NoneSo old new r
+  pub of_each : (r : Result X Stop) → ((b : ActState) → b.book ≡ s → Finds g Two (P b) NoneSo old new r) → Finds g Two Each NoneSo old new r
   of_each (Ok x) it = record {
     mode = (it bare refl).mode;
     clean = (it bare refl).clean;
@@ -59,7 +60,7 @@ module _ {S : Type 0} (g : Ghosts S) {X : Type 0} (P : ActState → Trees → X 
     bad = (it bare refl).bad;
   }
 
-module _ {S : Type 0} (g : Ghosts S) {L : Type 0} (state_of : L → BookState) (counted_of moved_of : L → Bool) (l : L) (old mid new : Held S) (first : Finds g (λ trees x. IsLed trees (state_of x) (counted_of x) (moved_of x)) HasNoBook old mid (Ok l)) where
+module _ {S : Type 0} (g : Ghosts S) {L : Type 0} (state_of : L → BookState) (counted_of moved_of : L → Bool) (l : L) (old mid new : Held S) (first : Finds g Two (λ trees x. IsLed trees (state_of x) (counted_of x) (moved_of x)) HasNoBook old mid (Ok l)) where
   abbrev Led : Trees → L → Type 0
   Led trees x = IsLed trees (state_of x) (counted_of x) (moved_of x)
 
@@ -73,31 +74,31 @@ module _ {S : Type 0} (g : Ghosts S) {L : Type 0} (state_of : L → BookState) (
   Neither trees = Led trees l × NoneSo trees
 
   abbrev Compared : Result (Option Table) Stop → Type 0
-  Compared r = (b : ActState) → b.book ≡ state_of l → Finds g (IsFirstOff b (counted_of l) (moved_of l)) NoneSo mid new r
+  Compared r = (b : ActState) → b.book ≡ state_of l → Finds g Two (IsFirstOff b (counted_of l) (moved_of l)) NoneSo mid new r
 
-  both : (r : Result (Option Table) Stop) → Compared r → Finds g Both Neither old new r
-  both r second = then_more g Led HasNoBook Off NoneSo old mid new l r first (of_each g (λ b. IsFirstOff b (counted_of l) (moved_of l)) (state_of l) mid new r second)
+  both : (r : Result (Option Table) Stop) → Compared r → Finds g Two Both Neither old new r
+  both r second = then_more g Two Led HasNoBook Off NoneSo old mid new l r first (of_each g (λ b. IsFirstOff b (counted_of l) (moved_of l)) (state_of l) mid new r second)
 
   abbrev finding : (trees : Trees) (found : Option Table) → Both trees found → Finding trees found
   finding trees found it = (it.0.book, it.0.is_book, it.1 it.0.book (sym it.0.state) it.0.counts it.0.moves)
 
   -- the first table that differs
-  found_ok : (found : Option Table) → Compared (Ok found) → Finds g Finding HasNoBook old new (Ok found)
-  found_ok found second = then_good g Both Neither Finding HasNoBook old new found (both (Ok found) second) found (λ trees it. finding trees found it)
+  found_ok : (found : Option Table) → Compared (Ok found) → Finds g Two Finding HasNoBook old new (Ok found)
+  found_ok found second = then_good g Two Both Neither Finding HasNoBook old new found (both (Ok found) second) found (λ trees it. finding trees found it)
 
   -- no table can be told to be no book's any more
-  pub found_err : {Y : Type 0} (Good : Trees → Y → Type 0) (Bad : Trees → Type 0) (stop : Stop) → Compared (Err stop) → Finds g Good Bad old new (Err stop)
-  found_err Good Bad stop second = fails g Both Neither Good Bad old new stop (λ trees none. absurd none.1) (both (Err stop) second)
+  pub found_err : {Y : Type 0} (Good : Trees → Y → Type 0) (Bad : Trees → Type 0) (stop : Stop) → Compared (Err stop) → Finds g Two Good Bad old new (Err stop)
+  found_err Good Bad stop second = fails g Two Both Neither Good Bad old new stop (λ trees none. absurd none.1) (both (Err stop) second)
 
   -- either of both
-  pub found_so : (r : Result (Option Table) Stop) → Compared r → Finds g Finding HasNoBook old new r
+  pub found_so : (r : Result (Option Table) Stop) → Compared r → Finds g Two Finding HasNoBook old new r
   found_so (Ok found) second = found_ok found second
   found_so (Err stop) second = found_err Finding HasNoBook stop second
 
   -- a table differs from those of the one book that it could be
-  pub found_off : {Y : Type 0} (Good : Trees → Y → Type 0) (table : Table) → Compared (Ok (Some table)) → Finds g Good HoldsNoBook old new (Err bad_book)
+  pub found_off : {Y : Type 0} (Good : Trees → Y → Type 0) (table : Table) → Compared (Ok (Some table)) → Finds g Two Good HoldsNoBook old new (Err bad_book)
   found_off Good table second =
-      then_bad g Both Neither Good HoldsNoBook old new (Some table) (both (Ok (Some table)) second)
+      then_bad g Two Both Neither Good HoldsNoBook old new (Some table) (both (Ok (Some table)) second)
       (λ trees it other has.
       let found = finding trees (Some table) it in
       found.2.0 (subst (λ (b : ActState). Shows trees table (tables_of b table)) (it.0.only other has.0) (has.1 table)))
@@ -110,16 +111,16 @@ module _ {S : Type 0} (g : Ghosts S) {L : Type 0} (state_of : L → BookState) (
     abbrev Nothing : Trees → Type 0
     Nothing trees = Both trees None × NoneSo trees
 
-    all : (r : Result Bool Stop) → Finds g Apart NoneSo new end r → Finds g All Nothing old end r
-    all r third = then_more g Both Neither Apart NoneSo old new end None r (both (Ok None) second) third
+    all : (r : Result Bool Stop) → Finds g Two Apart NoneSo new end r → Finds g Two All Nothing old end r
+    all r third = then_more g Two Both Neither Apart NoneSo old new end None r (both (Ok None) second) third
 
-    pub apart_err : {Y : Type 0} (Good : Trees → Y → Type 0) (Bad : Trees → Type 0) (stop : Stop) → Finds g Apart NoneSo new end (Err stop) → Finds g Good Bad old end (Err stop)
-    apart_err Good Bad stop third = fails g All Nothing Good Bad old end stop (λ trees none. absurd none.1) (all (Err stop) third)
+    pub apart_err : {Y : Type 0} (Good : Trees → Y → Type 0) (Bad : Trees → Type 0) (stop : Stop) → Finds g Two Apart NoneSo new end (Err stop) → Finds g Two Good Bad old end (Err stop)
+    apart_err Good Bad stop third = fails g Two All Nothing Good Bad old end stop (λ trees none. absurd none.1) (all (Err stop) third)
 
-    pub broken : {Y : Type 0} (Good : Trees → Y → Type 0) (Bad : Trees → Type 0) (is : Bool) → Finds g Apart NoneSo new end (Ok is) → Finds g Good Bad old end (Err (Fault Store))
-    broken Good Bad is third = then_fault g All Nothing Good Bad old end is (all (Ok is) third) (Fault Store) (inl (inr refl)) store_alone
+    pub broken : {Y : Type 0} (Good : Trees → Y → Type 0) (Bad : Trees → Type 0) (is : Bool) → Finds g Two Apart NoneSo new end (Ok is) → Finds g Two Good Bad old end (Err (Fault Store))
+    broken Good Bad is third = then_fault g Two All Nothing Good Bad old end is (all (Ok is) third) (Fault Store) (inl (inr refl)) store_alone
 
-    pub loads : {B : Type 0} (book_of : B → BookState) (book : B) → book_of book ≡ state_of l → (is : Bool) → is ≡ true → Finds g Apart NoneSo new end (Ok is) → Finds g (λ trees b. Holding trees (book_of b)) HoldsNoBook old end (Ok book)
+    pub loads : {B : Type 0} (book_of : B → BookState) (book : B) → book_of book ≡ state_of l → (is : Bool) → is ≡ true → Finds g Two Apart NoneSo new end (Ok is) → Finds g Two (λ trees b. Holding trees (book_of b)) HoldsNoBook old end (Ok book)
     loads book_of book same is so third =
-        then_good g All Nothing (λ trees b. Holding trees (book_of b)) HoldsNoBook old end is (all (Ok is) third) book
+        then_good g Two All Nothing (λ trees b. Holding trees (book_of b)) HoldsNoBook old end is (all (Ok is) third) book
         (λ trees it. let found = finding trees None it.0 in (found.0, (found.1, found.2), it.0.0.only, it.1.0 so, same ∙ it.0.0.state))

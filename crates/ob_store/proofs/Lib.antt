@@ -6,6 +6,7 @@ pub mod Answered
 pub mod Beginning
 pub mod Reading
 pub mod Naming
+pub mod Laws
 pub mod Leading
 pub mod Holding
 pub mod Crashing
@@ -16,3 +17,7 @@ pub mod Found
 pub mod Counting
 pub mod Telling
 pub mod Handing
+pub mod OldTelling
+pub mod OldParts
+pub mod OldBooks
+pub mod Upgrading

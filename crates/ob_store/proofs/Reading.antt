@@ -9,10 +9,11 @@ use Rattle.sqlite.specs.State.{State, HasCleanDisk, IsUnchanged, Survives}
 use Rattle.sqlite.proofs.Callers.{unchanged_then}
 use Rattle.ob_base.specs.declared.stop.Stop.{Stop}
 use Rattle.ob_base.specs.Stop.{out_of_memory}
-use Rattle.ob_tables.specs.Schema.{book_schema}
+use Rattle.ob_tables.specs.Versions.{schema_of}
+use Rattle.ob_tables.specs.declared.version.Version.{Version}
 use Rattle.ob_tables.specs.Rows.{Tables}
 use Rattle.ob_tables.proofs.Silence.{silent_same}
-use Rattle.ob_commit.specs.Keeps.{Keeps}
+use Rattle.ob_commit.specs.Keeps.{KeepsIn}
 use Rattle.ob_compare.specs.Reading.{IsReadFault, bad_book}
 use Rattle.ob_compare.proofs.Listing.{still_then}
 use Rattle.ob_store.specs.Finding.{Finds}
@@ -33,14 +34,14 @@ if_err (Err e) p f = f e p
 pub no_more : (old new : State) → Survives old new (λ _. ⊥) → HasCleanDisk new → (trees : Trees) → new.may_leave trees → old.may_leave trees
 no_more old new survives clean trees may = elim (survives.crash clean trees may) [ inl was ↦ was | inr none ↦ absurd none ]
 
-module _ {S : Type 0} (g : Ghosts S) where
+module _ {S : Type 0} (g : Ghosts S) (v : Version) where
   -- one reading after another
   pub then_more : {X Z : Type 0} (Good : Trees → X → Type 0) (Bad : Trees → Type 0) (More : Trees → Z → Type 0) (Less : Trees → Type 0) (old mid new : Held S) (x : X) (r : Result Z Stop)
-      → Finds g Good Bad old mid (Ok x) → Finds g More Less mid new r → Finds g (λ trees z. Good trees x × More trees z) (λ trees. Good trees x × Less trees) old new r
+      → Finds g v Good Bad old mid (Ok x) → Finds g v More Less mid new r → Finds g v (λ trees z. Good trees x × More trees z) (λ trees. Good trees x × Less trees) old new r
   then_more Good Bad More Less old mid new x r first second =
-      let at : HasCleanDisk (state g new) → old.schema ≡ book_schema → (IsUnchanged (state g old) (state g mid)) × (mid.schema ≡ book_schema) = λ clean schema.
+      let at : HasCleanDisk (state g new) → old.schema ≡ schema_of v → (IsUnchanged (state g old) (state g mid)) × (mid.schema ≡ schema_of v) = λ clean schema.
       let it = first.same (second.clean clean) schema in (it, ap (λ (d : Database). d.schema) it.0.now_is ∙ schema) in
-      let seen : HasCleanDisk (state g new) → old.schema ≡ book_schema → (state g mid).now ≡ (state g old).now = λ clean schema. (at clean schema).0.0.now_is in
+      let seen : HasCleanDisk (state g new) → old.schema ≡ schema_of v → (state g mid).now ≡ (state g old).now = λ clean schema. (at clean schema).0.0.now_is in
       record {
         mode = λ idle. second.mode (first.mode idle);
         clean = λ clean. first.clean (second.clean clean);
@@ -57,7 +58,7 @@ module _ {S : Type 0} (g : Ghosts S) where
 
   -- an error is one of whatever was looked for
   pub fails : {X Y : Type 0} (Good : Trees → X → Type 0) (Bad : Trees → Type 0) (Good' : Trees → Y → Type 0) (Bad' : Trees → Type 0) (old new : Held S) (stop : Stop) → ((trees : Trees) → Bad trees → Bad' trees)
-      → Finds g Good Bad old new (Err stop) → Finds g Good' Bad' old new (Err stop)
+      → Finds g v Good Bad old new (Err stop) → Finds g v Good' Bad' old new (Err stop)
   fails Good Bad Good' Bad' old new stop worse it = record {
     mode = it.mode;
     clean = it.clean;
@@ -70,9 +71,25 @@ module _ {S : Type 0} (g : Ghosts S) where
     bad = λ clean is schema. worse (state g old).now.trees (it.bad clean is schema);
   }
 
-  module _ {X Y : Type 0} (Good : Trees → X → Type 0) (Bad : Trees → Type 0) (Good' : Trees → Y → Type 0) (Bad' : Trees → Type 0) (old mid : Held S) (x : X) (first : Finds g Good Bad old mid (Ok x)) where
+  -- what was found is so of the trees, or tells more of them
+  pub find_as : {X : Type 0} (Good Good' : Trees → X → Type 0) (Bad Bad' : Trees → Type 0) (old new : Held S) (r : Result X Stop) → ((trees : Trees) (x : X) → Good trees x → Good' trees x) → ((trees : Trees) → Bad trees → Bad' trees)
+      → Finds g v Good Bad old new r → Finds g v Good' Bad' old new r
+  find_as Good Good' Bad Bad' old new (Ok x) better worse it = record {
+    mode = it.mode;
+    clean = it.clean;
+    survives = it.survives;
+    kept = it.kept;
+    faults = it.faults;
+    same = it.same;
+    same_bad = λ clean. tt;
+    good = λ clean has. better (state g old).now.trees x (it.good clean has);
+    bad = λ clean. tt;
+  }
+  find_as Good Good' Bad Bad' old new (Err stop) better worse it = fails Good Bad Good' Bad' old new stop worse it
+
+  module _ {X Y : Type 0} (Good : Trees → X → Type 0) (Bad : Trees → Type 0) (Good' : Trees → Y → Type 0) (Bad' : Trees → Type 0) (old mid : Held S) (x : X) (first : Finds g v Good Bad old mid (Ok x)) where
     -- what was read leads to an error that says nothing of the tables
-    pub then_fault : (stop : Stop) → IsReadFault stop → stop ≢ bad_book → Finds g Good' Bad' old mid (Err stop)
+    pub then_fault : (stop : Stop) → IsReadFault stop → stop ≢ bad_book → Finds g v Good' Bad' old mid (Err stop)
     then_fault stop fault other = record {
       mode = first.mode;
       clean = first.clean;
@@ -86,7 +103,7 @@ module _ {S : Type 0} (g : Ghosts S) where
     }
 
     -- what was read is no book's
-    pub then_bad : ((trees : Trees) → Good trees x → Bad' trees) → Finds g Good' Bad' old mid (Err bad_book)
+    pub then_bad : ((trees : Trees) → Good trees x → Bad' trees) → Finds g v Good' Bad' old mid (Err bad_book)
     then_bad none = record {
       mode = first.mode;
       clean = first.clean;
@@ -100,7 +117,7 @@ module _ {S : Type 0} (g : Ghosts S) where
     }
 
     -- what was read gives what was looked for
-    pub then_good : (y : Y) → ((trees : Trees) → Good trees x → Good' trees y) → Finds g Good' Bad' old mid (Ok y)
+    pub then_good : (y : Y) → ((trees : Trees) → Good trees x → Good' trees y) → Finds g v Good' Bad' old mid (Ok y)
     then_good y found = record {
       mode = first.mode;
       clean = first.clean;
@@ -119,9 +136,9 @@ read_fault stop (inl bad) = inr bad
 read_fault stop (inr memory) = inl (inl memory)
 
 -- nothing was read
-pub none_read : {S : Type 0} (g : Ghosts S) {X : Type 0} (Good : Trees → X → Type 0) (Bad : Trees → Type 0) (conn : Held S) (stop : Stop) → (stop ≡ bad_book) ⊎ (stop ≡ out_of_memory)
-    → (stop ≡ bad_book → (trees : Trees) → Bad trees) → Finds g Good Bad conn conn (Err stop)
-none_read g Good Bad conn stop fault none = record {
+pub none_read : {S : Type 0} (g : Ghosts S) (v : Version) {X : Type 0} (Good : Trees → X → Type 0) (Bad : Trees → Type 0) (conn : Held S) (stop : Stop) → (stop ≡ bad_book) ⊎ (stop ≡ out_of_memory)
+    → (stop ≡ bad_book → (trees : Trees) → Bad trees) → Finds g v Good Bad conn conn (Err stop)
+none_read g v Good Bad conn stop fault none = record {
   mode = λ idle. idle;
   clean = λ clean. clean;
   survives = (silent_same (state g conn)).survives;
@@ -133,12 +150,12 @@ none_read g Good Bad conn stop fault none = record {
   bad = λ clean is schema. none is (state g conn).now.trees;
 }
 
-module _ {S : Type 0} (g : Ghosts S) {X : Type 0} (Good : Trees → X → Type 0) (Bad : Trees → Type 0) (old new : Held S) where
+module _ {S : Type 0} (g : Ghosts S) (v : Version) {X : Type 0} (Good : Trees → X → Type 0) (Bad : Trees → Type 0) (old new : Held S) where
   -- a reading that answered
   pub read_ok : (x : X) → (old.in_transaction ≡ false → new.in_transaction ≡ false) → Survives (state g old) (state g new) (λ _. ⊥) → (HasCleanDisk (state g new) → HasCleanDisk (state g old))
-      → ((t : Tables) → Keeps (state g old) t → Keeps (state g new) t)
-      → (HasCleanDisk (state g new) → old.schema ≡ book_schema → IsUnchanged (state g old) (state g new)) → (HasCleanDisk (state g new) → old.schema ≡ book_schema → Good (state g old).now.trees x)
-      → Finds g Good Bad old new (Ok x)
+      → ((t : Tables) → KeepsIn v (state g old) t → KeepsIn v (state g new) t)
+      → (HasCleanDisk (state g new) → old.schema ≡ schema_of v → IsUnchanged (state g old) (state g new)) → (HasCleanDisk (state g new) → old.schema ≡ schema_of v → Good (state g old).now.trees x)
+      → Finds g v Good Bad old new (Ok x)
   read_ok x mode survives clean kept same good = record {
     mode = mode;
     clean = clean;
@@ -153,8 +170,8 @@ module _ {S : Type 0} (g : Ghosts S) {X : Type 0} (Good : Trees → X → Type 0
 
   -- a reading that failed, or found the tables of no book
   pub read_err : (stop : Stop) → (old.in_transaction ≡ false → new.in_transaction ≡ false) → Survives (state g old) (state g new) (λ _. ⊥) → (HasCleanDisk (state g new) → HasCleanDisk (state g old))
-      → ((t : Tables) → Keeps (state g old) t → Keeps (state g new) t)
-      → IsReadFault stop → (HasCleanDisk (state g new) → stop ≡ bad_book → old.schema ≢ book_schema) → Finds g Good Bad old new (Err stop)
+      → ((t : Tables) → KeepsIn v (state g old) t → KeepsIn v (state g new) t)
+      → IsReadFault stop → (HasCleanDisk (state g new) → stop ≡ bad_book → old.schema ≢ schema_of v) → Finds g v Good Bad old new (Err stop)
   read_err stop mode survives clean kept fault foreign = record {
     mode = mode;
     clean = clean;

@@ -20,6 +20,7 @@ use Rattle.ob_tables.specs.Rows.{Tables}
 use Rattle.ob_commit.specs.Keeps.{Keeps}
 use Rattle.ob_compare.specs.Reading.{IsReadFault, bad_book}
 use Rattle.ob_compare.specs.Version.{HasVersion, IsOfBook}
+use Rattle.ob_tables.specs.declared.version.Version.TheVariants.{Two}
 use Rattle.ob_compare.proofs.Listing.{still_then}
 use Rattle.ob_store.specs.Finding.{Finds}
 use Rattle.ob_store.specs.Differing.{NoneSo}
@@ -27,14 +28,14 @@ use Rattle.ob_store.specs.Versions.{AnyTrees, Tells, old_version}
 use Rattle.ob_store.proofs.Reading.{if_err, if_ok, on_ok}
 
 -- ---- the schema tells whether there is a table of lives
-abbrev has_lives : Schema → Bool
+abbrev pub has_lives : Schema → Bool
 has_lives schema = is_some (table_named schema (codes "life"))
 
-lives_now : has_lives book_schema ≡ true
+pub lives_now : has_lives book_schema ≡ true
 unfolding everything
 lives_now = refl
 
-no_lives : has_lives old_schema ≡ false
+pub no_lives : has_lives old_schema ≡ false
 unfolding everything
 no_lives = refl
 
@@ -155,7 +156,7 @@ module _ {S : Type 0} (g : Ghosts S) where
   read_only : (X : Type 0) (r : Result X Stop) → IfErr r IsReadFault → IfErr r (λ stop. stop ≢ old_version)
   read_only X r fault = if_err r fault read_alone
 
-  module _ {X : Type 0} (Good : Trees → X → Type 0) (Bad : Trees → Type 0) (old mid new : Held S) (r : Result X Stop) (first : Tells g AnyTrees NoneSo old mid (Ok tt)) (second : Finds g Good Bad mid new r) where
+  module _ {X : Type 0} (Good : Trees → X → Type 0) (Bad : Trees → Type 0) (old mid new : Held S) (r : Result X Stop) (first : Tells g AnyTrees NoneSo old mid (Ok tt)) (second : Finds g Two Good Bad mid new r) where
     unchanged : HasCleanDisk (state g new) → old.schema ≡ book_schema → IsUnchanged (state g old) (state g mid)
     unchanged c has = first.same (second.clean c) has
 

@@ -1,5 +1,5 @@
 -- What is found of the tables of version 1 before they are made those of version 2, and what is written then.
-use Rattle.std.specs.Prelude.{◌≡◌, ◌↔◌, ◌×◌, ⊤, Bool, true, false, [], length, Result, Ok, Err, IsTrue, IfErr}
+use Rattle.std.specs.Prelude.{◌≡◌, ◌⊎◌, ⊤, Bool, true, false, [], Result, Ok, Err, IsTrue, IfErr}
 use Rattle.std.specs.List.Sorted.{IsPermutation}
 use Rattle.sqlite_trees.specs.declared.store.Store.{Ghosts}
 use Rattle.sqlite.specs.Tree.{Trees}
@@ -17,6 +17,7 @@ use Rattle.ob_tables.specs.declared.table.Table.{Table}
 use Rattle.ob_tables.specs.declared.table.Table.TheVariants.{Life, Command, Moved}
 use Rattle.ob_tables.specs.declared.version.Version.{Version}
 use Rattle.ob_tables.specs.declared.version.Version.TheVariants.{One, Two}
+use Rattle.ob_commit.specs.Keeps.{Leaves}
 use Rattle.ob_commit.specs.Upgrade.{CanUpgrade, with_upgrade}
 use Rattle.ob_record.specs.Tables.{Shows, tables_of}
 use Rattle.ob_compare.specs.Reading.{IsReadFault}
@@ -68,13 +69,18 @@ abbrev pub Upgradable : Trees → Upgrade → Type 0
 Upgradable trees it = (b : ActState) × HoldsOldBook trees b × AreApart (trees 14) × IsUpgradeOf b it
 
 module _ {S : Type 0} (g : Ghosts S) where
-  -- what an upgrade leaves of the book of version 1 that the store showed
-  abbrev pub Upgraded : Held S → ActState → Result ⊤ Stop → Type 0
-  Upgraded new b (Ok done) = KeepsBook (state g new) b
-  Upgraded new b (Err (Refused refusal)) = ⊥
-  Upgraded new b (Err (Fault OutOfMemory)) = KeepsOldBook (state g new) b
-  Upgraded new b (Err (Fault Store)) = KeepsEitherVersion (state g new) b
-  Upgraded new b (Err (Fault fault)) = ⊥
+  -- what an upgrade leaves of the book of version 1 that the store showed: the tables of version 2; or, where memory was refused,
+  -- what there was; or, after a fault of the store, what there was while it is open, and a crash leaves that or the tables of
+  -- version 2
+  abbrev pub Upgraded : Held S → Held S → ActState → Result ⊤ Stop → Type 0
+  Upgraded old new b (Ok done) = KeepsBook (state g new) b
+  Upgraded old new b (Err (Refused refusal)) = ⊥
+  Upgraded old new b (Err (Fault OutOfMemory)) =
+      KeepsOldBook (state g new) b × ((trees : Trees) → (state g new).may_leave trees → (state g old).may_leave trees)
+  Upgraded old new b (Err (Fault Store)) =
+      KeepsEitherVersion (state g new) b
+      × ((trees : Trees) → (state g new).may_leave trees → (state g old).may_leave trees ⊎ Leaves (tables_of b) trees)
+  Upgraded old new b (Err (Fault fault)) = ⊥
 
   -- the tables of version 1 were to be made those of version 2
   pub record Migrates (old new : Held S) (result : Result Bool Stop) : Type 0 where

@@ -1,5 +1,5 @@
 //! The tables of version 1 made those of version 2.
-ghost use Rattle.std.specs.Prelude.{◌≡◌, ◌↔◌, ◌≤◌, ◌×◌, false, length, map, Ok, IsTrue, IfOk, IfErr};
+ghost use Rattle.std.specs.Prelude.{◌≡◌, ◌↔◌, false, true, map, Ok, IsTrue, IfOk, IfErr};
 ghost use Rattle.sqlite.specs.Held.{state};
 ghost use Rattle.sqlite.specs.State.{HasCleanDisk, Survives};
 ghost use Rattle.ob_book.specs.Acts.{ActState};
@@ -180,7 +180,7 @@ fn upgrade<S: Alter>(conn: &mut Connection<S>, it: &Upgrade) -> Result<(), Stop>
         (CanUpgrade it.now.bodies.items it.now.devices) (with_upgrade it.now.bodies.items it.now.devices)) }
     ensures upgraded { HasCleanDisk (state S.Store conn.new) → IsTrue (state S.Store conn.old).is_open
         → conn.old.schema ≡ old_schema → (b : ActState) → HasOldBook (state S.Store conn.old).now.trees b
-        → AreApart ((state S.Store conn.old).now.trees 14) → IsUpgradeOf b it.now → Upgraded S.Store conn.new b result }
+        → AreApart ((state S.Store conn.old).now.trees 14) → IsUpgradeOf b it.now → Upgraded S.Store conn.old conn.new b result }
 {
     upgrade_law();
     // outside a transaction what a connection shows is what was committed, and what is open is a whole database

@@ -3,6 +3,7 @@ use Rattle.ob_base.specs.declared.stop.Stop.{Stop}
 use Rattle.std.specs.Prelude.{⊤}
 use Rattle.ob_tables.specs.Steps.{IsStoreFault}
 use Rattle.ob_compare.specs.Reading.{bad_book}
+use Rattle.ob_tables.specs.declared.version.Version.TheVariants.{Two}
 use Rattle.ob_store.specs.declared.led.Led.{Led}
 use Rattle.ob_store.specs.Differing.{IsFirstOff, NoneSo}
 use Rattle.ob_store.specs.Finding.{Finds}
@@ -14,7 +15,7 @@ use Rattle.ob_store.proofs.loading.check_led.Goals as goal
 pub returns-in-Ok-Some : goal.returns-in-Ok-Some
 returns-in-Ok-Some g c first read =
     found_off g.S.Store (λ (l : Led g.row.T.Denot). l.book.state) (λ (l : Led g.row.T.Denot). l.counted) (λ (l : Led g.row.T.Denot). l.moved) c.args.led.now first c.args.conn.now c.first_off.new.conn read (λ trees (done : ⊤). Holding trees c.args.led.now.book.state) _
-    (λ b is. subst (λ o. Finds g.S.Store (IsFirstOff b c.args.led.now.counted c.args.led.now.moved) NoneSo c.args.conn.now c.first_off.new.conn (Ok o)) c.in-Ok-Some.field-0-is (c.in-Ok-Some.ensures b is))
+    (λ b is. subst (λ o. Finds g.S.Store Two (IsFirstOff b c.args.led.now.counted c.args.led.now.moved) NoneSo c.args.conn.now c.first_off.new.conn (Ok o)) c.in-Ok-Some.field-0-is (c.in-Ok-Some.ensures b is))
 
 pub returns-in-Err : goal.returns-in-Err
 returns-in-Err g c first read =
@@ -25,9 +26,9 @@ returns-in-Ok-true g c first read =
     let e = c.in-Ok-true.ensures in
     let mid = c.first_off.new.conn in
     let end = c.are_apart.new.conn in
-    let third : Finds g.S.Store Apart NoneSo mid end (Ok c.in-Ok-true.field-0) = read_ok g.S.Store Apart NoneSo mid end c.in-Ok-true.field-0 e.mode e.survives e.clean e.kept e.same e.apart in
+    let third : Finds g.S.Store Two Apart NoneSo mid end (Ok c.in-Ok-true.field-0) = read_ok g.S.Store Two Apart NoneSo mid end c.in-Ok-true.field-0 e.mode e.survives e.clean (e.kept Two) (λ clean. e.same clean Two) (λ clean. e.apart clean Two) in
     loads g.S.Store (λ (l : Led g.row.T.Denot). l.book.state) (λ (l : Led g.row.T.Denot). l.counted) (λ (l : Led g.row.T.Denot). l.moved) c.args.led.now first c.args.conn.now mid read end
-    (λ b is. subst (λ o. Finds g.S.Store (IsFirstOff b c.args.led.now.counted c.args.led.now.moved) NoneSo c.args.conn.now mid (Ok o)) c.in-Ok-None.field-0-is (c.in-Ok-None.ensures b is))
+    (λ b is. subst (λ o. Finds g.S.Store Two (IsFirstOff b c.args.led.now.counted c.args.led.now.moved) NoneSo c.args.conn.now mid (Ok o)) c.in-Ok-None.field-0-is (c.in-Ok-None.ensures b is))
     (λ (done : ⊤). c.args.led.now.book.state) tt refl c.in-Ok-true.field-0 c.in-Ok-true.field-0-test third
 
 pub returns-in-Ok-false : goal.returns-in-Ok-false
@@ -35,9 +36,9 @@ returns-in-Ok-false g c first read =
     let e = c.in-Ok-false.ensures in
     let mid = c.first_off.new.conn in
     let end = c.are_apart.new.conn in
-    let third : Finds g.S.Store Apart NoneSo mid end (Ok c.in-Ok-false.field-0) = read_ok g.S.Store Apart NoneSo mid end c.in-Ok-false.field-0 e.mode e.survives e.clean e.kept e.same e.apart in
+    let third : Finds g.S.Store Two Apart NoneSo mid end (Ok c.in-Ok-false.field-0) = read_ok g.S.Store Two Apart NoneSo mid end c.in-Ok-false.field-0 e.mode e.survives e.clean (e.kept Two) (λ clean. e.same clean Two) (λ clean. e.apart clean Two) in
     broken g.S.Store (λ (l : Led g.row.T.Denot). l.book.state) (λ (l : Led g.row.T.Denot). l.counted) (λ (l : Led g.row.T.Denot). l.moved) c.args.led.now first c.args.conn.now mid read end
-    (λ b is. subst (λ o. Finds g.S.Store (IsFirstOff b c.args.led.now.counted c.args.led.now.moved) NoneSo c.args.conn.now mid (Ok o)) c.in-Ok-None.field-0-is (c.in-Ok-None.ensures b is))
+    (λ b is. subst (λ o. Finds g.S.Store Two (IsFirstOff b c.args.led.now.counted c.args.led.now.moved) NoneSo c.args.conn.now mid (Ok o)) c.in-Ok-None.field-0-is (c.in-Ok-None.ensures b is))
     (λ trees (done : ⊤). Holding trees c.args.led.now.book.state) HoldsNoBook c.in-Ok-false.field-0 third
 
 no_other : (stop : Stop) → IsStoreFault stop → stop ≢ bad_book
@@ -50,7 +51,7 @@ returns-in-Err-are_apart g c first read =
     let e = it.ensures in
     let mid = c.first_off.new.conn in
     let end = c.are_apart.new.conn in
-    let third : Finds g.S.Store Apart NoneSo mid end (Err it.stop) = read_err g.S.Store Apart NoneSo mid end it.stop e.mode e.survives e.clean e.kept (inl e.faults) (λ clean bad. absurd (no_other it.stop e.faults bad)) in
+    let third : Finds g.S.Store Two Apart NoneSo mid end (Err it.stop) = read_err g.S.Store Two Apart NoneSo mid end it.stop e.mode e.survives e.clean (e.kept Two) (inl e.faults) (λ clean bad. absurd (no_other it.stop e.faults bad)) in
     apart_err g.S.Store (λ (l : Led g.row.T.Denot). l.book.state) (λ (l : Led g.row.T.Denot). l.counted) (λ (l : Led g.row.T.Denot). l.moved) c.args.led.now first c.args.conn.now mid read end
-    (λ b is. subst (λ o. Finds g.S.Store (IsFirstOff b c.args.led.now.counted c.args.led.now.moved) NoneSo c.args.conn.now mid (Ok o)) c.in-Ok-None.field-0-is (c.in-Ok-None.ensures b is))
+    (λ b is. subst (λ o. Finds g.S.Store Two (IsFirstOff b c.args.led.now.counted c.args.led.now.moved) NoneSo c.args.conn.now mid (Ok o)) c.in-Ok-None.field-0-is (c.in-Ok-None.ensures b is))
     (λ trees (done : ⊤). Holding trees c.args.led.now.book.state) HoldsNoBook it.stop third

@@ -1,3 +1,4 @@
+use Rattle.ob_tables.specs.declared.version.Version.TheVariants.{Two}
 use Rattle.ob_store.specs.declared.led.Led.{Led}
 use Rattle.ob_store.specs.Finding.{HasNoBook}
 use Rattle.ob_store.specs.Leading.{IsLed}
@@ -8,7 +9,7 @@ use Rattle.ob_store.proofs.loading.find_off.Goals as goal
 
 pub returns-in-Err : goal.returns-in-Err
 returns-in-Err g c =
-    fails g.S.Store (λ trees (l : Led g.row.T.Denot). IsLed trees l.book.state l.counted l.moved) HasNoBook Finding HasNoBook c.args.conn.now c.read_led.new.conn c.in-Err.stop (λ trees none. none) c.in-Err.ensures.finds
+    fails g.S.Store Two (λ trees (l : Led g.row.T.Denot). IsLed trees l.book.state l.counted l.moved) HasNoBook Finding HasNoBook c.args.conn.now c.read_led.new.conn c.in-Err.stop (λ trees none. none) c.in-Err.ensures.finds
 
 pub returns : goal.returns
 returns g c =

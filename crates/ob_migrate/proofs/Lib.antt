@@ -1,0 +1,5 @@
+mod Changed
+mod Renewed
+mod Rowing
+mod Same
+mod Upgrades
