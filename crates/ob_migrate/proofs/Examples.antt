@@ -1,5 +1,5 @@
 -- The rows of version 1, and the new body texts, on plain cases.
-use Rattle.std.proofs.Common.{◌≡◌, refl, List, [], ◌∷◌, None, codes}
+use Rattle.std.proofs.Common.{◌≡◌, refl, [], ◌∷◌, None, codes}
 use Rattle.ob_base.specs.declared.Pos.TheVariants.{Closed}
 use Rattle.ob_command.specs.Commands.{body_text}
 use Rattle.ob_command.specs.Ranges.{end_names}
