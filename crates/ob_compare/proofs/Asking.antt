@@ -21,9 +21,8 @@ use Rattle.sqlite_resolve.specs.declared.compiled.Compiled.{Compiled}
 use Rattle.sqlite.proofs.Callers.{IsPlain, command_of, reads_as, unchanged_then}
 use Rattle.sqlite.specs.Command.{Command as SqlCommand}
 use Rattle.sqlite.specs.Schema.{Schema}
-use Rattle.ob_tables.specs.Schema.{book_schema}
 use Rattle.ob_tables.specs.Steps.{IsStoreFault}
-use Rattle.ob_compare.specs.Listing.{Listing, IsListing, IsListingOver, Lists, Means, list_command}
+use Rattle.ob_compare.specs.Listing.{Listing, IsListingOver, Lists, Means, list_command}
 use Rattle.ob_compare.specs.Faults.{IsReadFault, bad_book}
 use Rattle.ob_compare.specs.Reading.{HasNoMeaning, HasTrouble, IsInputError}
 use Rattle.ob_compare.proofs.Listing.{quiet, still_then}
@@ -85,7 +84,7 @@ shown_unchanged sql params old new rows plain h =
     let it = subst (ShowsRows old new sql h.0 (timed params h.0.formats h.1.now) rows) none h.2 in
     it.3
 
-module _ (l : Listing) (means : IsListing l) (old mid new : State) (text : List ℕ) (prepared : HasCleanDisk mid → (text ≡ l.text) × IsUnchanged old mid) where
+module _ {at : Schema} (l : Listing) (means : IsListingOver at l) (old mid new : State) (text : List ℕ) (prepared : HasCleanDisk mid → (text ≡ l.text) × IsUnchanged old mid) where
   -- a whole listing commits nothing
   pub listing_quiet : Survives old mid (λ _. ⊥) → Survives mid new (CommitsShowing text [] mid) → Survives old new (λ _. ⊥)
   listing_quiet first s = still_then old mid new first (quiet l means old mid new text prepared s)
@@ -94,7 +93,7 @@ means_command : (it : Result Compiled CompileError) (command : SqlCommand) → M
 means_command (Ok c) command h = h
 means_command (Err e) command h = absurd h
 
-module _ (at : Schema) (l : Listing) (means : IsListingOver at l) where
+module _ {at : Schema} (l : Listing) (means : IsListingOver at l) where
   -- and changes nothing
   pub listing_whole : (old mid new : State) (text : List ℕ) (prepared : HasCleanDisk mid → (text ≡ l.text) × IsUnchanged old mid) → old.now.schema ≡ at → HasCleanDisk mid → (rows : List Row) → Shown text [] mid new rows
       → Lists l old.now rows × IsUnchanged old new
@@ -109,16 +108,12 @@ module _ (at : Schema) (l : Listing) (means : IsListingOver at l) where
       )
 
   -- where a listing's text isn't understood, the tables are others
-  pub foreign_over : (old : State) (sql : List ℕ) → l.text ≡ sql → HasNoMeaning old.now.schema sql → old.now.schema ≢ at
-  foreign_over old sql text none has = go (understood at l.text) refl means.plain
+  pub foreign_tables : (old : State) (sql : List ℕ) → l.text ≡ sql → HasNoMeaning old.now.schema sql → old.now.schema ≢ at
+  foreign_tables old sql text none has = go (understood at l.text) refl means.plain
     where
       go : (it : _) → understood at l.text ≡ it → IsPlain it → ⊥
       go (Ok c) known plain = none c (ap (λ s. understood s sql) has ∙ ap (understood at) (sym text) ∙ known)
       go (Err e) known plain = plain
-
--- they aren't those of a book
-pub foreign_tables : (l : Listing) → IsListing l → (old : State) (sql : List ℕ) → l.text ≡ sql → HasNoMeaning old.now.schema sql → old.now.schema ≢ book_schema
-foreign_tables l means old sql text none = foreign_over book_schema l means old sql text none
 
 -- a failure of the store doesn't say that the tables are those of no book
 pub faults_alone : {X : Type 0} (r : Result X Stop) (P : Type 0) → IfErr r IsStoreFault → IfErr r (λ stop. stop ≡ bad_book → P)

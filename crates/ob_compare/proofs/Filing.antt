@@ -5,11 +5,12 @@ use Rattle.ob_base.specs.Identifier.{is_identifier, identifier_in}
 use Rattle.sqlite_value.specs.declared.value.Value.{Value}
 use Rattle.sqlite_value.specs.declared.value.Value.TheVariants.{Text}
 use Rattle.sqlite.specs.Order.{column}
-use Rattle.ob_command.specs.Commands.{body_text}
 use Rattle.ob_tables.specs.Rows.{Columns}
+use Rattle.ob_tables.specs.declared.version.Version.{Version}
 use Rattle.ob_compare.specs.declared.filed.Filed.{Filed}
 use Rattle.ob_compare.specs.Listing.{referenced}
 use Rattle.ob_compare.specs.Ordered.{row_with}
+use Rattle.ob_compare.specs.Versioned.{body_in}
 
 -- a row of three columns is known by them
 pub three_columns : (row : Columns) (a b c : Value) → length row ≡ 3 → column row 0 ≡ a → column row 1 ≡ b → column row 2 ≡ c → row ≡ a ∷ b ∷ c ∷ []
@@ -23,11 +24,11 @@ same_text : {s t : List ℕ} → ◌≡◌ {A = Value} (Text s) (Text t) → s �
 same_text e = cc
 
 -- the reference and the body that stand in the row of a command
-pub reference_there : (row : Columns) (id : Value) (f : Filed) → row ≡ row_with id (referenced f) → (1 < length row) × (column row 1 ≡ Text f.reference)
-reference_there row id f is = (omega (arith, ap length is), ap (λ r. column r 1) is)
+pub reference_there : (version : Version) (row : Columns) (id : Value) (f : Filed) → row ≡ row_with version id (referenced f) → (1 < length row) × (column row 1 ≡ Text f.reference)
+reference_there version row id f is = (omega (arith, ap length is), ap (λ r. column r 1) is)
 
-pub body_there : (row : Columns) (id : Value) (f : Filed) → row ≡ row_with id (referenced f) → (2 < length row) × (column row 2 ≡ Text (body_text f.command))
-body_there row id f is = (omega (arith, ap length is), ap (λ r. column r 2) is)
+pub body_there : (version : Version) (row : Columns) (id : Value) (f : Filed) → row ≡ row_with version id (referenced f) → (2 < length row) × (column row 2 ≡ Text (body_in version f.command))
+body_there version row id f is = (omega (arith, ap length is), ap (λ r. column r 2) is)
 
 pub nothing : {X : Type 0} (r : Option X) (x : X) (P : Type 0) → r ≡ None → (P → ⊥) → (r ≡ Some x → P) × (P → r ≡ Some x)
 nothing r x P none never = (λ some. absurd (let e = sym none ∙ some in cc), λ p. absurd (never p))

@@ -9,12 +9,13 @@ use Rattle.sqlite.specs.State.{State, HasCleanDisk, IsUnchanged, IsRolledBack, I
 use Rattle.sqlite_schema.specs.declared.command.Returning.{Returning}
 use Rattle.sqlite_resolve.specs.declared.compiled.Compiled.{Compiled}
 use Rattle.sqlite.proofs.Callers.{IsPlain, never_commits}
-use Rattle.ob_tables.specs.Schema.{book_schema}
+use Rattle.ob_tables.specs.Versions.{schema_of}
+use Rattle.ob_tables.specs.declared.version.Version.{Version}
 use Rattle.ob_tables.specs.Rows.{Tables}
 use Rattle.ob_tables.proofs.Silence.{silent_same}
-use Rattle.ob_commit.specs.Keeps.{Keeps}
+use Rattle.ob_commit.specs.Keeps.{KeepsIn}
 use Rattle.ob_commit.proofs.Commits.{unchanged, undone}
-use Rattle.ob_compare.specs.Listing.{Listing, IsListing}
+use Rattle.ob_compare.specs.Listing.{Listing, IsListingOver}
 
 -- nothing changed, or the transaction was undone
 abbrev pub IsStill : State → State → Type 0
@@ -41,8 +42,8 @@ unread old new sql params e (inl h) = not_run old new sql params e h
 unread old new sql params e (inr h) = unshown old new sql h.0 (timed params h.0.formats h.1.now) e h.0.returning h.2
 
 -- ---- what a store keeps
-pub kept_still : (old new : State) (t : Tables) → (HasCleanDisk new → IsStill old new) → Survives old new (λ _. ⊥) → Keeps old t → Keeps new t
-kept_still old new t still survives keeps = record {
+pub kept_still : (v : Version) (old new : State) (t : Tables) → (HasCleanDisk new → IsStill old new) → Survives old new (λ _. ⊥) → KeepsIn v old t → KeepsIn v new t
+kept_still v old new t still survives keeps = record {
   settled = λ clean live. elim (still clean) [
     | inl same ↦ (unchanged old new t (λ _. same) survives keeps).settled clean live
     | inr back ↦ (undone old old new t (silent_same old) (λ _. back) survives keeps).settled clean live
@@ -53,7 +54,7 @@ kept_still old new t still survives keeps = record {
 }
 
 -- a text that was prepared is asked
-module _ (known : List ℕ) (is_plain : IsPlain (understood book_schema known)) (old mid new : State) (text : List ℕ) (prepared : HasCleanDisk mid → (text ≡ known) × IsUnchanged old mid) (t : Tables) (keeps : Keeps old t)
+module _ (v : Version) (known : List ℕ) (is_plain : IsPlain (understood (schema_of v) known)) (old mid new : State) (text : List ℕ) (prepared : HasCleanDisk mid → (text ≡ known) × IsUnchanged old mid) (t : Tables) (keeps : KeepsIn v old t)
     (first : Survives old mid (λ _. ⊥)) (s : Survives mid new (CommitsShowing text [] mid)) where
   plain : HasCleanDisk mid → IsPlain (understood mid.now.schema text)
   plain clean =
@@ -73,12 +74,12 @@ module _ (known : List ℕ) (is_plain : IsPlain (understood book_schema known)) 
         elim (s.crash clean db may) [ inl before ↦ inl before | inr commits ↦ absurd (never_commits text [] mid db (plain early) commits) ];
   }
 
-  -- it needs no schema, since a store that keeps tables has that of a book while it is open
-  pub kept_text : (HasCleanDisk new → IsPlain (understood mid.now.schema text) → IsStill mid new) → Keeps new t
+  -- it needs no schema, since a store that keeps tables of a version has its schema while it is open
+  pub kept_text : (HasCleanDisk new → IsPlain (understood mid.now.schema text) → IsStill mid new) → KeepsIn v new t
   kept_text still =
-      kept_still mid new t (λ clean. let early : HasCleanDisk mid = omega (arith, s.clean, clean) in still clean (plain early)) silent (unchanged old mid t (λ clean. (prepared clean).1) first keeps)
+      kept_still v mid new t (λ clean. let early : HasCleanDisk mid = omega (arith, s.clean, clean) in still clean (plain early)) silent (unchanged old mid t (λ clean. (prepared clean).1) first keeps)
 
 -- the same of a listing
-pub kept_asked : (l : Listing) → IsListing l → (old mid new : State) (text : List ℕ) (prepared : HasCleanDisk mid → (text ≡ l.text) × IsUnchanged old mid) (t : Tables) → Keeps old t → Survives old mid (λ _. ⊥)
-    → Survives mid new (CommitsShowing text [] mid) → (HasCleanDisk new → IsPlain (understood mid.now.schema text) → IsStill mid new) → Keeps new t
-kept_asked l means old mid new text prepared t keeps first s still = kept_text l.text means.plain old mid new text prepared t keeps first s still
+pub kept_asked : (v : Version) (l : Listing) → IsListingOver (schema_of v) l → (old mid new : State) (text : List ℕ) (prepared : HasCleanDisk mid → (text ≡ l.text) × IsUnchanged old mid) (t : Tables) → KeepsIn v old t → Survives old mid (λ _. ⊥)
+    → Survives mid new (CommitsShowing text [] mid) → (HasCleanDisk new → IsPlain (understood mid.now.schema text) → IsStill mid new) → KeepsIn v new t
+kept_asked v l means old mid new text prepared t keeps first s still = kept_text v l.text means.plain old mid new text prepared t keeps first s still

@@ -20,3 +20,4 @@ pub mod Silent
 mod RowNumbers
 mod NumberQuery
 mod SameEnds
+mod Versions

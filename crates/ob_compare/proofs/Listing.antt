@@ -21,13 +21,13 @@ use Rattle.sqlite_resolve.specs.declared.compiled.Compiled.{Compiled}
 use Rattle.sqlite_resolve.specs.declared.error.CompileError.{CompileError}
 use Rattle.sqlite.proofs.StateLemmas.{survives_then}
 use Rattle.sqlite.proofs.Callers.{command_of}
-use Rattle.ob_tables.specs.Schema.{book_schema}
+use Rattle.sqlite.specs.Schema.{Schema}
 use Rattle.ob_tables.specs.Rows.{shown, places_of, tree_of}
 use Rattle.ob_tables.specs.declared.table.Table.{Table}
 use Rattle.ob_tables.specs.declared.table.Table.TheVariants.{Meta, Cause, Node, Device, Life, Customer, Entry, Mark, Command, Moved, Posting}
 use Rattle.ob_tables.proofs.Answers.{answered_in_order}
 use Rattle.ob_record.specs.Tables.{Shows}
-use Rattle.ob_compare.specs.Listing.{Listing, IsListing, Means, list_query, list_command, keyed, upward, Lists, IsOff, Goes, Ends}
+use Rattle.ob_compare.specs.Listing.{Listing, IsListingOver, Means, list_query, list_command, keyed, upward, Lists, IsOff, Goes, Ends}
 use Rattle.ob_compare.proofs.Same.{same_when_sorted}
 use Rattle.ob_compare.proofs.Texts.{answers, begin_answer, begins_empty, commits_none}
 
@@ -36,13 +36,13 @@ means_command : (it : Result Compiled CompileError) (command : SqlCommand) → M
 means_command (Ok c) command h = h
 means_command (Err e) command h = absurd h
 
-module _ (l : Listing) (means : IsListing l) where
-  command_is : command_of (understood book_schema l.text) ≡ list_command l
-  command_is = means_command (understood book_schema l.text) (list_command l) means.means
+module _ {at : Schema} (l : Listing) (means : IsListingOver at l) where
+  command_is : command_of (understood at l.text) ≡ list_command l
+  command_is = means_command (understood at l.text) (list_command l) means.means
 
   -- the rows that are shown are an answer
-  pub listed : (old new : State) (rows : List Row) → old.now.schema ≡ book_schema → Shown l.text [] old new rows → Lists l old.now rows
-  listed = answers l.text means.plain (list_command l) command_is means.unlisted
+  pub listed : (old new : State) (rows : List Row) → old.now.schema ≡ at → Shown l.text [] old new rows → Lists l old.now rows
+  listed = answers at l.text means.plain (list_command l) command_is means.unlisted
 
 pub still : (a : State) → Survives a a (λ _. ⊥)
 still a = record { clean = omega arith; shield = λ x. x; counts = omega arith; limit = refl; closes = λ clean live. inl live; crash = λ clean db may. inl may }
@@ -51,9 +51,9 @@ pub still_then : (a b c : State) → Survives a b (λ _. ⊥) → Survives b c (
 still_then a b c one two = survives_then a b c _ _ (λ _. ⊥) (λ _ db none. none) (λ _ db none. none) one two
 
 -- rows that were given begin an answer
-pub begun_list : {S : Type 0} (g : Ghosts S) (l : Listing) → IsListing l → (h : Held S) (given : List Row) → (state g h).now.schema ≡ book_schema → IsTrue (state g h).is_open → HasGiven g l.text [] h given
+pub begun_list : {at : Schema} {S : Type 0} (g : Ghosts S) (l : Listing) → IsListingOver at l → (h : Held S) (given : List Row) → (state g h).now.schema ≡ at → IsTrue (state g h).is_open → HasGiven g l.text [] h given
     → (tail : List Row) × Lists l (state g h).now (given ++ tail)
-begun_list g l means = begin_answer l.text means.plain (list_command l) (command_is l means) means.unlisted (λ db params. tt) g
+begun_list {at = at} g l means = begin_answer at l.text means.plain (list_command l) (command_is l means) means.unlisted (λ db params. tt) g
 
 -- ---- an answer against rows that rise by their key
 terms_are : (params row : Row) (places : List ℕ) → eval_all (map (col 1) places) (params ∷ row ∷ []) ≡ map (column row) places
@@ -124,8 +124,8 @@ append_last [] ys zs = refl
 append_last (x ∷ xs) ys zs = ap (λ l. x ∷ l) (append_last xs ys zs)
 
 -- ---- the next row
-module _ {S : Type 0} (g : Ghosts S) (l : Listing) (means : IsListing l) (old new : Held S) (has : (state g old).now.schema ≡ book_schema) (same : IsUnchanged (state g old) (state g new)) (given : List Row) where
-  there : (state g new).now.schema ≡ book_schema
+module _ {at : Schema} {S : Type 0} (g : Ghosts S) (l : Listing) (means : IsListingOver at l) (old new : Held S) (has : (state g old).now.schema ≡ at) (same : IsUnchanged (state g old) (state g new)) (given : List Row) where
+  there : (state g new).now.schema ≡ at
   there = ap (λ (d : Database). d.schema) same.0.now_is ∙ has
 
   -- there is one
@@ -151,12 +151,12 @@ module _ {S : Type 0} (g : Ghosts S) (l : Listing) (means : IsListing l) (old ne
 
 -- ---- a listing begins
 -- and commits nothing
-pub quiet : (l : Listing) → IsListing l → (old mid new : State) (text : List ℕ) → (HasCleanDisk mid → (text ≡ l.text) × IsUnchanged old mid) → Survives mid new (CommitsShowing text [] mid) → Survives mid new (λ _. ⊥)
+pub quiet : {at : Schema} (l : Listing) → IsListingOver at l → (old mid new : State) (text : List ℕ) → (HasCleanDisk mid → (text ≡ l.text) × IsUnchanged old mid) → Survives mid new (CommitsShowing text [] mid) → Survives mid new (λ _. ⊥)
 quiet l means = commits_none l.text means.silent
 
-pub begins : {S : Type 0} (g : Ghosts S) (l : Listing) → IsListing l → (old mid new : Held S) (text : List ℕ) → (text ≡ l.text) × IsUnchanged (state g old) (state g mid) → (state g old).now.schema ≡ book_schema → HasBegun g text [] mid new
+pub begins : {at : Schema} {S : Type 0} (g : Ghosts S) (l : Listing) → IsListingOver at l → (old mid new : Held S) (text : List ℕ) → (text ≡ l.text) × IsUnchanged (state g old) (state g mid) → (state g old).now.schema ≡ at → HasBegun g text [] mid new
     → HasGiven g l.text [] new [] × IsUnchanged (state g old) (state g new)
-begins g l means = begins_empty l.text means.plain g
+begins {at = at} g l means = begins_empty at l.text means.plain g
 
 -- ---- from row to row
 -- where a row is off, so are the rows of which it is one

@@ -16,7 +16,9 @@ use Rattle.sqlite.specs.Listing.{understood, reads_listing}
 use Rattle.sqlite.specs.Effect.{Database}
 use Rattle.sqlite.proofs.Callers.{IsPlain, command_of}
 use Rattle.sqlite_tied.specs.Compute.{everything}
-use Rattle.ob_tables.specs.Schema.{book_schema}
+use Rattle.ob_tables.specs.Versions.{schema_of}
+use Rattle.ob_tables.specs.declared.version.Version.{Version}
+use Rattle.ob_tables.specs.declared.version.Version.TheVariants.{One, Two}
 use Rattle.ob_tables.specs.Rows.{AreApart}
 use Rattle.ob_tables.proofs.Answers.{answered_in_order}
 use Rattle.ob_compare.specs.Apart.{IsAbove, ListsNumbers, number_command, number_query, number_text}
@@ -25,21 +27,24 @@ use Rattle.ob_compare.proofs.Silent.{shows_no_write}
 use Rattle.ob_compare.proofs.RowNumbers.{RiseTo, apart_as, by_rowid, not_apart, number_of, rise_apart}
 
 -- ---- what the text means
-pub numbers_mean : command_of (understood book_schema number_text) ≡ number_command
+pub numbers_mean : (v : Version) → command_of (understood (schema_of v) number_text) ≡ number_command
 unfolding understood everything
-numbers_mean = refl
+numbers_mean One = refl
+numbers_mean Two = refl
 
-pub numbers_plain : IsPlain (understood book_schema number_text)
+pub numbers_plain : (v : Version) → IsPlain (understood (schema_of v) number_text)
 unfolding understood everything
-numbers_plain = (refl, refl)
+numbers_plain One = (refl, refl)
+numbers_plain Two = (refl, refl)
 
 pub numbers_silent : ShowsNoWrite number_text
 unfolding everything
 numbers_silent = shows_no_write number_text (λ schema base. refl)
 
-pub numbers_unlisted : reads_listing book_schema number_text ≡ false
+pub numbers_unlisted : (v : Version) → reads_listing (schema_of v) number_text ≡ false
 unfolding understood everything
-numbers_unlisted = refl
+numbers_unlisted One = refl
+numbers_unlisted Two = refl
 
 -- ---- an answer is the numbers of the rows, in an order that doesn't fall
 abbrev IsBoth : Output → Type 0

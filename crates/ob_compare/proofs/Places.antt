@@ -11,7 +11,8 @@ use Rattle.sqlite.specs.State.{IsUnchanged}
 use Rattle.sqlite.specs.Held.{Held, state}
 use Rattle.sqlite.specs.Given.{HasGiven, GivesOn}
 use Rattle.sqlite_trees.specs.declared.store.Store.{Ghosts}
-use Rattle.ob_tables.specs.Schema.{book_schema}
+use Rattle.ob_tables.specs.Versions.{Has, schema_of}
+use Rattle.ob_tables.specs.declared.version.Version.{Version}
 use Rattle.ob_tables.specs.Rows.{Columns}
 use Rattle.ob_tables.specs.declared.table.Table.{Table}
 use Rattle.ob_record.specs.Tables.{Shows}
@@ -22,21 +23,21 @@ use Rattle.ob_compare.proofs.Listing.{append_last, lists_rows, no_more}
 use Rattle.ob_compare.proofs.Same.{rises_mapped}
 use Rattle.ob_compare.proofs.Selects.{is_listing}
 
-module _ {S : Type 0} (g : Ghosts S) (t : Table) (old new : Held S) (has : (state g old).now.schema ≡ book_schema)
+module _ {S : Type 0} (g : Ghosts S) (v : Version) (t : Table) (own : Has v t) (old new : Held S) (has : (state g old).now.schema ≡ schema_of v)
     (same : IsUnchanged (state g old) (state g new)) (given : List Row) where
   -- one row more, at a place that has one
   pub goes_on : (ok : Bool) (row : Row) (o : Option Columns) → true ≡ is_some o → IsTrue ok ↔ (o ≡ Some row)
       → GivesOn g (listing_of t).text [] old new given (Some row) → Goes g (listing_of t) ok new given (standing (o ∷ []))
   goes_on ok row None some is more = absurd (true≢false some)
   goes_on ok row (Some x) some is more =
-      listing.goes_on g (listing_of t) (is_listing t) old new has same given ok row x
+      listing.goes_on g (listing_of t) (is_listing v t own) old new has same given ok row x
       (λ yes. let it = is.0 yes in cc, λ e. is.1 (ap Some (sym e))) more
 
   -- none at a place that has one
   pub ends_off : (o : Option Columns) → true ≡ is_some o → GivesOn g (listing_of t).text [] old new given None
       → Goes g (listing_of t) false new given (standing (o ∷ []))
   ends_off None some h = absurd (true≢false some)
-  ends_off (Some x) some h = listing.ends_off g (listing_of t) (is_listing t) old new has same given x h
+  ends_off (Some x) some h = listing.ends_off g (listing_of t) (is_listing v t own) old new has same given x h
 
 -- a place more
 more : {X : Type 0} (ps : List (Option X)) (at : ℕ) (d : Option X) → at < length ps

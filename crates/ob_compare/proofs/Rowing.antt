@@ -1,5 +1,5 @@
 -- The rows of what commands move, one command after another.
-use Rattle.std.proofs.Common.{◌≡◌, ℕ, pos, zero, suc, ◌+◌, ◌<◌, ◌≤◌, List, [], ◌∷◌, ◌++◌, map, length, take, drop, get_or, Bool, true, false, None, Some, Option, is_none, IsTrue, refl, sym, ap, subst, ◌∙◌, arith, true≢false}
+use Rattle.std.proofs.Common.{◌≡◌, ℕ, pos, zero, suc, ◌+◌, ◌<◌, ◌≤◌, List, [], ◌∷◌, ◌++◌, map, length, take, drop, get_or, Bool, true, false, None, Some, Option, IsTrue, refl, sym, ap, subst, ◌∙◌, arith, true≢false}
 use Rattle.std.specs.Prelude.{◌↔◌, Result, Ok, Err, IfOk, OnOk, if◌then◌else◌}
 use Rattle.std.specs.Ordering.{nat_cmp, int_cmp}
 use Rattle.std.specs.List.Sorted.{IsStrictlySortedBy}
@@ -19,27 +19,32 @@ use Rattle.sqlite_trees.specs.declared.store.Store.{Ghosts}
 use Rattle.sqlite_value.proofs.OrderLemmas.{value_cmp-Int, then-Equal}
 use Rattle.sqlite_tied.specs.Compute.{everything}
 use Rattle.ob_post.specs.Keys.{dim_number}
-use Rattle.ob_base.specs.declared.stop.Refusal.{Refusal}
 use Rattle.ob_state.specs.State.{BookState}
-use Rattle.ob_state.specs.Refusals.{refusal}
-use Rattle.ob_state.specs.Next.{next, next_all}
+use Rattle.ob_state.specs.Next.{next}
 use Rattle.ob_state.specs.Amounts.{moves}
 use Rattle.ob_book.specs.Acts.{Referenced}
 use Rattle.ob_post.specs.declared.Moved.{Moved}
 use Rattle.ob_tables.specs.Rows.{Columns, moved_row}
+use Rattle.ob_tables.specs.Versions.{schema_of}
 use Rattle.ob_tables.specs.declared.table.Table.TheVariants.{Moved as MovedTable}
+use Rattle.ob_tables.specs.declared.version.Version.{Version}
+use Rattle.ob_tables.specs.declared.version.Version.TheVariants.{One, Two}
 use Rattle.ob_record.specs.Tables.{Shows, moved_rows, rows_of_moves}
 use Rattle.ob_compare.specs.declared.filed.Filed.{Filed}
-use Rattle.ob_compare.specs.Listing.{IsListing, Lists, IsOff, Goes, Ends, list_query, keyed, filed_of}
+use Rattle.ob_compare.specs.Listing.{IsListingOver, Lists, IsOff, Goes, Ends, list_query, keyed, filed_of}
 use Rattle.ob_compare.specs.Moves.{moved_listing, HasMoved, commands_of}
+use Rattle.ob_compare.specs.Versioned.{accepts_in, next_all_in}
 use Rattle.ob_compare.proofs.Same.{rises_mapped}
 use Rattle.ob_compare.proofs.Silent.{shows_no_write}
 use Rattle.ob_compare.proofs.Listing.{lists_rows, append_last, no_more, row_on, row_off}
 use Rattle.ob_compare.proofs.Order.{Numbered, numbered_row, numbered_cmp, numbered, rows_are, rise}
+use Rattle.ob_compare.proofs.Versions.{led, led_here}
 
-pub moved_is : IsListing moved_listing
+-- the text means one query at the schemas of both versions
+pub moved_is : (v : Version) → IsListingOver (schema_of v) moved_listing
 unfolding understood everything
-moved_is = record { means = refl; plain = (refl, refl); unlisted = refl; silent = shows_no_write moved_listing.text (λ schema base. refl) }
+moved_is One = record { means = refl; plain = (refl, refl); unlisted = refl; silent = shows_no_write moved_listing.text (λ schema base. refl) }
+moved_is Two = record { means = refl; plain = (refl, refl); unlisted = refl; silent = shows_no_write moved_listing.text (λ schema base. refl) }
 
 -- ---- the rows rise by their key
 same_pos : (m n : ℕ) → int_cmp (pos m) (pos n) ≡ nat_cmp m n
@@ -97,16 +102,22 @@ drop_one list i f low e =
     let place : suc i ≡ i + 1 = omega arith in
     drop-cons list i f low ∙ ap (λ (x : Filed). x ∷ drop (suc i) list) (sym e) ∙ ap (λ k. f ∷ drop k list) place
 
-abbrev pub leads : BookState → List Filed → Option BookState
-leads b list = next_all b (commands_of (filed_of list))
+abbrev pub leads : Version → BookState → List Filed → Option BookState
+leads version b list = next_all_in version b (commands_of (filed_of list))
 
 abbrev pub expected : BookState → ℕ → List Filed → List Columns
 expected b n list = moved_rows b n (filed_of list)
 
+-- where the command is accepted or not, all lead on from the state after it or nowhere
+abbrev on_if : Version → BookState → Filed → List Filed → Bool → Option BookState
+on_if version b f rest accepts = if accepts then leads version (next b f.command) rest else None
+
 -- a command that is accepted leads on from the state after it
-pub leads_on : (b : BookState) (list : List Filed) (i : ℕ) (f : Filed) → i < length list → f ≡ get_or list i f → refusal b f.command ≡ None → leads (next b f.command) (drop (i + 1) list) ≡ leads b (drop i list)
-leads_on b list i f low e accepted =
-    sym (ap (leads b) (drop_one list i f low e) ∙ ap (λ (r : Option Refusal). if is_none r then leads (next b f.command) (drop (i + 1) list) else None) accepted)
+pub leads_on : (version : Version) (b : BookState) (list : List Filed) (i : ℕ) (f : Filed) → i < length list → f ≡ get_or list i f → IsTrue (accepts_in version b f.command)
+    → leads version (next b f.command) (drop (i + 1) list) ≡ leads version b (drop i list)
+leads_on version b list i f low e accepted =
+    let rest = drop (i + 1) list in
+    sym (ap (leads version b) (drop_one list i f low e) ∙ led version b f.command (commands_of (filed_of rest)) ∙ ap (on_if version b f rest) accepted)
 
 -- its rows come first
 pub rows_on : (b : BookState) (n : ℕ) (list : List Filed) (i : ℕ) (f : Filed) → i < length list → f ≡ get_or list i f
@@ -121,51 +132,52 @@ front_more b first n i list f front low e all =
     append_last front (rows_of_moves n (moves b (next b f.command))) (expected (next b f.command) (n + 1) (drop (i + 1) list)) ∙ ap (λ l. front ++ l) (sym (rows_on b n list i f low e)) ∙ all
 
 -- past the last command nothing is left
-pub leads_here : (b : BookState) (list : List Filed) (i : ℕ) → length list ≤ i → leads b (drop i list) ≡ Some b
-leads_here b list i end = ap (leads b) (drop_of_length-le list end)
+pub leads_here : (version : Version) (b : BookState) (list : List Filed) (i : ℕ) → length list ≤ i → leads version b (drop i list) ≡ Some b
+leads_here version b list i end = ap (leads version b) (drop_of_length-le list end) ∙ led_here version b
 
 pub all_given : (b first : BookState) (n i : ℕ) (list : List Filed) (front : List Row) → length list ≤ i → front ++ expected b n (drop i list) ≡ expected first 1 list → front ≡ expected first 1 list
 all_given b first n i list front end all = sym (append-nil front) ∙ ap (λ l. front ++ l) (sym (ap (expected b n) (drop_of_length-le list end))) ∙ all
 
 -- ---- the table isn't that of the commands
-refused_nowhere : (b c : BookState) (f : Filed) (rest : List Filed) (r : Option Refusal) → refusal b f.command ≡ r → leads b (f ∷ rest) ≡ Some c → r ≡ None
-refused_nowhere b c f rest None is leads_to = refl
-refused_nowhere b c f rest (Some r) is leads_to =
-    absurd (let none : leads b (f ∷ rest) ≡ None = ap (λ (o : Option Refusal). if is_none o then leads (next b f.command) rest else None) is in let e = sym none ∙ leads_to in cc)
+pub refused_nowhere : (version : Version) (b c : BookState) (f : Filed) (rest : List Filed) (accepts : Bool) → accepts_in version b f.command ≡ accepts → leads version b (f ∷ rest) ≡ Some c → IsTrue accepts
+refused_nowhere version b c f rest true is leads_to = refl
+refused_nowhere version b c f rest false is leads_to =
+    absurd (let none : leads version b (f ∷ rest) ≡ None = led version b f.command (commands_of (filed_of rest)) ∙ ap (on_if version b f rest) is in let e = sym none ∙ leads_to in cc)
 
 -- an answer of the table where it is as the commands move
-held : (db : Database) (answer : List Row) (first : BookState) (list : List Filed) (table : List Columns) → Lists moved_listing db answer → Shows db.trees MovedTable table → HasMoved table first (filed_of list) → answer ≡ expected first 1 list
-held db answer first list table lists shows has = (lists_moved db answer first (filed_of list) lists).1 (IsPermutation-trans _ _ _ shows has.2)
+held : (version : Version) (db : Database) (answer : List Row) (first : BookState) (list : List Filed) (table : List Columns) → Lists moved_listing db answer → Shows db.trees MovedTable table → HasMoved version table first (filed_of list)
+    → answer ≡ expected first 1 list
+held version db answer first list table lists shows has = (lists_moved db answer first (filed_of list) lists).1 (IsPermutation-trans _ _ _ shows has.2)
 
 -- where a command is refused or its rows are off
-pub off_all : (db : Database) (b first : BookState) (n i : ℕ) (list : List Filed) (f : Filed) (front : List Row) (table : List Columns) → i < length list → f ≡ get_or list i f
-    → leads b (drop i list) ≡ leads first list → front ++ expected b n (drop i list) ≡ expected first 1 list
-    → (refusal b f.command ≡ None → IsOff moved_listing db front (rows_of_moves n (moves b (next b f.command)))) → Shows db.trees MovedTable table → HasMoved table first (filed_of list) → ⊥
-off_all db b first n i list f front table low e leading all off shows has =
-    let accepted = refused_nowhere b has.0 f (drop (i + 1) list) (refusal b f.command) refl (sym (ap (leads b) (drop_one list i f low e)) ∙ leading ∙ has.1) in
+pub off_all : (version : Version) (db : Database) (b first : BookState) (n i : ℕ) (list : List Filed) (f : Filed) (front : List Row) (table : List Columns) → i < length list → f ≡ get_or list i f
+    → leads version b (drop i list) ≡ leads version first list → front ++ expected b n (drop i list) ≡ expected first 1 list
+    → (IsTrue (accepts_in version b f.command) → IsOff moved_listing db front (rows_of_moves n (moves b (next b f.command)))) → Shows db.trees MovedTable table → HasMoved version table first (filed_of list) → ⊥
+off_all version db b first n i list f front table low e leading all off shows has =
+    let accepted = refused_nowhere version b has.0 f (drop (i + 1) list) (accepts_in version b f.command) refl (sym (ap (leads version b) (drop_one list i f low e)) ∙ leading ∙ has.1) in
     let it = off accepted in
     it.2 (expected (next b f.command) (n + 1) (drop (i + 1) list))
-    (held db it.0 first list table it.1 shows has ∙ sym all ∙ ap (λ l. front ++ l) (rows_on b n list i f low e))
+    (held version db it.0 first list table it.1 shows has ∙ sym all ∙ ap (λ l. front ++ l) (rows_on b n list i f low e))
 
 -- where a row is left
-pub left_over : (db : Database) (first : BookState) (list : List Filed) (front : List Row) (table : List Columns) (row : Row) (rest : List Row) → front ≡ expected first 1 list → Lists moved_listing db (front ++ (row ∷ rest))
-    → Shows db.trees MovedTable table → HasMoved table first (filed_of list) → ⊥
-left_over db first list front table row rest all lists shows has = no_more front row rest (all ∙ sym (held db (front ++ (row ∷ rest)) first list table lists shows has))
+pub left_over : (version : Version) (db : Database) (first : BookState) (list : List Filed) (front : List Row) (table : List Columns) (row : Row) (rest : List Row) → front ≡ expected first 1 list → Lists moved_listing db (front ++ (row ∷ rest))
+    → Shows db.trees MovedTable table → HasMoved version table first (filed_of list) → ⊥
+left_over version db first list front table row rest all lists shows has = no_more front row rest (all ∙ sym (held version db (front ++ (row ∷ rest)) first list table lists shows has))
 
 -- where none is left
-pub ends_alike : (db : Database) (first last : BookState) (list : List Filed) (front : List Row) (table : List Columns) → leads first list ≡ Some last → front ≡ expected first 1 list → Lists moved_listing db front
-    → Shows db.trees MovedTable table → HasMoved table first (filed_of list)
-ends_alike db first last list front table leading all lists shows =
+pub ends_alike : (version : Version) (db : Database) (first last : BookState) (list : List Filed) (front : List Row) (table : List Columns) → leads version first list ≡ Some last → front ≡ expected first 1 list → Lists moved_listing db front
+    → Shows db.trees MovedTable table → HasMoved version table first (filed_of list)
+ends_alike version db first last list front table leading all lists shows =
     (last, leading, IsPermutation-trans _ _ _ (IsPermutation-sym _ _ shows) ((lists_moved db front first (filed_of list) lists).0 all))
 
 -- the end of the rows tells whether the table is that of the commands
-pub over : {S : Type 0} (g : Ghosts S) (old new : Held S) (first last : BookState) (list : List Filed) (front : List Row) (table : List Columns) (is : Bool) → (state g new).now ≡ (state g old).now → leads first list ≡ Some last → front ≡ expected first 1 list
-    → Shows (state g old).now.trees MovedTable table → Ends g moved_listing is new front → IsTrue is ↔ HasMoved table first (filed_of list)
-over g old new first last list front table true same leading all shows ends =
-    (λ _. ends_alike (state g new).now first last list front table leading all ends (subst (λ (d : Database). Shows d.trees MovedTable table) (sym same) shows), λ _. refl)
-over g old new first last list front table false same leading all shows ends = (
+pub over : {S : Type 0} (g : Ghosts S) (version : Version) (old new : Held S) (first last : BookState) (list : List Filed) (front : List Row) (table : List Columns) (is : Bool) → (state g new).now ≡ (state g old).now → leads version first list ≡ Some last → front ≡ expected first 1 list
+    → Shows (state g old).now.trees MovedTable table → Ends g moved_listing is new front → IsTrue is ↔ HasMoved version table first (filed_of list)
+over g version old new first last list front table true same leading all shows ends =
+    (λ _. ends_alike version (state g new).now first last list front table leading all ends (subst (λ (d : Database). Shows d.trees MovedTable table) (sym same) shows), λ _. refl)
+over g version old new first last list front table false same leading all shows ends = (
   λ e. absurd (true≢false (sym e)),
-  λ has. absurd (left_over (state g new).now first list front table ends.0 ends.1 all ends.2 (subst (λ (d : Database). Shows d.trees MovedTable table) (sym same) shows) has),
+  λ has. absurd (left_over version (state g new).now first list front table ends.0 ends.1 all ends.2 (subst (λ (d : Database). Shows d.trees MovedTable table) (sym same) shows) has),
 )
 
 pub if_ok : {X E : Type 0} (r : Result X E) {P Q : X → Type 0} → IfOk r P → ((x : X) → P x → Q x) → IfOk r Q

@@ -12,7 +12,6 @@ use Rattle.sqlite.specs.Given.{HasGiven, HasBegun, GivesOn}
 use Rattle.sqlite_trees.specs.declared.store.Store.{Ghosts}
 use Rattle.sqlite_resolve.specs.declared.compiled.Compiled.{Compiled}
 use Rattle.sqlite.proofs.Callers.{IsPlain, EndsIn, command_of, reads_as, given_begin, begins_shown, begun_plain, unchanged_then}
-use Rattle.ob_tables.specs.Schema.{book_schema}
 use Rattle.ob_compare.specs.Listing.{ShowsNoWrite}
 use Rattle.ob_compare.proofs.Silent.{commits_no_write}
 
@@ -36,27 +35,27 @@ commits_none sql silent old mid new text prepared s = record {
       elim (s.crash clean db may) [ inl before ↦ inl before | inr commits ↦ absurd (commits_no_write sql silent [] mid db (subst (λ x. CommitsShowing x [] mid db) (prepared early).0 commits)) ];
 }
 
--- a text that is plain over the tables of a book
-module _ (sql : List ℕ) (plain : IsPlain (understood book_schema sql)) where
-  plain_at : (schema : Schema) → schema ≡ book_schema → IsPlain (understood schema sql)
+-- a text that is plain at a schema
+module _ (at : Schema) (sql : List ℕ) (plain : IsPlain (understood at sql)) where
+  plain_at : (schema : Schema) → schema ≡ at → IsPlain (understood schema sql)
   plain_at schema has = subst (λ x. IsPlain (understood x sql)) (sym has) plain
 
   -- begins with no row given
-  pub begins_empty : {S : Type 0} (g : Ghosts S) (old mid new : Held S) (text : List ℕ) → (text ≡ sql) × IsUnchanged (state g old) (state g mid) → (state g old).now.schema ≡ book_schema → HasBegun g text [] mid new
+  pub begins_empty : {S : Type 0} (g : Ghosts S) (old mid new : Held S) (text : List ℕ) → (text ≡ sql) × IsUnchanged (state g old) (state g mid) → (state g old).now.schema ≡ at → HasBegun g text [] mid new
       → HasGiven g sql [] new [] × IsUnchanged (state g old) (state g new)
   begins_empty g old mid new text prepared has begun =
-      let there : (state g mid).now.schema ≡ book_schema = ap (λ (d : Database). d.schema) prepared.1.0.now_is ∙ has in
+      let there : (state g mid).now.schema ≡ at = ap (λ (d : Database). d.schema) prepared.1.0.now_is ∙ has in
       let it = begun_plain g sql [] mid new (plain_at mid.schema there) (subst (λ x. HasBegun g x [] mid new) prepared.0 begun) in
       (it.0, unchanged_then (state g old) (state g mid) (state g new) prepared.1 it.1)
 
-  module _ (command : SqlCommand) (means : command_of (understood book_schema sql) ≡ command) (unlisted : reads_listing book_schema sql ≡ false) where
+  module _ (command : SqlCommand) (means : command_of (understood at sql) ≡ command) (unlisted : reads_listing at sql ≡ false) where
     -- the rows that are shown are an answer
-    pub answers : (old new : State) (rows : List Row) → old.now.schema ≡ book_schema → Shown sql [] old new rows → Reads command old.now [] rows
-    answers old new rows has h = reads_as sql [] old new book_schema has command means plain unlisted rows h
+    pub answers : (old new : State) (rows : List Row) → old.now.schema ≡ at → Shown sql [] old new rows → Reads command old.now [] rows
+    answers old new rows has h = reads_as sql [] old new at has command means plain unlisted rows h
 
     module _ (ends : (db : Database) (params : Row) → EndsIn command db params) {S : Type 0} (g : Ghosts S) where
       -- rows that were given begin an answer
-      pub begin_answer : (h : Held S) (given : List Row) → (state g h).now.schema ≡ book_schema → IsTrue (state g h).is_open → HasGiven g sql [] h given
+      pub begin_answer : (h : Held S) (given : List Row) → (state g h).now.schema ≡ at → IsTrue (state g h).is_open → HasGiven g sql [] h given
           → (tail : List Row) × Reads command (state g h).now [] (given ++ tail)
       begin_answer h given has live it =
           let s = state g h in
@@ -65,7 +64,7 @@ module _ (sql : List ℕ) (plain : IsPlain (understood book_schema sql)) where
           let all = begins_shown sql [] s s given (given_begin g sql [] h given it) (same_state s live) all_end in
           (all.0, answers s s (given ++ all.0) has all.1)
 
-      module _ (old new : Held S) (has : (state g old).now.schema ≡ book_schema) (same : IsUnchanged (state g old) (state g new)) (given : List Row) where
+      module _ (old new : Held S) (has : (state g old).now.schema ≡ at) (same : IsUnchanged (state g old) (state g new)) (given : List Row) where
         -- those so far are the answer
         pub whole_answer : GivesOn g sql [] old new given None → Reads command (state g new).now [] given
         whole_answer h = subst (λ (d : Database). Reads command d [] given) (sym same.0.now_is) (answers (state g old) (state g new) given has h)

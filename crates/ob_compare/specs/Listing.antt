@@ -17,7 +17,6 @@ use Rattle.sqlite_resolve.specs.declared.error.CompileError.{CompileError}
 use Rattle.sqlite.specs.Held.{Held, state}
 use Rattle.sqlite.specs.Given.{HasGiven, IsPlain}
 use Rattle.ob_book.specs.Acts.{Referenced}
-use Rattle.ob_tables.specs.Schema.{book_schema}
 use Rattle.ob_tables.specs.Rows.{tree_of, places_of}
 use Rattle.ob_tables.specs.declared.table.Table.{Table}
 use Rattle.ob_compare.specs.declared.filed.Filed.{Filed}
@@ -64,10 +63,6 @@ pub record IsListingOver (schema : Schema) (l : Listing) : Type 0 where
   pub plain : IsPlain (understood schema l.text)
   pub unlisted : reads_listing schema l.text ≡ false
   pub silent : ShowsNoWrite l.text
-
--- the same at the schema of the book
-abbrev pub IsListing : Listing → Type 0
-IsListing l = IsListingOver book_schema l
 
 -- the key of a row, and the row
 abbrev pub keyed : Listing → Row → Output

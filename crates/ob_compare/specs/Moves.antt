@@ -5,13 +5,14 @@ use Rattle.ob_net.specs.Network.{Network}
 use Rattle.ob_net.specs.declared.net.Device.{Device}
 use Rattle.ob_command.specs.declared.command.Command.{Command}
 use Rattle.ob_state.specs.State.{BookState}
-use Rattle.ob_state.specs.Next.{next_all}
 use Rattle.ob_book.specs.Acts.{Referenced}
 use Rattle.ob_tables.specs.Rows.{Columns}
 use Rattle.ob_tables.specs.declared.table.Table.TheVariants.{Moved}
+use Rattle.ob_tables.specs.declared.version.Version.{Version}
 use Rattle.ob_record.specs.Tables.{moved_rows}
 use Rattle.ob_compare.specs.declared.ends.EndNodes.{EndNodes}
 use Rattle.ob_compare.specs.Listing.{Listing}
+use Rattle.ob_compare.specs.Versioned.{next_all_in}
 
 -- the rows of moved amounts, by number, dimension and key
 abbrev pub moved_listing : Listing
@@ -25,10 +26,10 @@ moved_listing = record {
 abbrev pub commands_of : List Referenced → List Command
 commands_of list = map (λ (a : Referenced). a.command) list
 
--- each command is accepted in its turn, and the table has the rows of what they move, and no other
-abbrev pub HasMoved : List Columns → BookState → List Referenced → Type 0
-HasMoved table b list =
-    (c : BookState) × (next_all b (commands_of list) ≡ Some c) × IsPermutation table (moved_rows b 1 list)
+-- a version accepts each command in its turn, and the table has the rows of what they move, and no other
+abbrev pub HasMoved : Version → List Columns → BookState → List Referenced → Type 0
+HasMoved version table b list =
+    (c : BookState) × (next_all_in version b (commands_of list) ≡ Some c) × IsPermutation table (moved_rows b 1 list)
 
 -- the numbers of the nodes that each device joins
 abbrev pub ends_of : Network → List EndNodes

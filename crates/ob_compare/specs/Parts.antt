@@ -7,11 +7,12 @@ use Rattle.sqlite.specs.State.{HasCleanDisk, IsUnchanged, Survives}
 use Rattle.sqlite_trees.specs.declared.store.Store.{Ghosts}
 use Rattle.sqlite.specs.Held.{Held, state}
 use Rattle.ob_base.specs.declared.stop.Stop.{Stop}
-use Rattle.ob_tables.specs.Schema.{book_schema}
 use Rattle.ob_tables.specs.Rows.{Columns, Tables}
 use Rattle.ob_tables.specs.declared.table.Table.{Table}
+use Rattle.ob_tables.specs.Versions.{schema_of}
+use Rattle.ob_tables.specs.declared.version.Version.{Version}
 use Rattle.ob_tables.specs.declared.table.Table.TheVariants.{Meta, Cause, Node, Device, Life, Customer, Entry, Mark, Command, Moved, Posting}
-use Rattle.ob_commit.specs.Keeps.{Keeps}
+use Rattle.ob_commit.specs.Keeps.{KeepsIn}
 use Rattle.ob_record.specs.Tables.{Shows}
 use Rattle.ob_compare.specs.Faults.{HasNoMeaning, IsMissed, IsReadFault, bad_book}
 use Rattle.ob_compare.specs.Listing.{Listing, list_query, keyed}
@@ -67,21 +68,21 @@ standing [] = []
 standing (None ∷ places) = standing places
 standing (Some x ∷ places) = x ∷ standing places
 
-module _ {S : Type 0} (g : Ghosts S) where
-  -- a table was compared with rows that are expected; nothing was written
+module _ {S : Type 0} (g : Ghosts S) (v : Version) where
+  -- a table of a version was compared with rows that are expected; nothing was written
   pub record Compares (table : Table) (expected : List Columns) (old new : Held S) (result : Result Bool Stop) : Type 0 where
     pub mode : old.in_transaction ≡ false → new.in_transaction ≡ false
     pub survives : Survives (state g old) (state g new) (λ _. ⊥)
     -- whatever it answers, a store that keeps tables keeps them
-    pub kept : (t : Tables) → Keeps (state g old) t → Keeps (state g new) t
+    pub kept : (t : Tables) → KeepsIn v (state g old) t → KeepsIn v (state g new) t
     pub clean : HasCleanDisk (state g new) → HasCleanDisk (state g old)
     pub faults : IfErr result IsReadFault
-    -- it is refused only where the tables aren't those of a book
-    pub foreign : HasCleanDisk (state g new) → IfErr result (λ stop. stop ≡ bad_book → old.schema ≢ book_schema)
+    -- it is refused only where the tables aren't those of the version
+    pub foreign : HasCleanDisk (state g new) → IfErr result (λ stop. stop ≡ bad_book → old.schema ≢ schema_of v)
     -- and it is refused where the schema has no such table, unless other trouble came before
     pub missed : HasNoMeaning old.schema (select_of table) → Survives (state g old) (state g new) (λ _. ⊥)
         × (HasCleanDisk (state g new) → IsMissed (state g old) (state g new) result)
-    pub same : HasCleanDisk (state g new) → OnOk result (old.schema ≡ book_schema → IsUnchanged (state g old) (state g new))
+    pub same : HasCleanDisk (state g new) → OnOk result (old.schema ≡ schema_of v → IsUnchanged (state g old) (state g new))
     -- the table has just these rows, in some order
-    pub holds : HasCleanDisk (state g new) → IfOk result (λ is. old.schema ≡ book_schema → (rows : List Columns)
+    pub holds : HasCleanDisk (state g new) → IfOk result (λ is. old.schema ≡ schema_of v → (rows : List Columns)
         → Shows (state g old).now.trees table rows → IsTrue is ↔ IsPermutation rows expected)

@@ -11,10 +11,10 @@ use Rattle.sqlite.specs.declared.types.Value.TheVariants.{Text}
 use Rattle.sqlite.specs.declared.error.Error.{Error}
 use Rattle.sqlite.specs.declared.error.Error.TheVariants.{SqlInputError}
 use Rattle.ob_book.specs.Acts.{Referenced}
-use Rattle.ob_tables.specs.Rows.{Columns, number}
+use Rattle.ob_tables.specs.Rows.{Columns, command_row, number}
+use Rattle.ob_tables.specs.declared.version.Version.{Version}
 use Rattle.ob_tables.specs.declared.table.Table.TheVariants.{Command}
-use Rattle.ob_record.specs.Naming.{IsReferenced}
-use Rattle.ob_record.specs.Tables.{numbered, row_of_command}
+use Rattle.ob_record.specs.Tables.{numbered}
 use Rattle.ob_state.specs.declared.TheConstants.{MOST_COMMANDS}
 use Rattle.ob_compare.specs.declared.filed.Filed.{Filed}
 use Rattle.ob_compare.specs.declared.heading.Heading.{Heading}
@@ -26,9 +26,11 @@ pub use Rattle.ob_compare.specs.Faults.{HasNoMeaning, HasTrouble, IsMissed, IsRe
 use Rattle.ob_compare.specs.Listing.{Listing, Lists, referenced, filed_of}
 use Rattle.ob_compare.specs.Ordered.{AreRowsOf, row_under}
 use Rattle.ob_compare.specs.Parts.{listing_of}
+use Rattle.ob_compare.specs.Versioned.{IsReferencedIn, body_in}
 
-abbrev pub IsFiled : Filed → Type 0
-IsFiled f = IsReferenced (referenced f)
+-- the version has the command, and the reference is one
+abbrev pub IsFiled : Version → Filed → Type 0
+IsFiled version f = IsReferencedIn version (referenced f)
 
 -- a text wasn't understood
 abbrev pub IsInputError : Error → Type 0
@@ -55,41 +57,46 @@ IsHeading None rows =
     (id version : Value) (first_day : List ℕ) (days : ℕ) (zone : List ℕ) → days < 2 ^ 16
     → rows ≢ heading_row id version first_day days zone ∷ []
 
--- the rows of commands, numbered from 1
-abbrev pub command_rows : List Referenced → List Columns
-command_rows list = numbered row_of_command 1 list
+-- the row that a command has in a version under its number
+abbrev pub row_of_command_in : Version → ℕ → Referenced → Columns
+row_of_command_in version id a = command_row id a.reference (body_in version a.command)
 
--- in the order of their numbers the rows are those of the commands, and it is told whether they are numbered from 1; or the
--- rows are those of no commands that a book could have
-abbrev pub IsCommands : Option Commands → List Columns → Type 0
-IsCommands (Some c) rows =
-    AreRowsOf (filed_of c.commands.items) rows
-    × (IsTrue c.counted ↔ IsPermutation rows (command_rows (filed_of c.commands.items)))
-IsCommands None rows =
-    (list : List Referenced) → length list ≤ MOST_COMMANDS → AllByRecursion IsReferenced list
-    → ¬ (AreRowsOf list rows)
+-- the rows that commands have in a version, numbered from 1
+abbrev pub command_rows : Version → List Referenced → List Columns
+command_rows version list = numbered (row_of_command_in version) 1 list
 
--- the commands are as many as a book takes, under references
-abbrev pub AreFiled : Option Commands → Type 0
-AreFiled (Some c) =
-    (length c.commands.items ≤ MOST_COMMANDS) × AllByRecursion IsReferenced (filed_of c.commands.items)
-AreFiled None = ⊤
+-- in the order of their numbers the rows are those of the commands in a version, and it is told whether they are numbered
+-- from 1; or the rows are those of no commands that a book of the version could have
+abbrev pub IsCommands : Version → Option Commands → List Columns → Type 0
+IsCommands version (Some c) rows =
+    AreRowsOf version (filed_of c.commands.items) rows
+    × (IsTrue c.counted ↔ IsPermutation rows (command_rows version (filed_of c.commands.items)))
+IsCommands version None rows =
+    (list : List Referenced) → length list ≤ MOST_COMMANDS → AllByRecursion (IsReferencedIn version) list
+    → ¬ (AreRowsOf version list rows)
+
+-- the commands are as many as a book takes, under references, and the version has them
+abbrev pub AreFiled : Version → Option Commands → Type 0
+AreFiled version (Some c) =
+    (length c.commands.items ≤ MOST_COMMANDS) × AllByRecursion (IsReferencedIn version) (filed_of c.commands.items)
+AreFiled version None = ⊤
 
 -- the query of the commands
 abbrev pub command_listing : Listing
 command_listing = listing_of Command
 
--- what stands next is a command under a reference, with a number above the last
-abbrev pub IsNext : Option ℤ → Next → Type 0
-IsNext last (Higher n f) = IsAbove last n × IsFiled f
-IsNext last Other = ⊤
-IsNext last End = ⊤
+-- what stands next is a version's command under a reference, with a number above the last
+abbrev pub IsNext : Version → Option ℤ → Next → Type 0
+IsNext version last (Higher n f) = IsAbove last n × IsFiled version f
+IsNext version last Other = ⊤
+IsNext version last End = ⊤
 
--- what stands behind the rows that were given: the command with this number, a row of none whose number is above the
--- last, or the end
-abbrev pub Stands : {S : Type 0} (g : Ghosts S) → Option ℤ → Next → Held S → List Row → Type 0
-Stands g last (Higher n f) new given = HasGiven g command_listing.text [] new (given ++ row_under (n, referenced f) ∷ [])
-Stands g last Other new given =
+-- what stands behind the rows that were given: the version's command with this number, a row of none whose number is above
+-- the last, or the end
+abbrev pub Stands : {S : Type 0} (g : Ghosts S) → Version → Option ℤ → Next → Held S → List Row → Type 0
+Stands g version last (Higher n f) new given =
+    HasGiven g command_listing.text [] new (given ++ row_under version (n, referenced f) ∷ [])
+Stands g version last Other new given =
     (row : Row) × (rest : List Row) × Lists command_listing (state g new).now (given ++ (row ∷ rest))
-    × ((n : ℤ) (f : Filed) → IsAbove last n → IsFiled f → row ≢ row_under (n, referenced f))
-Stands g last End new given = Lists command_listing (state g new).now given
+    × ((n : ℤ) (f : Filed) → IsAbove last n → IsFiled version f → row ≢ row_under version (n, referenced f))
+Stands g version last End new given = Lists command_listing (state g new).now given

@@ -6,9 +6,10 @@ ghost use Rattle.sqlite.specs.Held.{state};
 ghost use Rattle.sqlite.specs.Given.{HasGiven};
 ghost use Rattle.sqlite.specs.State.{HasCleanDisk, IsUnchanged, Survives};
 ghost use Rattle.sqlite.specs.declared.types.Value.TheVariants.{Int};
-ghost use Rattle.ob_tables.specs.Schema.{book_schema};
+ghost use Rattle.ob_tables.specs.Versions.{schema_of};
+ghost use Rattle.ob_tables.specs.declared.version.Version.{Version};
 ghost use Rattle.ob_tables.specs.Rows.{AreApart, Tables};
-ghost use Rattle.ob_commit.specs.Keeps.{Keeps};
+ghost use Rattle.ob_commit.specs.Keeps.{KeepsIn};
 ghost use Rattle.ob_tables.specs.Steps.{IsStoreFault};
 ghost use Rattle.ob_compare.specs.Apart.{IsAbove, IsNextAbove, NumberStands, number_text};
 
@@ -49,12 +50,13 @@ fn next_number<S: Alter>(rows: &mut Rows<'_, S>, last: Option<i64>) -> Result<Ne
     ensures survives { Survives (state S.Store rows.old.conn.now) (state S.Store rows.new.conn.now) (λ _. ⊥) }
     ensures mode { rows.old.conn.now.in_transaction ≡ false → rows.new.conn.now.in_transaction ≡ false }
     ensures faults { IfErr result IsStoreFault }
-    ensures kept { (t : Tables) → Keeps (state S.Store rows.old.conn.now) t → Keeps (state S.Store rows.new.conn.now) t }
+    ensures kept { (v : Version) (t : Tables) → KeepsIn v (state S.Store rows.old.conn.now) t
+        → KeepsIn v (state S.Store rows.new.conn.now) t }
     ensures above { IfOk result (IsNextAbove last) }
     ensures same { HasCleanDisk (state S.Store rows.new.conn.now)
         → OnOk result (IsUnchanged (state S.Store rows.old.conn.now) (state S.Store rows.new.conn.now)) }
     ensures stands { HasCleanDisk (state S.Store rows.new.conn.now) → IfOk result (λ next.
-        (state S.Store rows.old.conn.now).now.schema ≡ book_schema
+        (v : Version) → (state S.Store rows.old.conn.now).now.schema ≡ schema_of v
         → (given : List ARow) → HasGiven S.Store number_text [] rows.old.conn.now given
         → NumberStands S.Store last next rows.new.conn.now given) }
 {
@@ -74,12 +76,13 @@ fn rise<S: Alter>(rows: &mut Rows<'_, S>) -> Result<bool, Stop>
     ensures survives { Survives (state S.Store rows.old.conn.now) (state S.Store rows.new.conn.now) (λ _. ⊥) }
     ensures mode { rows.old.conn.now.in_transaction ≡ false → rows.new.conn.now.in_transaction ≡ false }
     ensures faults { IfErr result IsStoreFault }
-    ensures kept { (t : Tables) → Keeps (state S.Store rows.old.conn.now) t → Keeps (state S.Store rows.new.conn.now) t }
+    ensures kept { (v : Version) (t : Tables) → KeepsIn v (state S.Store rows.old.conn.now) t
+        → KeepsIn v (state S.Store rows.new.conn.now) t }
     ensures same { HasCleanDisk (state S.Store rows.new.conn.now) → OnOk result
         (IsTrue (state S.Store rows.old.conn.now).is_open
         → IsUnchanged (state S.Store rows.old.conn.now) (state S.Store rows.new.conn.now)) }
     ensures apart { HasCleanDisk (state S.Store rows.new.conn.now) → IfOk result (λ is.
-        IsTrue (state S.Store rows.old.conn.now).is_open → (state S.Store rows.old.conn.now).now.schema ≡ book_schema
+        IsTrue (state S.Store rows.old.conn.now).is_open → (v : Version) → (state S.Store rows.old.conn.now).now.schema ≡ schema_of v
         → HasGiven S.Store number_text [] rows.old.conn.now []
         → IsTrue is ↔ AreApart ((state S.Store rows.old.conn.now).now.trees 14)) }
 {
@@ -94,15 +97,16 @@ fn rise<S: Alter>(rows: &mut Rows<'_, S>) -> Result<bool, Stop>
 }
 
 /// Whether each row of the table of amounts has a number for its hidden key, and no two have the same. Nothing is written.
+/// The tables may be those of either version.
 pub fn are_apart<S: Alter>(conn: &mut Connection<S>) -> Result<bool, Stop>
     ensures mode { conn.old.in_transaction ≡ false → conn.new.in_transaction ≡ false }
     ensures survives { Survives (state S.Store conn.old) (state S.Store conn.new) (λ _. ⊥) }
     ensures clean { HasCleanDisk (state S.Store conn.new) → HasCleanDisk (state S.Store conn.old) }
     ensures faults { IfErr result IsStoreFault }
-    ensures kept { (t : Tables) → Keeps (state S.Store conn.old) t → Keeps (state S.Store conn.new) t }
-    ensures same { HasCleanDisk (state S.Store conn.new) → OnOk result (conn.old.schema ≡ book_schema
+    ensures kept { (v : Version) (t : Tables) → KeepsIn v (state S.Store conn.old) t → KeepsIn v (state S.Store conn.new) t }
+    ensures same { HasCleanDisk (state S.Store conn.new) → OnOk result ((v : Version) → conn.old.schema ≡ schema_of v
         → IsUnchanged (state S.Store conn.old) (state S.Store conn.new)) }
-    ensures apart { HasCleanDisk (state S.Store conn.new) → IfOk result (λ is. conn.old.schema ≡ book_schema
+    ensures apart { HasCleanDisk (state S.Store conn.new) → IfOk result (λ is. (v : Version) → conn.old.schema ≡ schema_of v
         → IsTrue is ↔ AreApart ((state S.Store conn.old).now.trees 14)) }
 {
     let statement = match conn.prepare("SELECT rowid FROM posting ORDER BY rowid") {

@@ -5,17 +5,21 @@ ghost use Rattle.sqlite.specs.Tree.{rowid};
 ghost use Rattle.sqlite.specs.Held.{state};
 ghost use Rattle.sqlite.specs.Given.{HasGiven};
 ghost use Rattle.sqlite.specs.State.{HasCleanDisk, IsUnchanged, Survives};
-ghost use Rattle.ob_tables.specs.Schema.{book_schema};
+ghost use Rattle.ob_base.specs.Stop.{out_of_memory};
+ghost use Rattle.ob_command.specs.declared.command.Command.{Command as ACommand};
+ghost use Rattle.ob_tables.specs.Versions.{schema_of};
+ghost use Rattle.ob_tables.specs.declared.version.Version.{Version as AVersion};
 ghost use Rattle.ob_tables.specs.Rows.{Columns, Tables};
 ghost use Rattle.ob_tables.specs.Steps.{IsStoreFault};
 ghost use Rattle.ob_tables.specs.declared.table.Table.{Table as ATable};
-ghost use Rattle.ob_commit.specs.Keeps.{Keeps};
+ghost use Rattle.ob_commit.specs.Keeps.{KeepsIn};
 ghost use Rattle.ob_record.specs.Tables.{Shows};
 ghost use Rattle.ob_compare.specs.declared.filed.Filed.{Filed as AFiled};
 ghost use Rattle.ob_compare.specs.Faults.{HasNoMeaning, IsMissed, IsReadFault, bad_book};
 ghost use Rattle.ob_compare.specs.Listing.{referenced};
 ghost use Rattle.ob_compare.specs.Ordered.{row_with};
 ghost use Rattle.ob_compare.specs.Reading.{AreFiled, IsCommands, IsFiled, IsNext, Stands, command_listing};
+ghost use Rattle.ob_compare.specs.Versioned.{IsCommandIn, body_in};
 
 use crate::apart::higher_in;
 use crate::columns::text_at;
@@ -25,8 +29,9 @@ use crate::query::prepare;
 use crate::rows::{advance, is_over};
 use ob_base::{Ref, Stop};
 use ob_book::MOST_COMMANDS;
-use ob_command::read_body;
-use ob_tables::{Table, stop_of};
+use ob_command::{Command, read_body};
+use ob_tables::{Table, Version, stop_of};
+use ob_upgrade::read_old_body;
 use sqlite::{Alter, Connection, Row, Rows};
 use std::alloc::Global;
 
@@ -39,16 +44,41 @@ pub struct Commands {
     pub counted: bool,
 }
 
-/// The command whose row it is, whatever its number.
-pub(crate) fn filed_in(row: &Row) -> Option<Filed>
-    ensures { (f : AFiled) → (result ≡ Some f) ↔ (IsFiled f × (row.now ≡ row_with (rowid row.now) (referenced f))) }
+/// The command whose body text it is in a version. The error is that memory was refused.
+fn read_body_in(alloc: Global, text: &[u8], version: Version) -> Result<Option<Command>, Stop>
+    ensures read { IfOk result (λ found. (c : ACommand)
+        → (found ≡ Some c) ↔ (IsCommandIn version c × (text.now ≡ body_in version c))) }
+    ensures err { IfErr result (λ stop. stop ≡ out_of_memory) }
+{
+    match version {
+        Version::One => read_old_body(alloc, text),
+        Version::Two => Ok(read_body(text)),
+    }
+}
+
+/// The command whose row it is in a version, whatever its number. The error is that memory was refused.
+fn filed_in(alloc: Global, row: &Row, version: Version) -> Result<Option<Filed>, Stop>
+    ensures filed { IfOk result (λ found. (f : AFiled)
+        → (found ≡ Some f) ↔ (IsFiled version f × (row.now ≡ row_with version (rowid row.now) (referenced f)))) }
+    ensures err { IfErr result (λ stop. stop ≡ out_of_memory) }
 {
     if row.column_count() != 3 {
-        return None;
+        return Ok(None);
     }
-    let reference = Ref::read(text_at(row, 1)?)?;
-    let command = read_body(text_at(row, 2)?)?;
-    Some(Filed { reference, command })
+    let Some(text) = text_at(row, 1) else {
+        return Ok(None);
+    };
+    let Some(reference) = Ref::read(text) else {
+        return Ok(None);
+    };
+    let Some(body) = text_at(row, 2) else {
+        return Ok(None);
+    };
+    match read_body_in(alloc, body, version) {
+        Ok(Some(command)) => Ok(Some(Filed { reference, command })),
+        Ok(None) => Ok(None),
+        Err(stop) => Err(stop),
+    }
 }
 
 /// What stands next in the table of commands.
@@ -62,19 +92,25 @@ enum Next {
 }
 
 /// What stands next, behind the last number.
-fn next_filed<S: Alter>(rows: &mut Rows<'_, S>, last: Option<i64>) -> Result<Next, Stop>
+fn next_filed<S: Alter>(
+    alloc: Global,
+    rows: &mut Rows<'_, S>,
+    last: Option<i64>,
+    version: Version,
+) -> Result<Next, Stop>
     ensures same_reference { rows.new.conn.ghost_name ≡ rows.old.conn.ghost_name }
     ensures survives { Survives (state S.Store rows.old.conn.now) (state S.Store rows.new.conn.now) (λ _. ⊥) }
-    ensures kept { (t : Tables) → Keeps (state S.Store rows.old.conn.now) t → Keeps (state S.Store rows.new.conn.now) t }
+    ensures kept { (v : AVersion) (t : Tables) → KeepsIn v (state S.Store rows.old.conn.now) t
+        → KeepsIn v (state S.Store rows.new.conn.now) t }
     ensures mode { rows.old.conn.now.in_transaction ≡ false → rows.new.conn.now.in_transaction ≡ false }
     ensures faults { IfErr result IsStoreFault }
-    ensures valid { IfOk result (IsNext last) }
+    ensures valid { IfOk result (IsNext version last) }
     ensures same { HasCleanDisk (state S.Store rows.new.conn.now)
         → OnOk result (IsUnchanged (state S.Store rows.old.conn.now) (state S.Store rows.new.conn.now)) }
     ensures stands { HasCleanDisk (state S.Store rows.new.conn.now) → IfOk result (λ next.
-        (state S.Store rows.old.conn.now).now.schema ≡ book_schema
+        (v : AVersion) → (state S.Store rows.old.conn.now).now.schema ≡ schema_of v
         → (given : List ARow) → HasGiven S.Store command_listing.text [] rows.old.conn.now given
-        → Stands S.Store last next rows.new.conn.now given) }
+        → Stands S.Store version last next rows.new.conn.now given) }
 {
     advance(rows)?;
     let Some(row) = rows.get() else {
@@ -83,9 +119,10 @@ fn next_filed<S: Alter>(rows: &mut Rows<'_, S>, last: Option<i64>) -> Result<Nex
     let Some(number) = higher_in(row, last) else {
         return Ok(Next::Other);
     };
-    match filed_in(row) {
-        Some(filed) => Ok(Next::Higher(number, filed)),
-        None => Ok(Next::Other),
+    match filed_in(alloc, row, version) {
+        Ok(Some(filed)) => Ok(Next::Higher(number, filed)),
+        Ok(None) => Ok(Next::Other),
+        Err(stop) => Err(stop),
     }
 }
 
@@ -97,27 +134,32 @@ fn goes_on_counting(counted: bool, number: i64, due: u32) -> bool
 }
 
 /// The commands that the rows hold.
-fn filed_rows<S: Alter>(alloc: Global, rows: &mut Rows<'_, S>) -> Result<Option<Commands>, Stop>
+fn filed_rows<S: Alter>(
+    alloc: Global,
+    rows: &mut Rows<'_, S>,
+    version: Version,
+) -> Result<Option<Commands>, Stop>
     ensures same_reference { rows.new.conn.ghost_name ≡ rows.old.conn.ghost_name }
     ensures survives { Survives (state S.Store rows.old.conn.now) (state S.Store rows.new.conn.now) (λ _. ⊥) }
-    ensures kept { (t : Tables) → Keeps (state S.Store rows.old.conn.now) t → Keeps (state S.Store rows.new.conn.now) t }
+    ensures kept { (v : AVersion) (t : Tables) → KeepsIn v (state S.Store rows.old.conn.now) t
+        → KeepsIn v (state S.Store rows.new.conn.now) t }
     ensures mode { rows.old.conn.now.in_transaction ≡ false → rows.new.conn.now.in_transaction ≡ false }
     ensures faults { IfErr result IsStoreFault }
-    ensures valid { IfOk result AreFiled }
+    ensures valid { IfOk result (AreFiled version) }
     ensures same { HasCleanDisk (state S.Store rows.new.conn.now) → OnOk result
         (IsTrue (state S.Store rows.old.conn.now).is_open
         → IsUnchanged (state S.Store rows.old.conn.now) (state S.Store rows.new.conn.now)) }
     ensures read { HasCleanDisk (state S.Store rows.new.conn.now) → IfOk result (λ found.
-        IsTrue (state S.Store rows.old.conn.now).is_open → (state S.Store rows.old.conn.now).now.schema ≡ book_schema
+        IsTrue (state S.Store rows.old.conn.now).is_open → (v : AVersion) → (state S.Store rows.old.conn.now).now.schema ≡ schema_of v
         → HasGiven S.Store command_listing.text [] rows.old.conn.now []
         → (shown : List Columns) → Shows (state S.Store rows.old.conn.now).now.trees ATable.Command shown
-        → IsCommands found shown) }
+        → IsCommands version found shown) }
 {
     let mut commands = Vec::new(alloc);
     let mut counted = true;
     let mut last = None;
     'commands: for at in 0..MOST_COMMANDS {
-        match next_filed(rows, last)? {
+        match next_filed(alloc, rows, last, version)? {
             Next::Higher(number, filed) => {
                 commands.push(filed)?;
                 counted = goes_on_counting(counted, number, at + 1);
@@ -134,36 +176,37 @@ fn filed_rows<S: Alter>(alloc: Global, rows: &mut Rows<'_, S>) -> Result<Option<
     }
 }
 
-/// The commands of the table `cmd`, in the order of their numbers, and whether these count from 1; None where its rows
-/// aren't those of commands under references and numbers that rise, no more than a book takes. A database without the table
-/// is refused as no book's.
+/// The commands of the table `cmd`, by the body texts of a version, in the order of their numbers, and whether these count
+/// from 1; None where its rows aren't those of the version's commands under references and numbers that rise, no more than a
+/// book takes. A database without the table is refused as no book's. The tables may be those of either version.
 pub fn read_commands<S: Alter>(
     alloc: Global,
     conn: &mut Connection<S>,
+    version: Version,
 ) -> Result<Option<Commands>, Stop>
     ensures mode { conn.old.in_transaction ≡ false → conn.new.in_transaction ≡ false }
     ensures survives { Survives (state S.Store conn.old) (state S.Store conn.new) (λ _. ⊥) }
-    ensures kept { (t : Tables) → Keeps (state S.Store conn.old) t → Keeps (state S.Store conn.new) t }
+    ensures kept { (v : AVersion) (t : Tables) → KeepsIn v (state S.Store conn.old) t → KeepsIn v (state S.Store conn.new) t }
     ensures clean { HasCleanDisk (state S.Store conn.new) → HasCleanDisk (state S.Store conn.old) }
     ensures faults { IfErr result IsReadFault }
-    ensures valid { IfOk result AreFiled }
+    ensures valid { IfOk result (AreFiled version) }
     ensures foreign { HasCleanDisk (state S.Store conn.new)
-        → IfErr result (λ stop. stop ≡ bad_book → conn.old.schema ≢ book_schema) }
+        → IfErr result (λ stop. stop ≡ bad_book → (v : AVersion) → conn.old.schema ≢ schema_of v) }
     ensures missed { HasNoMeaning conn.old.schema command_listing.text
         → Survives (state S.Store conn.old) (state S.Store conn.new) (λ _. ⊥)
         × (HasCleanDisk (state S.Store conn.new) → IsMissed (state S.Store conn.old) (state S.Store conn.new) result) }
-    ensures same { HasCleanDisk (state S.Store conn.new) → OnOk result (conn.old.schema ≡ book_schema
+    ensures same { HasCleanDisk (state S.Store conn.new) → OnOk result ((v : AVersion) → conn.old.schema ≡ schema_of v
         → IsUnchanged (state S.Store conn.old) (state S.Store conn.new)) }
-    ensures read { HasCleanDisk (state S.Store conn.new) → IfOk result (λ found. conn.old.schema ≡ book_schema
+    ensures read { HasCleanDisk (state S.Store conn.new) → IfOk result (λ found. (v : AVersion) → conn.old.schema ≡ schema_of v
         → (rows : List Columns) → Shows (state S.Store conn.old).now.trees ATable.Command rows
-        → IsCommands found rows) }
+        → IsCommands version found rows) }
 {
     let statement = match prepare(conn, select_of(Table::Command)) {
         Ok(statement) => statement,
         Err(stop) => return Err(stop),
     };
     match conn.query_prepared(&statement, &[]) {
-        Ok(mut rows) => filed_rows(alloc, &mut rows),
+        Ok(mut rows) => filed_rows(alloc, &mut rows, version),
         Err(error) => Err(stop_of(error)),
     }
 }

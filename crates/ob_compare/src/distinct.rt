@@ -5,11 +5,13 @@ ghost use Rattle.ob_compare.specs.Listing.{filed_of};
 ghost use Rattle.ob_compare.specs.Distinct.{AreDistinct, texts_of, text_order, shown_texts};
 ghost use Rattle.ob_compare.specs.Distinct.{ReachedByCommands, ActsAreAccepted, MovedIsOf};
 ghost use Rattle.ob_compare.specs.Ordered.{RowsHaveOneOrder};
+ghost use Rattle.ob_tables.specs.declared.version.Version.{Version};
 
 use crate::filed::Filed;
 use ob_base::Stop;
 use ob_book::next_law;
 use ob_command::bodies_law;
+use ob_upgrade::version_law;
 use std::alloc::Global;
 
 /// The bytes of the references.
@@ -49,13 +51,14 @@ pub fn are_distinct(alloc: Global, commands: &[Filed]) -> Result<bool, Stop>
 
 /// Commands under references that stand once, each accepted in its turn, lead to the state of acts; where acts accept a
 /// whole list, it is such a list, and what its commands moved are the rows of the tables of its state. In the order of their
-/// numbers rows are those of one list of commands alone.
+/// numbers rows are those of one list of a version's commands alone.
 pub fn reaching_law()
     ensures reached { ReachedByCommands }
     ensures accepted { ActsAreAccepted }
     ensures moved { MovedIsOf }
-    ensures ordered { RowsHaveOneOrder }
+    ensures ordered { (version : Version) → RowsHaveOneOrder version }
 {
     next_law();
     bodies_law();
+    version_law();
 }

@@ -3,10 +3,12 @@ ghost use Rattle.std.specs.Prelude.{◌≡◌, ◌≢◌, false, List, IfOk, IfE
 ghost use Rattle.sqlite.specs.Held.{state};
 ghost use Rattle.sqlite.specs.State.{HasCleanDisk, IsUnchanged, Survives};
 ghost use Rattle.ob_base.specs.Stop.{out_of_memory};
-ghost use Rattle.ob_tables.specs.Schema.{book_schema, no_schema};
+ghost use Rattle.ob_tables.specs.Schema.{no_schema};
+ghost use Rattle.ob_tables.specs.Versions.{schema_of};
+ghost use Rattle.ob_tables.specs.declared.version.Version.{Version};
 ghost use Rattle.ob_tables.specs.Rows.{Columns, Tables};
 ghost use Rattle.ob_tables.specs.declared.table.Table.{Table as ATable};
-ghost use Rattle.ob_commit.specs.Keeps.{Keeps};
+ghost use Rattle.ob_commit.specs.Keeps.{KeepsIn};
 ghost use Rattle.ob_record.specs.Tables.{Shows};
 ghost use Rattle.ob_compare.specs.Faults.{HasNoMeaning, IsMissed, IsReadFault, bad_book};
 ghost use Rattle.ob_compare.specs.Parts.{select_of};
@@ -69,27 +71,28 @@ fn heading_in(alloc: Global, rows: &[Row]) -> Result<Option<Heading>, Stop>
 }
 
 /// The row of `meta`, where it is the only one and names a first day, a count of days and a zone, whatever its number and
-/// its version; None where `meta` holds anything else. A database without tables is refused as no book's.
+/// its version; None where `meta` holds anything else. A database without tables is refused as no book's. The tables may be
+/// those of either version.
 pub fn read_heading<S: Alter>(
     alloc: Global,
     conn: &mut Connection<S>,
 ) -> Result<Option<Heading>, Stop>
     ensures mode { conn.old.in_transaction ≡ false → conn.new.in_transaction ≡ false }
     ensures survives { Survives (state S.Store conn.old) (state S.Store conn.new) (λ _. ⊥) }
-    ensures kept { (t : Tables) → Keeps (state S.Store conn.old) t → Keeps (state S.Store conn.new) t }
+    ensures kept { (v : Version) (t : Tables) → KeepsIn v (state S.Store conn.old) t → KeepsIn v (state S.Store conn.new) t }
     ensures clean { HasCleanDisk (state S.Store conn.new) → HasCleanDisk (state S.Store conn.old) }
     ensures faults { IfErr result IsReadFault }
     ensures foreign { HasCleanDisk (state S.Store conn.new)
-        → IfErr result (λ stop. stop ≡ bad_book → conn.old.schema ≢ book_schema) }
+        → IfErr result (λ stop. stop ≡ bad_book → (v : Version) → conn.old.schema ≢ schema_of v) }
     ensures missed { HasNoMeaning conn.old.schema (select_of ATable.Meta)
         → Survives (state S.Store conn.old) (state S.Store conn.new) (λ _. ⊥)
         × (HasCleanDisk (state S.Store conn.new) → IsMissed (state S.Store conn.old) (state S.Store conn.new) result) }
     ensures empty { conn.old.schema ≡ no_schema
         → Survives (state S.Store conn.old) (state S.Store conn.new) (λ _. ⊥)
         × (HasCleanDisk (state S.Store conn.new) → IsMissed (state S.Store conn.old) (state S.Store conn.new) result) }
-    ensures same { HasCleanDisk (state S.Store conn.new) → OnOk result (conn.old.schema ≡ book_schema
+    ensures same { HasCleanDisk (state S.Store conn.new) → OnOk result ((v : Version) → conn.old.schema ≡ schema_of v
         → IsUnchanged (state S.Store conn.old) (state S.Store conn.new)) }
-    ensures read { HasCleanDisk (state S.Store conn.new) → IfOk result (λ found. conn.old.schema ≡ book_schema
+    ensures read { HasCleanDisk (state S.Store conn.new) → IfOk result (λ found. (v : Version) → conn.old.schema ≡ schema_of v
         → (rows : List Columns) → Shows (state S.Store conn.old).now.trees ATable.Meta rows → IsHeading found rows) }
 {
     match list_all(conn, select_of(Table::Meta)) {

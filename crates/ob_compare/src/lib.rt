@@ -1,4 +1,8 @@
-//! The eleven tables, read back row by row and compared with what a book of their commands has.
+//! The tables of a book, read back row by row and compared with what a book of their commands has.
+//!
+//! Each reading holds over the tables of either version that has the table; which body texts are read, and which commands are
+//! accepted, is told by the version that is asked for. Promises that nothing is written, and that a store keeps what it kept.
+//! What makes a book of the tables, or finds what is wrong with them, stands above it.
 #![tactic(auto)]
 
 mod apart;

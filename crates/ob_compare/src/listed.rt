@@ -6,11 +6,12 @@ ghost use Rattle.sqlite.specs.Order.{Row as ARow};
 ghost use Rattle.sqlite.specs.Held.{state};
 ghost use Rattle.sqlite.specs.Given.{HasGiven};
 ghost use Rattle.sqlite.specs.State.{HasCleanDisk, IsUnchanged, Survives};
-ghost use Rattle.ob_tables.specs.Schema.{book_schema};
+ghost use Rattle.ob_tables.specs.Versions.{Has, schema_of};
+ghost use Rattle.ob_tables.specs.declared.version.Version.{Version};
 ghost use Rattle.ob_tables.specs.Rows.{Columns, Tables};
 ghost use Rattle.ob_tables.specs.Steps.{IsStoreFault};
 ghost use Rattle.ob_tables.specs.declared.table.Table.{Table as ATable};
-ghost use Rattle.ob_commit.specs.Keeps.{Keeps};
+ghost use Rattle.ob_commit.specs.Keeps.{KeepsIn};
 ghost use Rattle.ob_record.specs.Tables.{Shows};
 ghost use Rattle.ob_compare.specs.Listing.{Goes};
 ghost use Rattle.ob_compare.specs.Parts.{Compares, listing_of, row_cmp, select_of, standing};
@@ -74,14 +75,15 @@ fn goes_on<S: Alter, L: Listed>(rows: &mut Rows<'_, S>, listed: &L, at: usize) -
     requires { at < length (L.places listed.now) }
     ensures same_reference { rows.new.conn.ghost_name ≡ rows.old.conn.ghost_name }
     ensures survives { Survives (state S.Store rows.old.conn.now) (state S.Store rows.new.conn.now) (λ _. ⊥) }
-    ensures kept { (t : Tables) → Keeps (state S.Store rows.old.conn.now) t → Keeps (state S.Store rows.new.conn.now) t }
+    ensures kept { (v : Version) (t : Tables) → KeepsIn v (state S.Store rows.old.conn.now) t
+        → KeepsIn v (state S.Store rows.new.conn.now) t }
     ensures mode { rows.old.conn.now.in_transaction ≡ false → rows.new.conn.now.in_transaction ≡ false }
     ensures faults { IfErr result IsStoreFault }
     ensures same { HasCleanDisk (state S.Store rows.new.conn.now)
         → OnOk result (IsTrue (state S.Store rows.old.conn.now).is_open
         → IsUnchanged (state S.Store rows.old.conn.now) (state S.Store rows.new.conn.now)) }
     ensures goes { HasCleanDisk (state S.Store rows.new.conn.now) → IfOk result (λ is.
-        rows.old.conn.now.schema ≡ book_schema
+        (v : Version) → Has v L.table → rows.old.conn.now.schema ≡ schema_of v
         → (given : List ARow) → HasGiven S.Store (select_of L.table) [] rows.old.conn.now given
         → Goes S.Store (listing_of L.table) is rows.new.conn.now given
         (standing (slice_index_or (L.places listed.now) at None ∷ []))) }
@@ -100,14 +102,15 @@ fn goes_on<S: Alter, L: Listed>(rows: &mut Rows<'_, S>, listed: &L, at: usize) -
 fn follows<S: Alter, L: Listed>(rows: &mut Rows<'_, S>, listed: &L) -> Result<bool, Stop>
     ensures same_reference { rows.new.conn.ghost_name ≡ rows.old.conn.ghost_name }
     ensures survives { Survives (state S.Store rows.old.conn.now) (state S.Store rows.new.conn.now) (λ _. ⊥) }
-    ensures kept { (t : Tables) → Keeps (state S.Store rows.old.conn.now) t → Keeps (state S.Store rows.new.conn.now) t }
+    ensures kept { (v : Version) (t : Tables) → KeepsIn v (state S.Store rows.old.conn.now) t
+        → KeepsIn v (state S.Store rows.new.conn.now) t }
     ensures mode { rows.old.conn.now.in_transaction ≡ false → rows.new.conn.now.in_transaction ≡ false }
     ensures faults { IfErr result IsStoreFault }
     ensures same { HasCleanDisk (state S.Store rows.new.conn.now)
         → OnOk result (IsTrue (state S.Store rows.old.conn.now).is_open
         → IsUnchanged (state S.Store rows.old.conn.now) (state S.Store rows.new.conn.now)) }
     ensures goes { HasCleanDisk (state S.Store rows.new.conn.now) → IfOk result (λ is.
-        IsTrue (state S.Store rows.old.conn.now).is_open → rows.old.conn.now.schema ≡ book_schema
+        IsTrue (state S.Store rows.old.conn.now).is_open → (v : Version) → Has v L.table → rows.old.conn.now.schema ≡ schema_of v
         → (given : List ARow) → HasGiven S.Store (select_of L.table) [] rows.old.conn.now given
         → Goes S.Store (listing_of L.table) is rows.new.conn.now given (standing (L.places listed.now))) }
 {
@@ -124,14 +127,15 @@ fn matches<S: Alter, L: Listed>(rows: &mut Rows<'_, S>, listed: &L) -> Result<bo
     requires rises { IsStrictlySortedBy (row_cmp L.table) (standing (L.places listed.now)) }
     ensures same_reference { rows.new.conn.ghost_name ≡ rows.old.conn.ghost_name }
     ensures survives { Survives (state S.Store rows.old.conn.now) (state S.Store rows.new.conn.now) (λ _. ⊥) }
-    ensures kept { (t : Tables) → Keeps (state S.Store rows.old.conn.now) t → Keeps (state S.Store rows.new.conn.now) t }
+    ensures kept { (v : Version) (t : Tables) → KeepsIn v (state S.Store rows.old.conn.now) t
+        → KeepsIn v (state S.Store rows.new.conn.now) t }
     ensures mode { rows.old.conn.now.in_transaction ≡ false → rows.new.conn.now.in_transaction ≡ false }
     ensures faults { IfErr result IsStoreFault }
     ensures same { HasCleanDisk (state S.Store rows.new.conn.now)
         → OnOk result (IsTrue (state S.Store rows.old.conn.now).is_open
         → IsUnchanged (state S.Store rows.old.conn.now) (state S.Store rows.new.conn.now)) }
     ensures holds { HasCleanDisk (state S.Store rows.new.conn.now) → IfOk result (λ is.
-        IsTrue (state S.Store rows.old.conn.now).is_open → rows.old.conn.now.schema ≡ book_schema
+        IsTrue (state S.Store rows.old.conn.now).is_open → (v : Version) → Has v L.table → rows.old.conn.now.schema ≡ schema_of v
         → HasGiven S.Store (select_of L.table) [] rows.old.conn.now []
         → IsTrue is ↔ Shows (state S.Store rows.old.conn.now).now.trees L.table (standing (L.places listed.now))) }
 {
@@ -142,10 +146,11 @@ fn matches<S: Alter, L: Listed>(rows: &mut Rows<'_, S>, listed: &L) -> Result<bo
 }
 
 /// Whether a table holds just the rows of a part of a book, which rise by key. Nothing is written. A database without
-/// the table is refused as no book's.
+/// the table is refused as no book's. So it is over the tables of each version that has the table.
 pub fn holds<S: Alter, L: Listed>(conn: &mut Connection<S>, listed: &L) -> Result<bool, Stop>
     requires rises { IsStrictlySortedBy (row_cmp L.table) (standing (L.places listed.now)) }
-    ensures { Compares S.Store L.table (standing (L.places listed.now)) conn.old conn.new result }
+    ensures { (v : Version) → Has v L.table
+        → Compares S.Store v L.table (standing (L.places listed.now)) conn.old conn.new result }
 {
     let statement = match prepare(conn, select_of(listed.table())) {
         Ok(statement) => statement,

@@ -1,5 +1,5 @@
 //! What the table of moved amounts holds, against what commands move: row by row, in one query.
-ghost use Rattle.std.specs.Prelude.{◌∷◌, ◌≡◌, ◌≢◌, ◌↔◌, false, true, List, [], IsTrue, IfOk, IfErr, OnOk, Ok, Some, None};
+ghost use Rattle.std.specs.Prelude.{◌∷◌, ◌≡◌, ◌≢◌, ◌↔◌, ◌&&◌, false, true, List, [], IsTrue, IfOk, IfErr, OnOk, Ok, Some, is_none};
 ghost use Rattle.sqlite.specs.Order.{Row as ARow};
 ghost use Rattle.sqlite.specs.Held.{state};
 ghost use Rattle.sqlite.specs.Given.{HasGiven};
@@ -7,17 +7,19 @@ ghost use Rattle.sqlite.specs.State.{HasCleanDisk, IsUnchanged, Survives};
 ghost use Rattle.ob_base.specs.Stop.{out_of_memory};
 ghost use Rattle.ob_post.specs.Keys.{dim_number};
 ghost use Rattle.ob_state.specs.Amounts.{moves as moves_of};
-ghost use Rattle.ob_state.specs.Next.{next, next_all};
+ghost use Rattle.ob_state.specs.Next.{next};
 ghost use Rattle.ob_state.specs.Refusals.{refusal as refusal_to};
-ghost use Rattle.ob_tables.specs.Schema.{book_schema};
+ghost use Rattle.ob_tables.specs.Versions.{schema_of};
+ghost use Rattle.ob_tables.specs.declared.version.Version.{Version as AVersion};
 ghost use Rattle.ob_tables.specs.Rows.{Columns, Tables, moved_row};
 ghost use Rattle.ob_tables.specs.Steps.{IsStoreFault};
 ghost use Rattle.ob_tables.specs.declared.table.Table.{Table as ATable};
-ghost use Rattle.ob_commit.specs.Keeps.{Keeps};
+ghost use Rattle.ob_commit.specs.Keeps.{KeepsIn};
 ghost use Rattle.ob_record.specs.Tables.{Shows, rows_of_moves};
 ghost use Rattle.ob_compare.specs.Faults.{HasNoMeaning, IsMissed, IsReadFault, bad_book};
 ghost use Rattle.ob_compare.specs.Listing.{Goes, filed_of};
 ghost use Rattle.ob_compare.specs.Moves.{HasMoved, commands_of, ends_of, moved_listing};
+ghost use Rattle.ob_compare.specs.Versioned.{accepts_in, next_all_in};
 
 use crate::ends::EndNodes;
 use crate::filed::Filed;
@@ -29,7 +31,8 @@ use ob_book::Book;
 use ob_command::Command;
 use ob_post::Moved;
 use ob_sweep::Timeline;
-use ob_tables::{Table, int, signed, stop_of};
+use ob_tables::{Table, Version, int, signed, stop_of};
+use ob_upgrade::fits_version_one;
 use sqlite::{Alter, Connection, Row, Rows};
 
 /// Whether the row is that of an amount that a command moved.
@@ -52,13 +55,14 @@ fn is_moved(row: &Row, no: u32, it: &Moved) -> bool
 fn next_is<S: Alter>(rows: &mut Rows<'_, S>, no: u32, it: &Moved) -> Result<bool, Stop>
     ensures same_reference { rows.new.conn.ghost_name ≡ rows.old.conn.ghost_name }
     ensures survives { Survives (state S.Store rows.old.conn.now) (state S.Store rows.new.conn.now) (λ _. ⊥) }
-    ensures kept { (t : Tables) → Keeps (state S.Store rows.old.conn.now) t → Keeps (state S.Store rows.new.conn.now) t }
+    ensures kept { (v : AVersion) (t : Tables) → KeepsIn v (state S.Store rows.old.conn.now) t
+        → KeepsIn v (state S.Store rows.new.conn.now) t }
     ensures mode { rows.old.conn.now.in_transaction ≡ false → rows.new.conn.now.in_transaction ≡ false }
     ensures faults { IfErr result IsStoreFault }
     ensures same { HasCleanDisk (state S.Store rows.new.conn.now)
         → OnOk result (IsUnchanged (state S.Store rows.old.conn.now) (state S.Store rows.new.conn.now)) }
     ensures goes { HasCleanDisk (state S.Store rows.new.conn.now) → IfOk result (λ is.
-        (state S.Store rows.old.conn.now).now.schema ≡ book_schema → (given : List ARow)
+        (v : AVersion) → (state S.Store rows.old.conn.now).now.schema ≡ schema_of v → (given : List ARow)
         → HasGiven S.Store moved_listing.text [] rows.old.conn.now given → Goes S.Store moved_listing is
         rows.new.conn.now given (moved_row no (dim_number it.now.dim) it.now.key it.now.delta ∷ [])) }
 {
@@ -73,14 +77,15 @@ fn next_is<S: Alter>(rows: &mut Rows<'_, S>, no: u32, it: &Moved) -> Result<bool
 fn matches<S: Alter>(rows: &mut Rows<'_, S>, no: u32, moves: &[Moved]) -> Result<bool, Stop>
     ensures same_reference { rows.new.conn.ghost_name ≡ rows.old.conn.ghost_name }
     ensures survives { Survives (state S.Store rows.old.conn.now) (state S.Store rows.new.conn.now) (λ _. ⊥) }
-    ensures kept { (t : Tables) → Keeps (state S.Store rows.old.conn.now) t → Keeps (state S.Store rows.new.conn.now) t }
+    ensures kept { (v : AVersion) (t : Tables) → KeepsIn v (state S.Store rows.old.conn.now) t
+        → KeepsIn v (state S.Store rows.new.conn.now) t }
     ensures mode { rows.old.conn.now.in_transaction ≡ false → rows.new.conn.now.in_transaction ≡ false }
     ensures faults { IfErr result IsStoreFault }
     ensures same { HasCleanDisk (state S.Store rows.new.conn.now)
         → OnOk result (IsTrue (state S.Store rows.old.conn.now).is_open
         → IsUnchanged (state S.Store rows.old.conn.now) (state S.Store rows.new.conn.now)) }
     ensures goes { HasCleanDisk (state S.Store rows.new.conn.now) → IfOk result (λ is.
-        IsTrue (state S.Store rows.old.conn.now).is_open → (state S.Store rows.old.conn.now).now.schema ≡ book_schema
+        IsTrue (state S.Store rows.old.conn.now).is_open → (v : AVersion) → (state S.Store rows.old.conn.now).now.schema ≡ schema_of v
         → (given : List ARow) → HasGiven S.Store moved_listing.text [] rows.old.conn.now given
         → Goes S.Store moved_listing is rows.new.conn.now given (rows_of_moves no moves.now)) }
 {
@@ -112,33 +117,50 @@ pub(crate) fn note_ends<T: Timeline>(
     Ok(())
 }
 
-/// Whether a command is accepted, and the next rows are those of what it moves. If so, the book adopts it, and the ends
-/// of the device that it adds are noted.
+/// Whether a version has the command, and takes it over the book's sheet. Of these commands it accepts those that are
+/// accepted today.
+fn fits<T: Timeline>(book: &Book<T>, command: &Command, version: Version) -> bool
+    ensures { accepts_in version book.now.state command.now
+        ≡ (result && is_none (refusal_to book.now.state command.now)) }
+{
+    match version {
+        Version::One => fits_version_one(book.sheet(), command),
+        Version::Two => true,
+    }
+}
+
+/// Whether a version accepts the command, and the next rows are those of what it moves. If so, the book adopts it, and the
+/// ends of the device that it adds are noted.
 fn takes_on<S: Alter, T: Timeline>(
     rows: &mut Rows<'_, S>,
     book: &mut Book<T>,
     no: u32,
     command: &Command,
     noted: &mut Vec<EndNodes>,
+    version: Version,
 ) -> Result<bool, Stop>
     ensures same_reference { rows.new.conn.ghost_name ≡ rows.old.conn.ghost_name }
     ensures survives { Survives (state S.Store rows.old.conn.now) (state S.Store rows.new.conn.now) (λ _. ⊥) }
-    ensures kept { (t : Tables) → Keeps (state S.Store rows.old.conn.now) t → Keeps (state S.Store rows.new.conn.now) t }
+    ensures kept { (v : AVersion) (t : Tables) → KeepsIn v (state S.Store rows.old.conn.now) t
+        → KeepsIn v (state S.Store rows.new.conn.now) t }
     ensures mode { rows.old.conn.now.in_transaction ≡ false → rows.new.conn.now.in_transaction ≡ false }
     ensures faults { IfErr result IsStoreFault }
     ensures same { HasCleanDisk (state S.Store rows.new.conn.now)
         → OnOk result (IsTrue (state S.Store rows.old.conn.now).is_open
         → IsUnchanged (state S.Store rows.old.conn.now) (state S.Store rows.new.conn.now)) }
     ensures goes { HasCleanDisk (state S.Store rows.new.conn.now) → IfOk result (λ is.
-        IsTrue (state S.Store rows.old.conn.now).is_open → (state S.Store rows.old.conn.now).now.schema ≡ book_schema
+        IsTrue (state S.Store rows.old.conn.now).is_open → (v : AVersion) → (state S.Store rows.old.conn.now).now.schema ≡ schema_of v
         → (given : List ARow) → HasGiven S.Store moved_listing.text [] rows.old.conn.now given
-        → refusal_to book.old.state command.now ≡ None → Goes S.Store moved_listing is rows.new.conn.now given
+        → IsTrue (accepts_in version book.old.state command.now) → Goes S.Store moved_listing is rows.new.conn.now given
         (rows_of_moves no (moves_of book.old.state (next book.old.state command.now)))) }
-    ensures book { result ≡ Ok true → (refusal_to book.old.state command.now ≡ None)
+    ensures book { result ≡ Ok true → IsTrue (accepts_in version book.old.state command.now)
         × (book.new.state ≡ next book.old.state command.now) }
     ensures noted { result ≡ Ok true → noted.old.items ≡ ends_of book.old.state.network
         → noted.new.items ≡ ends_of book.new.state.network }
 {
+    if !fits(book, command, version) {
+        return Ok(false);
+    }
     let plan = match book.decide(command) {
         Ok(plan) => plan,
         Err(Stop::Refused(_)) => return Ok(false),
@@ -158,36 +180,45 @@ fn takes_on<S: Alter, T: Timeline>(
     }
 }
 
-/// Whether the rows to come are those of what the commands move, each accepted in its turn. The book is led along, and
-/// the ends of its devices are noted.
+/// Whether the rows to come are those of what the commands move, each accepted in its turn by a version. The book is led
+/// along, and the ends of its devices are noted.
 fn follows<S: Alter, T: Timeline>(
     rows: &mut Rows<'_, S>,
     book: &mut Book<T>,
     commands: &[Filed],
     noted: &mut Vec<EndNodes>,
+    version: Version,
 ) -> Result<bool, Stop>
     ensures same_reference { rows.new.conn.ghost_name ≡ rows.old.conn.ghost_name }
     ensures survives { Survives (state S.Store rows.old.conn.now) (state S.Store rows.new.conn.now) (λ _. ⊥) }
-    ensures kept { (t : Tables) → Keeps (state S.Store rows.old.conn.now) t → Keeps (state S.Store rows.new.conn.now) t }
+    ensures kept { (v : AVersion) (t : Tables) → KeepsIn v (state S.Store rows.old.conn.now) t
+        → KeepsIn v (state S.Store rows.new.conn.now) t }
     ensures mode { rows.old.conn.now.in_transaction ≡ false → rows.new.conn.now.in_transaction ≡ false }
     ensures faults { IfErr result IsStoreFault }
     ensures same { HasCleanDisk (state S.Store rows.new.conn.now)
         → OnOk result (IsTrue (state S.Store rows.old.conn.now).is_open
         → IsUnchanged (state S.Store rows.old.conn.now) (state S.Store rows.new.conn.now)) }
     ensures moved { HasCleanDisk (state S.Store rows.new.conn.now) → IfOk result (λ is.
-        IsTrue (state S.Store rows.old.conn.now).is_open → (state S.Store rows.old.conn.now).now.schema ≡ book_schema
+        IsTrue (state S.Store rows.old.conn.now).is_open → (v : AVersion) → (state S.Store rows.old.conn.now).now.schema ≡ schema_of v
         → HasGiven S.Store moved_listing.text [] rows.old.conn.now [] → (table : List Columns)
         → Shows (state S.Store rows.old.conn.now).now.trees ATable.Moved table
-        → IsTrue is ↔ HasMoved table book.old.state (filed_of commands.now)) }
+        → IsTrue is ↔ HasMoved version table book.old.state (filed_of commands.now)) }
     ensures book { result ≡ Ok true
-        → next_all book.old.state (commands_of (filed_of commands.now)) ≡ Some book.new.state }
+        → next_all_in version book.old.state (commands_of (filed_of commands.now)) ≡ Some book.new.state }
     ensures noted { result ≡ Ok true → noted.old.items ≡ ends_of book.old.state.network
         → noted.new.items ≡ ends_of book.new.state.network }
 {
     'commands: for at in 0..commands.len() {
         // A book has a million commands at most, so that the number is small.
         let _ = book.accepted();
-        match takes_on(rows, book, at as u32 + 1, &commands[at].command, noted) {
+        match takes_on(
+            rows,
+            book,
+            at as u32 + 1,
+            &commands[at].command,
+            noted,
+            version,
+        ) {
             Ok(true) => {}
             Ok(false) => return Ok(false),
             Err(stop) => return Err(stop),
@@ -196,32 +227,33 @@ fn follows<S: Alter, T: Timeline>(
     is_over(rows)
 }
 
-/// Whether the table of moved amounts holds what the commands move, each accepted in its turn, and no other row. The
-/// book is led along, and the ends of its devices are noted. Nothing is written. A database without the table is refused
-/// as no book's.
+/// Whether the table of moved amounts holds what the commands move, each accepted in its turn by a version, and no other
+/// row. The book is led along, and the ends of its devices are noted. Nothing is written. A database without the table is
+/// refused as no book's. The tables may be those of either version.
 pub fn holds_moves<S: Alter, T: Timeline>(
     conn: &mut Connection<S>,
     book: &mut Book<T>,
     commands: &[Filed],
     noted: &mut Vec<EndNodes>,
+    version: Version,
 ) -> Result<bool, Stop>
     ensures mode { conn.old.in_transaction ≡ false → conn.new.in_transaction ≡ false }
     ensures survives { Survives (state S.Store conn.old) (state S.Store conn.new) (λ _. ⊥) }
-    ensures kept { (t : Tables) → Keeps (state S.Store conn.old) t → Keeps (state S.Store conn.new) t }
+    ensures kept { (v : AVersion) (t : Tables) → KeepsIn v (state S.Store conn.old) t → KeepsIn v (state S.Store conn.new) t }
     ensures clean { HasCleanDisk (state S.Store conn.new) → HasCleanDisk (state S.Store conn.old) }
     ensures faults { IfErr result IsReadFault }
     ensures foreign { HasCleanDisk (state S.Store conn.new)
-        → IfErr result (λ stop. stop ≡ bad_book → conn.old.schema ≢ book_schema) }
+        → IfErr result (λ stop. stop ≡ bad_book → (v : AVersion) → conn.old.schema ≢ schema_of v) }
     ensures missed { HasNoMeaning conn.old.schema moved_listing.text
         → Survives (state S.Store conn.old) (state S.Store conn.new) (λ _. ⊥)
         × (HasCleanDisk (state S.Store conn.new) → IsMissed (state S.Store conn.old) (state S.Store conn.new) result) }
-    ensures same { HasCleanDisk (state S.Store conn.new) → OnOk result (conn.old.schema ≡ book_schema
+    ensures same { HasCleanDisk (state S.Store conn.new) → OnOk result ((v : AVersion) → conn.old.schema ≡ schema_of v
         → IsUnchanged (state S.Store conn.old) (state S.Store conn.new)) }
-    ensures moved { HasCleanDisk (state S.Store conn.new) → IfOk result (λ is. conn.old.schema ≡ book_schema
+    ensures moved { HasCleanDisk (state S.Store conn.new) → IfOk result (λ is. (v : AVersion) → conn.old.schema ≡ schema_of v
         → (table : List Columns) → Shows (state S.Store conn.old).now.trees ATable.Moved table
-        → IsTrue is ↔ HasMoved table book.old.state (filed_of commands.now)) }
+        → IsTrue is ↔ HasMoved version table book.old.state (filed_of commands.now)) }
     ensures book { result ≡ Ok true
-        → next_all book.old.state (commands_of (filed_of commands.now)) ≡ Some book.new.state }
+        → next_all_in version book.old.state (commands_of (filed_of commands.now)) ≡ Some book.new.state }
     ensures noted { result ≡ Ok true → noted.old.items ≡ ends_of book.old.state.network
         → noted.new.items ≡ ends_of book.new.state.network }
 {
@@ -230,7 +262,7 @@ pub fn holds_moves<S: Alter, T: Timeline>(
         Err(stop) => return Err(stop),
     };
     match conn.query_prepared(&statement, &[]) {
-        Ok(mut rows) => follows(&mut rows, book, commands, noted),
+        Ok(mut rows) => follows(&mut rows, book, commands, noted, version),
         Err(error) => Err(stop_of(error)),
     }
 }

@@ -4,9 +4,11 @@ ghost use Rattle.sqlite.specs.Held.{state};
 ghost use Rattle.sqlite.specs.Schema.{Schema};
 ghost use Rattle.sqlite.specs.State.{HasCleanDisk, IsUnchanged, Survives};
 ghost use Rattle.ob_base.specs.Stop.{out_of_memory};
+ghost use Rattle.ob_tables.specs.declared.version.Version.{Version};
 ghost use Rattle.ob_tables.specs.Rows.{Tables};
-ghost use Rattle.ob_commit.specs.Keeps.{Keeps};
-ghost use Rattle.ob_compare.specs.Listing.{Listing, IsListing, IsListingOver, Lists};
+ghost use Rattle.ob_tables.specs.Versions.{schema_of};
+ghost use Rattle.ob_commit.specs.Keeps.{KeepsIn};
+ghost use Rattle.ob_compare.specs.Listing.{Listing, IsListingOver, Lists};
 ghost use Rattle.ob_compare.specs.Reading.{HasNoMeaning, IsInputError, IsMissed, IsReadFault, bad_book};
 
 use ob_base::{Fault, Refusal, Stop};
@@ -31,7 +33,7 @@ fn unprepared(error: Error) -> Stop
 pub(crate) fn prepare<S: Alter>(conn: &mut Connection<S>, sql: &str) -> Result<Statement, Stop>
     ensures mode { conn.old.in_transaction ≡ false → conn.new.in_transaction ≡ false }
     ensures survives { Survives (state S.Store conn.old) (state S.Store conn.new) (λ _. ⊥) }
-    ensures kept { (t : Tables) → Keeps (state S.Store conn.old) t → Keeps (state S.Store conn.new) t }
+    ensures kept { (v : Version) (t : Tables) → KeepsIn v (state S.Store conn.old) t → KeepsIn v (state S.Store conn.new) t }
     ensures faults { IfErr result IsReadFault }
     ensures foreign { HasCleanDisk (state S.Store conn.new) → IfErr result (λ stop. stop ≡ bad_book
         → HasNoMeaning conn.old.schema sql.now × IsUnchanged (state S.Store conn.old) (state S.Store conn.new)) }
@@ -56,10 +58,10 @@ pub(crate) fn list_all<S: Alter>(conn: &mut Connection<S>, sql: &str) -> Result<
     ensures missed { HasNoMeaning conn.old.schema sql.now
         → Survives (state S.Store conn.old) (state S.Store conn.new) (λ _. ⊥)
         × (HasCleanDisk (state S.Store conn.new) → IsMissed (state S.Store conn.old) (state S.Store conn.new) result) }
-    ensures survives { (l : Listing) → IsListing l → l.text ≡ sql.now
+    ensures survives { (schema : Schema) (l : Listing) → IsListingOver schema l → l.text ≡ sql.now
         → Survives (state S.Store conn.old) (state S.Store conn.new) (λ _. ⊥) }
-    ensures kept { (l : Listing) → IsListing l → l.text ≡ sql.now
-        → (t : Tables) → Keeps (state S.Store conn.old) t → Keeps (state S.Store conn.new) t }
+    ensures kept { (v : Version) (l : Listing) → IsListingOver (schema_of v) l → l.text ≡ sql.now
+        → (t : Tables) → KeepsIn v (state S.Store conn.old) t → KeepsIn v (state S.Store conn.new) t }
     ensures listed { HasCleanDisk (state S.Store conn.new) → IfOk result (λ rows.
         (schema : Schema) (l : Listing) → IsListingOver schema l → l.text ≡ sql.now → conn.old.schema ≡ schema
         → Lists l (state S.Store conn.old).now rows.items

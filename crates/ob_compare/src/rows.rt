@@ -2,14 +2,15 @@
 ghost use Rattle.std.specs.Prelude.{◌≡◌, ◌↔◌, false, List, [], map, IsTrue, IfOk, IfErr, OnOk};
 ghost use Rattle.sqlite.specs.Order.{Row as ARow};
 ghost use Rattle.sqlite.specs.Held.{state};
+ghost use Rattle.sqlite.specs.Schema.{Schema};
 ghost use Rattle.sqlite.specs.Given.{Advances, HasGiven, row_if};
 ghost use Rattle.sqlite.specs.State.{HasCleanDisk, IsUnchanged, Survives};
 ghost use Rattle.sqlite_value.specs.Value.{owned};
-ghost use Rattle.ob_tables.specs.Schema.{book_schema};
+ghost use Rattle.ob_tables.specs.declared.version.Version.{Version};
 ghost use Rattle.ob_tables.specs.Rows.{Tables};
 ghost use Rattle.ob_tables.specs.Steps.{IsStoreFault};
-ghost use Rattle.ob_commit.specs.Keeps.{Keeps};
-ghost use Rattle.ob_compare.specs.Listing.{Listing, IsListing, Ends};
+ghost use Rattle.ob_commit.specs.Keeps.{KeepsIn};
+ghost use Rattle.ob_compare.specs.Listing.{Listing, IsListingOver, Ends};
 
 use ob_base::Stop;
 use ob_tables::stop_of;
@@ -39,7 +40,8 @@ pub(crate) fn is_row(row: &Row, values: &[ValueRef<'_>]) -> bool
 pub(crate) fn advance<S: Alter>(rows: &mut Rows<'_, S>) -> Result<(), Stop>
     ensures same_reference { rows.new.conn.ghost_name ≡ rows.old.conn.ghost_name }
     ensures survives { Survives (state S.Store rows.old.conn.now) (state S.Store rows.new.conn.now) (λ _. ⊥) }
-    ensures kept { (t : Tables) → Keeps (state S.Store rows.old.conn.now) t → Keeps (state S.Store rows.new.conn.now) t }
+    ensures kept { (v : Version) (t : Tables) → KeepsIn v (state S.Store rows.old.conn.now) t
+        → KeepsIn v (state S.Store rows.new.conn.now) t }
     ensures mode { rows.old.conn.now.in_transaction ≡ false → rows.new.conn.now.in_transaction ≡ false }
     ensures faults { IfErr result IsStoreFault }
     ensures same { HasCleanDisk (state S.Store rows.new.conn.now)
@@ -57,13 +59,14 @@ pub(crate) fn advance<S: Alter>(rows: &mut Rows<'_, S>) -> Result<(), Stop>
 pub(crate) fn is_over<S: Alter>(rows: &mut Rows<'_, S>) -> Result<bool, Stop>
     ensures same_reference { rows.new.conn.ghost_name ≡ rows.old.conn.ghost_name }
     ensures survives { Survives (state S.Store rows.old.conn.now) (state S.Store rows.new.conn.now) (λ _. ⊥) }
-    ensures kept { (t : Tables) → Keeps (state S.Store rows.old.conn.now) t → Keeps (state S.Store rows.new.conn.now) t }
+    ensures kept { (v : Version) (t : Tables) → KeepsIn v (state S.Store rows.old.conn.now) t
+        → KeepsIn v (state S.Store rows.new.conn.now) t }
     ensures mode { rows.old.conn.now.in_transaction ≡ false → rows.new.conn.now.in_transaction ≡ false }
     ensures faults { IfErr result IsStoreFault }
     ensures same { HasCleanDisk (state S.Store rows.new.conn.now)
         → OnOk result (IsUnchanged (state S.Store rows.old.conn.now) (state S.Store rows.new.conn.now)) }
     ensures over { HasCleanDisk (state S.Store rows.new.conn.now) → IfOk result (λ is.
-        (state S.Store rows.old.conn.now).now.schema ≡ book_schema → (l : Listing) → IsListing l
+        (schema : Schema) (l : Listing) → IsListingOver schema l → (state S.Store rows.old.conn.now).now.schema ≡ schema
         → (given : List ARow) → HasGiven S.Store l.text [] rows.old.conn.now given
         → Ends S.Store l is rows.new.conn.now given) }
 {

@@ -5,8 +5,9 @@ use Rattle.sqlite.specs.State.{HasCleanDisk, IsUnchanged, Survives}
 use Rattle.sqlite.specs.Held.{state}
 use Rattle.sqlite.proofs.Callers.{begun_plain, unchanged_then}
 use Rattle.ob_tables.specs.Rows.{AreApart}
+use Rattle.ob_tables.specs.Versions.{schema_of}
 use Rattle.ob_commit.proofs.Steps.{on_ok}
-use Rattle.ob_commit.specs.Keeps.{Keeps}
+use Rattle.ob_commit.specs.Keeps.{KeepsIn}
 use Rattle.ob_compare.specs.Apart.{number_text}
 use Rattle.ob_compare.proofs.Kept.{kept_still, kept_text, not_run, unread}
 use Rattle.ob_compare.proofs.Listing.{still_then}
@@ -35,8 +36,8 @@ returns-in-Ok-query_prepared-clause-same g c clean =
     let late : HasCleanDisk (state g.S.Store last) = subst (λ x. HasCleanDisk (state g.S.Store x)) (sym same) clean in
     let begun : HasCleanDisk (state g.S.Store start) = omega (arith, c.rise.ensures.survives.clean, late) in
     let early : HasCleanDisk (state g.S.Store mid) = omega (arith, c.in-Ok-query_prepared.ensures.survives.clean, begun) in
-    on_ok c.rise.result (c.rise.ensures.same late) (λ step has.
-    let b = begins_empty number_text numbers_plain g.S.Store old mid start c.in-Ok.statement.text (c.in-Ok.ensures.ok early) has (c.in-Ok-query_prepared.ensures.begun begun) in
+    on_ok c.rise.result (c.rise.ensures.same late) (λ step v has.
+    let b = begins_empty (schema_of v) number_text (numbers_plain v) g.S.Store old mid start c.in-Ok.statement.text (c.in-Ok.ensures.ok early) has (c.in-Ok-query_prepared.ensures.begun begun) in
     subst (λ x. IsUnchanged (state g.S.Store old) (state g.S.Store x)) same (unchanged_then (state g.S.Store old) (state g.S.Store start) (state g.S.Store last) b.1 (step b.1.0.is_open)))
 
 pub returns-in-Ok-query_prepared-clause-apart : goal.returns-in-Ok-query_prepared-clause-apart
@@ -49,9 +50,9 @@ returns-in-Ok-query_prepared-clause-apart g c clean =
     let late : HasCleanDisk (state g.S.Store last) = subst (λ x. HasCleanDisk (state g.S.Store x)) (sym same) clean in
     let begun : HasCleanDisk (state g.S.Store start) = omega (arith, c.rise.ensures.survives.clean, late) in
     let early : HasCleanDisk (state g.S.Store mid) = omega (arith, c.in-Ok-query_prepared.ensures.survives.clean, begun) in
-    if_ok c.rise.result (c.rise.ensures.apart late) (λ is tells has.
-    let b = begins_empty number_text numbers_plain g.S.Store old mid start c.in-Ok.statement.text (c.in-Ok.ensures.ok early) has (c.in-Ok-query_prepared.ensures.begun begun) in
-    subst (λ (d : Database). IsTrue is ↔ AreApart (d.trees 14)) b.1.0.now_is (tells b.1.0.is_open (ap (λ (d : Database). d.schema) b.1.0.now_is ∙ has) b.0))
+    if_ok c.rise.result (c.rise.ensures.apart late) (λ is tells v has.
+    let b = begins_empty (schema_of v) number_text (numbers_plain v) g.S.Store old mid start c.in-Ok.statement.text (c.in-Ok.ensures.ok early) has (c.in-Ok-query_prepared.ensures.begun begun) in
+    subst (λ (d : Database). IsTrue is ↔ AreApart (d.trees 14)) b.1.0.now_is (tells b.1.0.is_open v (ap (λ (d : Database). d.schema) b.1.0.now_is ∙ has) b.0))
 
 pub returns-clause-survives : goal.returns-clause-survives
 returns-clause-survives g c =
@@ -72,29 +73,29 @@ pub returns-clause-clean : goal.returns-clause-clean
 returns-clause-clean g c clean = omega (arith, c.prepare.ensures.survives.clean, (rw c.in-Err-query_prepared.is at c.query_prepared.follows.holds-at-none).survives.clean, clean)
 
 pub returns-in-Err-clause-kept : goal.returns-in-Err-clause-kept
-returns-in-Err-clause-kept g c t keeps =
+returns-in-Err-clause-kept g c v t keeps =
     let old = state g.S.Store c.args.conn.now in
     let mid = state g.S.Store c.prepare.new.self in
-    kept_still old mid t (λ clean. not_run old mid _ [] c.in-Err.error (c.in-Err.ensures.err clean [])) c.prepare.ensures.survives keeps
+    kept_still v old mid t (λ clean. not_run old mid _ [] c.in-Err.error (c.in-Err.ensures.err clean [])) c.prepare.ensures.survives keeps
 
 pub returns-in-Ok-query_prepared-clause-kept : goal.returns-in-Ok-query_prepared-clause-kept
-returns-in-Ok-query_prepared-clause-kept g c t keeps =
+returns-in-Ok-query_prepared-clause-kept g c v t keeps =
     let old = c.args.conn.now in
     let mid = c.prepare.new.self in
     let start = c.in-Ok-query_prepared.rows.conn.now in
     let last = c.rise.new.rows.conn.now in
     let text = c.in-Ok.statement.text in
     let same : last ≡ c.conn-1.given.0 = search rules in
-    let begun = kept_text number_text numbers_plain (state g.S.Store old) (state g.S.Store mid) (state g.S.Store start) text c.in-Ok.ensures.ok t keeps c.prepare.ensures.survives c.in-Ok-query_prepared.ensures.survives
+    let begun = kept_text v number_text (numbers_plain v) (state g.S.Store old) (state g.S.Store mid) (state g.S.Store start) text c.in-Ok.ensures.ok t keeps c.prepare.ensures.survives c.in-Ok-query_prepared.ensures.survives
     (λ late plain. inl (begun_plain g.S.Store text [] mid start plain (c.in-Ok-query_prepared.ensures.begun late)).1) in
-    subst (λ x. Keeps (state g.S.Store x) t) same (c.rise.ensures.kept t begun)
+    subst (λ x. KeepsIn v (state g.S.Store x) t) same (c.rise.ensures.kept v t begun)
 
 pub returns-clause-kept : goal.returns-clause-kept
-returns-clause-kept g c t keeps =
+returns-clause-kept g c v t keeps =
     let old = state g.S.Store c.args.conn.now in
     let mid = state g.S.Store c.prepare.new.self in
     let end = state g.S.Store c.query_prepared.follows.lender-at-none in
     let text = c.in-Ok.statement.text in
     let refused = rw c.in-Err-query_prepared.is at c.query_prepared.follows.holds-at-none in
-    kept_text number_text numbers_plain old mid end text c.in-Ok.ensures.ok t keeps c.prepare.ensures.survives refused.survives
+    kept_text v number_text (numbers_plain v) old mid end text c.in-Ok.ensures.ok t keeps c.prepare.ensures.survives refused.survives
     (λ late plain. unread mid end text [] c.in-Err-query_prepared.error (refused.err late))

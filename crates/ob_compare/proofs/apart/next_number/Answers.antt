@@ -1,6 +1,7 @@
 use Rattle.std.proofs.Common.{◌≡◌, [], None, Some, refl, sym, subst, rules, to_z-of_z, w64}
 use Rattle.std.specs.Prelude.{FitsSigned}
 use Rattle.sqlite.specs.Given.{GivesOn, row_if}
+use Rattle.ob_tables.specs.Versions.{schema_of}
 use Rattle.ob_compare.specs.Apart.{number_command, number_text}
 use Rattle.ob_compare.proofs.Filing.{none_some}
 use Rattle.ob_compare.proofs.NumberQuery.{numbers_mean, numbers_plain, numbers_unlisted}
@@ -8,15 +9,15 @@ use Rattle.ob_compare.proofs.Texts.{on_answer, whole_answer}
 use Rattle.ob_compare.proofs.apart.next_number.Goals as goal
 
 pub returns-in_default-clause-stands : goal.returns-in_default-clause-stands
-returns-in_default-clause-stands g c clean has given it =
+returns-in_default-clause-stands g c clean v has given it =
     let old = c.args.rows.now.conn.now in
     let new = c.advance.new.rows.conn.now in
     let at : row_if c.advance.new.rows.has_row new ≡ None = sym (rw c.in_default.is at c.get.ensures) in
     let shown = subst (GivesOn g.S.Store number_text [] old new given) at (c.in_ok-advance.ensures.goes clean number_text [] given it) in
-    whole_answer number_text numbers_plain number_command numbers_mean numbers_unlisted (λ db params. tt) g.S.Store old new has (c.in_ok-advance.ensures.same clean) given shown
+    whole_answer (schema_of v) number_text (numbers_plain v) number_command (numbers_mean v) (numbers_unlisted v) (λ db params. tt) g.S.Store old new has (c.in_ok-advance.ensures.same clean) given shown
 
 pub returns-in-Some-higher_in-clause-stands : goal.returns-in-Some-higher_in-clause-stands
-returns-in-Some-higher_in-clause-stands g c clean has given it =
+returns-in-Some-higher_in-clause-stands g c clean v has given it =
     let old = c.args.rows.now.conn.now in
     let new = c.advance.new.rows.conn.now in
     let at : row_if c.advance.new.rows.has_row new ≡ Some c.in-Some.row.now = sym (rw c.in-Some.is at c.get.ensures) in
@@ -25,12 +26,12 @@ returns-in-Some-higher_in-clause-stands g c clean has given it =
     rw (to_z-of_z fits) (c.in-Some.row.now, more, ((c.in-Some-higher_in.ensures c.in-Some-higher_in.number).0 refl).0)
 
 pub returns-in-None-clause-stands : goal.returns-in-None-clause-stands
-returns-in-None-clause-stands g c clean has given it =
+returns-in-None-clause-stands g c clean v has given it =
     let old = c.args.rows.now.conn.now in
     let new = c.advance.new.rows.conn.now in
     let at : row_if c.advance.new.rows.has_row new ≡ Some c.in-Some.row.now = sym (rw c.in-Some.is at c.get.ensures) in
     let more = subst (GivesOn g.S.Store number_text [] old new given) at (c.in_ok-advance.ensures.goes clean number_text [] given it) in
-    let one = on_answer number_text numbers_plain number_command numbers_mean numbers_unlisted (λ db params. tt) g.S.Store old new has (c.in_ok-advance.ensures.same clean) given c.in-Some.row.now more in
+    let one = on_answer (schema_of v) number_text (numbers_plain v) number_command (numbers_mean v) (numbers_unlisted v) (λ db params. tt) g.S.Store old new has (c.in_ok-advance.ensures.same clean) given c.in-Some.row.now more in
     (c.in-Some.row.now, one.0, one.1, λ n number above. none_some c.higher_in.result n c.in-None.is ((c.higher_in.ensures n).1 (number, above)))
 
 pub returns-in-Some-higher_in-clause-above : goal.returns-in-Some-higher_in-clause-above

@@ -11,28 +11,28 @@ use Rattle.ob_compare.proofs.RowNumbers.{RiseTo, rise_more}
 use Rattle.ob_compare.proofs.apart.rise.Goals as goal
 
 pub returns-in-Other-clause-apart : goal.returns-in-Other-clause-apart
-returns-in-Other-clause-apart g c late live has begun =
+returns-in-Other-clause-apart g c late live v has begun =
     let old = state g.S.Store c.args.rows.now.conn.now in
     let mid = state g.S.Store c.rows.rows.conn.now in
     let new = c.next_number.new.rows.conn.now in
     let early : HasCleanDisk mid = omega (arith, c.next_number.ensures.survives.clean, late) in
     let was = c.rows.invariant.3 early in
     let schema = ap (λ (d : Database). d.schema) (was.0 live).0.now_is ∙ has in
-    let so = was.1 live has begun in
-    let next = subst (λ n. NumberStands g.S.Store c.rows.last n new so.0) c.in-Other.is (c.in_ok-number.ensures.stands late schema so.0 so.1) in
+    let so = was.1 live v has begun in
+    let next = subst (λ n. NumberStands g.S.Store c.rows.last n new so.0) c.in-Other.is (c.in_ok-number.ensures.stands late v schema so.0 so.1) in
     let db : (state g.S.Store new).now ≡ old.now = (c.in_ok-number.ensures.same late).0.now_is ∙ (was.0 live).0.now_is in
     some_together old.now c.rows.last so.0 next.0 next.1 (subst (λ (d : Database). ListsNumbers d (so.0 ++ (next.0 ∷ next.1))) db next.2) so.2 next.3
 
 pub returns-in-End-clause-apart : goal.returns-in-End-clause-apart
-returns-in-End-clause-apart g c late live has begun =
+returns-in-End-clause-apart g c late live v has begun =
     let old = state g.S.Store c.args.rows.now.conn.now in
     let mid = state g.S.Store c.rows.rows.conn.now in
     let new = c.next_number.new.rows.conn.now in
     let early : HasCleanDisk mid = omega (arith, c.next_number.ensures.survives.clean, late) in
     let was = c.rows.invariant.3 early in
     let schema = ap (λ (d : Database). d.schema) (was.0 live).0.now_is ∙ has in
-    let so = was.1 live has begun in
-    let next = subst (λ n. NumberStands g.S.Store c.rows.last n new so.0) c.in-End.is (c.in_ok-number.ensures.stands late schema so.0 so.1) in
+    let so = was.1 live v has begun in
+    let next = subst (λ n. NumberStands g.S.Store c.rows.last n new so.0) c.in-End.is (c.in_ok-number.ensures.stands late v schema so.0 so.1) in
     let db : (state g.S.Store new).now ≡ old.now = (c.in_ok-number.ensures.same late).0.now_is ∙ (was.0 live).0.now_is in
     all_apart old.now c.rows.last so.0 (subst (λ (d : Database). ListsNumbers d so.0) db next) so.2
 
@@ -51,11 +51,11 @@ rows-preserved g c =
           let early : HasCleanDisk mid = omega (arith, step.survives.clean, late) in
           let was = c.rows.invariant.3 early in (
             λ live. unchanged_then old mid (state g.S.Store new) (was.0 live) (c.in_ok-number.ensures.same late),
-            λ live has begun.
+            λ live v has begun.
                 let schema = ap (λ (d : Database). d.schema) (was.0 live).0.now_is ∙ has in
-                let so = was.1 live has begun in
-                let next = subst (λ n. NumberStands g.S.Store c.rows.last n new so.0) c.in-Higher.is (c.in_ok-number.ensures.stands late schema so.0 so.1) in
+                let so = was.1 live v has begun in
+                let next = subst (λ n. NumberStands g.S.Store c.rows.last n new so.0) c.in-Higher.is (c.in_ok-number.ensures.stands late v schema so.0 so.1) in
                 (so.0 ++ next.0 ∷ [], next.1, subst (λ n. RiseTo (Some n) (so.0 ++ next.0 ∷ [])) (sym (to_z-of_z fits)) (rise_more c.rows.last so.0 next.0 c.in-Higher.number so.2 next.2 above)),
           ),
-      λ t keeps. step.kept t (c.rows.invariant.4 t keeps),
+      λ v t keeps. step.kept v t (c.rows.invariant.4 v t keeps),
     )

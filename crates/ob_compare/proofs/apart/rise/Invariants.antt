@@ -3,9 +3,10 @@ use Rattle.sqlite.specs.Order.{Row}
 use Rattle.sqlite.specs.State.{HasCleanDisk, IsUnchanged, Survives}
 use Rattle.sqlite.specs.Held.{state}
 use Rattle.sqlite.specs.Given.{HasGiven}
-use Rattle.ob_tables.specs.Schema.{book_schema}
+use Rattle.ob_tables.specs.Versions.{schema_of}
+use Rattle.ob_tables.specs.declared.version.Version.{Version}
 use Rattle.ob_tables.specs.Rows.{Tables}
-use Rattle.ob_commit.specs.Keeps.{Keeps}
+use Rattle.ob_commit.specs.Keeps.{KeepsIn}
 use Rattle.ob_compare.specs.Apart.{number_text}
 use Rattle.ob_compare.proofs.RowNumbers.{RiseTo, room}
 use Rattle.ob_compare.proofs.apart.rise.Given as goal
@@ -17,9 +18,9 @@ invariant-rows g l =
     let now = state g.S.Store l.rows.conn.now in
     (l.rows.conn.ghost_name ≡ l.fn.rows.conn.ghost_name) × Survives old now (λ _. ⊥) × (l.fn.rows.conn.now.in_transaction ≡ false → l.rows.conn.now.in_transaction ≡ false)
     × (HasCleanDisk now → (IsTrue old.is_open → IsUnchanged old now)
-    × (IsTrue old.is_open → old.now.schema ≡ book_schema → HasGiven g.S.Store number_text [] l.fn.rows.conn.now []
+    × (IsTrue old.is_open → (v : Version) → old.now.schema ≡ schema_of v → HasGiven g.S.Store number_text [] l.fn.rows.conn.now []
     → (given : List Row) × HasGiven g.S.Store number_text [] l.rows.conn.now given × RiseTo l.last given))
-    × ((t : Tables) → Keeps old t → Keeps now t)
+    × ((v : Version) (t : Tables) → KeepsIn v old t → KeepsIn v now t)
 
 abbrev pub decreases-rows : goal.decreases-rows
 decreases-rows g l = room l.last

@@ -7,21 +7,21 @@ use Rattle.sqlite.specs.Held.{state}
 use Rattle.sqlite.specs.Given.{HasGiven}
 use Rattle.sqlite.proofs.Callers.{unchanged_then}
 use Rattle.ob_tables.specs.Steps.{IsStoreFault}
-use Rattle.ob_tables.specs.declared.table.Table.TheVariants.{Command}
+use Rattle.ob_tables.specs.Versions.{schema_of}
 use Rattle.ob_compare.specs.Listing.{Lists, Ends, filed_of, referenced}
 use Rattle.ob_compare.specs.declared.filed.Filed.{Filed}
 use Rattle.ob_compare.specs.Ordered.{rows_under}
 use Rattle.ob_compare.specs.Reading.{AreFiled, IsNext, Stands, command_listing}
-use Rattle.ob_record.specs.Naming.{IsReferenced}
+use Rattle.ob_compare.specs.Versioned.{IsReferencedIn}
 use Rattle.ob_compare.proofs.Listing.{still_then}
 use Rattle.ob_compare.proofs.Passing.{clean_before, no_value, of_error, unchanged_after}
-use Rattle.ob_compare.proofs.Selects.{is_listing}
+use Rattle.ob_compare.proofs.Selects.{lists_commands}
 use Rattle.ob_compare.proofs.Standing.{all_referenced, pushed_length}
 use Rattle.ob_compare.proofs.Ordered.{IsRead, all_read, one_read, other_read, rows_read, too_many}
 use Rattle.ob_compare.proofs.commands.filed_rows.Goals as goal
 
 pub returns-in-Other-clause-read : goal.returns-in-Other-clause-read
-returns-in-Other-clause-read g c late live has given shows there =
+returns-in-Other-clause-read g c late live v has given shows there =
     let old = state g.S.Store c.args.rows.now.conn.now in
     let mid = state g.S.Store c.commands.rows.conn.now in
     let new = c.next_filed.new.rows.conn.now in
@@ -29,13 +29,13 @@ returns-in-Other-clause-read g c late live has given shows there =
     let was = c.commands.invariant.4 early live in
     let schema = ap (λ (d : Database). d.schema) was.0.now_is ∙ has in
     let pairs = c.commands.invariant.7 in
-    let front = rows_under pairs in
-    let next = subst (λ n. Stands g.S.Store c.commands.last n new front) c.in-Other.is (c.in_ok-number.ensures.stands late schema front (c.commands.invariant.9 early live has given)) in
+    let front = rows_under c.args.version pairs in
+    let next = subst (λ n. Stands g.S.Store c.args.version c.commands.last n new front) c.in-Other.is (c.in_ok-number.ensures.stands late v schema front (c.commands.invariant.9 early live v has given)) in
     let db : (state g.S.Store new).now ≡ old.now = (c.in_ok-number.ensures.same late).0.now_is ∙ was.0.now_is in
-    other_read old.now c.commands.commands.items c.commands.last c.commands.counted pairs next.0 next.1 shows c.commands.invariant.8 (subst (λ (d : Database). Lists command_listing d (front ++ (next.0 ∷ next.1))) db next.2) next.3 there
+    other_read c.args.version old.now c.commands.commands.items c.commands.last c.commands.counted pairs next.0 next.1 shows c.commands.invariant.8 (subst (λ (d : Database). Lists command_listing d (front ++ (next.0 ∷ next.1))) db next.2) next.3 there
 
 pub returns-in-End-clause-read : goal.returns-in-End-clause-read
-returns-in-End-clause-read g c late live has given shows there =
+returns-in-End-clause-read g c late live v has given shows there =
     let old = state g.S.Store c.args.rows.now.conn.now in
     let mid = state g.S.Store c.commands.rows.conn.now in
     let new = c.next_filed.new.rows.conn.now in
@@ -43,10 +43,10 @@ returns-in-End-clause-read g c late live has given shows there =
     let was = c.commands.invariant.4 early live in
     let schema = ap (λ (d : Database). d.schema) was.0.now_is ∙ has in
     let pairs = c.commands.invariant.7 in
-    let front = rows_under pairs in
-    let next = subst (λ n. Stands g.S.Store c.commands.last n new front) c.in-End.is (c.in_ok-number.ensures.stands late schema front (c.commands.invariant.9 early live has given)) in
+    let front = rows_under c.args.version pairs in
+    let next = subst (λ n. Stands g.S.Store c.args.version c.commands.last n new front) c.in-End.is (c.in_ok-number.ensures.stands late v schema front (c.commands.invariant.9 early live v has given)) in
     let db : (state g.S.Store new).now ≡ old.now = (c.in_ok-number.ensures.same late).0.now_is ∙ was.0.now_is in
-    all_read old.now (record { commands = c.commands.commands; counted = c.commands.counted }) c.commands.last pairs shows c.commands.invariant.8 (subst (λ (d : Database). Lists command_listing d front) db next) there
+    all_read c.args.version old.now (record { commands = c.commands.commands; counted = c.commands.counted }) c.commands.last pairs shows c.commands.invariant.8 (subst (λ (d : Database). Lists command_listing d front) db next) there
 
 pub commands-preserved : goal.commands-preserved
 commands-preserved g c =
@@ -59,7 +59,7 @@ commands-preserved g c =
     let fits : FitsSigned w64 n = search rules in
     let f = c.in-Higher.filed in
     let pushed : c.push.new.self.items ≡ c.commands.commands.items ++ f ∷ [] = c.in_ok-push-in-Higher.ensures.items in
-    let next = subst (IsNext c.commands.last) c.in-Higher.is c.in_ok-number.ensures.valid in (
+    let next = subst (IsNext c.args.version c.commands.last) c.in-Higher.is c.in_ok-number.ensures.valid in (
       step.same_reference ∙ c.commands.invariant.0,
       still_then old mid (state g.S.Store new) c.commands.invariant.1 step.survives,
       λ idle. step.mode (c.commands.invariant.2 idle),
@@ -67,22 +67,22 @@ commands-preserved g c =
       λ late live.
           let early : HasCleanDisk mid = omega (arith, step.survives.clean, late) in
           unchanged_then old mid (state g.S.Store new) (c.commands.invariant.4 early live) (c.in_ok-number.ensures.same late),
-      subst (λ (items : List Filed). AllByRecursion IsReferenced (filed_of items)) (sym pushed) (all_referenced c.commands.commands.items f c.commands.invariant.5 next.1),
-      λ t keeps. step.kept t (c.commands.invariant.6 t keeps),
+      subst (λ (items : List Filed). AllByRecursion (IsReferencedIn c.args.version) (filed_of items)) (sym pushed) (all_referenced c.args.version c.commands.commands.items f c.commands.invariant.5 next.1),
+      λ v t keeps. step.kept v t (c.commands.invariant.6 v t keeps),
       pairs ++ (n, referenced f) ∷ [],
-      subst (λ (k : ℤ). IsRead c.push.new.self.items (Some k) c.goes_on_counting-counted.result (pairs ++ (n, referenced f) ∷ [])) (sym (to_z-of_z fits))
-          (subst (λ (items : List Filed). IsRead items (Some n) c.goes_on_counting-counted.result (pairs ++ (n, referenced f) ∷ [])) (sym pushed)
-          (one_read c.commands.commands.items c.commands.last c.commands.counted c.goes_on_counting-counted.result pairs n f (c.commands.at + 1) (omega (arith, c.commands.invariant.3)) c.commands.invariant.8 next.0 (subst (λ (k : ℤ). IsTrue c.goes_on_counting-counted.result ↔ (IsTrue c.commands.counted × (k ≡ pos (c.commands.at + 1)))) (to_z-of_z fits) c.goes_on_counting-counted.ensures))),
-      λ late live has given.
+      subst (λ (k : ℤ). IsRead c.args.version c.push.new.self.items (Some k) c.goes_on_counting-counted.result (pairs ++ (n, referenced f) ∷ [])) (sym (to_z-of_z fits))
+          (subst (λ (items : List Filed). IsRead c.args.version items (Some n) c.goes_on_counting-counted.result (pairs ++ (n, referenced f) ∷ [])) (sym pushed)
+          (one_read c.args.version c.commands.commands.items c.commands.last c.commands.counted c.goes_on_counting-counted.result pairs n f (c.commands.at + 1) (omega (arith, c.commands.invariant.3)) c.commands.invariant.8 next.0 (subst (λ (k : ℤ). IsTrue c.goes_on_counting-counted.result ↔ (IsTrue c.commands.counted × (k ≡ pos (c.commands.at + 1)))) (to_z-of_z fits) c.goes_on_counting-counted.ensures))),
+      λ late live v has given.
           let early : HasCleanDisk mid = omega (arith, step.survives.clean, late) in
           let was = c.commands.invariant.4 early live in
           let schema = ap (λ (d : Database). d.schema) was.0.now_is ∙ has in
-          let there = subst (λ n. Stands g.S.Store c.commands.last n new (rows_under pairs)) c.in-Higher.is (c.in_ok-number.ensures.stands late schema (rows_under pairs) (c.commands.invariant.9 early live has given)) in
-          subst (HasGiven g.S.Store command_listing.text [] new) (rows_read pairs n f) there,
+          let there = subst (λ n. Stands g.S.Store c.args.version c.commands.last n new (rows_under c.args.version pairs)) c.in-Higher.is (c.in_ok-number.ensures.stands late v schema (rows_under c.args.version pairs) (c.commands.invariant.9 early live v has given)) in
+          subst (HasGiven g.S.Store command_listing.text [] new) (rows_read c.args.version pairs n f) there,
     )
 
 pub returns-then-branch-clause-read : goal.returns-then-branch-clause-read
-returns-then-branch-clause-read g c late live has given shows there =
+returns-then-branch-clause-read g c late live v has given shows there =
     let old = state g.S.Store c.args.rows.now.conn.now in
     let mid = state g.S.Store c.commands.rows.conn.now in
     let new = c.is_over.new.rows.conn.now in
@@ -90,13 +90,13 @@ returns-then-branch-clause-read g c late live has given shows there =
     let was = c.commands.invariant.4 early live in
     let schema = ap (λ (d : Database). d.schema) was.0.now_is ∙ has in
     let pairs = c.commands.invariant.7 in
-    let front = rows_under pairs in
-    let ends = subst (λ b. Ends g.S.Store command_listing b new front) c.if-branch.true (c.in_ok-is_over.ensures.over late schema command_listing (is_listing Command) front (c.commands.invariant.9 early live has given)) in
+    let front = rows_under c.args.version pairs in
+    let ends = subst (λ b. Ends g.S.Store command_listing b new front) c.if-branch.true (c.in_ok-is_over.ensures.over late (schema_of v) command_listing (lists_commands v) schema front (c.commands.invariant.9 early live v has given)) in
     let db : (state g.S.Store new).now ≡ old.now = (c.in_ok-is_over.ensures.same late).0.now_is ∙ was.0.now_is in
-    all_read old.now (record { commands = c.commands.commands; counted = c.commands.counted }) c.commands.last pairs shows c.commands.invariant.8 (subst (λ (d : Database). Lists command_listing d front) db ends) there
+    all_read c.args.version old.now (record { commands = c.commands.commands; counted = c.commands.counted }) c.commands.last pairs shows c.commands.invariant.8 (subst (λ (d : Database). Lists command_listing d front) db ends) there
 
 pub returns-else-branch-clause-read : goal.returns-else-branch-clause-read
-returns-else-branch-clause-read g c late live has given shows there =
+returns-else-branch-clause-read g c late live v has given shows there =
     let old = state g.S.Store c.args.rows.now.conn.now in
     let mid = state g.S.Store c.commands.rows.conn.now in
     let new = c.is_over.new.rows.conn.now in
@@ -104,11 +104,11 @@ returns-else-branch-clause-read g c late live has given shows there =
     let was = c.commands.invariant.4 early live in
     let schema = ap (λ (d : Database). d.schema) was.0.now_is ∙ has in
     let pairs = c.commands.invariant.7 in
-    let front = rows_under pairs in
-    let ends = subst (λ b. Ends g.S.Store command_listing b new front) c.if-branch.false (c.in_ok-is_over.ensures.over late schema command_listing (is_listing Command) front (c.commands.invariant.9 early live has given)) in
+    let front = rows_under c.args.version pairs in
+    let ends = subst (λ b. Ends g.S.Store command_listing b new front) c.if-branch.false (c.in_ok-is_over.ensures.over late (schema_of v) command_listing (lists_commands v) schema front (c.commands.invariant.9 early live v has given)) in
     let db : (state g.S.Store new).now ≡ old.now = (c.in_ok-is_over.ensures.same late).0.now_is ∙ was.0.now_is in
     let many : 1000000 ≤ length c.commands.commands.items = omega (arith, c.commands-test.false, c.commands.invariant.3) in
-    too_many old.now c.commands.commands.items c.commands.last c.commands.counted pairs ends.0 ends.1 shows c.commands.invariant.8 many (subst (λ (d : Database). Lists command_listing d (front ++ (ends.0 ∷ ends.1))) db ends.2) there
+    too_many c.args.version old.now c.commands.commands.items c.commands.last c.commands.counted pairs ends.0 ends.1 shows c.commands.invariant.8 many (subst (λ (d : Database). Lists command_listing d (front ++ (ends.0 ∷ ends.1))) db ends.2) there
 
 pub returns-in_err-number-clause-same_reference : goal.returns-in_err-number-clause-same_reference
 returns-in_err-number-clause-same_reference g c = c.next_filed.ensures.same_reference ∙ c.commands.invariant.0
@@ -117,7 +117,7 @@ pub returns-in_err-number-clause-survives : goal.returns-in_err-number-clause-su
 returns-in_err-number-clause-survives g c = still_then (state g.S.Store c.args.rows.now.conn.now) (state g.S.Store c.commands.rows.conn.now) (state g.S.Store c.next_filed.new.rows.conn.now) c.commands.invariant.1 c.next_filed.ensures.survives
 
 pub returns-in_err-number-clause-kept : goal.returns-in_err-number-clause-kept
-returns-in_err-number-clause-kept g c t keeps = c.next_filed.ensures.kept t (c.commands.invariant.6 t keeps)
+returns-in_err-number-clause-kept g c v t keeps = c.next_filed.ensures.kept v t (c.commands.invariant.6 v t keeps)
 
 pub returns-in_err-number-clause-mode : goal.returns-in_err-number-clause-mode
 returns-in_err-number-clause-mode g c idle = c.next_filed.ensures.mode (c.commands.invariant.2 idle)
@@ -126,7 +126,7 @@ pub returns-in_err-number-clause-faults : goal.returns-in_err-number-clause-faul
 returns-in_err-number-clause-faults g c = of_error c.from_residual.result IsStoreFault c.from_residual.ensures.1 (λ stop is. subst IsStoreFault (sym is) c.in_err-number.ensures.faults)
 
 pub returns-in_err-number-clause-valid : goal.returns-in_err-number-clause-valid
-returns-in_err-number-clause-valid g c = no_value c.from_residual.result AreFiled c.from_residual.ensures.0
+returns-in_err-number-clause-valid g c = no_value c.from_residual.result (AreFiled c.args.version) c.from_residual.ensures.0
 
 pub returns-in_err-number-clause-same : goal.returns-in_err-number-clause-same
 returns-in_err-number-clause-same g c late = no_value c.from_residual.result _ c.from_residual.ensures.0
@@ -141,7 +141,7 @@ pub returns-in_err-push-in-Higher-clause-survives : goal.returns-in_err-push-in-
 returns-in_err-push-in-Higher-clause-survives g c = still_then (state g.S.Store c.args.rows.now.conn.now) (state g.S.Store c.commands.rows.conn.now) (state g.S.Store c.next_filed.new.rows.conn.now) c.commands.invariant.1 c.next_filed.ensures.survives
 
 pub returns-in_err-push-in-Higher-clause-kept : goal.returns-in_err-push-in-Higher-clause-kept
-returns-in_err-push-in-Higher-clause-kept g c t keeps = c.next_filed.ensures.kept t (c.commands.invariant.6 t keeps)
+returns-in_err-push-in-Higher-clause-kept g c v t keeps = c.next_filed.ensures.kept v t (c.commands.invariant.6 v t keeps)
 
 pub returns-in_err-push-in-Higher-clause-mode : goal.returns-in_err-push-in-Higher-clause-mode
 returns-in_err-push-in-Higher-clause-mode g c idle = c.next_filed.ensures.mode (c.commands.invariant.2 idle)
@@ -150,7 +150,7 @@ pub returns-in_err-push-in-Higher-clause-faults : goal.returns-in_err-push-in-Hi
 returns-in_err-push-in-Higher-clause-faults g c = of_error c.from_residual-in_err-push-in-Higher.result IsStoreFault c.from_residual-in_err-push-in-Higher.ensures.1 (λ stop is. inl is)
 
 pub returns-in_err-push-in-Higher-clause-valid : goal.returns-in_err-push-in-Higher-clause-valid
-returns-in_err-push-in-Higher-clause-valid g c = no_value c.from_residual-in_err-push-in-Higher.result AreFiled c.from_residual-in_err-push-in-Higher.ensures.0
+returns-in_err-push-in-Higher-clause-valid g c = no_value c.from_residual-in_err-push-in-Higher.result (AreFiled c.args.version) c.from_residual-in_err-push-in-Higher.ensures.0
 
 pub returns-in_err-push-in-Higher-clause-same : goal.returns-in_err-push-in-Higher-clause-same
 returns-in_err-push-in-Higher-clause-same g c late = no_value c.from_residual-in_err-push-in-Higher.result _ c.from_residual-in_err-push-in-Higher.ensures.0
@@ -165,7 +165,7 @@ pub returns-in-Other-clause-survives : goal.returns-in-Other-clause-survives
 returns-in-Other-clause-survives g c = still_then (state g.S.Store c.args.rows.now.conn.now) (state g.S.Store c.commands.rows.conn.now) (state g.S.Store c.next_filed.new.rows.conn.now) c.commands.invariant.1 c.next_filed.ensures.survives
 
 pub returns-in-Other-clause-kept : goal.returns-in-Other-clause-kept
-returns-in-Other-clause-kept g c t keeps = c.next_filed.ensures.kept t (c.commands.invariant.6 t keeps)
+returns-in-Other-clause-kept g c v t keeps = c.next_filed.ensures.kept v t (c.commands.invariant.6 v t keeps)
 
 pub returns-in-Other-clause-mode : goal.returns-in-Other-clause-mode
 returns-in-Other-clause-mode g c idle = c.next_filed.ensures.mode (c.commands.invariant.2 idle)
@@ -183,7 +183,7 @@ pub returns-in-End-clause-survives : goal.returns-in-End-clause-survives
 returns-in-End-clause-survives g c = still_then (state g.S.Store c.args.rows.now.conn.now) (state g.S.Store c.commands.rows.conn.now) (state g.S.Store c.next_filed.new.rows.conn.now) c.commands.invariant.1 c.next_filed.ensures.survives
 
 pub returns-in-End-clause-kept : goal.returns-in-End-clause-kept
-returns-in-End-clause-kept g c t keeps = c.next_filed.ensures.kept t (c.commands.invariant.6 t keeps)
+returns-in-End-clause-kept g c v t keeps = c.next_filed.ensures.kept v t (c.commands.invariant.6 v t keeps)
 
 pub returns-in-End-clause-mode : goal.returns-in-End-clause-mode
 returns-in-End-clause-mode g c idle = c.next_filed.ensures.mode (c.commands.invariant.2 idle)
@@ -204,7 +204,7 @@ pub returns-in_err-is_over-clause-survives : goal.returns-in_err-is_over-clause-
 returns-in_err-is_over-clause-survives g c = still_then (state g.S.Store c.args.rows.now.conn.now) (state g.S.Store c.commands.rows.conn.now) (state g.S.Store c.is_over.new.rows.conn.now) c.commands.invariant.1 c.is_over.ensures.survives
 
 pub returns-in_err-is_over-clause-kept : goal.returns-in_err-is_over-clause-kept
-returns-in_err-is_over-clause-kept g c t keeps = c.is_over.ensures.kept t (c.commands.invariant.6 t keeps)
+returns-in_err-is_over-clause-kept g c v t keeps = c.is_over.ensures.kept v t (c.commands.invariant.6 v t keeps)
 
 pub returns-in_err-is_over-clause-mode : goal.returns-in_err-is_over-clause-mode
 returns-in_err-is_over-clause-mode g c idle = c.is_over.ensures.mode (c.commands.invariant.2 idle)
@@ -213,7 +213,7 @@ pub returns-in_err-is_over-clause-faults : goal.returns-in_err-is_over-clause-fa
 returns-in_err-is_over-clause-faults g c = of_error c.from_residual-in_err-is_over.result IsStoreFault c.from_residual-in_err-is_over.ensures.1 (λ stop is. subst IsStoreFault (sym is) c.in_err-is_over.ensures.faults)
 
 pub returns-in_err-is_over-clause-valid : goal.returns-in_err-is_over-clause-valid
-returns-in_err-is_over-clause-valid g c = no_value c.from_residual-in_err-is_over.result AreFiled c.from_residual-in_err-is_over.ensures.0
+returns-in_err-is_over-clause-valid g c = no_value c.from_residual-in_err-is_over.result (AreFiled c.args.version) c.from_residual-in_err-is_over.ensures.0
 
 pub returns-in_err-is_over-clause-same : goal.returns-in_err-is_over-clause-same
 returns-in_err-is_over-clause-same g c late = no_value c.from_residual-in_err-is_over.result _ c.from_residual-in_err-is_over.ensures.0
@@ -228,7 +228,7 @@ pub returns-then-branch-clause-survives : goal.returns-then-branch-clause-surviv
 returns-then-branch-clause-survives g c = still_then (state g.S.Store c.args.rows.now.conn.now) (state g.S.Store c.commands.rows.conn.now) (state g.S.Store c.is_over.new.rows.conn.now) c.commands.invariant.1 c.is_over.ensures.survives
 
 pub returns-then-branch-clause-kept : goal.returns-then-branch-clause-kept
-returns-then-branch-clause-kept g c t keeps = c.is_over.ensures.kept t (c.commands.invariant.6 t keeps)
+returns-then-branch-clause-kept g c v t keeps = c.is_over.ensures.kept v t (c.commands.invariant.6 v t keeps)
 
 pub returns-then-branch-clause-mode : goal.returns-then-branch-clause-mode
 returns-then-branch-clause-mode g c idle = c.is_over.ensures.mode (c.commands.invariant.2 idle)
@@ -249,7 +249,7 @@ pub returns-else-branch-clause-survives : goal.returns-else-branch-clause-surviv
 returns-else-branch-clause-survives g c = still_then (state g.S.Store c.args.rows.now.conn.now) (state g.S.Store c.commands.rows.conn.now) (state g.S.Store c.is_over.new.rows.conn.now) c.commands.invariant.1 c.is_over.ensures.survives
 
 pub returns-else-branch-clause-kept : goal.returns-else-branch-clause-kept
-returns-else-branch-clause-kept g c t keeps = c.is_over.ensures.kept t (c.commands.invariant.6 t keeps)
+returns-else-branch-clause-kept g c v t keeps = c.is_over.ensures.kept v t (c.commands.invariant.6 v t keeps)
 
 pub returns-else-branch-clause-mode : goal.returns-else-branch-clause-mode
 returns-else-branch-clause-mode g c idle = c.is_over.ensures.mode (c.commands.invariant.2 idle)

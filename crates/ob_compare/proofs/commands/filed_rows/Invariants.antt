@@ -3,14 +3,15 @@ use Rattle.std.specs.List.{AllByRecursion}
 use Rattle.sqlite.specs.State.{HasCleanDisk, IsUnchanged, Survives}
 use Rattle.sqlite.specs.Held.{state}
 use Rattle.sqlite.specs.Given.{HasGiven}
-use Rattle.ob_tables.specs.Schema.{book_schema}
+use Rattle.ob_tables.specs.Versions.{schema_of}
+use Rattle.ob_tables.specs.declared.version.Version.{Version}
 use Rattle.ob_tables.specs.Rows.{Tables}
-use Rattle.ob_commit.specs.Keeps.{Keeps}
+use Rattle.ob_commit.specs.Keeps.{KeepsIn}
 use Rattle.ob_compare.specs.Listing.{filed_of}
 use Rattle.ob_compare.specs.Ordered.{Numbered, rows_under}
 use Rattle.ob_compare.specs.Reading.{command_listing}
 use Rattle.ob_compare.proofs.Ordered.{IsRead}
-use Rattle.ob_record.specs.Naming.{IsReferenced}
+use Rattle.ob_compare.specs.Versioned.{IsReferencedIn}
 use Rattle.ob_compare.proofs.commands.filed_rows.Given as goal
 
 -- the rows so far were those of the commands so far, under numbers that rise up to the last
@@ -21,8 +22,8 @@ invariant-commands g l =
     (l.rows.conn.ghost_name ≡ l.fn.rows.conn.ghost_name) × Survives old now (λ _. ⊥) × (l.fn.rows.conn.now.in_transaction ≡ false → l.rows.conn.now.in_transaction ≡ false)
     × (length l.commands.items ≡ l.at)
     × (HasCleanDisk now → (IsTrue old.is_open → IsUnchanged old now))
-    × AllByRecursion IsReferenced (filed_of l.commands.items)
-    × ((t : Tables) → Keeps old t → Keeps now t)
-    × (pairs : List Numbered) × IsRead l.commands.items l.last l.counted pairs
-    × (HasCleanDisk now → IsTrue old.is_open → old.now.schema ≡ book_schema → HasGiven g.S.Store command_listing.text [] l.fn.rows.conn.now []
-    → HasGiven g.S.Store command_listing.text [] l.rows.conn.now (rows_under pairs))
+    × AllByRecursion (IsReferencedIn l.version) (filed_of l.commands.items)
+    × ((v : Version) (t : Tables) → KeepsIn v old t → KeepsIn v now t)
+    × (pairs : List Numbered) × IsRead l.version l.commands.items l.last l.counted pairs
+    × (HasCleanDisk now → IsTrue old.is_open → (v : Version) → old.now.schema ≡ schema_of v → HasGiven g.S.Store command_listing.text [] l.fn.rows.conn.now []
+    → HasGiven g.S.Store command_listing.text [] l.rows.conn.now (rows_under l.version pairs))

@@ -1,21 +1,21 @@
-use Rattle.std.proofs.Common.{◌≡◌, [], inl, sym, ap, subst, ◌∙◌, arith, rules, Bool, false, Err, ◌≢◌}
+use Rattle.std.proofs.Common.{◌≡◌, [], inl, sym, ap, subst, ◌∙◌, arith, rules, Bool, false, Err}
 use Rattle.sqlite.specs.Effect.{Database}
 use Rattle.sqlite.specs.State.{HasCleanDisk, IsUnchanged, Survives}
 use Rattle.sqlite.specs.Held.{Held, state}
 use Rattle.sqlite.proofs.Callers.{begun_plain, unchanged_then}
 use Rattle.ob_tables.specs.declared.table.Table.TheVariants.{Command}
 use Rattle.ob_record.specs.Tables.{Shows}
-use Rattle.ob_commit.specs.Keeps.{Keeps}
+use Rattle.ob_commit.specs.Keeps.{KeepsIn}
 use Rattle.ob_compare.specs.Faults.{HasNoMeaning, IsMissed}
 use Rattle.ob_commit.proofs.Steps.{on_ok}
 use Rattle.ob_compare.specs.Reading.{command_listing}
-use Rattle.ob_tables.specs.Schema.{book_schema}
+use Rattle.ob_tables.specs.declared.version.Version.TheVariants.{Two}
 use Rattle.ob_compare.proofs.Asking.{faults_alone, faults_read, foreign_tables, listing_quiet, never_clean}
 use Rattle.ob_compare.proofs.Passing.{clean_before}
 use Rattle.ob_compare.proofs.Kept.{kept_asked, unread}
 use Rattle.ob_compare.proofs.Listing.{begins, still_then}
 use Rattle.ob_compare.proofs.Rowing.{if_ok}
-use Rattle.ob_compare.proofs.Selects.{is_listing}
+use Rattle.ob_compare.proofs.Selects.{lists_commands}
 use Rattle.ob_compare.proofs.commands.read_commands.Given.{Over}
 use Rattle.ob_compare.proofs.commands.read_commands.Goals as goal
 
@@ -24,7 +24,7 @@ given_back : (g : Over) (c : goal.After-drop-statement-inside-in-Ok-query_prepar
 given_back g c = search rules
 
 pub returns-in-Err-clause-foreign : goal.returns-in-Err-clause-foreign
-returns-in-Err-clause-foreign g c clean bad = foreign_tables command_listing (is_listing Command) (state g.S.Store c.args.conn.now) _ (sym c.select_of.ensures) (c.in-Err.ensures.foreign clean bad).0
+returns-in-Err-clause-foreign g c clean bad v = foreign_tables command_listing (lists_commands v) (state g.S.Store c.args.conn.now) _ (sym c.select_of.ensures) (c.in-Err.ensures.foreign clean bad).0
 
 pub returns-in-Ok-query_prepared-clause-survives : goal.returns-in-Ok-query_prepared-clause-survives
 returns-in-Ok-query_prepared-clause-survives g c =
@@ -34,7 +34,7 @@ returns-in-Ok-query_prepared-clause-survives g c =
     let last = c.filed_rows.new.rows.conn.now in
     let same : last ≡ c.conn-1.given.0 = given_back g c in
     subst (λ x. Survives old (state g.S.Store x) (λ _. ⊥)) same
-    (still_then old start (state g.S.Store last) (listing_quiet command_listing (is_listing Command) old mid start c.in-Ok.statement.text (λ ready. let it = c.in-Ok.ensures.prepared ready in (it.0 ∙ c.select_of.ensures, it.1)) c.prepare.ensures.survives c.in-Ok-query_prepared.ensures.survives) c.filed_rows.ensures.survives)
+    (still_then old start (state g.S.Store last) (listing_quiet command_listing (lists_commands Two) old mid start c.in-Ok.statement.text (λ ready. let it = c.in-Ok.ensures.prepared ready in (it.0 ∙ c.select_of.ensures, it.1)) c.prepare.ensures.survives c.in-Ok-query_prepared.ensures.survives) c.filed_rows.ensures.survives)
 
 pub returns-in-Ok-query_prepared-clause-same : goal.returns-in-Ok-query_prepared-clause-same
 returns-in-Ok-query_prepared-clause-same g c clean =
@@ -46,8 +46,8 @@ returns-in-Ok-query_prepared-clause-same g c clean =
     let late : HasCleanDisk (state g.S.Store last) = subst (λ x. HasCleanDisk (state g.S.Store x)) (sym same) clean in
     let begun : HasCleanDisk (state g.S.Store start) = omega (arith, c.filed_rows.ensures.survives.clean, late) in
     let early : HasCleanDisk (state g.S.Store mid) = omega (arith, c.in-Ok-query_prepared.ensures.survives.clean, begun) in
-    on_ok c.filed_rows.result (c.filed_rows.ensures.same late) (λ step has.
-    let b = begins g.S.Store command_listing (is_listing Command) old mid start c.in-Ok.statement.text (let it = c.in-Ok.ensures.prepared early in (it.0 ∙ c.select_of.ensures, it.1)) has (c.in-Ok-query_prepared.ensures.begun begun) in
+    on_ok c.filed_rows.result (c.filed_rows.ensures.same late) (λ step v has.
+    let b = begins g.S.Store command_listing (lists_commands v) old mid start c.in-Ok.statement.text (let it = c.in-Ok.ensures.prepared early in (it.0 ∙ c.select_of.ensures, it.1)) has (c.in-Ok-query_prepared.ensures.begun begun) in
     subst (λ x. IsUnchanged (state g.S.Store old) (state g.S.Store x)) same (unchanged_then (state g.S.Store old) (state g.S.Store start) (state g.S.Store last) b.1 (step b.1.0.is_open)))
 
 pub returns-in-Ok-query_prepared-clause-read : goal.returns-in-Ok-query_prepared-clause-read
@@ -60,16 +60,16 @@ returns-in-Ok-query_prepared-clause-read g c clean =
     let late : HasCleanDisk (state g.S.Store last) = subst (λ x. HasCleanDisk (state g.S.Store x)) (sym same) clean in
     let begun : HasCleanDisk (state g.S.Store start) = omega (arith, c.filed_rows.ensures.survives.clean, late) in
     let early : HasCleanDisk (state g.S.Store mid) = omega (arith, c.in-Ok-query_prepared.ensures.survives.clean, begun) in
-    if_ok c.filed_rows.result (c.filed_rows.ensures.read late) (λ found tells has rows there.
-    let b = begins g.S.Store command_listing (is_listing Command) old mid start c.in-Ok.statement.text (let it = c.in-Ok.ensures.prepared early in (it.0 ∙ c.select_of.ensures, it.1)) has (c.in-Ok-query_prepared.ensures.begun begun) in
-    tells b.1.0.is_open (ap (λ (d : Database). d.schema) b.1.0.now_is ∙ has) b.0 rows (subst (λ (d : Database). Shows d.trees Command rows) (sym b.1.0.now_is) there))
+    if_ok c.filed_rows.result (c.filed_rows.ensures.read late) (λ found tells v has rows there.
+    let b = begins g.S.Store command_listing (lists_commands v) old mid start c.in-Ok.statement.text (let it = c.in-Ok.ensures.prepared early in (it.0 ∙ c.select_of.ensures, it.1)) has (c.in-Ok-query_prepared.ensures.begun begun) in
+    tells b.1.0.is_open v (ap (λ (d : Database). d.schema) b.1.0.now_is ∙ has) b.0 rows (subst (λ (d : Database). Shows d.trees Command rows) (sym b.1.0.now_is) there))
 
 pub returns-clause-survives : goal.returns-clause-survives
 returns-clause-survives g c =
     let old = state g.S.Store c.args.conn.now in
     let mid = state g.S.Store c.prepare.new.conn in
     let end = state g.S.Store c.query_prepared.follows.lender-at-none in
-    listing_quiet command_listing (is_listing Command) old mid end c.in-Ok.statement.text (λ ready. let it = c.in-Ok.ensures.prepared ready in (it.0 ∙ c.select_of.ensures, it.1)) c.prepare.ensures.survives (rw c.in-Err-query_prepared.is at c.query_prepared.follows.holds-at-none).survives
+    listing_quiet command_listing (lists_commands Two) old mid end c.in-Ok.statement.text (λ ready. let it = c.in-Ok.ensures.prepared ready in (it.0 ∙ c.select_of.ensures, it.1)) c.prepare.ensures.survives (rw c.in-Err-query_prepared.is at c.query_prepared.follows.holds-at-none).survives
 
 pub returns-in-Ok-query_prepared-clause-clean : goal.returns-in-Ok-query_prepared-clause-clean
 returns-in-Ok-query_prepared-clause-clean g c clean =
@@ -82,25 +82,25 @@ pub returns-clause-clean : goal.returns-clause-clean
 returns-clause-clean g c clean = omega (arith, c.prepare.ensures.survives.clean, (rw c.in-Err-query_prepared.is at c.query_prepared.follows.holds-at-none).survives.clean, clean)
 
 pub returns-in-Ok-query_prepared-clause-kept : goal.returns-in-Ok-query_prepared-clause-kept
-returns-in-Ok-query_prepared-clause-kept g c t keeps =
+returns-in-Ok-query_prepared-clause-kept g c v t keeps =
     let old = c.args.conn.now in
     let mid = c.prepare.new.conn in
     let start = c.in-Ok-query_prepared.rows.conn.now in
     let last = c.filed_rows.new.rows.conn.now in
     let text = c.in-Ok.statement.text in
     let same : last ≡ c.conn-1.given.0 = given_back g c in
-    let begun = kept_asked command_listing (is_listing Command) (state g.S.Store old) (state g.S.Store mid) (state g.S.Store start) text (λ clean. let it = c.in-Ok.ensures.prepared clean in (it.0 ∙ c.select_of.ensures, it.1)) t keeps c.prepare.ensures.survives c.in-Ok-query_prepared.ensures.survives
+    let begun = kept_asked v command_listing (lists_commands v) (state g.S.Store old) (state g.S.Store mid) (state g.S.Store start) text (λ clean. let it = c.in-Ok.ensures.prepared clean in (it.0 ∙ c.select_of.ensures, it.1)) t keeps c.prepare.ensures.survives c.in-Ok-query_prepared.ensures.survives
     (λ late plain. inl (begun_plain g.S.Store text [] mid start plain (c.in-Ok-query_prepared.ensures.begun late)).1) in
-    subst (λ x. Keeps (state g.S.Store x) t) same (c.filed_rows.ensures.kept t begun)
+    subst (λ x. KeepsIn v (state g.S.Store x) t) same (c.filed_rows.ensures.kept v t begun)
 
 pub returns-clause-kept : goal.returns-clause-kept
-returns-clause-kept g c t keeps =
+returns-clause-kept g c v t keeps =
     let old = state g.S.Store c.args.conn.now in
     let mid = state g.S.Store c.prepare.new.conn in
     let end = state g.S.Store c.query_prepared.follows.lender-at-none in
     let text = c.in-Ok.statement.text in
     let refused = rw c.in-Err-query_prepared.is at c.query_prepared.follows.holds-at-none in
-    kept_asked command_listing (is_listing Command) old mid end text (λ clean. let it = c.in-Ok.ensures.prepared clean in (it.0 ∙ c.select_of.ensures, it.1)) t keeps c.prepare.ensures.survives refused.survives
+    kept_asked v command_listing (lists_commands v) old mid end text (λ clean. let it = c.in-Ok.ensures.prepared clean in (it.0 ∙ c.select_of.ensures, it.1)) t keeps c.prepare.ensures.survives refused.survives
     (λ late plain. unread mid end text [] c.in-Err-query_prepared.error (refused.err late))
 
 pub returns-in-Ok-query_prepared-clause-missed : goal.returns-in-Ok-query_prepared-clause-missed
@@ -150,7 +150,7 @@ pub returns-in-Ok-query_prepared-clause-faults : goal.returns-in-Ok-query_prepar
 returns-in-Ok-query_prepared-clause-faults g c = faults_read c.filed_rows.result c.filed_rows.ensures.faults
 
 pub returns-in-Ok-query_prepared-clause-foreign : goal.returns-in-Ok-query_prepared-clause-foreign
-returns-in-Ok-query_prepared-clause-foreign g c clean = faults_alone c.filed_rows.result (c.args.conn.now.schema ≢ book_schema) c.filed_rows.ensures.faults
+returns-in-Ok-query_prepared-clause-foreign g c clean = faults_alone c.filed_rows.result _ c.filed_rows.ensures.faults
 
 pub returns-in-Ok-query_prepared-clause-valid : goal.returns-in-Ok-query_prepared-clause-valid
 returns-in-Ok-query_prepared-clause-valid g c = c.filed_rows.ensures.valid
@@ -162,4 +162,4 @@ pub returns-clause-faults : goal.returns-clause-faults
 returns-clause-faults g c = inl c.stop_of.ensures
 
 pub returns-clause-foreign : goal.returns-clause-foreign
-returns-clause-foreign g c clean = faults_alone {X = Bool} (Err c.stop_of.result) (c.args.conn.now.schema ≢ book_schema) c.stop_of.ensures
+returns-clause-foreign g c clean = faults_alone {X = Bool} (Err c.stop_of.result) _ c.stop_of.ensures

@@ -1,5 +1,7 @@
-use Rattle.std.proofs.Common.{◌≡◌, ◌<◌, ◌+◌, None, Ok, drop, get_or, length, sym, ap, ◌∙◌, arith, refl, true≢false}
+use Rattle.std.proofs.Common.{◌≡◌, ◌<◌, ◌+◌, Option, None, is_none, Ok, drop, get_or, length, sym, ap, ◌∙◌, arith, refl, true≢false}
 use Rattle.ob_state.specs.State.{BookState}
+use Rattle.ob_base.specs.declared.stop.Refusal.{Refusal}
+use Rattle.ob_tables.specs.declared.version.Version.TheVariants.{Two}
 use Rattle.ob_state.specs.Refusals.{refusal}
 use Rattle.ob_state.specs.Next.{next}
 use Rattle.ob_compare.specs.declared.filed.Filed.{Filed}
@@ -17,7 +19,7 @@ commands-preserved g c =
     let was = c.in-Ok-true.is ∙ ap Ok c.in-Ok-true.field-0-test in
     let taken : refusal b f.command ≡ None = c.in-Ok-true.ensures.accepted.0 c.in-Ok-true.field-0-test in
     let next_is : c.adopts.new.book.state ≡ next b f.command = c.adopts.ensures.book was in (
-      ap (λ (s : BookState). leads s (drop (c.commands.at + 1) list)) next_is ∙ leads_on b list c.commands.at f low here taken ∙ c.commands.invariant.0,
+      ap (λ (s : BookState). leads Two s (drop (c.commands.at + 1) list)) next_is ∙ leads_on Two b list c.commands.at f low here (ap (λ (r : Option Refusal). is_none r) taken) ∙ c.commands.invariant.0,
       λ noted. c.adopts.ensures.noted was (c.commands.invariant.1 noted),
     )
 
@@ -34,8 +36,8 @@ returns-in-Ok-false-clause-accepted g c =
 pub returns-clause-accepted : goal.returns-clause-accepted
 returns-clause-accepted g c =
     let list = c.args.commands.now in
-    let led = sym c.commands.invariant.0 ∙ leads_here c.commands.book.state list c.commands.at (omega (arith, c.commands-test.false)) in
-    (λ _. some_led (leads c.args.book.now.state list) c.commands.book.state led, λ _. refl)
+    let led = sym c.commands.invariant.0 ∙ leads_here Two c.commands.book.state list c.commands.at (omega (arith, c.commands-test.false)) in
+    (λ _. some_led (leads Two c.args.book.now.state list) c.commands.book.state led, λ _. refl)
 
 pub returns-clause-book : goal.returns-clause-book
-returns-clause-book g c _ = sym c.commands.invariant.0 ∙ leads_here c.commands.book.state c.args.commands.now c.commands.at (omega (arith, c.commands-test.false))
+returns-clause-book g c _ = sym c.commands.invariant.0 ∙ leads_here Two c.commands.book.state c.args.commands.now c.commands.at (omega (arith, c.commands-test.false))

@@ -3,9 +3,10 @@ use Rattle.sqlite.specs.Order.{Row}
 use Rattle.sqlite.specs.State.{HasCleanDisk, IsUnchanged, Survives}
 use Rattle.sqlite.specs.Held.{state}
 use Rattle.sqlite.specs.Given.{HasGiven}
-use Rattle.ob_tables.specs.Schema.{book_schema}
+use Rattle.ob_tables.specs.Versions.{Has, schema_of}
+use Rattle.ob_tables.specs.declared.version.Version.{Version}
 use Rattle.ob_tables.specs.Rows.{Tables}
-use Rattle.ob_commit.specs.Keeps.{Keeps}
+use Rattle.ob_commit.specs.Keeps.{KeepsIn}
 use Rattle.ob_compare.specs.Parts.{select_of, standing}
 use Rattle.ob_compare.proofs.listed.follows.Given as goal
 
@@ -17,6 +18,6 @@ invariant-places g l =
     let t = g.L.Listed.table in
     (l.rows.conn.ghost_name ≡ l.fn.rows.conn.ghost_name) × Survives old now (λ _. ⊥) × (l.fn.rows.conn.now.in_transaction ≡ false → l.rows.conn.now.in_transaction ≡ false)
     × (HasCleanDisk now → (IsTrue old.is_open → IsUnchanged old now)
-    × (IsTrue old.is_open → old.now.schema ≡ book_schema → (given : List Row) → HasGiven g.S.Store (select_of t) [] l.fn.rows.conn.now given
+    × (IsTrue old.is_open → (v : Version) → Has v t → old.now.schema ≡ schema_of v → (given : List Row) → HasGiven g.S.Store (select_of t) [] l.fn.rows.conn.now given
     → HasGiven g.S.Store (select_of t) [] l.rows.conn.now (given ++ standing (take l.at (g.L.Listed.places l.listed)))))
-    × ((t : Tables) → Keeps old t → Keeps now t)
+    × ((v : Version) (t : Tables) → KeepsIn v old t → KeepsIn v now t)

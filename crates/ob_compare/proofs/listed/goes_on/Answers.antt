@@ -5,21 +5,21 @@ use Rattle.ob_compare.proofs.Places.{goes_on, ends_off}
 use Rattle.ob_compare.proofs.listed.goes_on.Goals as goal
 
 pub returns-in-Some-clause-goes : goal.returns-in-Some-clause-goes
-returns-in-Some-clause-goes g c clean has given it =
+returns-in-Some-clause-goes g c clean v own has given it =
     let old = c.args.rows.now.conn.now in
     let new = c.advance.new.rows.conn.now in
     let t = g.L.Listed.table in
     let at : row_if c.advance.new.rows.has_row new ≡ Some c.in-Some.row.now = sym (rw c.in-Some.is at c.get.ensures) in
     let more = subst (GivesOn g.S.Store (select_of t) [] old new given) at (c.in_ok-advance.ensures.goes clean (select_of t) [] given it) in
-    goes_on g.S.Store t old new has (c.in_ok-advance.ensures.same clean) given c.is_row.result c.in-Some.row.now
+    goes_on g.S.Store v t own old new has (c.in_ok-advance.ensures.same clean) given c.is_row.result c.in-Some.row.now
     (slice_index_or (g.L.Listed.places c.args.listed.now) c.args.at None) (sym c.if-not-has_row.false ∙ c.has_row.ensures) c.is_row.ensures more
 
 pub returns-in-None-clause-goes : goal.returns-in-None-clause-goes
-returns-in-None-clause-goes g c clean has given it =
+returns-in-None-clause-goes g c clean v own has given it =
     let old = c.args.rows.now.conn.now in
     let new = c.advance.new.rows.conn.now in
     let t = g.L.Listed.table in
     let at : row_if c.advance.new.rows.has_row new ≡ None = sym (rw c.in-None.is at c.get.ensures) in
     let shown = subst (GivesOn g.S.Store (select_of t) [] old new given) at (c.in_ok-advance.ensures.goes clean (select_of t) [] given it) in
-    ends_off g.S.Store t old new has (c.in_ok-advance.ensures.same clean) given
+    ends_off g.S.Store v t own old new has (c.in_ok-advance.ensures.same clean) given
     (slice_index_or (g.L.Listed.places c.args.listed.now) c.args.at None) (sym c.if-not-has_row.false ∙ c.has_row.ensures) shown

@@ -13,7 +13,7 @@ use Rattle.ob_compare.proofs.Selects.{is_listing}
 use Rattle.ob_compare.proofs.listed.holds.Goals as goal
 
 pub returns-in-Ok-query_prepared : goal.returns-in-Ok-query_prepared
-returns-in-Ok-query_prepared g c =
+returns-in-Ok-query_prepared g c v own =
     let t = g.L.Listed.table in
     let expected = standing (g.L.Listed.places c.args.listed.now) in
     let at_old = c.args.conn.now in
@@ -30,13 +30,13 @@ returns-in-Ok-query_prepared g c =
     let begun : HasCleanDisk last → HasCleanDisk start = λ clean. omega (arith, c.matches.ensures.survives.clean, clean) in
     let early : HasCleanDisk last → HasCleanDisk mid = λ clean. omega (arith, c.in-Ok-query_prepared.ensures.survives.clean, c.matches.ensures.survives.clean, clean) in
     let same : at_last ≡ c.conn-1.given.0 = search rules in
-    subst (λ x. Compares g.S.Store t expected at_old x c.matches.result) same (record {
+    subst (λ x. Compares g.S.Store v t expected at_old x c.matches.result) same (record {
       mode = λ idle. c.matches.ensures.mode (c.in-Ok-query_prepared.ensures.mode (c.prepare.ensures.mode idle));
       survives =
           still_then old start last
-          (still_then old mid start c.prepare.ensures.survives (quiet (listing_of t) (is_listing t) old mid start text ready c.in-Ok-query_prepared.ensures.survives)) c.matches.ensures.survives;
-      kept = λ x keeps. c.matches.ensures.kept x
-          (kept_asked (listing_of t) (is_listing t) old mid start text ready x keeps c.prepare.ensures.survives c.in-Ok-query_prepared.ensures.survives
+          (still_then old mid start c.prepare.ensures.survives (quiet (listing_of t) (is_listing v t own) old mid start text ready c.in-Ok-query_prepared.ensures.survives)) c.matches.ensures.survives;
+      kept = λ x keeps. c.matches.ensures.kept v x
+          (kept_asked v (listing_of t) (is_listing v t own) old mid start text ready x keeps c.prepare.ensures.survives c.in-Ok-query_prepared.ensures.survives
           (λ late plain. inl (begun_plain g.S.Store text [] at_mid at_start plain (c.in-Ok-query_prepared.ensures.begun late)).1));
       clean = λ clean. omega (arith, c.prepare.ensures.survives.clean, c.in-Ok-query_prepared.ensures.survives.clean, c.matches.ensures.survives.clean, clean);
       faults = faults_read c.matches.result c.matches.ensures.faults;
@@ -46,16 +46,16 @@ returns-in-Ok-query_prepared g c =
           (still_then old start last (never_clean old mid start _ c.prepare.ensures.survives c.in-Ok-query_prepared.ensures.survives never) c.matches.ensures.survives, λ clean. absurd (never (begun clean)));
       same = λ clean.
           on_ok c.matches.result (c.matches.ensures.same clean) (λ step has.
-          let b = begins g.S.Store (listing_of t) (is_listing t) at_old at_mid at_start text (ready (early clean)) has (c.in-Ok-query_prepared.ensures.begun (begun clean)) in
+          let b = begins g.S.Store (listing_of t) (is_listing v t own) at_old at_mid at_start text (ready (early clean)) has (c.in-Ok-query_prepared.ensures.begun (begun clean)) in
           unchanged_then old start last b.1 (step b.1.0.is_open));
       holds = λ clean.
           if_ok c.matches.result (c.matches.ensures.holds clean) (λ is tells has rows shown.
-          let b = begins g.S.Store (listing_of t) (is_listing t) at_old at_mid at_start text (ready (early clean)) has (c.in-Ok-query_prepared.ensures.begun (begun clean)) in
-          rows_alike t start.now old.now is expected rows b.1.0.now_is shown (tells b.1.0.is_open (ap (λ (d : Database). d.schema) b.1.0.now_is ∙ has) b.0));
+          let b = begins g.S.Store (listing_of t) (is_listing v t own) at_old at_mid at_start text (ready (early clean)) has (c.in-Ok-query_prepared.ensures.begun (begun clean)) in
+          rows_alike t start.now old.now is expected rows b.1.0.now_is shown (tells b.1.0.is_open v own (ap (λ (d : Database). d.schema) b.1.0.now_is ∙ has) b.0));
     })
 
 pub returns : goal.returns
-returns g c =
+returns g c v own =
     let t = g.L.Listed.table in
     let old = state g.S.Store c.args.conn.now in
     let mid = state g.S.Store c.prepare.new.conn in
@@ -66,8 +66,8 @@ returns g c =
     let refused = rw c.in-Err-query_prepared.is at c.query_prepared.follows.holds-at-none in
     record {
       mode = λ idle. refused.mode (c.prepare.ensures.mode idle);
-      survives = still_then old mid end c.prepare.ensures.survives (quiet (listing_of t) (is_listing t) old mid end text ready refused.survives);
-      kept = λ x keeps. kept_asked (listing_of t) (is_listing t) old mid end text ready x keeps c.prepare.ensures.survives refused.survives (λ late plain. unread mid end text [] c.in-Err-query_prepared.error (refused.err late));
+      survives = still_then old mid end c.prepare.ensures.survives (quiet (listing_of t) (is_listing v t own) old mid end text ready refused.survives);
+      kept = λ x keeps. kept_asked v (listing_of t) (is_listing v t own) old mid end text ready x keeps c.prepare.ensures.survives refused.survives (λ late plain. unread mid end text [] c.in-Err-query_prepared.error (refused.err late));
       clean = λ clean. omega (arith, c.prepare.ensures.survives.clean, refused.survives.clean, clean);
       faults = inl c.stop_of.ensures;
       foreign = λ clean. faults_alone {X = Bool} (Err c.stop_of.result) _ c.stop_of.ensures;
@@ -79,16 +79,16 @@ returns g c =
     }
 
 pub returns-in-Err : goal.returns-in-Err
-returns-in-Err g c =
+returns-in-Err g c v own =
     let t = g.L.Listed.table in
     let text_is : c.select_of.result.now ≡ select_of t = c.select_of.ensures ∙ ap select_of c.table.ensures in
     record {
       mode = c.prepare.ensures.mode;
       survives = c.prepare.ensures.survives;
-      kept = c.prepare.ensures.kept;
+      kept = c.prepare.ensures.kept v;
       clean = λ clean. omega (arith, c.prepare.ensures.survives.clean, clean);
       faults = c.in-Err.ensures.faults;
-      foreign = λ clean bad. foreign_tables (listing_of t) (is_listing t) (state g.S.Store c.args.conn.now) _ (sym text_is) (c.in-Err.ensures.foreign clean bad).0;
+      foreign = λ clean bad. foreign_tables (listing_of t) (is_listing v t own) (state g.S.Store c.args.conn.now) _ (sym text_is) (c.in-Err.ensures.foreign clean bad).0;
       missed = λ none. (c.prepare.ensures.survives, λ clean. c.in-Err.ensures.missed clean (subst (HasNoMeaning c.args.conn.now.schema) (sym text_is) none));
       same = λ clean. tt;
       holds = λ clean. tt;

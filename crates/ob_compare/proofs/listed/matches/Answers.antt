@@ -2,6 +2,7 @@ use Rattle.std.proofs.Common.{[], true≢false, sym, ap, ◌∙◌, arith}
 use Rattle.sqlite.specs.Effect.{Database}
 use Rattle.sqlite.specs.State.{HasCleanDisk}
 use Rattle.sqlite.specs.Held.{state}
+use Rattle.ob_tables.specs.Versions.{schema_of}
 use Rattle.ob_compare.specs.Parts.{listing_of, standing}
 use Rattle.ob_compare.proofs.Listing.{goes_given}
 use Rattle.ob_compare.proofs.Places.{went_off, ended, if_both}
@@ -9,13 +10,13 @@ use Rattle.ob_compare.proofs.Selects.{is_listing}
 use Rattle.ob_compare.proofs.listed.matches.Goals as goal
 
 pub returns-then-not-branch-clause-holds : goal.returns-then-not-branch-clause-holds
-returns-then-not-branch-clause-holds g c late live has it =
+returns-then-not-branch-clause-holds g c late live v own has it =
     let start = c.args.rows.now.conn.now in
     let new = c.follows.new.rows.conn.now in
     let t = g.L.Listed.table in
     let expected = standing (g.L.Listed.places c.args.listed.now) in
     let same = c.in_ok-follows.ensures.same late live in
-    let goes = c.in_ok-follows.ensures.goes late live has [] it in (
+    let goes = c.in_ok-follows.ensures.goes late live v own has [] it in (
       λ e. absurd (true≢false (sym e)),
       λ shows. absurd (went_off g.S.Store t expected c.requires.rises start new same.0.now_is c.in_ok-follows.field-0 c.if-not-branch.true goes shows),
     )
@@ -29,8 +30,8 @@ returns-clause-holds g c late =
     let l = listing_of t in
     let expected = standing (g.L.Listed.places c.args.listed.now) in
     let early : HasCleanDisk (state g.S.Store mid) = omega (arith, c.is_over.ensures.survives.clean, late) in
-    if_both c.is_over.result (c.is_over.ensures.over late) (c.is_over.ensures.same late) (λ over ends later live has it.
+    if_both c.is_over.result (c.is_over.ensures.over late) (c.is_over.ensures.same late) (λ over ends later live v own has it.
     let same = c.in_ok-follows.ensures.same early live in
     let there = ap (λ (d : Database). d.schema) same.0.now_is ∙ has in
-    let given = goes_given g.S.Store l mid [] expected c.in_ok-follows.field-0 (c.in_ok-follows.ensures.goes early live has [] it) c.if-not-branch.false in
-    ended g.S.Store t expected c.requires.rises start new (later.0.now_is ∙ same.0.now_is) over (ends there l (is_listing t) expected given))
+    let given = goes_given g.S.Store l mid [] expected c.in_ok-follows.field-0 (c.in_ok-follows.ensures.goes early live v own has [] it) c.if-not-branch.false in
+    ended g.S.Store t expected c.requires.rises start new (later.0.now_is ∙ same.0.now_is) over (ends (schema_of v) l (is_listing v t own) there expected given))

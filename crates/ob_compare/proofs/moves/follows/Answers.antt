@@ -1,9 +1,9 @@
-use Rattle.std.proofs.Common.{◌≡◌, ◌<◌, ◌≤◌, ◌+◌, ◌++◌, None, Ok, drop, get_or, length, sym, ap, subst, ◌∙◌, arith, true≢false}
+use Rattle.std.proofs.Common.{◌≡◌, ◌<◌, ◌≤◌, ◌+◌, ◌++◌, Ok, IsTrue, drop, get_or, length, sym, ap, subst, ◌∙◌, arith, true≢false}
 use Rattle.sqlite.specs.Effect.{Database}
 use Rattle.sqlite.specs.State.{HasCleanDisk}
 use Rattle.sqlite.specs.Held.{state}
 use Rattle.sqlite.proofs.Callers.{unchanged_then}
-use Rattle.ob_state.specs.Refusals.{refusal}
+use Rattle.ob_tables.specs.Versions.{schema_of}
 use Rattle.ob_compare.specs.declared.filed.Filed.{Filed}
 use Rattle.ob_state.specs.State.{BookState}
 use Rattle.ob_state.specs.Next.{next}
@@ -11,6 +11,7 @@ use Rattle.ob_state.specs.Amounts.{moves}
 use Rattle.ob_record.specs.Tables.{rows_of_moves}
 use Rattle.ob_compare.specs.Listing.{IsOff}
 use Rattle.ob_compare.specs.Moves.{moved_listing}
+use Rattle.ob_compare.specs.Versioned.{accepts_in}
 use Rattle.ob_commit.proofs.Steps.{on_ok}
 use Rattle.ob_compare.proofs.Listing.{still_then, goes_off, goes_given}
 use Rattle.ob_compare.proofs.Passing.{clean_before, error_is_no_value, no_is_no, unchanged_after}
@@ -38,28 +39,28 @@ commands-preserved g c =
       still_then old mid (state g.S.Store new) c.commands.invariant.1 step.survives,
       λ idle. step.mode (c.commands.invariant.2 idle),
       ap (λ (s : BookState). s.accepted) next_is ∙ ap (λ n. n + 1) c.commands.invariant.3 ∙ omega arith,
-      ap (λ (s : BookState). leads s (drop (c.commands.at + 1) list)) next_is ∙ leads_on b list c.commands.at f low here taken.0 ∙ c.commands.invariant.4,
+      ap (λ (s : BookState). leads c.args.version s (drop (c.commands.at + 1) list)) next_is ∙ leads_on c.args.version b list c.commands.at f low here taken.0 ∙ c.commands.invariant.4,
       λ noted. step.noted (c.in-Ok-true.is ∙ ap Ok c.in-Ok-true.field-0-test) (c.commands.invariant.5 noted),
       λ late.
           let early : HasCleanDisk mid = omega (arith, step.survives.clean, late) in
           let was = c.commands.invariant.6 early in (
             λ live. unchanged_then old mid (state g.S.Store new) (was.0 live) (c.in-Ok-true.ensures.same late (was.0 live).0.is_open),
-            λ live has given.
-                let at = was.1 live has given in
+            λ live v has given.
+                let at = was.1 live v has given in
                 let there = ap (λ (d : Database). d.schema) (was.0 live).0.now_is ∙ has in
                 let rows = rows_of_moves (c.commands.at + 1) (moves b (next b f.command)) in
-                let goes = c.in-Ok-true.ensures.goes late (was.0 live).0.is_open there at.0 at.1 taken.0 in (
+                let goes = c.in-Ok-true.ensures.goes late (was.0 live).0.is_open v there at.0 at.1 taken.0 in (
                   at.0 ++ rows,
                   goes_given g.S.Store moved_listing new at.0 rows c.in-Ok-true.field-0 goes c.in-Ok-true.field-0-test,
                   ap (λ (s : BookState). (at.0 ++ rows) ++ expected s (c.commands.at + 1 + 1) (drop (c.commands.at + 1) list)) next_is
                       ∙ front_more b first (c.commands.at + 1) c.commands.at list f at.0 low here at.2,
                 ),
           ),
-      λ t keeps. step.kept t (c.commands.invariant.7 t keeps),
+      λ v t keeps. step.kept v t (c.commands.invariant.7 v t keeps),
     )
 
 pub returns-in-Ok-false-clause-moved : goal.returns-in-Ok-false-clause-moved
-returns-in-Ok-false-clause-moved g c late live has given table shows =
+returns-in-Ok-false-clause-moved g c late live v has given table shows =
     let b = c.commands.book.state in
     let list = c.args.commands.now in
     let f = get_or list c.commands.at c.index-commands-at.result in
@@ -72,14 +73,14 @@ returns-in-Ok-false-clause-moved g c late live has given table shows =
     let low : c.commands.at < length list = omega (arith, c.commands-test.true) in
     let early : HasCleanDisk mid = omega (arith, step.survives.clean, late) in
     let was = c.commands.invariant.6 early in
-    let at = was.1 live has given in
+    let at = was.1 live v has given in
     let live_mid = (was.0 live).0.is_open in
     let there = ap (λ (d : Database). d.schema) (was.0 live).0.now_is ∙ has in
     let db : (state g.S.Store new).now ≡ old.now = (c.in-Ok-false.ensures.same late live_mid).0.now_is ∙ (was.0 live).0.now_is in
     let rows = rows_of_moves (c.commands.at + 1) (moves b (next b f.command)) in
-    let off : refusal b f.command ≡ None → IsOff moved_listing old.now at.0 rows = λ none. subst (λ (d : Database). IsOff moved_listing d at.0 rows) db
-    (goes_off g.S.Store moved_listing new at.0 rows c.in-Ok-false.field-0 (c.in-Ok-false.ensures.goes late live_mid there at.0 at.1 none) c.in-Ok-false.field-0-test) in
-    (λ e. absurd (true≢false (sym e)), λ it. absurd (off_all old.now b first (c.commands.at + 1) c.commands.at list f at.0 table low here c.commands.invariant.4 at.2 off shows it))
+    let off : IsTrue (accepts_in c.args.version b f.command) → IsOff moved_listing old.now at.0 rows = λ so. subst (λ (d : Database). IsOff moved_listing d at.0 rows) db
+    (goes_off g.S.Store moved_listing new at.0 rows c.in-Ok-false.field-0 (c.in-Ok-false.ensures.goes late live_mid v there at.0 at.1 so) c.in-Ok-false.field-0-test) in
+    (λ e. absurd (true≢false (sym e)), λ it. absurd (off_all c.args.version old.now b first (c.commands.at + 1) c.commands.at list f at.0 table low here c.commands.invariant.4 at.2 off shows it))
 
 pub returns-clause-moved : goal.returns-clause-moved
 returns-clause-moved g c late =
@@ -92,12 +93,12 @@ returns-clause-moved g c late =
     let end : length list ≤ c.commands.at = omega (arith, c.commands-test.false) in
     let early : HasCleanDisk (state g.S.Store mid) = omega (arith, step.survives.clean, late) in
     let was = c.commands.invariant.6 early in
-    if_ok_and c.is_over.result (step.over late) (step.same late) (λ is ends same live has given table shows.
-    let at = was.1 live has given in
+    if_ok_and c.is_over.result (step.over late) (step.same late) (λ is ends same live v has given table shows.
+    let at = was.1 live v has given in
     let there = ap (λ (d : Database). d.schema) (was.0 live).0.now_is ∙ has in
     let all = all_given b first (c.commands.at + 1) c.commands.at list at.0 end at.2 in
-    let leading = sym c.commands.invariant.4 ∙ leads_here b list c.commands.at end in
-    over g.S.Store c.args.rows.now.conn.now new first b list at.0 table is (same.0.now_is ∙ (was.0 live).0.now_is) leading all shows (ends there moved_listing moved_is at.0 at.1))
+    let leading = sym c.commands.invariant.4 ∙ leads_here c.args.version b list c.commands.at end in
+    over g.S.Store c.args.version c.args.rows.now.conn.now new first b list at.0 table is (same.0.now_is ∙ (was.0 live).0.now_is) leading all shows (ends (schema_of v) moved_listing (moved_is v) there at.0 at.1))
 
 pub returns-in-Ok-false-clause-same_reference : goal.returns-in-Ok-false-clause-same_reference
 returns-in-Ok-false-clause-same_reference g c = c.takes_on.ensures.same_reference ∙ c.commands.invariant.0
@@ -106,7 +107,7 @@ pub returns-in-Ok-false-clause-survives : goal.returns-in-Ok-false-clause-surviv
 returns-in-Ok-false-clause-survives g c = still_then (state g.S.Store c.args.rows.now.conn.now) (state g.S.Store c.commands.rows.conn.now) (state g.S.Store c.takes_on.new.rows.conn.now) c.commands.invariant.1 c.takes_on.ensures.survives
 
 pub returns-in-Ok-false-clause-kept : goal.returns-in-Ok-false-clause-kept
-returns-in-Ok-false-clause-kept g c t keeps = c.takes_on.ensures.kept t (c.commands.invariant.7 t keeps)
+returns-in-Ok-false-clause-kept g c v t keeps = c.takes_on.ensures.kept v t (c.commands.invariant.7 v t keeps)
 
 pub returns-in-Ok-false-clause-mode : goal.returns-in-Ok-false-clause-mode
 returns-in-Ok-false-clause-mode g c idle = c.takes_on.ensures.mode (c.commands.invariant.2 idle)
@@ -132,7 +133,7 @@ pub returns-in-Err-clause-survives : goal.returns-in-Err-clause-survives
 returns-in-Err-clause-survives g c = still_then (state g.S.Store c.args.rows.now.conn.now) (state g.S.Store c.commands.rows.conn.now) (state g.S.Store c.takes_on.new.rows.conn.now) c.commands.invariant.1 c.takes_on.ensures.survives
 
 pub returns-in-Err-clause-kept : goal.returns-in-Err-clause-kept
-returns-in-Err-clause-kept g c t keeps = c.takes_on.ensures.kept t (c.commands.invariant.7 t keeps)
+returns-in-Err-clause-kept g c v t keeps = c.takes_on.ensures.kept v t (c.commands.invariant.7 v t keeps)
 
 pub returns-in-Err-clause-mode : goal.returns-in-Err-clause-mode
 returns-in-Err-clause-mode g c idle = c.takes_on.ensures.mode (c.commands.invariant.2 idle)
@@ -153,7 +154,7 @@ pub returns-clause-survives : goal.returns-clause-survives
 returns-clause-survives g c = still_then (state g.S.Store c.args.rows.now.conn.now) (state g.S.Store c.commands.rows.conn.now) (state g.S.Store c.is_over.new.rows.conn.now) c.commands.invariant.1 c.is_over.ensures.survives
 
 pub returns-clause-kept : goal.returns-clause-kept
-returns-clause-kept g c t keeps = c.is_over.ensures.kept t (c.commands.invariant.7 t keeps)
+returns-clause-kept g c v t keeps = c.is_over.ensures.kept v t (c.commands.invariant.7 v t keeps)
 
 pub returns-clause-mode : goal.returns-clause-mode
 returns-clause-mode g c idle = c.is_over.ensures.mode (c.commands.invariant.2 idle)
@@ -173,7 +174,7 @@ pub returns-clause-book : goal.returns-clause-book
 returns-clause-book g c e =
     let list = c.args.commands.now in
     let end : length list ≤ c.commands.at = omega (arith, c.commands-test.false) in
-    sym c.commands.invariant.4 ∙ leads_here c.commands.book.state list c.commands.at end
+    sym c.commands.invariant.4 ∙ leads_here c.args.version c.commands.book.state list c.commands.at end
 
 pub returns-clause-noted : goal.returns-clause-noted
 returns-clause-noted g c e noted = c.commands.invariant.5 noted

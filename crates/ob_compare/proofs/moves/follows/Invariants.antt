@@ -3,9 +3,10 @@ use Rattle.sqlite.specs.Order.{Row}
 use Rattle.sqlite.specs.State.{HasCleanDisk, IsUnchanged, Survives}
 use Rattle.sqlite.specs.Held.{state}
 use Rattle.sqlite.specs.Given.{HasGiven}
-use Rattle.ob_tables.specs.Schema.{book_schema}
+use Rattle.ob_tables.specs.Versions.{schema_of}
+use Rattle.ob_tables.specs.declared.version.Version.{Version}
 use Rattle.ob_tables.specs.Rows.{Tables}
-use Rattle.ob_commit.specs.Keeps.{Keeps}
+use Rattle.ob_commit.specs.Keeps.{KeepsIn}
 use Rattle.ob_compare.specs.Moves.{moved_listing, ends_of}
 use Rattle.ob_compare.proofs.Rowing.{leads, expected}
 use Rattle.ob_compare.proofs.moves.follows.Given as goal
@@ -17,9 +18,9 @@ invariant-commands g l =
     let now = state g.S.Store l.rows.conn.now in
     (l.rows.conn.ghost_name ≡ l.fn.rows.conn.ghost_name) × Survives old now (λ _. ⊥) × (l.fn.rows.conn.now.in_transaction ≡ false → l.rows.conn.now.in_transaction ≡ false)
     × (l.book.state.accepted ≡ l.fn.book.state.accepted + l.at)
-    × (leads l.book.state (drop l.at l.commands) ≡ leads l.fn.book.state l.commands)
+    × (leads l.version l.book.state (drop l.at l.commands) ≡ leads l.version l.fn.book.state l.commands)
     × (l.fn.noted.items ≡ ends_of l.fn.book.state.network → l.noted.items ≡ ends_of l.book.state.network)
     × (HasCleanDisk now → (IsTrue old.is_open → IsUnchanged old now)
-    × (IsTrue old.is_open → old.now.schema ≡ book_schema → HasGiven g.S.Store moved_listing.text [] l.fn.rows.conn.now []
+    × (IsTrue old.is_open → (v : Version) → old.now.schema ≡ schema_of v → HasGiven g.S.Store moved_listing.text [] l.fn.rows.conn.now []
     → (front : List Row) × HasGiven g.S.Store moved_listing.text [] l.rows.conn.now front × (front ++ expected l.book.state (l.at + 1) (drop l.at l.commands) ≡ expected l.fn.book.state 1 l.commands)))
-    × ((t : Tables) → Keeps old t → Keeps now t)
+    × ((v : Version) (t : Tables) → KeepsIn v old t → KeepsIn v now t)

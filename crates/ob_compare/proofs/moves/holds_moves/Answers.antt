@@ -1,4 +1,4 @@
-use Rattle.std.proofs.Common.{◌≡◌, [], inl, sym, ap, subst, ◌∙◌, arith, rules, Bool, false, Err, ◌≢◌}
+use Rattle.std.proofs.Common.{◌≡◌, [], inl, sym, ap, subst, ◌∙◌, arith, rules, Bool, false, Err}
 use Rattle.sqlite.specs.Effect.{Database}
 use Rattle.sqlite.specs.State.{HasCleanDisk, IsUnchanged, Survives}
 use Rattle.sqlite.specs.Held.{Held, state}
@@ -7,10 +7,10 @@ use Rattle.ob_record.specs.Tables.{Shows}
 use Rattle.ob_tables.specs.declared.table.Table.TheVariants.{Moved as MovedTable}
 use Rattle.ob_compare.specs.Moves.{moved_listing}
 use Rattle.ob_compare.proofs.Listing.{still_then, quiet, begins}
-use Rattle.ob_commit.specs.Keeps.{Keeps}
+use Rattle.ob_commit.specs.Keeps.{KeepsIn}
 use Rattle.ob_compare.specs.Faults.{HasNoMeaning, IsMissed}
 use Rattle.ob_commit.proofs.Steps.{on_ok}
-use Rattle.ob_tables.specs.Schema.{book_schema}
+use Rattle.ob_tables.specs.declared.version.Version.TheVariants.{Two}
 use Rattle.ob_compare.proofs.Asking.{faults_alone, faults_read, foreign_tables, never_clean}
 use Rattle.ob_compare.proofs.Passing.{clean_before, error_is_no_value}
 use Rattle.ob_compare.proofs.Kept.{kept_asked, unread}
@@ -30,7 +30,7 @@ returns-in-Ok-query_prepared-clause-survives g c =
     let last = c.follows.new.rows.conn.now in
     let same : last ≡ c.conn-1.given.0 = given_back g c in
     subst (λ x. Survives old (state g.S.Store x) (λ _. ⊥)) same
-    (still_then old start (state g.S.Store last) (still_then old mid start c.prepare.ensures.survives (quiet moved_listing moved_is old mid start c.in-Ok.statement.text (λ ready. let it = c.in-Ok.ensures.prepared ready in (it.0 ∙ c.select_of.ensures, it.1)) c.in-Ok-query_prepared.ensures.survives)) c.follows.ensures.survives)
+    (still_then old start (state g.S.Store last) (still_then old mid start c.prepare.ensures.survives (quiet moved_listing (moved_is Two) old mid start c.in-Ok.statement.text (λ ready. let it = c.in-Ok.ensures.prepared ready in (it.0 ∙ c.select_of.ensures, it.1)) c.in-Ok-query_prepared.ensures.survives)) c.follows.ensures.survives)
 
 pub returns-in-Ok-query_prepared-clause-same : goal.returns-in-Ok-query_prepared-clause-same
 returns-in-Ok-query_prepared-clause-same g c clean =
@@ -42,8 +42,8 @@ returns-in-Ok-query_prepared-clause-same g c clean =
     let late : HasCleanDisk (state g.S.Store last) = subst (λ x. HasCleanDisk (state g.S.Store x)) (sym same) clean in
     let begun : HasCleanDisk (state g.S.Store start) = omega (arith, c.follows.ensures.survives.clean, late) in
     let early : HasCleanDisk (state g.S.Store mid) = omega (arith, c.in-Ok-query_prepared.ensures.survives.clean, begun) in
-    on_ok c.follows.result (c.follows.ensures.same late) (λ step has.
-    let b = begins g.S.Store moved_listing moved_is old mid start c.in-Ok.statement.text (let it = c.in-Ok.ensures.prepared early in (it.0 ∙ c.select_of.ensures, it.1)) has (c.in-Ok-query_prepared.ensures.begun begun) in
+    on_ok c.follows.result (c.follows.ensures.same late) (λ step v has.
+    let b = begins g.S.Store moved_listing (moved_is v) old mid start c.in-Ok.statement.text (let it = c.in-Ok.ensures.prepared early in (it.0 ∙ c.select_of.ensures, it.1)) has (c.in-Ok-query_prepared.ensures.begun begun) in
     subst (λ x. IsUnchanged (state g.S.Store old) (state g.S.Store x)) same (unchanged_then (state g.S.Store old) (state g.S.Store start) (state g.S.Store last) b.1 (step b.1.0.is_open)))
 
 pub returns-in-Ok-query_prepared-clause-moved : goal.returns-in-Ok-query_prepared-clause-moved
@@ -56,16 +56,16 @@ returns-in-Ok-query_prepared-clause-moved g c clean =
     let late : HasCleanDisk (state g.S.Store last) = subst (λ x. HasCleanDisk (state g.S.Store x)) (sym same) clean in
     let begun : HasCleanDisk (state g.S.Store start) = omega (arith, c.follows.ensures.survives.clean, late) in
     let early : HasCleanDisk (state g.S.Store mid) = omega (arith, c.in-Ok-query_prepared.ensures.survives.clean, begun) in
-    if_ok c.follows.result (c.follows.ensures.moved late) (λ is tells has table shows.
-    let b = begins g.S.Store moved_listing moved_is old mid start c.in-Ok.statement.text (let it = c.in-Ok.ensures.prepared early in (it.0 ∙ c.select_of.ensures, it.1)) has (c.in-Ok-query_prepared.ensures.begun begun) in
-    tells b.1.0.is_open (ap (λ (d : Database). d.schema) b.1.0.now_is ∙ has) b.0 table (subst (λ (d : Database). Shows d.trees MovedTable table) (sym b.1.0.now_is) shows))
+    if_ok c.follows.result (c.follows.ensures.moved late) (λ is tells v has table shows.
+    let b = begins g.S.Store moved_listing (moved_is v) old mid start c.in-Ok.statement.text (let it = c.in-Ok.ensures.prepared early in (it.0 ∙ c.select_of.ensures, it.1)) has (c.in-Ok-query_prepared.ensures.begun begun) in
+    tells b.1.0.is_open v (ap (λ (d : Database). d.schema) b.1.0.now_is ∙ has) b.0 table (subst (λ (d : Database). Shows d.trees MovedTable table) (sym b.1.0.now_is) shows))
 
 pub returns-clause-survives : goal.returns-clause-survives
 returns-clause-survives g c =
     let old = state g.S.Store c.args.conn.now in
     let mid = state g.S.Store c.prepare.new.conn in
     let end = state g.S.Store c.query_prepared.follows.lender-at-none in
-    still_then old mid end c.prepare.ensures.survives (quiet moved_listing moved_is old mid end c.in-Ok.statement.text (λ ready. let it = c.in-Ok.ensures.prepared ready in (it.0 ∙ c.select_of.ensures, it.1)) (rw c.in-Err-query_prepared.is at c.query_prepared.follows.holds-at-none).survives)
+    still_then old mid end c.prepare.ensures.survives (quiet moved_listing (moved_is Two) old mid end c.in-Ok.statement.text (λ ready. let it = c.in-Ok.ensures.prepared ready in (it.0 ∙ c.select_of.ensures, it.1)) (rw c.in-Err-query_prepared.is at c.query_prepared.follows.holds-at-none).survives)
 
 pub returns-in-Ok-query_prepared-clause-clean : goal.returns-in-Ok-query_prepared-clause-clean
 returns-in-Ok-query_prepared-clause-clean g c clean =
@@ -78,28 +78,28 @@ pub returns-clause-clean : goal.returns-clause-clean
 returns-clause-clean g c clean = omega (arith, c.prepare.ensures.survives.clean, (rw c.in-Err-query_prepared.is at c.query_prepared.follows.holds-at-none).survives.clean, clean)
 
 pub returns-in-Err-clause-foreign : goal.returns-in-Err-clause-foreign
-returns-in-Err-clause-foreign g c clean bad = foreign_tables moved_listing moved_is (state g.S.Store c.args.conn.now) _ (sym c.select_of.ensures) (c.in-Err.ensures.foreign clean bad).0
+returns-in-Err-clause-foreign g c clean bad v = foreign_tables moved_listing (moved_is v) (state g.S.Store c.args.conn.now) _ (sym c.select_of.ensures) (c.in-Err.ensures.foreign clean bad).0
 
 pub returns-in-Ok-query_prepared-clause-kept : goal.returns-in-Ok-query_prepared-clause-kept
-returns-in-Ok-query_prepared-clause-kept g c t keeps =
+returns-in-Ok-query_prepared-clause-kept g c v t keeps =
     let old = c.args.conn.now in
     let mid = c.prepare.new.conn in
     let start = c.in-Ok-query_prepared.rows.conn.now in
     let last = c.follows.new.rows.conn.now in
     let text = c.in-Ok.statement.text in
     let same : last ≡ c.conn-1.given.0 = given_back g c in
-    let begun = kept_asked moved_listing moved_is (state g.S.Store old) (state g.S.Store mid) (state g.S.Store start) text (λ ready. let it = c.in-Ok.ensures.prepared ready in (it.0 ∙ c.select_of.ensures, it.1)) t keeps c.prepare.ensures.survives c.in-Ok-query_prepared.ensures.survives
+    let begun = kept_asked v moved_listing (moved_is v) (state g.S.Store old) (state g.S.Store mid) (state g.S.Store start) text (λ ready. let it = c.in-Ok.ensures.prepared ready in (it.0 ∙ c.select_of.ensures, it.1)) t keeps c.prepare.ensures.survives c.in-Ok-query_prepared.ensures.survives
     (λ late plain. inl (begun_plain g.S.Store text [] mid start plain (c.in-Ok-query_prepared.ensures.begun late)).1) in
-    subst (λ x. Keeps (state g.S.Store x) t) same (c.follows.ensures.kept t begun)
+    subst (λ x. KeepsIn v (state g.S.Store x) t) same (c.follows.ensures.kept v t begun)
 
 pub returns-clause-kept : goal.returns-clause-kept
-returns-clause-kept g c t keeps =
+returns-clause-kept g c v t keeps =
     let old = state g.S.Store c.args.conn.now in
     let mid = state g.S.Store c.prepare.new.conn in
     let end = state g.S.Store c.query_prepared.follows.lender-at-none in
     let text = c.in-Ok.statement.text in
     let refused = rw c.in-Err-query_prepared.is at c.query_prepared.follows.holds-at-none in
-    kept_asked moved_listing moved_is old mid end text (λ ready. let it = c.in-Ok.ensures.prepared ready in (it.0 ∙ c.select_of.ensures, it.1)) t keeps c.prepare.ensures.survives refused.survives
+    kept_asked v moved_listing (moved_is v) old mid end text (λ ready. let it = c.in-Ok.ensures.prepared ready in (it.0 ∙ c.select_of.ensures, it.1)) t keeps c.prepare.ensures.survives refused.survives
     (λ late plain. unread mid end text [] c.in-Err-query_prepared.error (refused.err late))
 
 pub returns-in-Ok-query_prepared-clause-missed : goal.returns-in-Ok-query_prepared-clause-missed
@@ -155,7 +155,7 @@ pub returns-in-Ok-query_prepared-clause-faults : goal.returns-in-Ok-query_prepar
 returns-in-Ok-query_prepared-clause-faults g c = faults_read c.follows.result c.follows.ensures.faults
 
 pub returns-in-Ok-query_prepared-clause-foreign : goal.returns-in-Ok-query_prepared-clause-foreign
-returns-in-Ok-query_prepared-clause-foreign g c clean = faults_alone c.follows.result (c.args.conn.now.schema ≢ book_schema) c.follows.ensures.faults
+returns-in-Ok-query_prepared-clause-foreign g c clean = faults_alone c.follows.result _ c.follows.ensures.faults
 
 pub returns-in-Ok-query_prepared-clause-book : goal.returns-in-Ok-query_prepared-clause-book
 returns-in-Ok-query_prepared-clause-book g c = c.follows.ensures.book
@@ -170,7 +170,7 @@ pub returns-clause-faults : goal.returns-clause-faults
 returns-clause-faults g c = inl c.stop_of.ensures
 
 pub returns-clause-foreign : goal.returns-clause-foreign
-returns-clause-foreign g c clean = faults_alone {X = Bool} (Err c.stop_of.result) (c.args.conn.now.schema ≢ book_schema) c.stop_of.ensures
+returns-clause-foreign g c clean = faults_alone {X = Bool} (Err c.stop_of.result) _ c.stop_of.ensures
 
 pub returns-clause-book : goal.returns-clause-book
 returns-clause-book g c e = absurd (error_is_no_value e)

@@ -1,4 +1,7 @@
-use Rattle.std.proofs.Common.{◌<◌, ◌++◌, length, take, sym, subst, ap, ◌∙◌, arith}
+use Rattle.std.proofs.Common.{List, [], ◌<◌, ◌++◌, length, take, sym, subst, ap, ◌∙◌, arith}
+use Rattle.std.proofs.lemmas.List.{length-map, take_all}
+use Rattle.sqlite.specs.Given.{HasGiven}
+use Rattle.sqlite.specs.Order.{Row}
 use Rattle.sqlite.specs.Effect.{Database}
 use Rattle.sqlite.specs.State.{HasCleanDisk}
 use Rattle.sqlite.specs.Held.{state}
@@ -7,11 +10,12 @@ use Rattle.ob_record.specs.Tables.{rows_of_moves}
 use Rattle.ob_tables.specs.Steps.{IsStoreFault}
 use Rattle.ob_compare.proofs.Listing.{still_then}
 use Rattle.ob_compare.proofs.Passing.{clean_before, no_value, of_error, unchanged_after}
-use Rattle.ob_compare.proofs.Rowing.{move_on, move_off}
+use Rattle.ob_compare.specs.Moves.{moved_listing}
+use Rattle.ob_compare.proofs.Rowing.{move_on, move_off, row_of}
 use Rattle.ob_compare.proofs.moves.matches.Goals as goal
 
 pub returns-then-not-branch-clause-goes : goal.returns-then-not-branch-clause-goes
-returns-then-not-branch-clause-goes g c late live has given it =
+returns-then-not-branch-clause-goes g c late live v has given it =
     let mid = state g.S.Store c.moves.rows.conn.now in
     let new = c.next_is.new.rows.conn.now in
     let step = c.next_is.ensures in
@@ -20,7 +24,7 @@ returns-then-not-branch-clause-goes g c late live has given it =
     let was = c.moves.invariant.3 early in
     let there = ap (λ (d : Database). d.schema) (was.0 live).0.now_is ∙ has in
     move_off g.S.Store new c.args.no c.args.moves.now c.moves.at _ given c.in_ok-next_is.field-0 low
-    (c.in_ok-next_is.ensures.goes late there (given ++ take c.moves.at (rows_of_moves c.args.no c.args.moves.now)) (was.1 live has given it)) c.if-not-branch.true
+    (c.in_ok-next_is.ensures.goes late v there (given ++ take c.moves.at (rows_of_moves c.args.no c.args.moves.now)) (was.1 live v has given it)) c.if-not-branch.true
 
 pub moves-preserved : goal.moves-preserved
 moves-preserved g c =
@@ -36,12 +40,12 @@ moves-preserved g c =
           let early : HasCleanDisk mid = omega (arith, step.survives.clean, late) in
           let was = c.moves.invariant.3 early in (
             λ live. unchanged_then old mid (state g.S.Store new) (was.0 live) (c.in_ok-next_is.ensures.same late),
-            λ live has given it.
+            λ live v has given it.
                 let there = ap (λ (d : Database). d.schema) (was.0 live).0.now_is ∙ has in
                 move_on g.S.Store new c.args.no c.args.moves.now c.moves.at _ given c.in_ok-next_is.field-0 low
-                (c.in_ok-next_is.ensures.goes late there (given ++ take c.moves.at (rows_of_moves c.args.no c.args.moves.now)) (was.1 live has given it)) c.if-not-branch.false,
+                (c.in_ok-next_is.ensures.goes late v there (given ++ take c.moves.at (rows_of_moves c.args.no c.args.moves.now)) (was.1 live v has given it)) c.if-not-branch.false,
           ),
-      λ t keeps. step.kept t (c.moves.invariant.4 t keeps),
+      λ v t keeps. step.kept v t (c.moves.invariant.4 v t keeps),
     )
 
 pub returns-in_err-next_is-clause-same_reference : goal.returns-in_err-next_is-clause-same_reference
@@ -51,7 +55,7 @@ pub returns-in_err-next_is-clause-survives : goal.returns-in_err-next_is-clause-
 returns-in_err-next_is-clause-survives g c = still_then (state g.S.Store c.args.rows.now.conn.now) (state g.S.Store c.moves.rows.conn.now) (state g.S.Store c.next_is.new.rows.conn.now) c.moves.invariant.1 c.next_is.ensures.survives
 
 pub returns-in_err-next_is-clause-kept : goal.returns-in_err-next_is-clause-kept
-returns-in_err-next_is-clause-kept g c t keeps = c.next_is.ensures.kept t (c.moves.invariant.4 t keeps)
+returns-in_err-next_is-clause-kept g c v t keeps = c.next_is.ensures.kept v t (c.moves.invariant.4 v t keeps)
 
 pub returns-in_err-next_is-clause-mode : goal.returns-in_err-next_is-clause-mode
 returns-in_err-next_is-clause-mode g c idle = c.next_is.ensures.mode (c.moves.invariant.2 idle)
@@ -72,7 +76,7 @@ pub returns-then-not-branch-clause-survives : goal.returns-then-not-branch-claus
 returns-then-not-branch-clause-survives g c = still_then (state g.S.Store c.args.rows.now.conn.now) (state g.S.Store c.moves.rows.conn.now) (state g.S.Store c.next_is.new.rows.conn.now) c.moves.invariant.1 c.next_is.ensures.survives
 
 pub returns-then-not-branch-clause-kept : goal.returns-then-not-branch-clause-kept
-returns-then-not-branch-clause-kept g c t keeps = c.next_is.ensures.kept t (c.moves.invariant.4 t keeps)
+returns-then-not-branch-clause-kept g c v t keeps = c.next_is.ensures.kept v t (c.moves.invariant.4 v t keeps)
 
 pub returns-then-not-branch-clause-mode : goal.returns-then-not-branch-clause-mode
 returns-then-not-branch-clause-mode g c idle = c.next_is.ensures.mode (c.moves.invariant.2 idle)
@@ -97,3 +101,9 @@ returns-clause-mode g c = c.moves.invariant.2
 
 pub returns-clause-same : goal.returns-clause-same
 returns-clause-same g c late = (c.moves.invariant.3 late).0
+
+pub returns-clause-goes : goal.returns-clause-goes
+returns-clause-goes g c late live v has given it =
+    let rows = rows_of_moves c.args.no c.args.moves.now in
+    let all = take_all c.moves.at rows (omega (arith, length-map c.args.moves.now (row_of c.args.no), c.moves-test.false)) in
+    subst (λ (l : List Row). HasGiven g.S.Store moved_listing.text [] c.moves.rows.conn.now (given ++ l)) all ((c.moves.invariant.3 late).1 live v has given it)

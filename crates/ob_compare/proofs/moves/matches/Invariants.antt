@@ -3,9 +3,10 @@ use Rattle.sqlite.specs.Order.{Row}
 use Rattle.sqlite.specs.State.{HasCleanDisk, IsUnchanged, Survives}
 use Rattle.sqlite.specs.Held.{state}
 use Rattle.sqlite.specs.Given.{HasGiven}
-use Rattle.ob_tables.specs.Schema.{book_schema}
+use Rattle.ob_tables.specs.Versions.{schema_of}
+use Rattle.ob_tables.specs.declared.version.Version.{Version}
 use Rattle.ob_tables.specs.Rows.{Tables}
-use Rattle.ob_commit.specs.Keeps.{Keeps}
+use Rattle.ob_commit.specs.Keeps.{KeepsIn}
 use Rattle.ob_record.specs.Tables.{rows_of_moves}
 use Rattle.ob_compare.specs.Moves.{moved_listing}
 use Rattle.ob_compare.proofs.moves.matches.Given as goal
@@ -17,5 +18,5 @@ invariant-moves g l =
     let now = state g.S.Store l.rows.conn.now in
     (l.rows.conn.ghost_name ≡ l.fn.rows.conn.ghost_name) × Survives old now (λ _. ⊥) × (l.fn.rows.conn.now.in_transaction ≡ false → l.rows.conn.now.in_transaction ≡ false)
     × (HasCleanDisk now → (IsTrue old.is_open → IsUnchanged old now)
-    × (IsTrue old.is_open → old.now.schema ≡ book_schema → (given : List Row) → HasGiven g.S.Store moved_listing.text [] l.fn.rows.conn.now given → HasGiven g.S.Store moved_listing.text [] l.rows.conn.now (given ++ take l.at (rows_of_moves l.no l.moves))))
-    × ((t : Tables) → Keeps old t → Keeps now t)
+    × (IsTrue old.is_open → (v : Version) → old.now.schema ≡ schema_of v → (given : List Row) → HasGiven g.S.Store moved_listing.text [] l.fn.rows.conn.now given → HasGiven g.S.Store moved_listing.text [] l.rows.conn.now (given ++ take l.at (rows_of_moves l.no l.moves))))
+    × ((v : Version) (t : Tables) → KeepsIn v old t → KeepsIn v now t)

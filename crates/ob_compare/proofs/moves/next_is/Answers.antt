@@ -8,19 +8,19 @@ use Rattle.ob_compare.proofs.Rowing.{moved_is}
 use Rattle.ob_compare.proofs.moves.next_is.Goals as goal
 
 pub returns-in-Some-clause-goes : goal.returns-in-Some-clause-goes
-returns-in-Some-clause-goes g c clean has given it =
+returns-in-Some-clause-goes g c clean v has given it =
     let old = c.args.rows.now.conn.now in
     let new = c.advance.new.rows.conn.now in
     let step = c.in_ok-advance.ensures in
     let at : row_if c.advance.new.rows.has_row new ≡ Some c.in-Some.row.now = sym (rw c.in-Some.is at c.get.ensures) in
     let more = subst (GivesOn g.S.Store moved_listing.text [] old new given) at (step.goes clean moved_listing.text [] given it) in
-    goes_on g.S.Store moved_listing moved_is old new has (step.same clean) given c.is_moved.result c.in-Some.row.now (moved_row c.args.no (dim_number c.args.it.now.dim) c.args.it.now.key c.args.it.now.delta) c.is_moved.ensures more
+    goes_on g.S.Store moved_listing (moved_is v) old new has (step.same clean) given c.is_moved.result c.in-Some.row.now (moved_row c.args.no (dim_number c.args.it.now.dim) c.args.it.now.key c.args.it.now.delta) c.is_moved.ensures more
 
 pub returns-in-None-clause-goes : goal.returns-in-None-clause-goes
-returns-in-None-clause-goes g c clean has given it =
+returns-in-None-clause-goes g c clean v has given it =
     let old = c.args.rows.now.conn.now in
     let new = c.advance.new.rows.conn.now in
     let step = c.in_ok-advance.ensures in
     let at : row_if c.advance.new.rows.has_row new ≡ None = sym (rw c.in-None.is at c.get.ensures) in
     let shown = subst (GivesOn g.S.Store moved_listing.text [] old new given) at (step.goes clean moved_listing.text [] given it) in
-    ends_off g.S.Store moved_listing moved_is old new has (step.same clean) given (moved_row c.args.no (dim_number c.args.it.now.dim) c.args.it.now.key c.args.it.now.delta) shown
+    ends_off g.S.Store moved_listing (moved_is v) old new has (step.same clean) given (moved_row c.args.no (dim_number c.args.it.now.dim) c.args.it.now.key c.args.it.now.delta) shown

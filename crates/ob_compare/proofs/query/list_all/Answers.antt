@@ -6,7 +6,7 @@ use Rattle.ob_compare.proofs.Kept.{kept_asked, unread}
 use Rattle.ob_compare.proofs.query.list_all.Goals as goal
 
 pub returns-in-Ok-query_all-clause-survives : goal.returns-in-Ok-query_all-clause-survives
-returns-in-Ok-query_all-clause-survives g c l means text =
+returns-in-Ok-query_all-clause-survives g c schema l means text =
     let old = state g.S.Store c.args.conn.now in
     let mid = state g.S.Store c.prepare.new.conn in
     let new = state g.S.Store c.query_all.new.conn in
@@ -18,10 +18,10 @@ returns-in-Ok-query_all-clause-listed g c late schema l means text has =
     let mid = state g.S.Store c.prepare.new.conn in
     let new = state g.S.Store c.query_all.new.conn in
     let early : HasCleanDisk mid = omega (arith, c.query_all.ensures.survives.clean, late) in
-    listing_whole schema l means old mid new c.in-Ok.statement.text (λ clean. let it = c.in-Ok.ensures.prepared clean in (it.0 ∙ sym text, it.1)) has early c.in-Ok-query_all.rows.items (c.in-Ok-query_all.ensures.ok late)
+    listing_whole l means old mid new c.in-Ok.statement.text (λ clean. let it = c.in-Ok.ensures.prepared clean in (it.0 ∙ sym text, it.1)) has early c.in-Ok-query_all.rows.items (c.in-Ok-query_all.ensures.ok late)
 
 pub returns-clause-survives : goal.returns-clause-survives
-returns-clause-survives g c l means text =
+returns-clause-survives g c schema l means text =
     let old = state g.S.Store c.args.conn.now in
     let mid = state g.S.Store c.prepare.new.conn in
     let new = state g.S.Store c.query_all.new.conn in
@@ -44,19 +44,19 @@ returns-clause-missed g c none =
     (never_clean old mid new _ c.prepare.ensures.survives c.query_all.ensures.survives never, λ late. absurd (never late))
 
 pub returns-in-Ok-query_all-clause-kept : goal.returns-in-Ok-query_all-clause-kept
-returns-in-Ok-query_all-clause-kept g c l means text t keeps =
+returns-in-Ok-query_all-clause-kept g c v l means text t keeps =
     let old = state g.S.Store c.args.conn.now in
     let mid = state g.S.Store c.prepare.new.conn in
     let new = state g.S.Store c.query_all.new.conn in
     let sql = c.in-Ok.statement.text in
-    kept_asked l means old mid new sql (λ clean. let it = c.in-Ok.ensures.prepared clean in (it.0 ∙ sym text, it.1)) t keeps c.prepare.ensures.survives c.query_all.ensures.survives
+    kept_asked v l means old mid new sql (λ clean. let it = c.in-Ok.ensures.prepared clean in (it.0 ∙ sym text, it.1)) t keeps c.prepare.ensures.survives c.query_all.ensures.survives
     (λ late plain. inl (shown_unchanged sql [] mid new c.in-Ok-query_all.rows.items plain (c.in-Ok-query_all.ensures.ok late)))
 
 pub returns-clause-kept : goal.returns-clause-kept
-returns-clause-kept g c l means text t keeps =
+returns-clause-kept g c v l means text t keeps =
     let old = state g.S.Store c.args.conn.now in
     let mid = state g.S.Store c.prepare.new.conn in
     let new = state g.S.Store c.query_all.new.conn in
     let sql = c.in-Ok.statement.text in
-    kept_asked l means old mid new sql (λ clean. let it = c.in-Ok.ensures.prepared clean in (it.0 ∙ sym text, it.1)) t keeps c.prepare.ensures.survives c.query_all.ensures.survives
+    kept_asked v l means old mid new sql (λ clean. let it = c.in-Ok.ensures.prepared clean in (it.0 ∙ sym text, it.1)) t keeps c.prepare.ensures.survives c.query_all.ensures.survives
     (λ late plain. unread mid new sql [] c.in-Err-query_all.error (c.in-Err-query_all.ensures.err late))

@@ -1,6 +1,5 @@
-use Rattle.std.proofs.Common.{[]}
+use Rattle.std.proofs.Common.{[], inl}
 use Rattle.sqlite.specs.Held.{state}
-use Rattle.ob_commit.proofs.Commits.{unchanged}
 use Rattle.ob_compare.proofs.Asking.{missed, no_outline, not_understood}
 use Rattle.ob_compare.proofs.Kept.{kept_still, not_run}
 use Rattle.ob_compare.proofs.query.prepare.Goals as goal
@@ -17,11 +16,11 @@ pub returns-in-Ok-clause-missed : goal.returns-in-Ok-clause-missed
 returns-in-Ok-clause-missed g c clean none = no_outline _ _ none (c.in-Ok.ensures.shape clean)
 
 pub returns-in-Ok-clause-kept : goal.returns-in-Ok-clause-kept
-returns-in-Ok-clause-kept g c t keeps =
-    unchanged (state g.S.Store c.args.conn.now) (state g.S.Store c.prepare.new.self) t (λ clean. (c.in-Ok.ensures.ok clean).1) c.prepare.ensures.survives keeps
+returns-in-Ok-clause-kept g c v t keeps =
+    kept_still v (state g.S.Store c.args.conn.now) (state g.S.Store c.prepare.new.self) t (λ clean. inl (c.in-Ok.ensures.ok clean).1) c.prepare.ensures.survives keeps
 
 pub returns-in-Err-clause-kept : goal.returns-in-Err-clause-kept
-returns-in-Err-clause-kept g c t keeps =
+returns-in-Err-clause-kept g c v t keeps =
     let old = state g.S.Store c.args.conn.now in
     let new = state g.S.Store c.prepare.new.self in
-    kept_still old new t (λ clean. not_run old new c.args.sql.now [] c.in-Err.error (c.in-Err.ensures.err clean [])) c.prepare.ensures.survives keeps
+    kept_still v old new t (λ clean. not_run old new c.args.sql.now [] c.in-Err.error (c.in-Err.ensures.err clean [])) c.prepare.ensures.survives keeps

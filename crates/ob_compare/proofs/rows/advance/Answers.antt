@@ -1,14 +1,14 @@
+use Rattle.std.proofs.Common.{inl}
 use Rattle.sqlite.specs.Held.{state}
-use Rattle.ob_commit.proofs.Commits.{unchanged}
 use Rattle.ob_compare.proofs.Kept.{failed_still, kept_still}
 use Rattle.ob_compare.proofs.rows.advance.Goals as goal
 
 pub returns-in-Ok-clause-kept : goal.returns-in-Ok-clause-kept
-returns-in-Ok-clause-kept g c t keeps =
-    unchanged (state g.S.Store c.args.rows.now.conn.now) (state g.S.Store c.advance.new.self.conn.now) t c.in-Ok.ensures.same c.advance.ensures.survives keeps
+returns-in-Ok-clause-kept g c v t keeps =
+    kept_still v (state g.S.Store c.args.rows.now.conn.now) (state g.S.Store c.advance.new.self.conn.now) t (λ clean. inl (c.in-Ok.ensures.same clean)) c.advance.ensures.survives keeps
 
 pub returns-in-Err-clause-kept : goal.returns-in-Err-clause-kept
-returns-in-Err-clause-kept g c t keeps =
+returns-in-Err-clause-kept g c v t keeps =
     let old = state g.S.Store c.args.rows.now.conn.now in
     let new = state g.S.Store c.advance.new.self.conn.now in
-    kept_still old new t (λ clean. failed_still old new c.in-Err.error (c.in-Err.ensures.kept clean)) c.advance.ensures.survives keeps
+    kept_still v old new t (λ clean. failed_still old new c.in-Err.error (c.in-Err.ensures.kept clean)) c.advance.ensures.survives keeps

@@ -4,7 +4,7 @@ use Rattle.ob_compare.proofs.Listing.{one_left, whole_list}
 use Rattle.ob_compare.proofs.rows.is_over.Goals as goal
 
 pub returns-in-Some-clause-over : goal.returns-in-Some-clause-over
-returns-in-Some-clause-over g c clean has l means given it =
+returns-in-Some-clause-over g c clean schema l means has given it =
     let old = c.args.rows.now.conn.now in
     let new = c.advance.new.rows.conn.now in
     let at : row_if c.advance.new.rows.has_row new ≡ Some c.in-Some.field-0.now = sym (rw c.in-Some.is at c.get.ensures) in
@@ -12,7 +12,7 @@ returns-in-Some-clause-over g c clean has l means given it =
     one_left g.S.Store l means old new has (c.in_ok-advance.ensures.same clean) given c.in-Some.field-0.now more
 
 pub returns-in-None-clause-over : goal.returns-in-None-clause-over
-returns-in-None-clause-over g c clean has l means given it =
+returns-in-None-clause-over g c clean schema l means has given it =
     let old = c.args.rows.now.conn.now in
     let new = c.advance.new.rows.conn.now in
     let at : row_if c.advance.new.rows.has_row new ≡ None = sym (rw c.in-None.is at c.get.ensures) in

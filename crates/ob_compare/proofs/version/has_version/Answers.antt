@@ -5,12 +5,12 @@ use Rattle.sqlite.specs.Order.{Row}
 use Rattle.sqlite.specs.State.{HasCleanDisk, IsUnchanged}
 use Rattle.ob_tables.specs.Creation.{old_schema}
 use Rattle.ob_tables.specs.Schema.{book_schema}
-use Rattle.ob_tables.specs.declared.table.Table.TheVariants.{Meta}
+use Rattle.ob_tables.specs.declared.version.Version.TheVariants.{One, Two}
 use Rattle.ob_compare.specs.Faults.{HasNoMeaning}
 use Rattle.ob_compare.specs.Listing.{Lists}
 use Rattle.ob_compare.specs.Version.{IsOfBook, IsVersionRow}
 use Rattle.ob_compare.proofs.Headings.{meta_listing, no_meaning, version_read}
-use Rattle.ob_compare.proofs.Selects.{is_listing, is_old_listing}
+use Rattle.ob_compare.proofs.Selects.{lists_heading}
 use Rattle.ob_compare.proofs.version.has_version.Given.{Over}
 use Rattle.ob_compare.proofs.version.has_version.Goals.{After-drop-rows}
 use Rattle.ob_compare.proofs.version.has_version.Goals as goal
@@ -18,11 +18,11 @@ use Rattle.ob_compare.proofs.version.has_version.Goals as goal
 -- the rows are an answer over the tables of either version, and nothing changed
 listed_over : (g : Over) (c : After-drop-rows g) → HasCleanDisk (state g.S.Store c.list_all.new.conn) → IsOfBook c.args.conn.now.schema
     → Lists meta_listing (state g.S.Store c.args.conn.now).now c.in-Ok.rows.items × IsUnchanged (state g.S.Store c.args.conn.now) (state g.S.Store c.list_all.new.conn)
-listed_over g c clean (inl has) = c.in-Ok.ensures.listed clean book_schema meta_listing (is_listing Meta) (sym c.select_of.ensures) has
-listed_over g c clean (inr has) = c.in-Ok.ensures.listed clean old_schema meta_listing is_old_listing (sym c.select_of.ensures) has
+listed_over g c clean (inl has) = c.in-Ok.ensures.listed clean book_schema meta_listing (lists_heading Two) (sym c.select_of.ensures) has
+listed_over g c clean (inr has) = c.in-Ok.ensures.listed clean old_schema meta_listing (lists_heading One) (sym c.select_of.ensures) has
 
 pub returns-in-Ok-clause-survives : goal.returns-in-Ok-clause-survives
-returns-in-Ok-clause-survives g c = c.list_all.ensures.survives meta_listing (is_listing Meta) (sym c.select_of.ensures)
+returns-in-Ok-clause-survives g c = c.list_all.ensures.survives book_schema meta_listing (lists_heading Two) (sym c.select_of.ensures)
 
 pub returns-in-Ok-clause-same : goal.returns-in-Ok-clause-same
 returns-in-Ok-clause-same g c clean has = (listed_over g c clean has).1
@@ -33,11 +33,11 @@ returns-in-Ok-clause-version g c clean has =
     (subst (λ (l : List Row). IsTrue c.is_version.result ↔ IsVersionRow c.args.version l) c.deref.ensures.value c.is_version.ensures)
 
 pub returns-in-Err-clause-survives : goal.returns-in-Err-clause-survives
-returns-in-Err-clause-survives g c = c.list_all.ensures.survives meta_listing (is_listing Meta) (sym c.select_of.ensures)
+returns-in-Err-clause-survives g c = c.list_all.ensures.survives book_schema meta_listing (lists_heading Two) (sym c.select_of.ensures)
 
 pub returns-in-Err-clause-foreign : goal.returns-in-Err-clause-foreign
-returns-in-Err-clause-foreign g c clean bad (inl has) = c.in-Err.ensures.foreign clean bad book_schema meta_listing (is_listing Meta) (sym c.select_of.ensures) has
-returns-in-Err-clause-foreign g c clean bad (inr has) = c.in-Err.ensures.foreign clean bad old_schema meta_listing is_old_listing (sym c.select_of.ensures) has
+returns-in-Err-clause-foreign g c clean bad (inl has) = c.in-Err.ensures.foreign clean bad book_schema meta_listing (lists_heading Two) (sym c.select_of.ensures) has
+returns-in-Err-clause-foreign g c clean bad (inr has) = c.in-Err.ensures.foreign clean bad old_schema meta_listing (lists_heading One) (sym c.select_of.ensures) has
 
 pub returns-in-Ok-clause-empty : goal.returns-in-Ok-clause-empty
 returns-in-Ok-clause-empty g c none = let it = c.in-Ok.ensures.missed (no_meaning c.args.conn.now.schema c.select_of.result.now none c.select_of.ensures) in (it.0, λ late. absurd (it.1 late))
@@ -46,10 +46,10 @@ pub returns-in-Err-clause-empty : goal.returns-in-Err-clause-empty
 returns-in-Err-clause-empty g c none = c.in-Err.ensures.missed (no_meaning c.args.conn.now.schema c.select_of.result.now none c.select_of.ensures)
 
 pub returns-in-Ok-clause-kept : goal.returns-in-Ok-clause-kept
-returns-in-Ok-clause-kept g c = c.list_all.ensures.kept meta_listing (is_listing Meta) (sym c.select_of.ensures)
+returns-in-Ok-clause-kept g c v = c.list_all.ensures.kept v meta_listing (lists_heading v) (sym c.select_of.ensures)
 
 pub returns-in-Err-clause-kept : goal.returns-in-Err-clause-kept
-returns-in-Err-clause-kept g c = c.list_all.ensures.kept meta_listing (is_listing Meta) (sym c.select_of.ensures)
+returns-in-Err-clause-kept g c v = c.list_all.ensures.kept v meta_listing (lists_heading v) (sym c.select_of.ensures)
 
 pub returns-in-Ok-clause-missed : goal.returns-in-Ok-clause-missed
 returns-in-Ok-clause-missed g c none = let it = c.in-Ok.ensures.missed (subst (HasNoMeaning c.args.conn.now.schema) (sym c.select_of.ensures) none) in (it.0, λ late. absurd (it.1 late))
