@@ -1,4 +1,5 @@
 mod Changed
+mod Examples
 mod Renewed
 mod Rowing
 mod Same

@@ -101,9 +101,9 @@ at_turns : (n : ℕ) (xs : List Referenced) (rows : List Columns) → ((k : ℕ)
 at_turns n [] rows ones = tt
 at_turns n (x ∷ xs) rows ones = elim (cases_Bool (is_device x.command)) [
   | inl is ↦ rw is (
-      ones n (omega arith) (omega arith),
-      at_turns (n + 1) xs (change_where (is_key n) (rebody (body_text x.command)) rows) (λ k low high. stays_one k n (body_text x.command) rows (ones k (omega (arith, low)) (omega (arith, high)))),
-    )
+    ones n (omega arith) (omega arith),
+    at_turns (n + 1) xs (change_where (is_key n) (rebody (body_text x.command)) rows) (λ k low high. stays_one k n (body_text x.command) rows (ones k (omega (arith, low)) (omega (arith, high)))),
+  )
   | inr other ↦ rw other (at_turns (n + 1) xs rows (λ k low high. ones k (omega (arith, low)) (omega (arith, high))))
 ]
 
@@ -131,13 +131,13 @@ rows_anew n (x ∷ xs) keeps =
       | inl is ↦
           let same : (n == n) ≡ true = grind (arith, nat_tests) in
           rw (is, key_is n n (row_of_old_command n x) refl, same) (
-            ap (λ l. rows_with (new_texts (n + 1) xs) (row_of_command n x ∷ l)) (all_past n (n + 1) (body_text x.command) xs (omega arith))
-            ∙ past_row n (n + 1) (row_of_command n x) refl (omega arith) xs (numbered row_of_old_command (n + 1) xs) ∙ ap (λ l. row_of_command n x ∷ l) rest
+          ap (λ l. rows_with (new_texts (n + 1) xs) (row_of_command n x ∷ l)) (all_past n (n + 1) (body_text x.command) xs (omega arith))
+          ∙ past_row n (n + 1) (row_of_command n x) refl (omega arith) xs (numbered row_of_old_command (n + 1) xs) ∙ ap (λ l. row_of_command n x ∷ l) rest
           )
       | inr other ↦ rw other (
           past_row n (n + 1) (row_of_old_command n x) refl (omega arith) xs (numbered row_of_old_command (n + 1) xs)
           ∙ ap₂ (λ t l. command_row n x.reference t ∷ l) (keeps.0 other) rest
-        )
+          )
     ]
 
 -- ---- the lives
