@@ -6,7 +6,7 @@ The jobs: `init`, an import that a row stops, the changed text, `table`, `export
 refused, with its second, and so on until a run meets none. A refused run has to end with status 1 and a line of a fault on
 standard error, without counts, or as if nothing had been refused (but for its line on standard error, which may be what was
 refused). The book is whole then (`audit ok`, where there is one), and the same job again does what was left of it: no command is
-lost and none is there twice. All later jobs print what they print where nothing is refused, and in the end the rows of all ten
+lost and none is there twice. All later jobs print what they print where nothing is refused, and in the end the rows of all eleven
 tables are the same. It ends with status 1 at the first run where that is not so. What is refused is chosen by refuse.c, which
 `cc` builds: so this wants Linux with the GNU C library.
 

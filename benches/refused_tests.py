@@ -22,7 +22,11 @@ from refused_memory import BENCHES, built_library
 
 PROGRAM = BENCHES.parent / "crates/ob_hostile_tests/out/ob_hostile_tests_tests"
 TESTS = {
-    "ob_hostile_tests_tests": ["refusals::commands_where_memory_is_refused", "refusals::an_import_where_memory_is_refused"],
+    "ob_hostile_tests_tests": [
+        "refusals::commands_where_memory_is_refused",
+        "refusals::an_import_where_memory_is_refused",
+        "refusals::a_migration_where_memory_is_refused",
+    ],
     "ob_desk_tests_tests": ["memory::memory_refused"],
     "ob_jobs_tests_tests": ["memory::memory_refused"],
     "ob_total_tests_tests": ["streams::memory_refused"],

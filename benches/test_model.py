@@ -7,6 +7,9 @@ switch W1; a feeder 2 of section S3 behind breaker B2; a tie T1 between the ends
 are on S1, three on S2, five on S3.
 """
 
+import contextlib
+import re
+import sqlite3
 import unittest
 from pathlib import Path
 
@@ -362,6 +365,25 @@ class Examples(unittest.TestCase):
             for file in [f"{name}.{end}" for end in ["csv", "table.txt", "moves.csv"]]:
                 text = (root / "examples" / file).read_text(encoding="ascii")
                 self.assertIn(f'"\\\n{text}";', source, file)
+        source = (root / "crates/ob_import_tests/src/old_fortnight.rt").read_text(encoding="ascii")
+        source = re.sub(r" \\\n +", " ", source)
+        for file in ["fortnight-version-1.sql", "fortnight-version-1.table.txt"]:
+            text = (root / "examples" / file).read_text(encoding="ascii")
+            self.assertIn(f'"\\\n{text}";', source, file)
+
+    def test_file_of_version_1(self):
+        """The fortnight as the program of version 1 left it: its commands have its table and its moves."""
+        examples = Path(__file__).resolve().parent.parent / "examples"
+        with contextlib.closing(sqlite3.connect(":memory:")) as database:
+            database.executescript((examples / "fortnight-version-1.sql").read_text(encoding="ascii"))
+            commands = database.execute("SELECT body, ref FROM cmd ORDER BY id").fetchall()
+            moves = database.execute("SELECT cmd, dim, k, delta FROM moved ORDER BY cmd, dim, k").fetchall()
+        book = Book(Period("2025-03-24", 14, "CET-1CEST,M3.5.0,M10.5.0/3"))
+        for number, (body, ref) in enumerate(commands, 1):
+            self.assertEqual(book.act(row_of(body.removesuffix(" -"), ref)), number)
+        table = (examples / "fortnight-version-1.table.txt").read_text(encoding="ascii")
+        self.assertEqual("".join(f"{line}\n" for line in book.table_lines()), table)
+        self.assertEqual(sorted(book.moves), moves)
 
 
 class MadeYears(unittest.TestCase):

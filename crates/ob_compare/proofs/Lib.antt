@@ -16,7 +16,7 @@ mod Twins
 mod Naming
 mod Led
 mod Texts
-pub mod Silent
+pub mod NoWrite
 mod RowNumbers
 mod NumberQuery
 mod SameEnds

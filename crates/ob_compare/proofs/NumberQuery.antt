@@ -23,7 +23,7 @@ use Rattle.ob_tables.specs.Rows.{AreApart}
 use Rattle.ob_tables.proofs.Answers.{answered_in_order}
 use Rattle.ob_compare.specs.Apart.{IsAbove, ListsNumbers, number_command, number_query, number_text}
 use Rattle.ob_compare.specs.Listing.{ShowsNoWrite, upward}
-use Rattle.ob_compare.proofs.Silent.{shows_no_write}
+use Rattle.ob_compare.proofs.NoWrite.{shows_no_write}
 use Rattle.ob_compare.proofs.RowNumbers.{RiseTo, apart_as, by_rowid, not_apart, number_of, rise_apart}
 
 -- ---- what the text means

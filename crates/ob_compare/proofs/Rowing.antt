@@ -35,7 +35,7 @@ use Rattle.ob_compare.specs.Listing.{IsListingOver, Lists, IsOff, Goes, Ends, li
 use Rattle.ob_compare.specs.Moves.{moved_listing, HasMoved, commands_of}
 use Rattle.ob_compare.specs.Versioned.{accepts_in, next_all_in}
 use Rattle.ob_compare.proofs.Same.{rises_mapped}
-use Rattle.ob_compare.proofs.Silent.{shows_no_write}
+use Rattle.ob_compare.proofs.NoWrite.{shows_no_write}
 use Rattle.ob_compare.proofs.Listing.{lists_rows, append_last, no_more, row_on, row_off}
 use Rattle.ob_compare.proofs.Order.{Numbered, numbered_row, numbered_cmp, numbered, rows_are, rise}
 use Rattle.ob_compare.proofs.Versions.{led, led_here}

@@ -9,7 +9,7 @@ use Rattle.ob_tables.specs.declared.version.Version.{Version}
 use Rattle.ob_tables.specs.declared.version.Version.TheVariants.{One, Two}
 use Rattle.ob_compare.specs.Listing.{IsListingOver, ShowsNoWrite}
 use Rattle.ob_compare.specs.Parts.{listing_of, select_of}
-use Rattle.ob_compare.proofs.Silent.{shows_no_write}
+use Rattle.ob_compare.proofs.NoWrite.{shows_no_write}
 
 writes_nothing : (t : Table) → ShowsNoWrite (select_of t)
 unfolding everything

@@ -13,7 +13,7 @@ use Rattle.sqlite_trees.specs.declared.store.Store.{Ghosts}
 use Rattle.sqlite_resolve.specs.declared.compiled.Compiled.{Compiled}
 use Rattle.sqlite.proofs.Callers.{IsPlain, EndsIn, command_of, reads_as, given_begin, begins_shown, begun_plain, unchanged_then}
 use Rattle.ob_compare.specs.Listing.{ShowsNoWrite}
-use Rattle.ob_compare.proofs.Silent.{commits_no_write}
+use Rattle.ob_compare.proofs.NoWrite.{commits_no_write}
 
 pub same_state : (s : State) → IsTrue s.is_open → IsUnchanged s s
 same_state s live = (record { was_open = live; is_open = live; now_is = refl; committed_is = refl; mode = refl }, record { changes = refl; last_rowid = refl }, refl)

@@ -24,6 +24,7 @@ ghost use Rattle.ob_compare.specs.Versioned.{accepts_in, next_all_in};
 use crate::ends::EndNodes;
 use crate::filed::Filed;
 use crate::listed::select_of;
+use crate::progress::{Progress, Work};
 use crate::query::prepare;
 use crate::rows::{advance, is_over, is_row};
 use ob_base::Stop;
@@ -182,12 +183,13 @@ fn takes_on<S: Alter, T: Timeline>(
 
 /// Whether the rows to come are those of what the commands move, each accepted in its turn by a version. The book is led
 /// along, and the ends of its devices are noted.
-fn follows<S: Alter, T: Timeline>(
+fn follows<S: Alter, T: Timeline, P: Progress>(
     rows: &mut Rows<'_, S>,
     book: &mut Book<T>,
     commands: &[Filed],
     noted: &mut Vec<EndNodes>,
     version: Version,
+    progress: &mut P,
 ) -> Result<bool, Stop>
     ensures same_reference { rows.new.conn.ghost_name ≡ rows.old.conn.ghost_name }
     ensures survives { Survives (state S.Store rows.old.conn.now) (state S.Store rows.new.conn.now) (λ _. ⊥) }
@@ -208,6 +210,7 @@ fn follows<S: Alter, T: Timeline>(
     ensures noted { result ≡ Ok true → noted.old.items ≡ ends_of book.old.state.network
         → noted.new.items ≡ ends_of book.new.state.network }
 {
+    progress.begin(Work::Commands, commands.len() as u64);
     'commands: for at in 0..commands.len() {
         // A book has a million commands at most, so that the number is small.
         let _ = book.accepted();
@@ -219,7 +222,7 @@ fn follows<S: Alter, T: Timeline>(
             noted,
             version,
         ) {
-            Ok(true) => {}
+            Ok(true) => progress.step(at as u32 + 1),
             Ok(false) => return Ok(false),
             Err(stop) => return Err(stop),
         }
@@ -229,13 +232,14 @@ fn follows<S: Alter, T: Timeline>(
 
 /// Whether the table of moved amounts holds what the commands move, each accepted in its turn by a version, and no other
 /// row. The book is led along, and the ends of its devices are noted. Nothing is written. A database without the table is
-/// refused as no book's. The tables may be those of either version.
-pub fn holds_moves<S: Alter, T: Timeline>(
+/// refused as no book's. The tables may be those of either version. Who listens is told of each command that was led along.
+pub fn holds_moves<S: Alter, T: Timeline, P: Progress>(
     conn: &mut Connection<S>,
     book: &mut Book<T>,
     commands: &[Filed],
     noted: &mut Vec<EndNodes>,
     version: Version,
+    progress: &mut P,
 ) -> Result<bool, Stop>
     ensures mode { conn.old.in_transaction ≡ false → conn.new.in_transaction ≡ false }
     ensures survives { Survives (state S.Store conn.old) (state S.Store conn.new) (λ _. ⊥) }
@@ -262,7 +266,7 @@ pub fn holds_moves<S: Alter, T: Timeline>(
         Err(stop) => return Err(stop),
     };
     match conn.query_prepared(&statement, &[]) {
-        Ok(mut rows) => follows(&mut rows, book, commands, noted, version),
+        Ok(mut rows) => follows(&mut rows, book, commands, noted, version, progress),
         Err(error) => Err(stop_of(error)),
     }
 }

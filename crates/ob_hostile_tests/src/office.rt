@@ -50,6 +50,9 @@ pub trait Office {
     /// Reads the book that the tables hold.
     fn loads(&mut self) -> Result<(), Stop>;
 
+    /// Makes the tables of version 1 those of version 2. Answers whether they were of version 1.
+    fn migrates(&mut self) -> Result<bool, Stop>;
+
     /// The number under which the command of a line, a reference and a body text, is accepted or was so before.
     fn acts(&mut self, line: &str) -> Result<u32, Stop>;
 
@@ -149,6 +152,10 @@ impl<S: Alter, T: Timeline> Office for Keeper<S, T> {
 
     fn loads(&mut self) -> Result<(), Stop> {
         self.load()
+    }
+
+    fn migrates(&mut self) -> Result<bool, Stop> {
+        self.migrate()
     }
 
     fn acts(&mut self, line: &str) -> Result<u32, Stop> {

@@ -9,6 +9,7 @@ use std::process::Abort;
 fn from_there(task: Task, kept: Kept) -> Task {
     match task {
         Task::Read(_) => Task::Read(kept),
+        Task::Upgrade(_) => Task::Upgrade(kept),
         _ => Task::Act(kept),
     }
 }
@@ -54,4 +55,35 @@ fn commands_where_memory_is_refused(rt: HostRuntime) {
 #[test]
 fn an_import_where_memory_is_refused(rt: HostRuntime) {
     comes_to_its_end(&rt, rt.alloc(), Task::Read(Kept::all(0)));
+}
+
+// Files of the outage of version 1, made anew where the first ones weren't told all.
+fn old_files(rt: &impl Abort, alloc: Global) -> Pair {
+    let (first, files) = run(rt, alloc, blank(alloc), Task::Old);
+    if is_made(first) {
+        return files;
+    }
+    let (second, files) = run(rt, alloc, blank(alloc), Task::Old);
+    assert!(rt; is_made(second));
+    files
+}
+
+fn is_made(kept: Option<Kept>) -> bool {
+    kept.is_some_and(|kept| kept.least == 1)
+}
+
+// Old files three times, of which one at most doesn't come to its end.
+fn is_upgraded(rt: &impl Abort, alloc: Global) {
+    let none = Kept::all(0);
+    let task = Task::Upgrade(none);
+    let (first, files) = again(rt, alloc, old_files(rt, alloc), task, none);
+    let (second, files) = again(rt, alloc, files, task, first.unwrap_or(none));
+    let kept = second.or(first).unwrap_or(none);
+    let (third, _) = again(rt, alloc, files, task, kept);
+    assert!(rt; is_made(third.or(second)));
+}
+
+#[test]
+fn a_migration_where_memory_is_refused(rt: HostRuntime) {
+    is_upgraded(&rt, rt.alloc());
 }

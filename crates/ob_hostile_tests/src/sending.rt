@@ -11,8 +11,8 @@ pub const BEFORE: u32 = 25;
 /// How many it has after it.
 pub const AFTER: u32 = 26;
 
-// The customer-seconds of the book of the outage.
-const TOTAL: u64 = 9_000;
+/// The customer-seconds of the book of the outage.
+pub const TOTAL: u64 = 9_000;
 
 // Those of the book of so many commands, the last of which may be this one.
 fn total_of(accepted: u32, last: Last) -> u64 {

@@ -12,6 +12,7 @@ fn held(task: Task, kept: Option<Kept>) -> Task {
     match task {
         Task::Make => Task::HoldNew(kept.unwrap_or(Kept::all(0))),
         Task::Import => Task::HoldRows(kept.unwrap_or(Kept::all(BEFORE))),
+        Task::Migrate => Task::HoldUpgraded(kept.unwrap_or(Kept::all(0))),
         Task::Send(last) => Task::Hold(kept.unwrap_or(Kept::all(BEFORE)), last),
         _ => Task::Hold(kept.unwrap_or(Kept::all(BEFORE)), CORRECTION),
     }
@@ -72,6 +73,13 @@ fn stopped_in_outage(rt: &impl Abort, alloc: Global, which: Which, task: Task, w
 // A new book, stopped so.
 fn stopped_in_creation(rt: &impl Abort, alloc: Global, which: Which) {
     stopped(rt, alloc, &blank(alloc), which, Task::Make, 1);
+}
+
+// The tables of version 1 made those of version 2, stopped so.
+fn stopped_in_migration(rt: &impl Abort, alloc: Global, which: Which) {
+    let (kept, files) = run(rt, alloc, blank(alloc), Task::Old);
+    assert!(rt; kept.is_some_and(|kept| kept.least == 1));
+    stopped(rt, alloc, &files, which, Task::Migrate, 1);
 }
 
 // This command, sent to that book and stopped so.
@@ -137,4 +145,14 @@ fn a_new_book_over_a_log_that_stops(rt: HostRuntime) {
 #[test]
 fn a_new_book_over_a_database_file_that_stops(rt: HostRuntime) {
     stopped_in_creation(&rt, rt.alloc(), Which::Db);
+}
+
+#[test]
+fn a_migration_over_a_log_that_stops(rt: HostRuntime) {
+    stopped_in_migration(&rt, rt.alloc(), Which::Log);
+}
+
+#[test]
+fn a_migration_over_a_database_file_that_stops(rt: HostRuntime) {
+    stopped_in_migration(&rt, rt.alloc(), Which::Db);
 }

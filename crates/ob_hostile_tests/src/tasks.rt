@@ -5,6 +5,7 @@ use crate::office::Office;
 use crate::scripts::Last;
 use crate::sending::{holds, outage, send};
 use crate::serving::serve;
+use crate::upgrades::{TO_VERSION_ONE, holds_upgraded, migrate, prepare, upgrade};
 use crate::working::{act, read};
 use ob_store::Keeper;
 use ob_sweep::Windowed;
@@ -54,6 +55,14 @@ pub enum Task {
     Make,
     /// Load the new book that is kept, or make it, and go on.
     HoldNew(Kept),
+    /// Make a book with the outage, and its tables those of version 1; nothing is kept where a call failed.
+    Old,
+    /// Make the tables of version 1 those of version 2.
+    Migrate,
+    /// Load the book of version 2 that is kept, or make it of that of version 1, and go on.
+    HoldUpgraded(Kept),
+    /// Load the book of version 2 that is kept, or make it of that of version 1, where memory may be refused.
+    Upgrade(Kept),
     /// Load the book that is kept, or make it, and send it the rest of the outage and what comes afterwards.
     Act(Kept),
     /// The same by an import.
@@ -95,8 +104,18 @@ fn over<S: Alter + Drop>(
 ) -> (Kept, Connection<S>) {
     assert!(rt; conn.is_autocommit());
     let mut keeper: Keeper<S, Windowed> = Keeper::adopt_connection(alloc, conn);
+    if let Task::Old = task {
+        let is_told = prepare(&mut keeper);
+        return made_old(keeper.into_connection(), is_told);
+    }
     let kept = done(rt, alloc, &mut keeper, task);
     (kept, keeper.into_connection())
+}
+
+// Makes the tables of the outage those of version 1, where it was told.
+fn made_old<S: Alter>(mut conn: Connection<S>, is_told: bool) -> (Kept, Connection<S>) {
+    let is_old = is_told && conn.execute_batch(TO_VERSION_ONE).is_ok();
+    (Kept::all(u32::from(is_old)), conn)
 }
 
 fn done<O: Office>(rt: &impl Abort, alloc: Global, office: &mut O, task: Task) -> Kept {
@@ -109,6 +128,10 @@ fn done<O: Office>(rt: &impl Abort, alloc: Global, office: &mut O, task: Task) -
         Task::HoldRows(kept) => holds_rows(rt, alloc, office, kept),
         Task::Make => make(rt, office),
         Task::HoldNew(kept) => holds_new(rt, office, kept),
+        Task::Old => Kept::all(0),
+        Task::Migrate => migrate(rt, office),
+        Task::HoldUpgraded(kept) => holds_upgraded(rt, office, kept),
+        Task::Upgrade(kept) => upgrade(rt, office, kept),
         Task::Act(kept) => act(rt, office, kept),
         Task::Read(kept) => read(rt, alloc, office, kept),
     }

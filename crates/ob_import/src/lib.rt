@@ -7,12 +7,11 @@
 
 mod acting;
 mod gather;
-mod progress;
 mod report;
 mod rows;
 mod text;
 
 pub use ob_command::read_row;
-pub use progress::{Progress, Silent};
+pub use ob_store::{Progress, Silent, Work};
 pub use report::{ImportFault, ImportReport};
 pub use text::{import, import_law, import_text, import_with_progress};

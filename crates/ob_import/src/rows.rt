@@ -6,11 +6,10 @@ ghost use Rattle.ob_import.specs.Imports.{after_header};
 ghost use Rattle.ob_import.specs.Reports.{HasCause, Runs};
 
 use crate::acting::act_row;
-use crate::progress::Progress;
 use crate::report::{ImportFault, ImportReport};
 use ob_base::{Fault, Refusal, Stop};
 use ob_rows::{MOST_ROWS, Row, RowReader};
-use ob_store::Keeper;
+use ob_store::{Keeper, Progress};
 use ob_sweep::Timeline;
 use sqlite::Alter;
 use std::alloc::Global;
@@ -71,7 +70,7 @@ fn import_rows<R: Read, S: Alter, T: Timeline, P: Progress>(
         match act_row(keeper, row) {
             Ok(is_new) => {
                 tally.count(is_new);
-                progress.acted(number);
+                progress.step(number);
             }
             Err(Stop::Refused(refusal)) => return Ok(report(tally, Some((number, refusal)))),
             Err(Stop::Fault(fault)) => return Err(broken(tally, fault)),

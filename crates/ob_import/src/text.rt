@@ -12,13 +12,12 @@ ghost use Rattle.ob_import.specs.Imports.{ImportedAgain, ImportsMakeOneThing, af
 ghost use Rattle.ob_import.specs.Reports.{HasCause, HoldsWholeRows, Imported, IsStoreFault, Runs, no_book};
 
 use crate::gather::{Gathered, gather};
-use crate::progress::{Progress, Silent};
 use crate::report::{ImportFault, ImportReport};
 use crate::rows::import_all;
 use ob_base::Fault;
 use ob_command::rows_law;
 use ob_rows::{MOST_BYTES, RowReader, whole_rows_law};
-use ob_store::Keeper;
+use ob_store::{Keeper, Progress, Silent, Work};
 use ob_stream::{Retries, Watched};
 use ob_sweep::Timeline;
 use sqlite::Alter;
@@ -137,7 +136,8 @@ fn import_gathered<S: Alter, T: Timeline, P: Progress>(
         → IfOk result (λ _. Some (gathered_rows gathered.now.whole gathered.now.bytes.items) ≢ Some []) }
 {
     let part = gathered.whole_part();
-    progress.begin(lines_of(part));
+    // the first line is the header
+    progress.begin(Work::Rows, lines_of(part).saturating_sub(1));
     let mut rows = RowReader::new(alloc, part);
     let run = import_all(alloc, &mut rows, gathered.whole, keeper, progress);
     progress.end();

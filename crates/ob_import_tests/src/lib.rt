@@ -1,8 +1,10 @@
 //! Tests of imports into a book and of exports from one, over a store in memory: what is added, what is there already,
-//! which row stops, and what readers, writers and sinks that fail leave behind.
+//! which row stops, and what readers, writers and sinks that fail leave behind. And of files of version 1, which are made
+//! files of version 2 first.
 //!
 //! It holds tests alone. The reports, rows and amounts are worked out by hand from the definitions; annual tables, and
-//! the moves of the sample fortnight, are those of the plain model in `benches/`.
+//! the moves of the sample fortnight, are those of the plain model in `benches/`. The files of version 1 were made by the
+//! program of that version, and their tables were printed by it.
 #![tactic(auto)]
 
 #[cfg(test)]
@@ -17,6 +19,12 @@ mod fortnight_texts;
 mod imports;
 #[cfg(test)]
 mod office;
+#[cfg(test)]
+mod old_books;
+#[cfg(test)]
+mod old_fortnight;
+#[cfg(test)]
+mod old_outages;
 #[cfg(test)]
 mod refusals;
 #[cfg(test)]

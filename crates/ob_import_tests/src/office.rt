@@ -64,6 +64,9 @@ pub trait Office {
     /// Reads the book that the tables hold.
     fn loads(&mut self) -> bool;
 
+    /// Makes the tables of version 1 those of version 2. Answers whether they were of version 1.
+    fn migrates(&mut self) -> Result<bool, Stop>;
+
     /// Whether no table differs from what the commands give, or there is no book in the tables, as there is none here.
     fn is_sound(&mut self) -> bool;
 
@@ -100,6 +103,10 @@ impl<S: Alter, T: Timeline> Office for Keeper<S, T> {
 
     fn loads(&mut self) -> bool {
         self.load().is_ok()
+    }
+
+    fn migrates(&mut self) -> Result<bool, Stop> {
+        self.migrate()
     }
 
     fn is_sound(&mut self) -> bool {
@@ -197,6 +204,24 @@ pub fn over_tables<C: Trial, N: Trial>(
     };
     let conn = over(rt, alloc, conn, trial);
     let mut conn = over(rt, alloc, conn, next);
+    has_rows(rt, alloc, &mut conn, rows);
+    Ok(())
+}
+
+/// A keeper without a book over the tables that some statements make is tried. In the end no table differs from what the
+/// commands give, and the tables have so many rows.
+pub fn over_statements<C: Trial>(
+    rt: &impl Abort,
+    alloc: Global,
+    sql: &str,
+    trial: &C,
+    rows: &[i64],
+) -> Result<(), AllocError> {
+    let Ok(mut conn) = Connection::open_in_memory(alloc) else {
+        return Err(AllocError);
+    };
+    assert!(rt; conn.execute_batch(sql).is_ok());
+    let mut conn = over(rt, alloc, conn, trial);
     has_rows(rt, alloc, &mut conn, rows);
     Ok(())
 }

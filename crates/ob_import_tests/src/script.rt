@@ -51,6 +51,10 @@ pub enum Step {
     Make(Period),
     /// The book that the tables hold is read.
     Load,
+    /// The tables aren't those of a book of today.
+    LoadNone,
+    /// The tables of version 1 are made those of version 2, or this is answered.
+    Migrate(Result<bool, Stop>),
     /// This text is imported, from memory or from a reader.
     Import(&'static str, Outcome),
     /// This text is imported from a reader that is interrupted before each byte.
@@ -89,6 +93,8 @@ impl Script<'_> {
         match step {
             Step::Make(period) => office.makes(period),
             Step::Load => office.loads(),
+            Step::LoadNone => !office.loads(),
+            Step::Migrate(wanted) => office.migrates() == *wanted,
             Step::Import(text, wanted) => self.imported(alloc, office, text) == wanted.report(),
             Step::ImportJolting(text, wanted) => {
                 office.reads(alloc, Source::jolting(text.as_bytes(), None)) == wanted.report()

@@ -23,11 +23,14 @@ use sqlite::Alter;
 use std::alloc::Global;
 use std::io::Write;
 
-/// Reads the book that the tables hold.
-fn load_book<S: Alter, T: Timeline>(keeper: &mut Keeper<S, T>) -> Result<(), Stop>
+/// Reads the book that the tables hold, and tells how far it is.
+fn load_book<S: Alter, T: Timeline, P: Progress>(
+    keeper: &mut Keeper<S, T>,
+    progress: &mut P,
+) -> Result<(), Stop>
     ensures { LoadOf S.Store keeper.old keeper.new result }
 {
-    keeper.load()
+    keeper.load_with_progress(progress)
 }
 
 /// Makes the book of a period, as [`run_init`].
@@ -65,24 +68,26 @@ pub fn migrate_book<S: Alter, T: Timeline, W: Write>(
 }
 
 /// Loads a book and prints its annual table, as [`run_table`].
-pub fn print_book<S: Alter, T: Timeline, W: Write>(
+pub fn print_book<S: Alter, T: Timeline, P: Progress, W: Write>(
     keeper: &mut Keeper<S, T>,
+    progress: &mut P,
     writer: &mut Watched<W>,
 ) -> Result<(), Unfinished>
     ensures { PrintsBook S.Store W.contents keeper.old keeper.new writer.old writer.new result }
 {
-    end_of_job(print_loaded(keeper, writer))
+    end_of_job(print_loaded(keeper, progress, writer))
 }
 
-fn print_loaded<S: Alter, T: Timeline, W: Write>(
+fn print_loaded<S: Alter, T: Timeline, P: Progress, W: Write>(
     keeper: &mut Keeper<S, T>,
+    progress: &mut P,
     writer: &mut Watched<W>,
 ) -> Result<(), Stop>
     ensures { LoadsThen S.Store (λ mid done. (keeper.new ≡ mid)
         × Tells (HasTable mid.book) (λ _. table_text mid.book) W.contents writer.old writer.new done)
         (writer.new ≡ writer.old) keeper.old keeper.new result }
 {
-    match load_book(keeper) {
+    match load_book(keeper, progress) {
         Ok(()) => run_table(keeper, writer),
         Err(stop) => Err(stop),
     }
@@ -113,7 +118,7 @@ fn import_loaded<O: OpenInput, S: Alter, T: Timeline, P: Progress, W: Write>(
         input.old input.new writer.old writer.new done)
         ((input.new ≡ input.old) × (writer.new ≡ writer.old)) keeper.old keeper.new result }
 {
-    match load_book(keeper) {
+    match load_book(keeper, progress) {
         Ok(()) => import_opened(alloc, keeper, input, progress, writer),
         Err(stop) => Err(stop),
     }
@@ -140,29 +145,31 @@ fn import_opened<O: OpenInput, S: Alter, T: Timeline, P: Progress, W: Write>(
 }
 
 /// Loads a book, then makes the output anew, and writes what the commands moved into it, as [`run_export`].
-pub fn export_from_book<O: OpenOutput, S: Alter, T: Timeline, W: Write>(
+pub fn export_from_book<O: OpenOutput, S: Alter, T: Timeline, P: Progress, W: Write>(
     alloc: Global,
     keeper: &mut Keeper<S, T>,
     output: &mut O,
+    progress: &mut P,
     writer: &mut Watched<W>,
 ) -> Result<(), Unfinished>
     ensures { ExportsFromBook S.Store O.opens O.Output.contents W.contents keeper.old keeper.new output.old output.new
         writer.old writer.new result }
 {
-    end_of_job(export_loaded(alloc, keeper, output, writer))
+    end_of_job(export_loaded(alloc, keeper, output, progress, writer))
 }
 
-fn export_loaded<O: OpenOutput, S: Alter, T: Timeline, W: Write>(
+fn export_loaded<O: OpenOutput, S: Alter, T: Timeline, P: Progress, W: Write>(
     alloc: Global,
     keeper: &mut Keeper<S, T>,
     output: &mut O,
+    progress: &mut P,
     writer: &mut Watched<W>,
 ) -> Result<u64, Stop>
     ensures { LoadsThen S.Store (λ mid done. ExportsOutput S.Store O.opens O.Output.contents W.contents mid keeper.new
         output.old output.new writer.old writer.new done)
         ((output.new ≡ output.old) × (writer.new ≡ writer.old)) keeper.old keeper.new result }
 {
-    match load_book(keeper) {
+    match load_book(keeper, progress) {
         Ok(()) => export_opened(alloc, keeper, output, writer),
         Err(stop) => Err(stop),
     }
@@ -188,23 +195,25 @@ fn export_opened<O: OpenOutput, S: Alter, T: Timeline, W: Write>(
 }
 
 /// Loads a book, and then serves it.
-pub fn serve_book<V: ServeBook<S, T>, S: Alter, T: Timeline>(
+pub fn serve_book<V: ServeBook<S, T>, S: Alter, T: Timeline, P: Progress>(
     keeper: &mut Keeper<S, T>,
     server: &mut V,
+    progress: &mut P,
 ) -> Result<(), Unfinished>
     ensures { ServesBook S.Store V.serves keeper.old keeper.new server.old server.new result }
 {
-    end_of_job(serve_loaded(keeper, server))
+    end_of_job(serve_loaded(keeper, server, progress))
 }
 
-fn serve_loaded<V: ServeBook<S, T>, S: Alter, T: Timeline>(
+fn serve_loaded<V: ServeBook<S, T>, S: Alter, T: Timeline, P: Progress>(
     keeper: &mut Keeper<S, T>,
     server: &mut V,
+    progress: &mut P,
 ) -> Result<(), Stop>
     ensures { LoadsThen S.Store (λ mid done. V.serves server.old mid done keeper.new server.new)
         (server.new ≡ server.old) keeper.old keeper.new result }
 {
-    match load_book(keeper) {
+    match load_book(keeper, progress) {
         Ok(()) => server.serve(keeper),
         Err(stop) => Err(stop),
     }

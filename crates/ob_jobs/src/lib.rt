@@ -27,6 +27,6 @@ pub use export::run_export;
 pub use import::run_import;
 pub use init::run_init;
 pub use migrate::run_migrate;
-pub use ob_import::{Progress, Silent};
+pub use ob_import::{Progress, Silent, Work};
 pub use opening::{OpenInput, OpenOutput, ServeBook};
 pub use table::run_table;

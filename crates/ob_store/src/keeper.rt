@@ -9,6 +9,7 @@ use crate::reply::Reply;
 use crate::stored::reply_at;
 use ob_base::{Fault, Ref, Stop};
 use ob_book::{Book, Command};
+use ob_compare::{Progress, Silent, Work};
 use ob_sweep::Timeline;
 use ob_tables::Table;
 use ob_upgrade::version_law;
@@ -159,11 +160,30 @@ impl<S: Alter, T: Timeline> Keeper<S, T> {
             → Outdated S.Store self.old self.new result }
         ensures crash { CrashLaw S.Store S.Store }
     {
+        self.load_with_progress(&mut Silent)
+    }
+
+    /// Reads the book that the tables hold, as [`Keeper::load`], and tells one who listens how far it is.
+    pub fn load_with_progress<P: Progress>(&mut self, progress: &mut P) -> Result<(), Stop>
+        ensures found { OnOk result (IsSome self.new.book) }
+        ensures dropped { IfErr result (IsBookAfter self.old.book self.new.book) }
+        ensures stops { IfErr result IsLoadFault }
+        ensures clean { HasCleanDisk (state S.Store self.new.conn) → HasCleanDisk (state S.Store self.old.conn) }
+        ensures survives { Survives (state S.Store self.old.conn) (state S.Store self.new.conn) (λ _. ⊥) }
+        ensures loaded { HasCleanDisk (state S.Store self.new.conn) → self.old.conn.schema ≡ book_schema
+            → Loaded S.Store self.old self.new result }
+        ensures outdated { HasCleanDisk (state S.Store self.new.conn) → self.old.conn.schema ≡ old_schema
+            → Outdated S.Store self.old self.new result }
+        ensures crash { CrashLaw S.Store S.Store }
+    {
         crash_law::<S, S>();
         prove!(self.conn.is_autocommit());
         // what is open is a whole database
         let _schema = self.conn.schema();
-        match load_on(self.alloc, &mut self.conn) {
+        progress.begin(Work::Opening, 0);
+        let read = load_on(self.alloc, &mut self.conn, progress);
+        progress.end();
+        match read {
             Ok(book) => {
                 self.book = Some(book);
                 Ok(())

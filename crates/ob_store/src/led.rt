@@ -9,7 +9,7 @@ ghost use Rattle.ob_store.specs.Leading.{HasNoPeriodOf, HasParts, IsBegun, IsLed
 use crate::named::{BAD_BOOK, Named, read_named};
 use ob_base::{Name, Stop};
 use ob_book::{Book, next_law};
-use ob_compare::{EndNodes, Heading, are_distinct, holds_moves, lead, names_of, reaching_law};
+use ob_compare::{EndNodes, Heading, Progress, are_distinct, holds_moves, lead, names_of, reaching_law};
 use ob_record::naming_law;
 use ob_sweep::Timeline;
 use ob_tables::Version;
@@ -75,11 +75,12 @@ fn begin<T: Timeline>(alloc: Global, named: &Named) -> Result<Led<T>, Stop>
 
 /// A new book, led along the commands of a version while what they move is compared with its table; None where that has other
 /// rows, or the version doesn't accept a command.
-pub(crate) fn follow<S: Alter, T: Timeline>(
+pub(crate) fn follow<S: Alter, T: Timeline, P: Progress>(
     alloc: Global,
     conn: &mut Connection<S>,
     named: &Named,
     version: Version,
+    progress: &mut P,
 ) -> Result<Option<Led<T>>, Stop>
     ensures led { IfOk result (λ found. IfSome found (λ led. IsLedBy version named.now led.book.state
         × HasParts led.book.state led.names.items led.ends.items × (led.moved ≡ true)
@@ -92,7 +93,7 @@ pub(crate) fn follow<S: Alter, T: Timeline>(
         Ok(led) => led,
         Err(stop) => return Err(stop),
     };
-    match holds_moves(conn, &mut led.book, &named.commands, &mut led.ends, version) {
+    match holds_moves(conn, &mut led.book, &named.commands, &mut led.ends, version, progress) {
         Ok(true) => {
             led.moved = true;
             Ok(Some(led))
@@ -123,9 +124,10 @@ fn again<T: Timeline>(alloc: Global, named: &Named) -> Result<Led<T>, Stop>
 
 /// Reads the heading and the commands, and leads a book along them. They are those of no book where the heading names no
 /// period, a reference stands twice, or a command isn't accepted in its turn.
-pub(crate) fn read_led<S: Alter, T: Timeline>(
+pub(crate) fn read_led<S: Alter, T: Timeline, P: Progress>(
     alloc: Global,
     conn: &mut Connection<S>,
+    progress: &mut P,
 ) -> Result<Led<T>, Stop>
     ensures parts { IfOk result (λ led. HasParts led.book.state led.names.items led.ends.items) }
     ensures finds { Finds S.Store AVersion.Two (λ trees led. IsLed trees led.book.state led.counted led.moved) HasNoBook
@@ -143,7 +145,7 @@ pub(crate) fn read_led<S: Alter, T: Timeline>(
         Ok(false) => return Err(BAD_BOOK),
         Err(stop) => return Err(stop),
     }
-    match follow(alloc, conn, &named, Version::Two) {
+    match follow(alloc, conn, &named, Version::Two, progress) {
         Ok(Some(led)) => Ok(led),
         Ok(None) => match again(alloc, &named) {
             Ok(led) => Ok(led),

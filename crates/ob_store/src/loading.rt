@@ -13,7 +13,7 @@ use crate::off::first_off;
 use crate::version::check_version;
 use ob_base::{Fault, Stop};
 use ob_book::Book;
-use ob_compare::are_apart;
+use ob_compare::{Progress, Silent, Work, are_apart};
 use ob_sweep::Timeline;
 use ob_tables::Table;
 use sqlite::{Alter, Connection};
@@ -40,7 +40,7 @@ fn find_off<S: Alter, T: Timeline>(
 ) -> Result<Option<Table>, Stop>
     ensures { Finds S.Store AVersion.Two Finding HasNoBook conn.old conn.new result }
 {
-    let led: Led<T> = match read_led(alloc, conn) {
+    let led: Led<T> = match read_led(alloc, conn, &mut Silent) {
         Ok(led) => led,
         Err(stop) => return Err(stop),
     };
@@ -69,29 +69,32 @@ fn check_led<S: Alter, T: Timeline>(conn: &mut Connection<S>, led: &Led<T>) -> R
 }
 
 /// The book that the tables hold, all eleven of them; a book of version 1 is refused first.
-pub(crate) fn load_on<S: Alter, T: Timeline>(
+pub(crate) fn load_on<S: Alter, T: Timeline, P: Progress>(
     alloc: Global,
     conn: &mut Connection<S>,
+    progress: &mut P,
 ) -> Result<Book<T>, Stop>
     ensures { Tells S.Store (λ trees book. Holding trees book.state) HoldsNoBook conn.old conn.new result }
 {
     match check_version(conn) {
-        Ok(()) => load_tables(alloc, conn),
+        Ok(()) => load_tables(alloc, conn, progress),
         Err(stop) => Err(stop),
     }
 }
 
 /// The book that the tables hold.
-fn load_tables<S: Alter, T: Timeline>(
+fn load_tables<S: Alter, T: Timeline, P: Progress>(
     alloc: Global,
     conn: &mut Connection<S>,
+    progress: &mut P,
 ) -> Result<Book<T>, Stop>
     ensures { Finds S.Store AVersion.Two (λ trees book. Holding trees book.state) HoldsNoBook conn.old conn.new result }
 {
-    let led: Led<T> = match read_led(alloc, conn) {
+    let led: Led<T> = match read_led(alloc, conn, progress) {
         Ok(led) => led,
         Err(stop) => return Err(stop),
     };
+    progress.begin(Work::Tables, 0);
     match check_led(conn, &led) {
         Ok(()) => Ok(led.book),
         Err(stop) => Err(stop),

@@ -22,7 +22,7 @@ use crate::version::{NEW, OLD, has_lives};
 use ob_base::{Fault, Stop};
 use ob_book::next_law;
 use ob_commit::{NewBody, commit_upgrade};
-use ob_compare::{are_apart, are_distinct, has_version, reaching_law};
+use ob_compare::{Silent, are_apart, are_distinct, has_version, reaching_law};
 use ob_migrate::{new_bodies, upgrade_law};
 use ob_parts::holds_part;
 use ob_record::naming_law;
@@ -138,7 +138,7 @@ fn lead_old<S: Alter, T: Timeline>(
         Ok(false) => return Err(BAD_BOOK),
         Err(stop) => return Err(stop),
     }
-    match follow(alloc, conn, named, Version::One) {
+    match follow(alloc, conn, named, Version::One, &mut Silent) {
         Ok(Some(led)) => Ok(led),
         Ok(None) => Err(BAD_BOOK),
         Err(stop) => Err(stop),

@@ -47,8 +47,8 @@ pub fn take<O: Office>(
     Ok(())
 }
 
-// What the book shows, and the stored replies of its commands, of which there are fewer than forty.
-fn shown<O: Office>(alloc: Global, office: &mut O) -> Result<Vec<u8>, Stop> {
+/// What the book shows, and the stored replies of its commands, of which there are fewer than forty.
+pub fn shown<O: Office>(alloc: Global, office: &mut O) -> Result<Vec<u8>, Stop> {
     let mut text = office.shows()?;
     for no in 0..40 {
         let reply = stored_text(alloc, &office.replies(no))?;
@@ -57,8 +57,8 @@ fn shown<O: Office>(alloc: Global, office: &mut O) -> Result<Vec<u8>, Stop> {
     Ok(text)
 }
 
-// The tables hold a book that shows this.
-fn loads<O: Office>(
+/// The tables hold a book that shows this.
+pub fn loads<O: Office>(
     rt: &impl Abort,
     alloc: Global,
     office: &mut O,

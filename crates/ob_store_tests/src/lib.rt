@@ -1,5 +1,6 @@
 //! Tests of the keeper over a store in memory: commands under references with what each is answered, new books, what
-//! stands in the tables in the end, the books that are loaded from them, and tables that are no book's.
+//! stands in the tables in the end, the books that are loaded from them, tables of version 1 that are made those of version
+//! 2, and tables that are no book's.
 //!
 //! It holds tests alone. The amounts are worked out by hand from the definitions.
 #![tactic(auto)]
@@ -15,7 +16,13 @@ mod creations;
 #[cfg(test)]
 mod loads;
 #[cfg(test)]
+mod migrations;
+#[cfg(test)]
 mod office;
+#[cfg(test)]
+mod old;
+#[cfg(test)]
+mod rows;
 #[cfg(test)]
 mod scripts;
 #[cfg(test)]

@@ -1,6 +1,6 @@
 //! Books that are loaded: commands go on, and a book stays where the tables turn into those of none.
 use crate::books::{ends, outage, reopened, take};
-use crate::office::{BAD_BOOK, InMemory, OLD_VERSION, Office};
+use crate::office::{BAD_BOOK, InMemory, NO_OLD_BOOK, OLD_VERSION, Office};
 use crate::scripts::{
     CORRECTED, JOINS_IN_OUTAGE, OPENED_BEFORE, PARTS_JOIN, REFUSED, TIE_STAYS, WITHDRAWN,
 };
@@ -75,7 +75,7 @@ fn headed<O: Office>(rt: &impl Abort, alloc: Global, heading: &str) -> Result<O,
     Ok(office)
 }
 
-// The tables are audited and loaded as this, and the keeper goes on with the book that it has.
+// The tables are audited and loaded as this and can't be migrated, and the keeper goes on with the book that it has.
 fn stays<O: Office>(
     rt: &impl Abort,
     office: &mut O,
@@ -85,6 +85,7 @@ fn stays<O: Office>(
     let shown = office.shows()?;
     assert!(rt; office.audits() == audited);
     assert!(rt; office.loads() == *loaded);
+    assert!(rt; office.migrates() == NO_OLD_BOOK);
     assert!(rt; office.shows()? == shown);
     Ok(())
 }

@@ -1,4 +1,5 @@
 //! What a test knows of a keeper.
+use crate::rows::stored_rows;
 use ob_book::Book;
 use ob_command::{Command, read_body};
 use ob_net::{Fault, Life, Ref, Refusal, Stop};
@@ -12,6 +13,9 @@ pub const BAD_BOOK: Result<(), Stop> = Err(Stop::Refused(Refusal::BadBook));
 
 /// The tables are those of a book of version 1.
 pub const OLD_VERSION: Result<(), Stop> = Err(Stop::Refused(Refusal::OldVersion(1)));
+
+/// The tables are no book's of version 1, nor is their version 2.
+pub const NO_OLD_BOOK: Result<bool, Stop> = Err(Stop::Refused(Refusal::BadBook));
 
 /// A call that needs a book, where there is none.
 const REOPEN: Stop = Stop::Fault(Fault::Reopen);
@@ -39,6 +43,9 @@ pub trait Office: Drop {
     /// The first table that differs from those of the commands, `none` where none does; or why there is no answer.
     fn audits(&mut self) -> &'static str;
 
+    /// Makes the tables of version 1 those of version 2. Answers whether they were of version 1.
+    fn migrates(&mut self) -> Result<bool, Stop>;
+
     /// The totals, the indices and the annual table of the book.
     fn shows(&self) -> Result<Vec<u8>, Stop>;
 
@@ -50,6 +57,9 @@ pub trait Office: Drop {
 
     /// Another keeper, without a book, over the tables after some statements.
     fn changed(self, alloc: Global, sql: &str) -> Result<Self, Stop>;
+
+    /// Another keeper, without a book, over the same tables, and the rows that stand in them.
+    fn with_rows(self, alloc: Global) -> Result<(Self, Vec<u8>), Stop>;
 
     /// Gives the keeper up. Answers the number that each query finds in the tables.
     fn finds(self, alloc: Global, queries: &[&str]) -> Result<Vec<i64>, Stop>;
@@ -158,6 +168,10 @@ impl<S: Blank, T: Timeline> Office for Keeper<S, T> {
         }
     }
 
+    fn migrates(&mut self) -> Result<bool, Stop> {
+        self.migrate()
+    }
+
     fn shows(&self) -> Result<Vec<u8>, Stop> {
         match self.book() {
             Some(book) => texts(book),
@@ -182,6 +196,12 @@ impl<S: Blank, T: Timeline> Office for Keeper<S, T> {
             Ok(()) => adopted(alloc, conn),
             Err(_) => Err(STORE),
         }
+    }
+
+    fn with_rows(self, alloc: Global) -> Result<(Keeper<S, T>, Vec<u8>), Stop> {
+        let mut conn = self.into_connection();
+        let rows = stored_rows(alloc, &mut conn)?;
+        Ok((adopted(alloc, conn)?, rows))
     }
 
     fn finds(self, alloc: Global, queries: &[&str]) -> Result<Vec<i64>, Stop> {

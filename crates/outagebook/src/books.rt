@@ -165,6 +165,7 @@ fn run_task<S: Alter, T: Timeline>(
 ) -> Result<(), Unfinished> {
     let alloc = rt.alloc();
     let mut writer = Watched::new(io::writer(rt));
+    let mut telling = Telling::new(rt);
     match task {
         Task::Init { first, days, zone } => {
             let (first, zone) = (first.as_str().as_bytes(), zone.as_str().as_bytes());
@@ -172,24 +173,18 @@ fn run_task<S: Alter, T: Timeline>(
         }
         Task::Import { input } => {
             let mut input = InputFile { rt, path: input };
-            import_into_book(
-                alloc,
-                keeper,
-                &mut input,
-                &mut Telling::new(rt),
-                &mut writer,
-            )
+            import_into_book(alloc, keeper, &mut input, &mut telling, &mut writer)
         }
         Task::Export { output } => {
             let mut output = OutputFile { rt, path: output };
-            export_from_book(alloc, keeper, &mut output, &mut writer)
+            export_from_book(alloc, keeper, &mut output, &mut telling, &mut writer)
         }
-        Task::Table => print_book(keeper, &mut writer),
+        Task::Table => print_book(keeper, &mut telling, &mut writer),
         Task::Audit => audit_book(alloc, keeper, &mut writer),
         Task::Migrate => migrate_book(keeper, &mut writer),
         Task::Serve { port, streams } => {
             let (port, streams) = (*port, *streams);
-            serve_book(keeper, &mut Server { rt, port, streams })
+            serve_book(keeper, &mut Server { rt, port, streams }, &mut telling)
         }
     }
 }

@@ -1,18 +1,18 @@
-//! How far a long import is, told on a terminal.
-use ob_jobs::Progress;
+//! How far a long work is, told on a terminal.
+use ob_jobs::{Progress, Work};
 use std::io::IsTerminal;
 use std::time::Instant;
 
 // The line is written anew after so many milliseconds at least.
 const PAUSE: u128 = 200;
-// The rows of so many milliseconds at least, and at most twice as many, tell how fast the others will go.
+// The steps of so many milliseconds at least, and at most twice as many, tell how fast the others will go.
 const LATELY: u128 = 5_000;
 
-// A moment of an import, and how many rows had acted by then.
+// A moment of a work, and how many of its steps were done by then.
 #[derive(Clone, Copy)]
 struct Mark {
     at: Instant,
-    row: u32,
+    step: u32,
 }
 
 // When the line was written last, and two moments before it, apart by what counts as lately.
@@ -23,15 +23,19 @@ struct Times {
     newer: Mark,
 }
 
-/// Tells on standard error, where that is a terminal, how many rows of about how many have acted, and about how long the others
-/// will take: one line, five times a second at most, which is cleared in the end. Elsewhere it tells nothing.
+/// Tells on standard error, where that is a terminal, what is under way: that a book is opened, how many of its commands were
+/// led along or how many rows of a text have acted, of about how many, and about how long the others will take, and that tables
+/// are compared. It is one line, written anew five times a second at most while steps are counted, which is cleared in the end.
+/// Elsewhere it tells nothing.
 #[derive(Drop)]
 pub(crate) struct Telling<'r> {
     rt: &'r HostRuntime,
     // None where nothing is told.
     times: Option<Times>,
-    // About how many rows there are.
-    rows: u64,
+    // What a step is called.
+    step: &'static str,
+    // About how many steps there are.
+    steps: u64,
     is_written: bool,
 }
 
@@ -41,24 +45,39 @@ impl Telling<'_> {
         Telling {
             rt,
             times: None,
-            rows: 0,
+            step: "",
+            steps: 0,
             is_written: false,
         }
+    }
+
+    // The line with a text.
+    fn write(&mut self, text: &str) {
+        let _ = eprint!(self.rt; "\r{text}\x1b[K");
+        self.is_written = true;
     }
 }
 
 impl Progress for Telling<'_> {
-    fn begin(&mut self, lines: u64) {
-        self.rows = lines.saturating_sub(1);
-        if self.rt.stderr().is_terminal() {
-            self.times = match Instant::now(self.rt) {
-                Ok(now) => Some(beginning(now)),
-                Err(_) => None,
-            };
+    fn begin(&mut self, work: Work, steps: u64) {
+        self.steps = steps;
+        self.times = None;
+        if !self.rt.stderr().is_terminal() {
+            return;
         }
+        match work {
+            Work::Opening => self.write("opening the book"),
+            Work::Tables => self.write("comparing the tables"),
+            Work::Commands => self.step = "command",
+            Work::Rows => self.step = "row",
+        }
+        self.times = match Instant::now(self.rt) {
+            Ok(now) => Some(beginning(now)),
+            Err(_) => None,
+        };
     }
 
-    fn acted(&mut self, row: u32) {
+    fn step(&mut self, number: u32) {
         let Some(times) = self.times else {
             return;
         };
@@ -68,23 +87,25 @@ impl Progress for Telling<'_> {
         if now.duration_since(times.written).as_millis() < PAUSE {
             return;
         }
-        let rows = self.rows.max(u64::from(row));
-        let left = seconds_left(&times.older, now, row, rows);
-        let _ = eprint!(self.rt; "\rrow {row} of {rows}, about {left} s left\x1b[K");
-        self.times = Some(moved_on(times, now, row));
+        let (step, steps) = (self.step, self.steps.max(u64::from(number)));
+        let left = seconds_left(&times.older, now, number, steps);
+        let _ = eprint!(self.rt; "\r{step} {number} of {steps}, about {left} s left\x1b[K");
+        self.times = Some(moved_on(times, now, number));
         self.is_written = true;
     }
 
     fn end(&mut self) {
         if self.is_written {
             let _ = eprint!(self.rt; "\r\x1b[K");
+            self.is_written = false;
         }
+        self.times = None;
     }
 }
 
-// The times of an import that begins now.
+// The times of a work that begins now.
 fn beginning(now: Instant) -> Times {
-    let mark = Mark { at: now, row: 0 };
+    let mark = Mark { at: now, step: 0 };
     Times {
         written: now,
         older: mark,
@@ -92,8 +113,8 @@ fn beginning(now: Instant) -> Times {
     }
 }
 
-// The times once the line was written now, after so many rows.
-fn moved_on(times: Times, now: Instant, row: u32) -> Times {
+// The times once the line was written now, after so many steps.
+fn moved_on(times: Times, now: Instant, step: u32) -> Times {
     if now.duration_since(times.newer.at).as_millis() < LATELY {
         return Times {
             written: now,
@@ -103,15 +124,15 @@ fn moved_on(times: Times, now: Instant, row: u32) -> Times {
     Times {
         written: now,
         older: times.newer,
-        newer: Mark { at: now, row },
+        newer: Mark { at: now, step },
     }
 }
 
-/// How many seconds the rows that are left take, if they go as those since a moment did.
-fn seconds_left(since: &Mark, now: Instant, row: u32, rows: u64) -> u128 {
+/// How many seconds the steps that are left take, if they go as those since a moment did.
+fn seconds_left(since: &Mark, now: Instant, step: u32, steps: u64) -> u128 {
     let millis = now.duration_since(since.at).as_millis();
-    let done = u128::from(row.saturating_sub(since.row));
-    let left = u128::from(rows.saturating_sub(u64::from(row)));
+    let done = u128::from(step.saturating_sub(since.step));
+    let left = u128::from(steps.saturating_sub(u64::from(step)));
     match millis
         .saturating_mul(left)
         .checked_div(done.saturating_mul(1_000))

@@ -6,7 +6,7 @@ use Rattle.ob_store.specs.Keeping.{KeeperValue}
 use Rattle.ob_store.specs.Versions.{Tells}
 use Rattle.ob_store.specs.Loading.{Holding, HoldsNoBook}
 use Rattle.ob_store.proofs.Holding.{loaded_ok}
-use Rattle.ob_store.proofs.keeper.Keeper.load.Goals as goal
+use Rattle.ob_store.proofs.keeper.Keeper.load_with_progress.Goals as goal
 
 pub returns-in-Ok-clause-loaded : goal.returns-in-Ok-clause-loaded
 returns-in-Ok-clause-loaded g c clean schema =

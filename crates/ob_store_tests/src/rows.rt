@@ -1,0 +1,64 @@
+//! What stands in the tables, row by row.
+use ob_net::Stop;
+use sqlite::{Alter, Connection, Row};
+use std::alloc::{AllocError, Global};
+
+// The rows of each table by its key, with one space between the columns; first of the ten that both versions have.
+const QUERIES: &'static [&'static str] = &[
+    "SELECT id || ' ' || version || ' ' || day0 || ' ' || days || ' ' || zone FROM meta",
+    "SELECT code || ' ' || name FROM cause ORDER BY code",
+    "SELECT id || ' ' || name || ' ' || kind || ' ' || feeder FROM node ORDER BY id",
+    "SELECT id || ' ' || name || ' ' || a || ' ' || b || ' ' || normal FROM device ORDER BY id",
+    "SELECT id || ' ' || section || ' ' || since || ' ' || coalesce(until, '-') FROM customer \
+     ORDER BY id",
+    "SELECT id || ' ' || rev || ' ' || device || ' ' || pos || ' ' || second || ' ' || cause || ' ' \
+     || crew || ' ' || kept FROM entry ORDER BY id",
+    "SELECT day || ' ' || engineer FROM mark ORDER BY day",
+    "SELECT id || ' ' || ref || ' ' || body FROM cmd ORDER BY id",
+    "SELECT cmd || ' ' || dim || ' ' || k || CASE WHEN delta < 0 THEN ' - ' ELSE ' + ' END \
+     || abs(delta) FROM moved ORDER BY cmd, dim, k",
+    "SELECT dim || ' ' || k || ' ' || amount FROM posting ORDER BY dim, k",
+    "SELECT device || ' ' || since || ' ' || coalesce(until, '-') FROM life ORDER BY device",
+];
+
+/// The rows of all tables. Where a table isn't there, that is told in the place of its rows.
+pub fn stored_rows<S: Alter>(
+    alloc: Global,
+    conn: &mut Connection<S>,
+) -> Result<Vec<u8>, AllocError> {
+    let mut text = Vec::new(alloc);
+    for sql in QUERIES {
+        put_table(conn, sql, &mut text)?;
+    }
+    Ok(text)
+}
+
+// Puts the rows that a query finds behind others.
+fn put_table<S: Alter>(
+    conn: &mut Connection<S>,
+    sql: &str,
+    text: &mut Vec<u8>,
+) -> Result<(), AllocError> {
+    let Ok(rows) = conn.query_all(sql, &[]) else {
+        return text.extend_from_slice(b"no such table\n");
+    };
+    text.extend_from_slice(b"table\n")?;
+    for row in rows.iter() {
+        put_line(row, text)?;
+    }
+    Ok(())
+}
+
+// Puts a row of one column behind others.
+fn put_line(row: &Row, text: &mut Vec<u8>) -> Result<(), AllocError> {
+    match row.get(0) {
+        Ok(found) => put_text(&found, text),
+        Err(_) => text.extend_from_slice(b"no text\n"),
+    }
+}
+
+fn put_text(found: &String, text: &mut Vec<u8>) -> Result<(), AllocError> {
+    text.extend_from_slice(found.as_bytes())?;
+    text.push(b'\n')?;
+    Ok(())
+}
