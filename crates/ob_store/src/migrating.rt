@@ -172,7 +172,7 @@ fn find_old<S: Alter, T: Timeline>(alloc: Global, conn: &mut Connection<S>) -> R
 }
 
 /// Makes the tables of version 1 of the book that was found those of version 2, in one transaction.
-fn upgrade<S: Alter>(conn: &mut Connection<S>, it: &Upgrade) -> Result<(), Stop>
+fn write_upgrade<S: Alter>(conn: &mut Connection<S>, it: &Upgrade) -> Result<(), Stop>
     requires mode { conn.old.in_transaction ≡ false }
     ensures mode { conn.new.in_transaction ≡ false }
     ensures faults { IfErr result IsStoreFault }
@@ -207,7 +207,7 @@ pub(crate) fn migrate_on<S: Alter, T: Timeline>(
         Ok(found) => found,
         Err(stop) => return Err(stop),
     };
-    match upgrade(conn, &found) {
+    match write_upgrade(conn, &found) {
         Ok(()) => Ok(true),
         Err(stop) => Err(stop),
     }
