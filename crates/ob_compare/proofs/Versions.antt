@@ -35,12 +35,12 @@ referenced_in Two a reference is = (reference, is)
 
 -- ---- what a version accepts is what it lets through and today accepts
 pub unfit : (accepts lets : Bool) (r : Option Refusal) → accepts ≡ (lets && is_none r) → lets ≡ false → IsTrue accepts → ⊥
-unfit accepts lets r is never yes = true≢false (sym yes ∙ is ∙ ap (λ b. b && is_none r) never)
+unfit accepts lets r is never so = true≢false (sym so ∙ is ∙ ap (λ b. b && is_none r) never)
 
 pub unrefused : (accepts lets : Bool) (r : Option Refusal) → accepts ≡ (lets && is_none r) → IsTrue accepts → r ≡ None
-unrefused accepts lets None is yes = refl
-unrefused accepts true (Some r) is yes = absurd (true≢false (sym yes ∙ is))
-unrefused accepts false (Some r) is yes = absurd (true≢false (sym yes ∙ is))
+unrefused accepts lets None is so = refl
+unrefused accepts true (Some r) is so = absurd (true≢false (sym so ∙ is))
+unrefused accepts false (Some r) is so = absurd (true≢false (sym so ∙ is))
 
 pub accepted : (accepts lets : Bool) (r : Option Refusal) → accepts ≡ (lets && is_none r) → lets ≡ true → r ≡ None → IsTrue accepts
 accepted accepts lets r is through none = is ∙ ap₂ (λ b (o : Option Refusal). b && is_none o) through none

@@ -25,14 +25,14 @@ use Rattle.ob_migrate.specs.Laws.{HoldsOneOldBook, IsOldCommand, NamesOnePeriod,
 use Rattle.ob_migrate.specs.OldTables.{HasOldBook, old_tables_of, row_of_old_command}
 
 -- ---- today's text, of one that a command had
-renewed_text : List ℕ → List ℕ
+abbrev renewed_text : List ℕ → List ℕ
 renewed_text text = text ++ (if is_of_device text then codes " 0 -" else [])
 
-renewed_value : Value → Value
+abbrev renewed_value : Value → Value
 renewed_value (Text text) = Text (renewed_text text)
 renewed_value other = other
 
-renewed : Columns → Columns
+abbrev renewed : Columns → Columns
 renewed row = column row 0 ∷ column row 1 ∷ renewed_value (column row 2) ∷ []
 
 rows_renewed : BodiesGrow → (n : ℕ) (list : List Referenced) → AllByRecursion IsOldCommand list → map renewed (numbered row_of_old_command n list) ≡ numbered row_of_command n list

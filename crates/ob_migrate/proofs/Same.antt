@@ -11,12 +11,14 @@ use Rattle.ob_post.specs.declared.Moved.{Moved as MovedAmount}
 use Rattle.ob_time.specs.Calendar.{day_count}
 use Rattle.ob_command.specs.Commands.{body_text}
 use Rattle.ob_command.specs.declared.command.Command.{Command as AnyCommand}
+use Rattle.ob_state.specs.Amounts.{moves}
 use Rattle.ob_state.specs.Next.{next}
 use Rattle.ob_state.specs.Refusals.{refusal}
 use Rattle.ob_state.specs.State.{BookState, empty_book}
 use Rattle.ob_book.specs.Acts.{Referenced}
 use Rattle.ob_upgrade.specs.Laws.{AcceptedButForParts, AcceptedByBoth, BodiesGrow, LiveAlways, ReachedByBoth, SameFigures, moved_by, old_moved_by}
 use Rattle.ob_upgrade.specs.Old.{fits_old, is_device, is_old, is_part, is_sealed, old_accepts, old_body_text, old_next_all}
+use Rattle.ob_upgrade.specs.OldFigures.{old_moves}
 use Rattle.ob_tables.specs.Rows.{Columns, life_row}
 use Rattle.ob_tables.specs.declared.table.Table.TheVariants.{Meta, Cause, Node, Device, Life, Customer, Entry, Mark, Command, Moved, Posting}
 use Rattle.ob_commit.specs.Amounts.{amount_rows}
@@ -48,17 +50,17 @@ old_is_reached both accepted step b h =
     )
 
 -- ---- the rows of amounts and of what was moved
-rows_by : ℕ → List (List MovedAmount) → List Columns
+abbrev rows_by : ℕ → List (List MovedAmount) → List Columns
 rows_by n [] = []
 rows_by n (moved ∷ more) = rows_of_moves n moved ++ rows_by (n + 1) more
 
 rows_now : (b : BookState) (n : ℕ) (list : List Referenced) → moved_rows b n list ≡ rows_by n (moved_by b (map (λ a. a.command) list))
 rows_now b n [] = refl
-rows_now b n (a ∷ list) = ap (λ rows. rows_of_moves n _ ++ rows) (rows_now (next b a.command) (n + 1) list)
+rows_now b n (a ∷ list) = ap (λ rows. rows_of_moves n (moves b (next b a.command)) ++ rows) (rows_now (next b a.command) (n + 1) list)
 
 rows_then : (b : BookState) (n : ℕ) (list : List Referenced) → old_moved_rows b n list ≡ rows_by n (old_moved_by b (map (λ a. a.command) list))
 rows_then b n [] = refl
-rows_then b n (a ∷ list) = ap (λ rows. rows_of_moves n _ ++ rows) (rows_then (next b a.command) (n + 1) list)
+rows_then b n (a ∷ list) = ap (λ rows. rows_of_moves n (old_moves b (next b a.command)) ++ rows) (rows_then (next b a.command) (n + 1) list)
 
 pub tables_are_alike : ReachedByBoth → AcceptedByBoth → AcceptedButForParts → SameFigures → TablesAreAlike
 tables_are_alike both accepted step figures b h Meta alike = absurd alike

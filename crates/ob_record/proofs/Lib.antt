@@ -1,6 +1,6 @@
 mod Accepts
 mod Acted
-mod Keyed
+pub mod Keyed
 mod Leads
 mod Listed
 mod Lives

@@ -7,10 +7,10 @@ use Rattle.std.proofs.lemmas.Bool.{and_parts}
 use Rattle.std.proofs.lemmas.Bool.Decides.{nat_tests}
 use Rattle.ob_base.specs.declared.Pos.{Pos}
 use Rattle.ob_command.specs.Ranges.{EndNames}
-use Rattle.ob_command.specs.Commands.{body_text, normal_text, IsCommand}
+use Rattle.ob_command.specs.Commands.{body_text, normal_text, BodiesDiffer, IsCommand}
 use Rattle.ob_command.specs.declared.command.Command.{Command}
 use Rattle.ob_command.specs.declared.command.Command.TheVariants.{Cause, Bus, Section, Device, Life, Connect, Revise, Switch, Correct, Withdraw, Mark, Unmark}
-use Rattle.ob_upgrade.specs.Laws.{BodiesGrow}
+use Rattle.ob_upgrade.specs.Laws.{BodiesGrow, OldBodiesDiffer}
 use Rattle.ob_upgrade.specs.Old.{is_device, is_old, old_body_text}
 use Rattle.ob_upgrade.specs.Reading.{is_of_device, is_old_device, is_old_other, kept_if}
 
@@ -69,7 +69,7 @@ bodies_grow (Mark date engineer) h = sym (append-nil (body_text (Mark date engin
 bodies_grow (Unmark date engineer) h = sym (append-nil (body_text (Unmark date engineer)))
 
 -- only a device's text begins as one
-begins : (c : Command) → is_old c ≡ true → is_of_device (old_body_text c) ≡ is_device c
+pub begins : (c : Command) → is_old c ≡ true → is_of_device (old_body_text c) ≡ is_device c
 begins (Device name ends normal since until) h = refl
 begins (Life device since until) h = not_false false h refl
 begins (Cause code name) h = refl
@@ -82,6 +82,17 @@ begins (Correct entry revision act second cause crew) h = refl
 begins (Withdraw entry revision) h = refl
 begins (Mark date engineer) h = refl
 begins (Unmark date engineer) h = refl
+
+-- a device's old text begins as no other's, and so both texts grow by the same words
+pub old_bodies_differ : BodiesDiffer → OldBodiesDiffer
+old_bodies_differ law c d valid_c valid_d old_c old_d same =
+    let kinds : is_device c ≡ is_device d = sym (begins c old_c) ∙ ap is_of_device same ∙ begins d old_d in
+    law c d valid_c valid_d (
+    bodies_grow c old_c
+    ∙ ap (λ t. t ++ (if is_device c then tail else [])) same
+    ∙ ap (λ b. old_body_text d ++ (if b then tail else [])) kinds
+    ∙ sym (bodies_grow d old_d)
+    )
 
 same_some : (a b : Command) → Some a ≡ Some b → a ≡ b
 same_some a b e = cc

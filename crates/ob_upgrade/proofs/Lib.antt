@@ -1,4 +1,4 @@
-mod Bodies
+pub mod Bodies
 mod Examples
 mod Reached
 mod Whole

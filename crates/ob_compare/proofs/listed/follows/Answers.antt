@@ -1,9 +1,12 @@
-use Rattle.std.proofs.Common.{◌<◌, ◌++◌, length, take, ap, ◌∙◌, arith}
+use Rattle.std.proofs.Common.{List, [], ◌<◌, ◌++◌, length, take, ap, subst, ◌∙◌, arith}
+use Rattle.std.proofs.lemmas.List.{take_all}
+use Rattle.sqlite.specs.Given.{HasGiven}
+use Rattle.sqlite.specs.Order.{Row}
 use Rattle.sqlite.specs.Effect.{Database}
 use Rattle.sqlite.specs.State.{HasCleanDisk}
 use Rattle.sqlite.specs.Held.{state}
 use Rattle.sqlite.proofs.Callers.{unchanged_then}
-use Rattle.ob_compare.specs.Parts.{listing_of, standing}
+use Rattle.ob_compare.specs.Parts.{listing_of, select_of, standing}
 use Rattle.ob_compare.proofs.Listing.{still_then}
 use Rattle.ob_compare.proofs.Places.{place_on, place_off}
 use Rattle.ob_compare.proofs.listed.follows.Goals as goal
@@ -43,3 +46,9 @@ places-preserved g c =
           ),
       λ v t keeps. step.kept v t (c.places.invariant.4 v t keeps),
     )
+
+pub returns-clause-goes : goal.returns-clause-goes
+returns-clause-goes g c late live v own has given it =
+    let ps = g.L.Listed.places c.args.listed.now in
+    let all = take_all c.places.at ps (omega (arith, c.places-test.false)) in
+    subst (λ (rows : List Row). HasGiven g.S.Store (select_of g.L.Listed.table) [] c.places.rows.conn.now (given ++ rows)) (ap standing all) ((c.places.invariant.3 late).1 live v own has given it)

@@ -78,8 +78,8 @@ returns-in-Ok-false-clause-moved g c late live v has given table shows =
     let there = ap (λ (d : Database). d.schema) (was.0 live).0.now_is ∙ has in
     let db : (state g.S.Store new).now ≡ old.now = (c.in-Ok-false.ensures.same late live_mid).0.now_is ∙ (was.0 live).0.now_is in
     let rows = rows_of_moves (c.commands.at + 1) (moves b (next b f.command)) in
-    let off : IsTrue (accepts_in c.args.version b f.command) → IsOff moved_listing old.now at.0 rows = λ yes. subst (λ (d : Database). IsOff moved_listing d at.0 rows) db
-    (goes_off g.S.Store moved_listing new at.0 rows c.in-Ok-false.field-0 (c.in-Ok-false.ensures.goes late live_mid v there at.0 at.1 yes) c.in-Ok-false.field-0-test) in
+    let off : IsTrue (accepts_in c.args.version b f.command) → IsOff moved_listing old.now at.0 rows = λ so. subst (λ (d : Database). IsOff moved_listing d at.0 rows) db
+    (goes_off g.S.Store moved_listing new at.0 rows c.in-Ok-false.field-0 (c.in-Ok-false.ensures.goes late live_mid v there at.0 at.1 so) c.in-Ok-false.field-0-test) in
     (λ e. absurd (true≢false (sym e)), λ it. absurd (off_all c.args.version old.now b first (c.commands.at + 1) c.commands.at list f at.0 table low here c.commands.invariant.4 at.2 off shows it))
 
 pub returns-clause-moved : goal.returns-clause-moved

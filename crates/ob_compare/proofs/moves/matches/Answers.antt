@@ -1,4 +1,7 @@
-use Rattle.std.proofs.Common.{◌<◌, ◌++◌, length, take, sym, subst, ap, ◌∙◌, arith}
+use Rattle.std.proofs.Common.{List, [], ◌<◌, ◌++◌, length, take, sym, subst, ap, ◌∙◌, arith}
+use Rattle.std.proofs.lemmas.List.{length-map, take_all}
+use Rattle.sqlite.specs.Given.{HasGiven}
+use Rattle.sqlite.specs.Order.{Row}
 use Rattle.sqlite.specs.Effect.{Database}
 use Rattle.sqlite.specs.State.{HasCleanDisk}
 use Rattle.sqlite.specs.Held.{state}
@@ -7,7 +10,8 @@ use Rattle.ob_record.specs.Tables.{rows_of_moves}
 use Rattle.ob_tables.specs.Steps.{IsStoreFault}
 use Rattle.ob_compare.proofs.Listing.{still_then}
 use Rattle.ob_compare.proofs.Passing.{clean_before, no_value, of_error, unchanged_after}
-use Rattle.ob_compare.proofs.Rowing.{move_on, move_off}
+use Rattle.ob_compare.specs.Moves.{moved_listing}
+use Rattle.ob_compare.proofs.Rowing.{move_on, move_off, row_of}
 use Rattle.ob_compare.proofs.moves.matches.Goals as goal
 
 pub returns-then-not-branch-clause-goes : goal.returns-then-not-branch-clause-goes
@@ -97,3 +101,9 @@ returns-clause-mode g c = c.moves.invariant.2
 
 pub returns-clause-same : goal.returns-clause-same
 returns-clause-same g c late = (c.moves.invariant.3 late).0
+
+pub returns-clause-goes : goal.returns-clause-goes
+returns-clause-goes g c late live v has given it =
+    let rows = rows_of_moves c.args.no c.args.moves.now in
+    let all = take_all c.moves.at rows (omega (arith, length-map c.args.moves.now (row_of c.args.no), c.moves-test.false)) in
+    subst (λ (l : List Row). HasGiven g.S.Store moved_listing.text [] c.moves.rows.conn.now (given ++ l)) all ((c.moves.invariant.3 late).1 live v has given it)

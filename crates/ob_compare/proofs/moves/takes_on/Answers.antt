@@ -23,8 +23,8 @@ moved_by ms plan b x a has moved state command = has ∙ moved ∙ ap₂ (λ (s 
 
 -- a command that the version doesn't let through
 pub returns-then-not-fits-clause-goes : goal.returns-then-not-fits-clause-goes
-returns-then-not-fits-clause-goes g c late live v has given it yes =
-    absurd (unfit _ c.fits.result (refusal c.args.book.now.state c.args.command.now) c.fits.ensures c.if-not-fits.true yes)
+returns-then-not-fits-clause-goes g c late live v has given it so =
+    absurd (unfit _ c.fits.result (refusal c.args.book.now.state c.args.command.now) c.fits.ensures c.if-not-fits.true so)
 
 pub returns-then-not-fits-clause-survives : goal.returns-then-not-fits-clause-survives
 returns-then-not-fits-clause-survives g c = still (state g.S.Store c.args.rows.now.conn.now)
@@ -45,13 +45,13 @@ pub returns-then-not-fits-clause-noted : goal.returns-then-not-fits-clause-noted
 returns-then-not-fits-clause-noted g c e = absurd (no_is_no e)
 
 pub returns-in-Err-Refused-clause-goes : goal.returns-in-Err-Refused-clause-goes
-returns-in-Err-Refused-clause-goes g c late live v has given it yes =
+returns-in-Err-Refused-clause-goes g c late live v has given it so =
     let known : refusal c.args.book.now.state c.args.command.now ≡ Some c.in-Err-Refused.field-0-0 = (c.decide.ensures.refused c.in-Err-Refused.field-0-0).0 (c.in-Err-Refused.is ∙ ap Err c.in-Err-Refused.field-0-is) in
-    let none = unrefused _ c.fits.result (refusal c.args.book.now.state c.args.command.now) c.fits.ensures yes in
+    let none = unrefused _ c.fits.result (refusal c.args.book.now.state c.args.command.now) c.fits.ensures so in
     absurd (let e = sym none ∙ known in cc)
 
 pub returns-in-Ok-false-clause-goes : goal.returns-in-Ok-false-clause-goes
-returns-in-Ok-false-clause-goes g c late live v has given it yes =
+returns-in-Ok-false-clause-goes g c late live v has given it so =
     let b = c.args.book.now.state in
     let x = c.args.command.now in
     let new = c.matches.new.rows.conn.now in
@@ -150,7 +150,7 @@ pub returns-in-Ok-note_ends-clause-same : goal.returns-in-Ok-note_ends-clause-sa
 returns-in-Ok-note_ends-clause-same g c = c.in-Ok-true.ensures.same
 
 pub returns-in-Ok-note_ends-clause-goes : goal.returns-in-Ok-note_ends-clause-goes
-returns-in-Ok-note_ends-clause-goes g c late live v has given it yes =
+returns-in-Ok-note_ends-clause-goes g c late live v has given it so =
     let b = c.args.book.now.state in
     let x = c.args.command.now in
     let new = c.matches.new.rows.conn.now in
