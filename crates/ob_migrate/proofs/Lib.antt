@@ -1,5 +1,5 @@
-mod Bodies
 mod Changed
+mod Examples
 mod Renewed
 mod Rowing
 mod Same

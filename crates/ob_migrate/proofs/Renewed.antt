@@ -1,5 +1,5 @@
 -- The ten tables of a book of version 1 are those of no other: today's body texts are told from those that commands had.
-use Rattle.std.proofs.Common.{◌≡◌, ◌∙◌, ℕ, ◌+◌, Bool, true, false, List, [], ◌∷◌, ◌++◌, append-nil, codes, map, if◌then◌else◌, refl, sym, ap, ap₂, subst, subst₂}
+use Rattle.std.proofs.Common.{◌≡◌, ◌∙◌, ℕ, ◌+◌, List, [], ◌∷◌, ◌++◌, codes, map, if◌then◌else◌, refl, sym, ap, ap₂, subst, subst₂}
 use Rattle.std.specs.List.{AllByRecursion}
 use Rattle.std.specs.List.Sorted.{IsPermutation}
 use Rattle.std.proofs.lemmas.List.Sorted.{IsPermutation-map, IsPermutation-sym, IsPermutation-trans}
@@ -14,7 +14,7 @@ use Rattle.ob_time.specs.Period.{IsPeriodText}
 use Rattle.ob_command.specs.Commands.{body_text}
 use Rattle.ob_book.specs.Acts.{ActState, Referenced, start}
 use Rattle.ob_upgrade.specs.Laws.{BodiesGrow}
-use Rattle.ob_upgrade.specs.Old.{is_device, old_acts, old_body_text}
+use Rattle.ob_upgrade.specs.Old.{old_acts, old_body_text}
 use Rattle.ob_upgrade.specs.Reading.{is_of_device}
 use Rattle.ob_upgrade.proofs.Bodies.{begins}
 use Rattle.ob_tables.specs.Rows.{Columns, command_row, meta_row}

@@ -1,5 +1,5 @@
 -- Rows of commands under their numbers, where the commands of some numbers get other body texts; and rows of lives.
-use Rattle.std.proofs.Common.{◌≡◌, ◌∙◌, ℕ, ◌+◌, ◌<◌, ◌≤◌, ◌==◌, Bool, true, false, zero, suc, List, [], ◌∷◌, ◌++◌, append_assoc, append-nil, map, filter, length, None, if◌then◌else◌, refl, sym, ap, ap₂, inl, inr, arith}
+use Rattle.std.proofs.Common.{◌≡◌, ◌∙◌, ℕ, ◌+◌, ◌<◌, ◌≤◌, ◌==◌, true, false, zero, suc, List, [], ◌∷◌, ◌++◌, map, filter, length, None, if◌then◌else◌, refl, sym, ap, ap₂, inl, inr, arith}
 use Rattle.std.specs.Prelude.{⊤}
 use Rattle.std.specs.List.{AllByRecursion}
 use Rattle.std.proofs.lemmas.Bool.{cases_Bool}
@@ -8,8 +8,7 @@ use Rattle.sqlite.specs.Order.{column}
 use Rattle.ob_command.specs.Commands.{body_text}
 use Rattle.ob_book.specs.Acts.{Referenced}
 use Rattle.ob_upgrade.specs.Old.{is_device, old_body_text}
-use Rattle.ob_tables.specs.Rows.{Columns, HasCommand, Tables, change_where, command_row, is_key, life_row, number, rebody, with_row}
-use Rattle.ob_tables.specs.declared.table.Table.{Table}
+use Rattle.ob_tables.specs.Rows.{Columns, Tables, change_where, command_row, is_key, life_row, number, rebody}
 use Rattle.ob_tables.specs.declared.table.Table.TheVariants.{Command, Life}
 use Rattle.ob_commit.specs.Upgrade.{HasBodies, with_bodies, with_body, with_lives}
 use Rattle.ob_commit.specs.declared.upgrade.NewBody.{NewBody}
@@ -102,9 +101,9 @@ at_turns : (n : ℕ) (xs : List Referenced) (rows : List Columns) → ((k : ℕ)
 at_turns n [] rows ones = tt
 at_turns n (x ∷ xs) rows ones = elim (cases_Bool (is_device x.command)) [
   | inl is ↦ rw is (
-      ones n (omega arith) (omega arith),
-      at_turns (n + 1) xs (change_where (is_key n) (rebody (body_text x.command)) rows) (λ k low high. stays_one k n (body_text x.command) rows (ones k (omega (arith, low)) (omega (arith, high)))),
-    )
+    ones n (omega arith) (omega arith),
+    at_turns (n + 1) xs (change_where (is_key n) (rebody (body_text x.command)) rows) (λ k low high. stays_one k n (body_text x.command) rows (ones k (omega (arith, low)) (omega (arith, high)))),
+  )
   | inr other ↦ rw other (at_turns (n + 1) xs rows (λ k low high. ones k (omega (arith, low)) (omega (arith, high))))
 ]
 
@@ -132,13 +131,13 @@ rows_anew n (x ∷ xs) keeps =
       | inl is ↦
           let same : (n == n) ≡ true = grind (arith, nat_tests) in
           rw (is, key_is n n (row_of_old_command n x) refl, same) (
-            ap (λ l. rows_with (new_texts (n + 1) xs) (row_of_command n x ∷ l)) (all_past n (n + 1) (body_text x.command) xs (omega arith))
-            ∙ past_row n (n + 1) (row_of_command n x) refl (omega arith) xs (numbered row_of_old_command (n + 1) xs) ∙ ap (λ l. row_of_command n x ∷ l) rest
+          ap (λ l. rows_with (new_texts (n + 1) xs) (row_of_command n x ∷ l)) (all_past n (n + 1) (body_text x.command) xs (omega arith))
+          ∙ past_row n (n + 1) (row_of_command n x) refl (omega arith) xs (numbered row_of_old_command (n + 1) xs) ∙ ap (λ l. row_of_command n x ∷ l) rest
           )
       | inr other ↦ rw other (
           past_row n (n + 1) (row_of_old_command n x) refl (omega arith) xs (numbered row_of_old_command (n + 1) xs)
           ∙ ap₂ (λ t l. command_row n x.reference t ∷ l) (keeps.0 other) rest
-        )
+          )
     ]
 
 -- ---- the lives

@@ -1,5 +1,5 @@
 -- A book of version 1 is one of today, and what it counted and moved is the same.
-use Rattle.std.proofs.Common.{◌≡◌, ◌∙◌, ℕ, ◌+◌, ◌&&◌, Bool, true, false, List, [], ◌∷◌, ◌++◌, append-nil, codes, length, map, Option, Some, None, is_none, if◌then◌else◌, refl, sym, ap, ap₂, arith}
+use Rattle.std.proofs.Common.{◌≡◌, ◌∙◌, ℕ, ◌+◌, Bool, true, false, List, [], ◌∷◌, ◌++◌, append-nil, codes, length, map, Option, Some, None, is_none, if◌then◌else◌, refl, sym, ap, ap₂, arith}
 use Rattle.std.specs.List.{AllByRecursion}
 use Rattle.std.proofs.lemmas.Bool.{and_parts}
 use Rattle.std.proofs.lemmas.List.Elements.{All-head, All-tail}
@@ -16,8 +16,8 @@ use Rattle.ob_state.specs.Next.{next}
 use Rattle.ob_state.specs.Refusals.{refusal}
 use Rattle.ob_state.specs.State.{BookState, empty_book}
 use Rattle.ob_book.specs.Acts.{Referenced}
-use Rattle.ob_upgrade.specs.Laws.{AcceptedButForParts, AcceptedByBoth, BodiesGrow, LiveAlways, ReachedByBoth, SameFigures, moved_by, old_moved_by}
-use Rattle.ob_upgrade.specs.Old.{fits_old, is_device, is_old, is_part, is_sealed, old_accepts, old_body_text, old_next_all}
+use Rattle.ob_upgrade.specs.Laws.{AcceptedButForParts, AcceptedByBoth, BodiesGrow, ReachedByBoth, SameFigures, moved_by, old_moved_by}
+use Rattle.ob_upgrade.specs.Old.{fits_old, is_device, is_old, old_accepts, old_body_text, old_next_all}
 use Rattle.ob_upgrade.specs.OldFigures.{old_moves}
 use Rattle.ob_tables.specs.Rows.{Columns, life_row}
 use Rattle.ob_tables.specs.declared.table.Table.TheVariants.{Meta, Cause, Node, Device, Life, Customer, Entry, Mark, Command, Moved, Posting}

@@ -1,5 +1,5 @@
 -- The laws that join the tables of a book of version 1 and those of the same book today.
-use Rattle.std.specs.Prelude.{◌≡◌, ℕ, List, ⊤, length, true}
+use Rattle.std.specs.Prelude.{◌≡◌, List, ⊤, length, true}
 use Rattle.std.specs.List.{AllByRecursion}
 use Rattle.std.specs.List.Sorted.{IsPermutation}
 use Rattle.sqlite.specs.Tree.{Trees}
@@ -10,7 +10,7 @@ use Rattle.ob_book.specs.Acts.{ActState, Referenced}
 use Rattle.ob_upgrade.specs.Laws.{LiveAlways}
 use Rattle.ob_upgrade.specs.Old.{is_old}
 use Rattle.ob_tables.specs.declared.table.Table.{Table}
-use Rattle.ob_tables.specs.declared.table.Table.TheVariants.{Meta, Cause, Node, Device, Life, Customer, Entry, Mark, Command, Moved, Posting}
+use Rattle.ob_tables.specs.declared.table.Table.TheVariants.{Meta, Life, Command}
 use Rattle.ob_commit.specs.Upgrade.{CanUpgrade, with_upgrade}
 use Rattle.ob_commit.specs.declared.upgrade.NewBody.{NewBody}
 use Rattle.ob_record.specs.Reached.{IsReached}
@@ -45,7 +45,7 @@ Upgraded =
     (b : ActState) (bodies : List NewBody) → IsOldReached b → texts_of bodies ≡ new_texts 1 b.accepted
     → CanUpgrade bodies (length b.book.network.devices) (old_tables_of b)
     × ((table : Table)
-      → IsPermutation (with_upgrade bodies (length b.book.network.devices) (old_tables_of b) table) (tables_of b table))
+    → IsPermutation (with_upgrade bodies (length b.book.network.devices) (old_tables_of b) table) (tables_of b table))
 
 -- the texts of the book's period name it alone
 abbrev pub NamesOnePeriod : ActState → Type 0
@@ -53,7 +53,7 @@ NamesOnePeriod b =
     (p : Calendar) → IsPeriodText (day_text b.book.period.first_day) (day_count b.book.period) b.book.period.zone p
     → p ≡ b.book.period
 
--- trees that hold the ten tables of one book of version 1 hold those of no other
+-- trees that hold the ten tables of a book of version 1, the texts of whose period name it alone, hold those of no other
 abbrev pub HoldsOneOldBook : Type 0
 HoldsOneOldBook =
     (trees : Trees) (b c : ActState) → HasOldBook trees b → HasOldBook trees c → NamesOnePeriod c → b ≡ c
