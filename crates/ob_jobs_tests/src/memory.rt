@@ -2,7 +2,7 @@
 use crate::host::Sink;
 use crate::office::{Ask, Heard, Office};
 use crate::script::{BAD_BOOK, Step, Trial, answered, over_a_store};
-use crate::texts::OUTAGE;
+use crate::texts::{OUTAGE, TO_VERSION_1};
 use ob_base::Stop;
 use std::alloc::Global;
 use std::process::Abort;
@@ -39,6 +39,7 @@ const JOBS: &[(Ask, &'static str)] = &[
     (Ask::Print, "OUTAGE BOOK 2024-01-01 days 1 zone UTC0\n"),
     (Ask::Serve(true), ""),
     (Ask::Audit, "audit ok\n"),
+    (Ask::Migrate, "version 2\n"),
 ];
 
 struct Refused;
@@ -52,10 +53,13 @@ impl Trial for Refused {
             let heard = comes_through(rt, alloc, &mut office, *ask)?;
             assert!(rt; heard.status == 0 && heard.told.starts_with(line.as_bytes()));
         }
+        let mut old = office.changed(alloc, TO_VERSION_1)?;
+        let heard = comes_through(rt, alloc, &mut old, Ask::Migrate)?;
+        assert!(rt; heard.status == 0 && heard.told.as_slice() == b"migrated\n".as_slice());
         answered(
             rt,
             alloc,
-            office,
+            old,
             &[Step::Do(Ask::Audit, 0, None, "audit ok\n")],
         )?;
         Ok(())

@@ -3,8 +3,8 @@ use crate::host::{Input, Output, Server, Sink, Source};
 use crate::texts::OUTAGE;
 use ob_base::{Fault, Stop};
 use ob_jobs::{
-    Silent, audit_book, export_from_book, import_into_book, make_book, print_book, run_export,
-    run_import, run_table, serve_book,
+    Silent, audit_book, export_from_book, import_into_book, make_book, migrate_book, print_book,
+    run_export, run_import, run_table, serve_book,
 };
 use ob_store::Keeper;
 use ob_stream::Watched;
@@ -26,6 +26,8 @@ pub enum Ask {
     Print,
     /// The tables are compared.
     Audit,
+    /// A book of version 1 is made one of version 2.
+    Migrate,
     /// The book is served at a port that is free or not.
     Serve(bool),
 }
@@ -102,6 +104,10 @@ impl<S: Alter + Drop, T: Timeline> Office for Keeper<S, T> {
             }
             Ask::Audit => {
                 let run = audit_book(alloc, self, &mut writer);
+                ended_as(&run, writer, false)
+            }
+            Ask::Migrate => {
+                let run = migrate_book(self, &mut writer);
                 ended_as(&run, writer, false)
             }
             Ask::Serve(free) => {

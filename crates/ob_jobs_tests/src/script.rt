@@ -1,6 +1,7 @@
 //! Steps on a store in memory, one after another, and what each is answered.
 use crate::host::Sink;
 use crate::office::{Ask, Halt, Heard, Office, STORE, adopted};
+use crate::texts::OUTAGE;
 use ob_base::{Fault, Refusal, Stop};
 use ob_store::Keeper;
 use ob_sweep::Windowed;
@@ -31,6 +32,12 @@ pub enum Step {
     /// What the job tells begins with this.
     Begin(Ask, &'static str),
 }
+
+/// A book with an outage is made.
+pub const OUTAGE_BOOK: &[Step] = &[
+    Step::Do(Ask::Make(1), 0, None, "created\n"),
+    Step::Do(Ask::Import(Some(OUTAGE)), 0, None, "added 25 again 0\n"),
+];
 
 /// Whether a job ended so and told this. Where the tables are no book's of this version, nothing was opened.
 pub fn ended(heard: &Heard, status: u8, halt: Halt, told: &[u8]) -> bool {

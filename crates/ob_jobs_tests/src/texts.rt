@@ -40,3 +40,14 @@ switch,N23,W1,open,1704071400,3,K1,
 switch,N24,T1,close,1704071400,3,K1,
 switch,N25,B1,close,1704074400,3,K1,
 ";
+
+/// What makes of the tables of that text those that version 1 had: no lives, and none in the bodies of the devices.
+pub const TO_VERSION_1: &'static str = "\
+DROP TABLE life;
+UPDATE cmd SET body = 'device I1 GRID BUS-A closed' WHERE id = 7;
+UPDATE cmd SET body = 'device B1 BUS-A S1 closed' WHERE id = 8;
+UPDATE cmd SET body = 'device W1 S1 S2 closed' WHERE id = 9;
+UPDATE cmd SET body = 'device B2 BUS-A S3 closed' WHERE id = 10;
+UPDATE cmd SET body = 'device T1 S2 S3 open' WHERE id = 11;
+UPDATE meta SET version = 1;
+";

@@ -1,17 +1,11 @@
 //! Writers that fail behind each byte of a line.
 use crate::host::Sink;
 use crate::office::{Ask, Office};
-use crate::script::{OUTPUT, Step, Trial, answered, ended, over_a_store};
-use crate::texts::OUTAGE;
+use crate::script::{OUTAGE_BOOK, OUTPUT, Step, Trial, answered, ended, over_a_store};
+use crate::texts::{OUTAGE, TO_VERSION_1};
 use ob_base::Stop;
 use std::alloc::Global;
 use std::process::Abort;
-
-// A book with an outage.
-const OUTAGE_BOOK: &[Step] = &[
-    Step::Do(Ask::Make(1), 0, None, "created\n"),
-    Step::Do(Ask::Import(Some(OUTAGE)), 0, None, "added 25 again 0\n"),
-];
 
 // What is found when the writers have failed.
 const SOUND: &[Step] = &[Step::Do(Ask::Audit, 0, None, "audit ok\n")];
@@ -22,6 +16,7 @@ const LINES: &[(Ask, &'static str)] = &[
     (Ask::Import(Some(OUTAGE)), "added 0 again 25\n"),
     (Ask::Export(Some(4_000)), "rows 9\n"),
     (Ask::Print, "OUTAGE BOOK 2024-01-01 days 1 zone UTC0\n"),
+    (Ask::Migrate, "version 2\n"),
 ];
 
 // A writer with less room than a job's line is told what it has room for.
@@ -71,4 +66,26 @@ fn writers_that_fail_on_a_new_book(rt: HostRuntime) -> Result<(), Stop> {
         over_a_store(&rt, rt.alloc(), &Made(&line[..room]))?;
     }
     Ok(())
+}
+
+// The book is one of version 2 all the same, whatever is told of it.
+struct Migrated;
+
+impl Trial for Migrated {
+    fn run<A: Abort, O: Office>(&self, rt: &A, alloc: Global, office: O) -> Result<(), Stop> {
+        let mut office = answered(rt, alloc, office, OUTAGE_BOOK)?;
+        let line = b"migrated\n".as_slice();
+        for room in 0..line.len() {
+            office = office.changed(alloc, TO_VERSION_1)?;
+            let heard = office.does(alloc, Ask::Migrate, Sink::new(alloc, room));
+            assert!(rt; ended(&heard, 1, OUTPUT, &line[..room]));
+            office = answered(rt, alloc, office, SOUND)?;
+        }
+        Ok(())
+    }
+}
+
+#[test]
+fn writers_that_fail_on_a_migration(rt: HostRuntime) -> Result<(), Stop> {
+    over_a_store(&rt, rt.alloc(), &Migrated)
 }

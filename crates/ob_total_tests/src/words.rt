@@ -69,6 +69,15 @@ fn name_audit(alloc: Global, words: &[&str], file: &str) -> bool {
     }
 }
 
+// Whether words name the job `migrate` of this book.
+fn name_migrate(alloc: Global, words: &[&str], file: &str) -> bool {
+    match read_words(alloc, words) {
+        Ok(Job::Migrate { book }) => book.as_str() == file,
+        Ok(_job) => false,
+        Err(_wrong) => false,
+    }
+}
+
 // Whether words name the job `serve` of this book, at this port, for so many streams.
 fn name_serve(alloc: Global, words: &[&str], file: &str, number: u16, count: u64) -> bool {
     match read_words(alloc, words) {
@@ -127,6 +136,13 @@ fn reads_table_and_audit(rt: HostRuntime) {
     );
     assert!(rt; name_audit(alloc, &["outagebook", "audit"], "book.db"));
     assert!(rt; name_audit(alloc, &["outagebook", "audit", "--book=büch.db"], "büch.db"));
+}
+
+#[test]
+fn reads_migrate(rt: HostRuntime) {
+    let alloc = rt.alloc();
+    assert!(rt; name_migrate(alloc, &["outagebook", "migrate"], "book.db"));
+    assert!(rt; name_migrate(alloc, &["outagebook", "migrate", "--book", "a.db"], "a.db"));
 }
 
 #[test]
@@ -215,6 +231,7 @@ fn refuses_words(rt: HostRuntime) {
     assert!(rt; are_refused(alloc, &["outagebook", "--book=a.db", "table"], usage));
     assert!(rt; are_refused(alloc, &["outagebook", "table", "a.db"], usage));
     assert!(rt; are_refused(alloc, &["outagebook", "audit", "--days=1"], usage));
+    assert!(rt; are_refused(alloc, &["outagebook", "migrate", "a.db"], usage));
     assert!(rt;
         are_refused(
             alloc,
@@ -271,6 +288,13 @@ fn shows_help(rt: HostRuntime) {
     assert!(rt; show(alloc, &["outagebook", "--help"], "init"));
     assert!(rt; show(alloc, &["outagebook", "-h"], "table"));
     assert!(rt; show(alloc, &["outagebook", "help"], "audit"));
+    assert!(rt;
+        show(
+            alloc,
+            &["outagebook", "help"],
+            "Makes a book of version 1 one of version 2"
+        )
+    );
     assert!(rt; show(alloc, &["outagebook", "help", "total"], "total"));
     assert!(rt; show(alloc, &["outagebook", "total", "--help"], "total"));
     assert!(rt; show(alloc, &["outagebook", "init", "--help"], "--days <N>"));

@@ -6,8 +6,8 @@ use crate::desk::Server;
 use crate::progress::Telling;
 use ob_base::{Fault, Stop};
 use ob_jobs::{
-    OpenInput, OpenOutput, audit_book, export_from_book, import_into_book, make_book, print_book,
-    serve_book,
+    OpenInput, OpenOutput, audit_book, export_from_book, import_into_book, make_book, migrate_book,
+    print_book, serve_book,
 };
 use ob_store::Keeper;
 use ob_stream::Watched;
@@ -37,6 +37,7 @@ pub(crate) enum Task<'w> {
     },
     Table,
     Audit,
+    Migrate,
     Serve {
         port: u16,
         streams: u64,
@@ -52,6 +53,7 @@ impl Task<'_> {
             | Task::Export { .. }
             | Task::Table
             | Task::Audit
+            | Task::Migrate
             | Task::Serve { .. } => false,
         }
     }
@@ -59,7 +61,7 @@ impl Task<'_> {
     /// Whether the job may change the book.
     fn changes(&self) -> bool {
         match self {
-            Task::Init { .. } | Task::Import { .. } | Task::Serve { .. } => true,
+            Task::Init { .. } | Task::Import { .. } | Task::Migrate | Task::Serve { .. } => true,
             Task::Export { .. } | Task::Table | Task::Audit => false,
         }
     }
@@ -184,6 +186,7 @@ fn run_task<S: Alter, T: Timeline>(
         }
         Task::Table => print_book(keeper, &mut writer),
         Task::Audit => audit_book(alloc, keeper, &mut writer),
+        Task::Migrate => migrate_book(keeper, &mut writer),
         Task::Serve { port, streams } => {
             let (port, streams) = (*port, *streams);
             serve_book(keeper, &mut Server { rt, port, streams })

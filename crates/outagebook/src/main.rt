@@ -52,6 +52,7 @@ fn run_job(rt: &HostRuntime, job: Job) -> Result<(), Unfinished> {
         Job::Export { book, output } => run_on_book(rt, &book, &Task::Export { output: &output }),
         Job::Table { book } => run_on_book(rt, &book, &Task::Table),
         Job::Audit { book } => run_on_book(rt, &book, &Task::Audit),
+        Job::Migrate { book } => run_on_book(rt, &book, &Task::Migrate),
         Job::Serve {
             book,
             port,
