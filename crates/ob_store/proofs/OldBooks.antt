@@ -35,7 +35,7 @@ use Rattle.ob_store.specs.Leading.{HasNoPeriodOf, IsLedBy, IsLedIn, MovesAre}
 use Rattle.ob_store.specs.Migrating.{HoldsNoOldBook, HoldsOldBook}
 use Rattle.ob_store.specs.Upgrading.{HasOldParts, HasOldRows, IsOldPart, IsUpgradeOf, Upgradable, bare}
 use Rattle.ob_store.proofs.Counting.{rows_counted}
-use Rattle.ob_store.proofs.Laws.{Laws, rows_are}
+use Rattle.ob_store.specs.Laws.{Laws}
 use Rattle.ob_store.proofs.Leading.{commands_are, is_led, led_is, moved_is, no_period, twice}
 use Rattle.ob_store.proofs.Reading.{fails, find_as, read_fault, then_bad, then_fault, then_good, then_more}
 
@@ -57,11 +57,12 @@ as_book laws old trees b has = record {
 pub has_one : (trees : Trees) (b : ActState) → HasOldBook trees b → HasVersion 1 trees
 has_one trees b has = (_, has.tables Meta tt, refl)
 
+-- where the heading and the commands are those of no book of version 1, so are the tables
+pub names_none : Laws One → OldIsReached → (trees : Trees) → HasNoBookIn One trees → HoldsNoOldBook trees
+names_none laws old trees none b has = none b (as_book laws old trees b has)
+
 -- ---- led along its commands
 module _ (laws : Laws One) (old : OldIsReached) (trees : Trees) (it : Named) (named : IsNamed One trees it) where
-  pub none_named : HasNoBookIn One trees → HoldsNoOldBook trees
-  none_named none b has = none b (as_book laws old trees b has)
-
   pub uncounted : it.counted ≡ false → HoldsNoOldBook trees
   uncounted off b has =
       let same : b.accepted ≡ filed_of it.commands.items = commands_are One laws trees it named b (as_book laws old trees b has) in
@@ -70,10 +71,10 @@ module _ (laws : Laws One) (old : OldIsReached) (trees : Trees) (it : Named) (na
       true≢false (sym (named.counts.1 shows) ∙ off)
 
   pub twice_old : ¬ (AreDistinct (filed_of it.commands.items)) → HoldsNoOldBook trees
-  twice_old same = none_named (twice One laws trees it named same)
+  twice_old same = names_none laws old trees (twice One laws trees it named same)
 
   pub no_period_old : HasNoPeriodOf it.heading → HoldsNoOldBook trees
-  no_period_old none = none_named (no_period One laws trees it named none)
+  no_period_old none = names_none laws old trees (no_period One laws trees it named none)
 
   pub unmoved : MovesAre One it trees false → HoldsNoOldBook trees
   unmoved at b has =

@@ -12,6 +12,7 @@ ghost use Rattle.ob_tables.specs.Steps.{IsStoreFault};
 ghost use Rattle.ob_tables.specs.declared.version.Version.{Version as AVersion};
 ghost use Rattle.ob_store.specs.Differing.{NoneSo};
 ghost use Rattle.ob_store.specs.Finding.{Finds, IsNamed};
+ghost use Rattle.ob_store.specs.Laws.{Laws};
 ghost use Rattle.ob_store.specs.Leading.{HasParts, IsLedIn};
 ghost use Rattle.ob_store.specs.Migrating.{HoldsNoOldBook};
 ghost use Rattle.ob_store.specs.Upgrading.{HasOldParts, HasOldRows, IsTold, IsUntold, IsUpgradeOf, Migrates, Upgradable, Upgraded};
@@ -51,6 +52,17 @@ pub(crate) struct Upgrade {
     pub(crate) bodies: Vec<NewBody>,
     /// How many devices there are.
     pub(crate) devices: u32,
+}
+
+/// What the commands of a book of version 1 lead to, and what their rows tell. It does nothing when it runs.
+fn old_books_law()
+    ensures { Laws AVersion.One }
+{
+    next_law();
+    naming_law();
+    reaching_law();
+    version_law();
+    upgrade_law();
 }
 
 /// Whether the heading tells version 2. If not it tells version 1, and there is no table of lives, or the tables are those of
@@ -125,10 +137,7 @@ fn lead_old<S: Alter, T: Timeline>(
         (Ok named.now) → Finds S.Store AVersion.One (λ trees led. IsNamed AVersion.One trees named.now
         × IsLedIn AVersion.One trees led.book.state true true) HoldsNoOldBook first conn.new result }
 {
-    next_law();
-    naming_law();
-    reaching_law();
-    version_law();
+    old_books_law();
     upgrade_law();
     if !named.counted {
         return Err(BAD_BOOK);
@@ -149,6 +158,7 @@ fn lead_old<S: Alter, T: Timeline>(
 fn find_old<S: Alter, T: Timeline>(alloc: Global, conn: &mut Connection<S>) -> Result<Upgrade, Stop>
     ensures { Finds S.Store AVersion.One Upgradable HoldsNoOldBook conn.old conn.new result }
 {
+    old_books_law();
     upgrade_law();
     let named = match read_named(alloc, conn, Version::One) {
         Ok(named) => named,
