@@ -1,6 +1,6 @@
 -- The book of version 1 that the tables hold, and what makes it one of version 2.
 use Rattle.std.proofs.Common.{◌≡◌, ◌≢◌, ◌⊎◌, inl, inr, ℕ, Bool, true, false, true≢false, List, [], ◌∷◌, length, map, Option, Some, None, is_some, Result, Ok, Err, IsTrue, refl, sym, ap, ap₂, subst, ◌∙◌}
-use Rattle.std.specs.Prelude.{◌↔◌, ⊤}
+use Rattle.std.specs.Prelude.{◌↔◌, ⊤, IfOk, IfErr}
 use Rattle.std.specs.List.{AllByRecursion}
 use Rattle.std.specs.List.Sorted.{IsPermutation}
 use Rattle.std.proofs.lemmas.List.Sorted.{IsPermutation-refl}
@@ -236,10 +236,15 @@ module _ {S : Type 0} (g : Ghosts S) (laws : Laws One) (old_law : OldIsReached) 
       pub check_fails : (stop : Stop) → Finds g One Parts Off mid new (Err stop) → Finds g One Upgradable HoldsNoOldBook old new (Err stop)
       check_fails stop second = fails g One LedParts LedOff Upgradable HoldsNoOldBook old new stop (λ trees none. other_rows trees (as_led trees none.0) none.1) (checked (Err stop) second)
 
-      pub bodies_fail : Finds g One Parts Off mid new (Ok tt) → (stop : Stop) → stop ≡ out_of_memory → Finds g One Upgradable HoldsNoOldBook old new (Err stop)
+      bodies_fail : Finds g One Parts Off mid new (Ok tt) → (stop : Stop) → stop ≡ out_of_memory → Finds g One Upgradable HoldsNoOldBook old new (Err stop)
       bodies_fail second stop memory = then_fault g One LedParts LedOff Upgradable HoldsNoOldBook old new tt (checked (Ok tt) second) stop (read_fault stop (inr memory)) (memory_alone stop memory)
 
-      pub found_old : UpgradedLaw → Finds g One Parts Off mid new (Ok tt) → (up : Upgrade) → texts_of up.bodies.items ≡ new_texts 1 (filed_of it.commands.items) → up.devices ≡ length s.network.devices
+      found_old : UpgradedLaw → Finds g One Parts Off mid new (Ok tt) → (up : Upgrade) → texts_of up.bodies.items ≡ new_texts 1 (filed_of it.commands.items) → up.devices ≡ length s.network.devices
           → Finds g One Upgradable HoldsNoOldBook old new (Ok up)
       found_old law second up texts devices =
           then_good g One LedParts LedOff Upgradable HoldsNoOldBook old new tt (checked (Ok tt) second) up (λ trees so. upgradable trees (as_led trees so.0) law so.1 up texts devices)
+
+      pub found_or : UpgradedLaw → Finds g One Parts Off mid new (Ok tt) → (r : Result Upgrade Stop) → IfOk r (λ up. texts_of up.bodies.items ≡ new_texts 1 (filed_of it.commands.items)) → IfOk r (λ up. up.devices ≡ length s.network.devices)
+          → IfErr r (λ stop. stop ≡ out_of_memory) → Finds g One Upgradable HoldsNoOldBook old new r
+      found_or law second (Ok up) texts devices fault = found_old law second up texts devices
+      found_or law second (Err stop) texts devices fault = bodies_fail second stop fault

@@ -1,11 +1,13 @@
 //! The tables of version 1 made those of version 2.
-ghost use Rattle.std.specs.Prelude.{◌≡◌, ◌↔◌, false, true, map, Ok, IsTrue, IfOk, IfErr};
+ghost use Rattle.std.specs.Prelude.{◌≡◌, ◌↔◌, ◌≤◌, false, true, length, map, Ok, IsTrue, IfOk, IfErr};
+ghost use Rattle.ob_base.specs.Stop.{out_of_memory};
+ghost use Rattle.ob_compare.specs.Listing.{filed_of};
 ghost use Rattle.sqlite.specs.Held.{state};
 ghost use Rattle.sqlite.specs.State.{HasCleanDisk, Survives};
 ghost use Rattle.ob_book.specs.Acts.{ActState};
 ghost use Rattle.ob_commit.specs.Upgrade.{CanUpgrade, LeavesUpgraded, with_upgrade};
 ghost use Rattle.ob_compare.specs.Moves.{ends_of};
-ghost use Rattle.ob_migrate.specs.OldTables.{HasOldBook};
+ghost use Rattle.ob_migrate.specs.OldTables.{HasOldBook, new_texts, texts_of};
 ghost use Rattle.ob_tables.specs.Creation.{old_schema};
 ghost use Rattle.ob_tables.specs.Rows.{AreApart};
 ghost use Rattle.ob_tables.specs.Steps.{IsStoreFault};
@@ -154,6 +156,20 @@ fn lead_old<S: Alter, T: Timeline>(
     }
 }
 
+/// Today's body texts of the commands that add devices, and how many devices they lead to.
+fn upgrade_of<T: Timeline>(alloc: Global, named: &Named, led: &Led<T>) -> Result<Upgrade, Stop>
+    requires few { length named.now.commands.items ≤ 1_000_000 }
+    ensures texts { IfOk result (λ it. texts_of it.bodies.items ≡ new_texts 1 (filed_of named.now.commands.items)) }
+    ensures devices { IfOk result (λ it. it.devices ≡ length led.now.book.state.network.devices) }
+    ensures faults { IfErr result (λ stop. stop ≡ out_of_memory) }
+{
+    let devices = u32::from(led.book.net().devices());
+    match new_bodies(alloc, &named.commands) {
+        Ok(bodies) => Ok(Upgrade { bodies, devices }),
+        Err(stop) => Err(stop),
+    }
+}
+
 /// What makes the tables of version 1 those of version 2, where they are those of a book. Nothing is written.
 fn find_old<S: Alter, T: Timeline>(alloc: Global, conn: &mut Connection<S>) -> Result<Upgrade, Stop>
     ensures { Finds S.Store AVersion.One Upgradable HoldsNoOldBook conn.old conn.new result }
@@ -169,14 +185,7 @@ fn find_old<S: Alter, T: Timeline>(alloc: Global, conn: &mut Connection<S>) -> R
         Err(stop) => return Err(stop),
     };
     match check_old(conn, &led) {
-        Ok(()) => {}
-        Err(stop) => return Err(stop),
-    }
-    match new_bodies(alloc, &named.commands) {
-        Ok(bodies) => Ok(Upgrade {
-            bodies,
-            devices: u32::from(led.book.net().devices()),
-        }),
+        Ok(()) => upgrade_of(alloc, &named, &led),
         Err(stop) => Err(stop),
     }
 }

@@ -1,16 +1,11 @@
-use Rattle.std.proofs.Common.{true, Ok, Err, refl, sym, ap, subst, ◌∙◌}
-use Rattle.std.specs.Prelude.{⊤}
-use Rattle.sqlite.specs.Tree.{Trees}
-use Rattle.sqlite.specs.Held.{Held}
+use Rattle.std.proofs.Common.{true, Ok, refl}
 use Rattle.ob_tables.specs.declared.version.Version.TheVariants.{One}
-use Rattle.ob_compare.specs.Listing.{filed_of}
-use Rattle.ob_migrate.specs.OldTables.{new_texts, texts_of}
 use Rattle.ob_store.specs.declared.led.Led.{Led}
 use Rattle.ob_store.specs.Finding.{Finds, HasNoBookIn, IsNamed}
 use Rattle.ob_store.specs.Leading.{IsLedIn}
 use Rattle.ob_store.specs.Migrating.{HoldsNoOldBook}
 use Rattle.ob_store.specs.Upgrading.{Upgradable}
-use Rattle.ob_store.proofs.OldBooks.{bodies_fail, check_fails, found_old, names_none}
+use Rattle.ob_store.proofs.OldBooks.{check_fails, found_or, names_none}
 use Rattle.ob_store.proofs.Reading.{fails, find_as}
 use Rattle.ob_store.proofs.migrating.find_old.Goals as goal
 
@@ -35,21 +30,11 @@ returns-in-Err-check_old g c =
     check_fails g.S.Store c.old_books_law.ensures c.upgrade_law.ensures.reached it c.upgrade_law.ensures.alike l.book.state (λ (x : Led g.row.T.Denot). x.book.state) l refl old c.lead_old.new.conn c.check_old.new.conn
     (c.in-Ok-lead_old.ensures.finds old first) c.in-Err-check_old.stop c.in-Err-check_old.ensures
 
-pub returns-in-Ok-new_bodies : goal.returns-in-Ok-new_bodies
-returns-in-Ok-new_bodies g c =
+pub returns-in-Ok-check_old : goal.returns-in-Ok-check_old
+returns-in-Ok-check_old g c =
     let it = c.in-Ok.named in
     let l = c.in-Ok-lead_old.led in
     let old = c.args.conn.now in
     let first = find_as g.S.Store One (IsNamed One) (IsNamed One) (HasNoBookIn One) HoldsNoOldBook old c.read_named.new.conn (Ok it) (λ trees x named. named) (λ trees none. names_none c.old_books_law.ensures c.upgrade_law.ensures.reached trees none) c.in-Ok.ensures.finds in
-    found_old g.S.Store c.old_books_law.ensures c.upgrade_law.ensures.reached it c.upgrade_law.ensures.alike l.book.state (λ (x : Led g.row.T.Denot). x.book.state) l refl old c.lead_old.new.conn c.check_old.new.conn
-    (c.in-Ok-lead_old.ensures.finds old first) c.upgrade_law.ensures.upgraded c.in-Ok-check_old.ensures (record { bodies = c.in-Ok-new_bodies.bodies; devices = c.devices.result })
-    (c.in-Ok-new_bodies.ensures.texts ∙ ap (λ x. new_texts 1 (filed_of x)) c.deref.ensures.value) (c.devices.ensures.count ∙ ap (λ s. Rattle.std.specs.Prelude.length s.network.devices) refl)
-
-pub returns-in-Err-new_bodies : goal.returns-in-Err-new_bodies
-returns-in-Err-new_bodies g c =
-    let it = c.in-Ok.named in
-    let l = c.in-Ok-lead_old.led in
-    let old = c.args.conn.now in
-    let first = find_as g.S.Store One (IsNamed One) (IsNamed One) (HasNoBookIn One) HoldsNoOldBook old c.read_named.new.conn (Ok it) (λ trees x named. named) (λ trees none. names_none c.old_books_law.ensures c.upgrade_law.ensures.reached trees none) c.in-Ok.ensures.finds in
-    bodies_fail g.S.Store c.old_books_law.ensures c.upgrade_law.ensures.reached it c.upgrade_law.ensures.alike l.book.state (λ (x : Led g.row.T.Denot). x.book.state) l refl old c.lead_old.new.conn c.check_old.new.conn
-    (c.in-Ok-lead_old.ensures.finds old first) c.in-Ok-check_old.ensures c.in-Err-new_bodies.stop c.in-Err-new_bodies.ensures.faults
+    found_or g.S.Store c.old_books_law.ensures c.upgrade_law.ensures.reached it c.upgrade_law.ensures.alike l.book.state (λ (x : Led g.row.T.Denot). x.book.state) l refl old c.lead_old.new.conn c.check_old.new.conn
+    (c.in-Ok-lead_old.ensures.finds old first) c.upgrade_law.ensures.upgraded c.in-Ok-check_old.ensures c.upgrade_of.result c.upgrade_of.ensures.texts c.upgrade_of.ensures.devices c.upgrade_of.ensures.faults
