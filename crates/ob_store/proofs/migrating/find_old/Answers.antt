@@ -21,8 +21,8 @@ returns-in-Err-lead_old g c =
     let first = find_as g.S.Store One (IsNamed One) (IsNamed One) (HasNoBookIn One) HoldsNoOldBook old c.read_named.new.conn (Ok it) (λ trees x named. named) (λ trees none. names_none c.old_books_law.ensures c.upgrade_law.ensures.reached trees none) c.in-Ok.ensures.finds in
     fails g.S.Store One (λ trees (l : Led g.row.T.Denot). IsNamed One trees it × IsLedIn One trees l.book.state true true) HoldsNoOldBook Upgradable HoldsNoOldBook old c.lead_old.new.conn c.in-Err-lead_old.stop (λ trees none. none) (c.in-Err-lead_old.ensures.finds old first)
 
-pub returns-in-Err-check_old : goal.returns-in-Err-check_old
-returns-in-Err-check_old g c =
+pub returns : goal.returns
+returns g c =
     let it = c.in-Ok.named in
     let l = c.in-Ok-lead_old.led in
     let old = c.args.conn.now in

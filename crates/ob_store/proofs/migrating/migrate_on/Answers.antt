@@ -16,11 +16,11 @@ returns-in-Err-find_old-clause-migrates g c =
 pub returns-in-Ok-write_upgrade-clause-migrates : goal.returns-in-Ok-write_upgrade-clause-migrates
 returns-in-Ok-write_upgrade-clause-migrates g c =
     let e = c.in-Ok-write_upgrade.ensures in
-    was_old g.S.Store c.args.conn.now c.tells_new.new.conn c.in-Ok-false.field-0 c.in-Ok-false.field-0-test c.in-Ok-false.ensures c.find_old.new.conn c.in-Ok-find_old.found c.in-Ok-find_old.ensures c.write_upgrade.new.conn
+    was_old g.S.Store c.args.conn.now c.tells_new.new.conn c.in-Ok-false.field-0 c.in-Ok-false.field-0-test c.in-Ok-false.ensures c.find_old.new.conn c.in-Ok.found c.in-Ok.ensures c.write_upgrade.new.conn
     (λ clean. omega (arith, e.survives.clean, clean)) e.survives e.upgraded
 
-pub returns-in-Err-write_upgrade-clause-migrates : goal.returns-in-Err-write_upgrade-clause-migrates
-returns-in-Err-write_upgrade-clause-migrates g c =
+pub returns-clause-migrates : goal.returns-clause-migrates
+returns-clause-migrates g c =
     let e = c.in-Err-write_upgrade.ensures in
-    failed g.S.Store c.args.conn.now c.tells_new.new.conn c.in-Ok-false.field-0 c.in-Ok-false.field-0-test c.in-Ok-false.ensures c.find_old.new.conn c.in-Ok-find_old.found c.in-Ok-find_old.ensures c.write_upgrade.new.conn
+    failed g.S.Store c.args.conn.now c.tells_new.new.conn c.in-Ok-false.field-0 c.in-Ok-false.field-0-test c.in-Ok-false.ensures c.find_old.new.conn c.in-Ok.found c.in-Ok.ensures c.write_upgrade.new.conn
     (λ clean. omega (arith, e.survives.clean, clean)) e.survives c.in-Err-write_upgrade.stop e.upgraded e.faults
