@@ -27,15 +27,7 @@ use Rattle.ob_compare.specs.Versioned.{next_all_in}
 use Rattle.ob_migrate.specs.Laws.{OldIsReached, TablesAreAlike}
 use Rattle.ob_migrate.specs.OldTables.{IsOldReached}
 use Rattle.ob_store.specs.Books.{IsReachedIn, tables_in}
-
-pub record Laws (v : Version) : Type 0 where
-  pub ordered : RowsHaveOneOrder v
-  pub few : (b : ActState) → IsReachedIn v b → length b.accepted ≤ 1_000_000
-  pub accepted : (b : ActState) → IsReachedIn v b → AreDistinct b.accepted × (next_all_in v (empty_book b.book.period) (commands_of b.accepted) ≡ Some b.book)
-  pub reached : (p : Calendar) (list : List Referenced) (s : BookState) → s.period ≡ p → IsPeriodText (day_text p.first_day) (day_count p) p.zone p → AreDistinct list
-      → next_all_in v (empty_book p) (commands_of list) ≡ Some s → IsReachedIn v (record { book = s; accepted = list })
-  pub moved : (b : ActState) → IsReachedIn v b → moved_rows (empty_book b.book.period) 1 b.accepted ≡ tables_in v b Moved
-  pub stays : (p : Calendar) (list : List Command) (s : BookState) → next_all_in v (empty_book p) list ≡ Some s → s.period ≡ p
+use Rattle.ob_store.specs.Laws.{Laws}
 
 -- the period stays from state to state
 led_from : (b : BookState) (c : Command) (more : List Command) (s : BookState) → next_all b (c ∷ more) ≡ Some s → next_all (next b c) more ≡ Some s

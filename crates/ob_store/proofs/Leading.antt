@@ -40,7 +40,8 @@ use Rattle.ob_store.specs.declared.named.Named.{Named}
 use Rattle.ob_store.specs.Books.{IsReachedIn, tables_in}
 use Rattle.ob_store.specs.Finding.{HasNoBook, HasNoBookIn, IsBookIn, IsNamed}
 use Rattle.ob_store.specs.Leading.{HasNoPeriodOf, HasParts, IsLedBy, IsLedIn, IsNewBook, LeadsNowhere, MovesAre}
-use Rattle.ob_store.proofs.Laws.{Laws, dated_in, rows_are}
+use Rattle.ob_store.specs.Laws.{Laws}
+use Rattle.ob_store.proofs.Laws.{dated_in, rows_are}
 
 abbrev made : BookState → List Referenced → ActState
 made s list = record { book = s; accepted = list }

@@ -13,7 +13,7 @@ use Rattle.ob_compare.specs.Reading.{bad_book}
 use Rattle.ob_store.specs.declared.named.Named.{Named}
 use Rattle.ob_store.specs.Finding.{Finds, HasNoBook, IsNamed}
 use Rattle.ob_store.specs.Leading.{HasNoPeriodOf, IsLed, IsLedBy, LeadsNowhere, MovesAre}
-use Rattle.ob_store.proofs.Laws.{Laws}
+use Rattle.ob_store.specs.Laws.{Laws}
 use Rattle.ob_store.proofs.Reading.{fails, read_fault, then_bad, then_fault, then_good, then_more}
 use Rattle.ob_store.proofs.Leading.{is_led, no_period, nowhere, twice}
 

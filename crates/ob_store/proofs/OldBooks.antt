@@ -1,6 +1,6 @@
 -- The book of version 1 that the tables hold, and what makes it one of version 2.
 use Rattle.std.proofs.Common.{◌≡◌, ◌≢◌, ◌⊎◌, inl, inr, ℕ, Bool, true, false, true≢false, List, [], ◌∷◌, length, map, Option, Some, None, is_some, Result, Ok, Err, IsTrue, refl, sym, ap, ap₂, subst, ◌∙◌}
-use Rattle.std.specs.Prelude.{◌↔◌, ⊤}
+use Rattle.std.specs.Prelude.{◌↔◌, ⊤, IfOk, IfErr}
 use Rattle.std.specs.List.{AllByRecursion}
 use Rattle.std.specs.List.Sorted.{IsPermutation}
 use Rattle.std.proofs.lemmas.List.Sorted.{IsPermutation-refl}
@@ -35,7 +35,7 @@ use Rattle.ob_store.specs.Leading.{HasNoPeriodOf, IsLedBy, IsLedIn, MovesAre}
 use Rattle.ob_store.specs.Migrating.{HoldsNoOldBook, HoldsOldBook}
 use Rattle.ob_store.specs.Upgrading.{HasOldParts, HasOldRows, IsOldPart, IsUpgradeOf, Upgradable, bare}
 use Rattle.ob_store.proofs.Counting.{rows_counted}
-use Rattle.ob_store.proofs.Laws.{Laws, rows_are}
+use Rattle.ob_store.specs.Laws.{Laws}
 use Rattle.ob_store.proofs.Leading.{commands_are, is_led, led_is, moved_is, no_period, twice}
 use Rattle.ob_store.proofs.Reading.{fails, find_as, read_fault, then_bad, then_fault, then_good, then_more}
 
@@ -57,11 +57,12 @@ as_book laws old trees b has = record {
 pub has_one : (trees : Trees) (b : ActState) → HasOldBook trees b → HasVersion 1 trees
 has_one trees b has = (_, has.tables Meta tt, refl)
 
+-- where the heading and the commands are those of no book of version 1, so are the tables
+pub names_none : Laws One → OldIsReached → (trees : Trees) → HasNoBookIn One trees → HoldsNoOldBook trees
+names_none laws old trees none b has = none b (as_book laws old trees b has)
+
 -- ---- led along its commands
 module _ (laws : Laws One) (old : OldIsReached) (trees : Trees) (it : Named) (named : IsNamed One trees it) where
-  pub none_named : HasNoBookIn One trees → HoldsNoOldBook trees
-  none_named none b has = none b (as_book laws old trees b has)
-
   pub uncounted : it.counted ≡ false → HoldsNoOldBook trees
   uncounted off b has =
       let same : b.accepted ≡ filed_of it.commands.items = commands_are One laws trees it named b (as_book laws old trees b has) in
@@ -70,10 +71,10 @@ module _ (laws : Laws One) (old : OldIsReached) (trees : Trees) (it : Named) (na
       true≢false (sym (named.counts.1 shows) ∙ off)
 
   pub twice_old : ¬ (AreDistinct (filed_of it.commands.items)) → HoldsNoOldBook trees
-  twice_old same = none_named (twice One laws trees it named same)
+  twice_old same = names_none laws old trees (twice One laws trees it named same)
 
   pub no_period_old : HasNoPeriodOf it.heading → HoldsNoOldBook trees
-  no_period_old none = none_named (no_period One laws trees it named none)
+  no_period_old none = names_none laws old trees (no_period One laws trees it named none)
 
   pub unmoved : MovesAre One it trees false → HoldsNoOldBook trees
   unmoved at b has =
@@ -235,10 +236,15 @@ module _ {S : Type 0} (g : Ghosts S) (laws : Laws One) (old_law : OldIsReached) 
       pub check_fails : (stop : Stop) → Finds g One Parts Off mid new (Err stop) → Finds g One Upgradable HoldsNoOldBook old new (Err stop)
       check_fails stop second = fails g One LedParts LedOff Upgradable HoldsNoOldBook old new stop (λ trees none. other_rows trees (as_led trees none.0) none.1) (checked (Err stop) second)
 
-      pub bodies_fail : Finds g One Parts Off mid new (Ok tt) → (stop : Stop) → stop ≡ out_of_memory → Finds g One Upgradable HoldsNoOldBook old new (Err stop)
+      bodies_fail : Finds g One Parts Off mid new (Ok tt) → (stop : Stop) → stop ≡ out_of_memory → Finds g One Upgradable HoldsNoOldBook old new (Err stop)
       bodies_fail second stop memory = then_fault g One LedParts LedOff Upgradable HoldsNoOldBook old new tt (checked (Ok tt) second) stop (read_fault stop (inr memory)) (memory_alone stop memory)
 
-      pub found_old : UpgradedLaw → Finds g One Parts Off mid new (Ok tt) → (up : Upgrade) → texts_of up.bodies.items ≡ new_texts 1 (filed_of it.commands.items) → up.devices ≡ length s.network.devices
+      found_old : UpgradedLaw → Finds g One Parts Off mid new (Ok tt) → (up : Upgrade) → texts_of up.bodies.items ≡ new_texts 1 (filed_of it.commands.items) → up.devices ≡ length s.network.devices
           → Finds g One Upgradable HoldsNoOldBook old new (Ok up)
       found_old law second up texts devices =
           then_good g One LedParts LedOff Upgradable HoldsNoOldBook old new tt (checked (Ok tt) second) up (λ trees so. upgradable trees (as_led trees so.0) law so.1 up texts devices)
+
+      pub found_or : UpgradedLaw → Finds g One Parts Off mid new (Ok tt) → (r : Result Upgrade Stop) → IfOk r (λ up. texts_of up.bodies.items ≡ new_texts 1 (filed_of it.commands.items)) → IfOk r (λ up. up.devices ≡ length s.network.devices)
+          → IfErr r (λ stop. stop ≡ out_of_memory) → Finds g One Upgradable HoldsNoOldBook old new r
+      found_or law second (Ok up) texts devices fault = found_old law second up texts devices
+      found_or law second (Err stop) texts devices fault = bodies_fail second stop fault

@@ -1,6 +1,6 @@
 -- What is left of the tables of version 1 once they were to be made those of version 2.
 use Rattle.std.proofs.Common.{◌≡◌, ◌≢◌, ◌⊎◌, inl, inr, ℕ, List, [], ◌∷◌, Bool, true, false, true≢false, Result, Ok, Err, IsTrue, refl, sym, ap, subst, ◌∙◌, arith}
-use Rattle.std.specs.Prelude.{⊤}
+use Rattle.std.specs.Prelude.{⊤, IfErr, OnOk}
 use Rattle.std.proofs.lemmas.List.Sorted.{IsPermutation-sym, IsPermutation-trans}
 use Rattle.sqlite_trees.specs.declared.store.Store.{Ghosts}
 use Rattle.sqlite.specs.Tree.{Trees}
@@ -81,7 +81,7 @@ module _ {S : Type 0} (g : Ghosts S) (old_law : OldIsReached) (old new : Held S)
   keeps_one : KeepsIn One (state g new) (old_tables_of b) → KeepsOldBook (state g new) b
   keeps_one kept = record { kept = kept; reached = has.reached; valid = has.valid }
 
-  pub upgraded : ((t : Tables) → KeepsIn One (state g old) t → CanUpgrade it.bodies.items it.devices t → Keeps (state g new) (with_upgrade it.bodies.items it.devices t)) → Upgraded g old new b (Ok tt)
+  upgraded : ((t : Tables) → KeepsIn One (state g old) t → CanUpgrade it.bodies.items it.devices t → Keeps (state g new) (with_upgrade it.bodies.items it.devices t)) → Upgraded g old new b (Ok tt)
   upgraded done = record {
     kept = keeps_as made (tables_of b) makes.rows (state g new) (done (old_tables_of b) keeps makes.can);
     reached = (old_law b has.reached).0;
@@ -98,7 +98,7 @@ module _ {S : Type 0} (g : Ghosts S) (old_law : OldIsReached) (old new : Held S)
     valid = has.valid;
   }
 
-  pub left_so : HasCleanDisk (state g new) → (trees : Trees) → (state g new).may_leave trees → (state g old).may_leave trees ⊎ Leaves (tables_of b) trees
+  left_so : HasCleanDisk (state g new) → (trees : Trees) → (state g new).may_leave trees → (state g old).may_leave trees ⊎ Leaves (tables_of b) trees
   left_so clean trees may = elim (survives.crash clean trees may) [
     | inl was ↦ inl was
     | inr is ↦ inr (leaves_as made (tables_of b) makes.rows trees (is (old_tables_of b) keeps makes.can))
@@ -110,13 +110,21 @@ module _ {S : Type 0} (g : Ghosts S) (old_law : OldIsReached) (old new : Held S)
     | inr is ↦ absurd (not_both trees (old_tables_of b) (tables_of b) (kept.left clean trees may) is)
   ]
 
-  pub not_upgraded : HasCleanDisk (state g new) → (stop : Stop) → IsStoreFault stop → (stop ≡ out_of_memory → (t : Tables) → KeepsIn One (state g old) t → KeepsIn One (state g new) t)
+  not_upgraded : HasCleanDisk (state g new) → (stop : Stop) → IsStoreFault stop → (stop ≡ out_of_memory → (t : Tables) → KeepsIn One (state g old) t → KeepsIn One (state g new) t)
       → ((t : Tables) → KeepsIn One (state g old) t → CanUpgrade it.bodies.items it.devices t → KeepsOldOr (state g new) t (with_upgrade it.bodies.items it.devices t)) → Upgraded g old new b (Err stop)
   not_upgraded clean stop (inl memory) undone either =
       let kept = undone memory (old_tables_of b) keeps in
       subst (λ s. Upgraded g old new b (Err s)) (sym memory) (keeps_one kept, left_old kept clean)
   not_upgraded clean stop (inr store) undone either =
       subst (λ s. Upgraded g old new b (Err s)) (sym store) (either_of (either (old_tables_of b) keeps makes.can), left_so clean)
+
+  -- it was, or it wasn't
+  pub upgraded_or : HasCleanDisk (state g new) → (r : Result ⊤ Stop) → IfErr r IsStoreFault
+      → OnOk r ((t : Tables) → KeepsIn One (state g old) t → CanUpgrade it.bodies.items it.devices t → Keeps (state g new) (with_upgrade it.bodies.items it.devices t))
+      → IfErr r (λ stop. stop ≡ out_of_memory → (t : Tables) → KeepsIn One (state g old) t → KeepsIn One (state g new) t)
+      → IfErr r (λ stop. (t : Tables) → KeepsIn One (state g old) t → CanUpgrade it.bodies.items it.devices t → KeepsOldOr (state g new) t (with_upgrade it.bodies.items it.devices t)) → Upgraded g old new b r
+  upgraded_or clean (Ok done) fault made_so undone either = upgraded made_so
+  upgraded_or clean (Err stop) fault made_so undone either = not_upgraded clean stop fault undone either
 
 -- ---- the whole of it
 module _ {S : Type 0} (g : Ghosts S) where

@@ -3,6 +3,7 @@ pub mod Acting
 pub mod Replying
 pub mod Creating
 pub mod Books
+pub mod Laws
 pub mod Finding
 pub mod Versions
 pub mod Loading

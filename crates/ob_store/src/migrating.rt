@@ -1,17 +1,20 @@
 //! The tables of version 1 made those of version 2.
-ghost use Rattle.std.specs.Prelude.{◌≡◌, ◌↔◌, false, true, map, Ok, IsTrue, IfOk, IfErr};
+ghost use Rattle.std.specs.Prelude.{◌≡◌, ◌↔◌, ◌≤◌, false, true, length, map, Ok, IsTrue, IfOk, IfErr};
+ghost use Rattle.ob_base.specs.Stop.{out_of_memory};
+ghost use Rattle.ob_compare.specs.Listing.{filed_of};
 ghost use Rattle.sqlite.specs.Held.{state};
 ghost use Rattle.sqlite.specs.State.{HasCleanDisk, Survives};
 ghost use Rattle.ob_book.specs.Acts.{ActState};
 ghost use Rattle.ob_commit.specs.Upgrade.{CanUpgrade, LeavesUpgraded, with_upgrade};
 ghost use Rattle.ob_compare.specs.Moves.{ends_of};
-ghost use Rattle.ob_migrate.specs.OldTables.{HasOldBook};
+ghost use Rattle.ob_migrate.specs.OldTables.{HasOldBook, new_texts, texts_of};
 ghost use Rattle.ob_tables.specs.Creation.{old_schema};
 ghost use Rattle.ob_tables.specs.Rows.{AreApart};
 ghost use Rattle.ob_tables.specs.Steps.{IsStoreFault};
 ghost use Rattle.ob_tables.specs.declared.version.Version.{Version as AVersion};
 ghost use Rattle.ob_store.specs.Differing.{NoneSo};
 ghost use Rattle.ob_store.specs.Finding.{Finds, IsNamed};
+ghost use Rattle.ob_store.specs.Laws.{Laws};
 ghost use Rattle.ob_store.specs.Leading.{HasParts, IsLedIn};
 ghost use Rattle.ob_store.specs.Migrating.{HoldsNoOldBook};
 ghost use Rattle.ob_store.specs.Upgrading.{HasOldParts, HasOldRows, IsTold, IsUntold, IsUpgradeOf, Migrates, Upgradable, Upgraded};
@@ -51,6 +54,17 @@ pub(crate) struct Upgrade {
     pub(crate) bodies: Vec<NewBody>,
     /// How many devices there are.
     pub(crate) devices: u32,
+}
+
+/// What the commands of a book of version 1 lead to, and what their rows tell. It does nothing when it runs.
+fn old_books_law()
+    ensures { Laws AVersion.One }
+{
+    next_law();
+    naming_law();
+    reaching_law();
+    version_law();
+    upgrade_law();
 }
 
 /// Whether the heading tells version 2. If not it tells version 1, and there is no table of lives, or the tables are those of
@@ -125,10 +139,7 @@ fn lead_old<S: Alter, T: Timeline>(
         (Ok named.now) → Finds S.Store AVersion.One (λ trees led. IsNamed AVersion.One trees named.now
         × IsLedIn AVersion.One trees led.book.state true true) HoldsNoOldBook first conn.new result }
 {
-    next_law();
-    naming_law();
-    reaching_law();
-    version_law();
+    old_books_law();
     upgrade_law();
     if !named.counted {
         return Err(BAD_BOOK);
@@ -145,10 +156,25 @@ fn lead_old<S: Alter, T: Timeline>(
     }
 }
 
+/// Today's body texts of the commands that add devices, and how many devices they lead to.
+fn upgrade_of<T: Timeline>(alloc: Global, named: &Named, led: &Led<T>) -> Result<Upgrade, Stop>
+    requires few { length named.now.commands.items ≤ 1_000_000 }
+    ensures texts { IfOk result (λ it. texts_of it.bodies.items ≡ new_texts 1 (filed_of named.now.commands.items)) }
+    ensures devices { IfOk result (λ it. it.devices ≡ length led.now.book.state.network.devices) }
+    ensures faults { IfErr result (λ stop. stop ≡ out_of_memory) }
+{
+    let devices = u32::from(led.book.net().devices());
+    match new_bodies(alloc, &named.commands) {
+        Ok(bodies) => Ok(Upgrade { bodies, devices }),
+        Err(stop) => Err(stop),
+    }
+}
+
 /// What makes the tables of version 1 those of version 2, where they are those of a book. Nothing is written.
 fn find_old<S: Alter, T: Timeline>(alloc: Global, conn: &mut Connection<S>) -> Result<Upgrade, Stop>
     ensures { Finds S.Store AVersion.One Upgradable HoldsNoOldBook conn.old conn.new result }
 {
+    old_books_law();
     upgrade_law();
     let named = match read_named(alloc, conn, Version::One) {
         Ok(named) => named,
@@ -159,20 +185,13 @@ fn find_old<S: Alter, T: Timeline>(alloc: Global, conn: &mut Connection<S>) -> R
         Err(stop) => return Err(stop),
     };
     match check_old(conn, &led) {
-        Ok(()) => {}
-        Err(stop) => return Err(stop),
-    }
-    match new_bodies(alloc, &named.commands) {
-        Ok(bodies) => Ok(Upgrade {
-            bodies,
-            devices: u32::from(led.book.net().devices()),
-        }),
+        Ok(()) => upgrade_of(alloc, &named, &led),
         Err(stop) => Err(stop),
     }
 }
 
 /// Makes the tables of version 1 of the book that was found those of version 2, in one transaction.
-fn upgrade<S: Alter>(conn: &mut Connection<S>, it: &Upgrade) -> Result<(), Stop>
+fn write_upgrade<S: Alter>(conn: &mut Connection<S>, it: &Upgrade) -> Result<(), Stop>
     requires mode { conn.old.in_transaction ≡ false }
     ensures mode { conn.new.in_transaction ≡ false }
     ensures faults { IfErr result IsStoreFault }
@@ -207,7 +226,7 @@ pub(crate) fn migrate_on<S: Alter, T: Timeline>(
         Ok(found) => found,
         Err(stop) => return Err(stop),
     };
-    match upgrade(conn, &found) {
+    match write_upgrade(conn, &found) {
         Ok(()) => Ok(true),
         Err(stop) => Err(stop),
     }
