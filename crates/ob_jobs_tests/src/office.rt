@@ -95,11 +95,11 @@ impl<S: Alter + Drop, T: Timeline> Office for Keeper<S, T> {
                     room,
                     tried: false,
                 };
-                let run = export_from_book(alloc, self, &mut output, &mut writer);
+                let run = export_from_book(alloc, self, &mut output, &mut Silent, &mut writer);
                 ended_as(&run, writer, output.tried)
             }
             Ask::Print => {
-                let run = print_book(self, &mut writer);
+                let run = print_book(self, &mut Silent, &mut writer);
                 ended_as(&run, writer, false)
             }
             Ask::Audit => {
@@ -112,7 +112,7 @@ impl<S: Alter + Drop, T: Timeline> Office for Keeper<S, T> {
             }
             Ask::Serve(free) => {
                 let mut server = Server { free, tried: false };
-                let run = serve_book(self, &mut server);
+                let run = serve_book(self, &mut server, &mut Silent);
                 ended_as(&run, writer, server.tried)
             }
         }
