@@ -37,7 +37,7 @@ struct Hearing;
 impl Trial for Hearing {
     fn run<A: Abort, O: Office>(&self, rt: &A, alloc: Global, office: &mut O) {
         let told = Heard {
-            lines: 5,
+            expected: 4,
             last: 3,
             rows: 3,
             ended: true,

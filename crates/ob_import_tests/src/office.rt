@@ -3,7 +3,9 @@ use crate::sinks::{Shelf, Sink};
 use crate::sources::Source;
 use crate::tables::has_rows;
 use ob_export::export_moves;
-use ob_import::{ImportFault, ImportReport, Progress, import, import_text, import_with_progress};
+use ob_import::{
+    ImportFault, ImportReport, Progress, Work, import, import_text, import_with_progress,
+};
 use ob_net::{Fault, Refusal, Stop, Watched};
 use ob_store::Keeper;
 use ob_sweep::{Timeline, Windowed};
@@ -31,22 +33,22 @@ impl Written {
     }
 }
 
-/// What was heard of an import: the lines of its text, the last row that acted, how many did, and whether it ended.
+/// What was heard of an import: the rows of its text, the last one that acted, how many did, and whether it ended.
 #[derive(Clone, Copy, PartialEq)]
 pub struct Heard {
-    pub lines: u64,
+    pub expected: u64,
     pub last: u32,
     pub rows: u32,
     pub ended: bool,
 }
 
 impl Progress for Heard {
-    fn begin(&mut self, lines: u64) {
-        self.lines = lines;
+    fn begin(&mut self, _work: Work, steps: u64) {
+        self.expected = steps;
     }
 
-    fn acted(&mut self, row: u32) {
-        self.last = row;
+    fn step(&mut self, number: u32) {
+        self.last = number;
         self.rows = self.rows.wrapping_add(1);
     }
 
@@ -126,7 +128,7 @@ impl<S: Alter, T: Timeline> Office for Keeper<S, T> {
 
     fn hears(&mut self, alloc: Global, source: Source<'_>) -> Heard {
         let mut heard = Heard {
-            lines: 0,
+            expected: 0,
             last: 0,
             rows: 0,
             ended: false,
