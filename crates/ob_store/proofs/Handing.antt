@@ -32,6 +32,7 @@ use Rattle.ob_compare.specs.Moves.{moved_listing}
 use Rattle.ob_compare.proofs.Listing.{begun_list, quiet, still_then}
 use Rattle.ob_compare.proofs.Order.{numbered, rows_are}
 use Rattle.ob_compare.proofs.Rowing.{moved_is, lists_moved}
+use Rattle.ob_tables.specs.declared.version.Version.TheVariants.{Two}
 use Rattle.ob_store.specs.MovingOut.{Numbered, Takes, TakesAll, all_moves, moves_of, row_of_move}
 
 -- ---- what the store keeps
@@ -84,7 +85,7 @@ spared_unasked old new sql params e (inr h) = spared_unshown old new sql h.0 (ti
 module _ (old mid new : State) (text : List ℕ) (prepared : HasCleanDisk mid → (text ≡ moved_listing.text) × IsUnchanged old mid) (first : Survives old mid (λ _. ⊥)) (s : Survives mid new (CommitsShowing text [] mid)) where
   -- a query of what was moved commits nothing
   pub query_survives : Survives old new (λ _. ⊥)
-  query_survives = still_then old mid new first (quiet moved_listing moved_is old mid new text prepared s)
+  query_survives = still_then old mid new first (quiet moved_listing (moved_is Two) old mid new text prepared s)
 
   in_turn : (t : Tables) → Keeps old t → HasCleanDisk new → old.now.schema ≡ book_schema
   in_turn t keeps clean =
@@ -101,7 +102,7 @@ module _ (old mid new : State) (text : List ℕ) (prepared : HasCleanDisk mid �
   -- and where it doesn't
   pub query_keeps : (HasCleanDisk new → IsSpared mid new) → (t : Tables) → Keeps old t → Keeps new t
   query_keeps spared t keeps =
-      keeps_after mid new (quiet moved_listing moved_is old mid new text prepared s) spared t (keeps_after old mid first (λ late. inl (prepared late).1) t keeps)
+      keeps_after mid new (quiet moved_listing (moved_is Two) old mid new text prepared s) spared t (keeps_after old mid first (λ late. inl (prepared late).1) t keeps)
 
 -- ---- the moves of the accepted commands are the rows of the table
 module _ (b : ActState) where
@@ -187,7 +188,7 @@ module _ {S : Type 0} (g : Ghosts S) (b : ActState) (h : Held S) (keeps : Keeps 
   pub front_of : (xs : List Numbered) → HasGiven g moved_listing.text [] h (map row_of_move xs) → (zs : List Numbered) × (all_moves b ≡ xs ++ zs)
   front_of xs given =
       let has = (keeps.settled clean live).schema in
-      let all = begun_list g moved_listing moved_is h (map row_of_move xs) has live given in
+      let all = begun_list g moved_listing (moved_is Two) h (map row_of_move xs) has live given in
       let it = first_of xs all.0 (all_moves b) (answer_is b (state g h) keeps clean live (map row_of_move xs ++ all.0) all.1) in
       (it.0, it.1)
 

@@ -6,6 +6,7 @@ use Rattle.ob_commit.specs.Keeps.{Keeps}
 use Rattle.ob_compare.specs.Moves.{moved_listing}
 use Rattle.ob_compare.proofs.Listing.{begins, still_then}
 use Rattle.ob_compare.proofs.Rowing.{moved_is}
+use Rattle.ob_tables.specs.declared.version.Version.TheVariants.{Two}
 use Rattle.ob_store.proofs.Handing.{begun_keeps, keeps_after, query_keeps, query_survives, spared_unasked, spared_unread}
 use Rattle.ob_store.proofs.moving.hand_out.Goals as goal
 
@@ -28,7 +29,7 @@ returns-in-Ok-query_prepared-clause-kept g c b keeps =
     let same : last ≡ c.conn-1.given.0 = search rules in
     let begun = begun_keeps old mid start c.in-Ok.statement.text c.in-Ok.ensures.ok c.prepare.ensures.survives c.in-Ok-query_prepared.ensures.survives (λ clean has.
     let early : HasCleanDisk mid = omega (arith, c.in-Ok-query_prepared.ensures.survives.clean, clean) in
-    (begins g.S.Store moved_listing moved_is c.args.conn.now c.prepare.new.self c.in-Ok-query_prepared.rows.conn.now c.in-Ok.statement.text (c.in-Ok.ensures.ok early) has (c.in-Ok-query_prepared.ensures.begun clean)).1) (tables_of b) keeps.kept in
+    (begins g.S.Store moved_listing (moved_is Two) c.args.conn.now c.prepare.new.self c.in-Ok-query_prepared.rows.conn.now c.in-Ok.statement.text (c.in-Ok.ensures.ok early) has (c.in-Ok-query_prepared.ensures.begun clean)).1) (tables_of b) keeps.kept in
     record { kept = subst (λ x. Keeps (state g.S.Store x) (tables_of b)) same (c.hand_rows.ensures.kept (tables_of b) begun); reached = keeps.reached; valid = keeps.valid }
 
 pub returns-in-Ok-query_prepared-clause-hands : goal.returns-in-Ok-query_prepared-clause-hands
@@ -44,7 +45,7 @@ returns-in-Ok-query_prepared-clause-hands g c clean b keeps =
     let first : HasCleanDisk old = omega (arith, c.prepare.ensures.survives.clean, early) in
     let prepared = c.in-Ok.ensures.ok early in
     let has = (keeps.kept.settled first prepared.1.0.was_open).schema in
-    let it = begins g.S.Store moved_listing moved_is c.args.conn.now c.prepare.new.self c.in-Ok-query_prepared.rows.conn.now c.in-Ok.statement.text prepared has (c.in-Ok-query_prepared.ensures.begun begun) in
+    let it = begins g.S.Store moved_listing (moved_is Two) c.args.conn.now c.prepare.new.self c.in-Ok-query_prepared.rows.conn.now c.in-Ok.statement.text prepared has (c.in-Ok-query_prepared.ensures.begun begun) in
     let kept = begun_keeps old mid start c.in-Ok.statement.text c.in-Ok.ensures.ok c.prepare.ensures.survives c.in-Ok-query_prepared.ensures.survives (λ _ _. it.1) (tables_of b) keeps.kept in
     c.hand_rows.ensures.hands late b (record { kept = kept; reached = keeps.reached; valid = keeps.valid }) it.1.0.is_open it.0
 
