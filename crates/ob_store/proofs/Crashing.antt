@@ -95,7 +95,7 @@ module _ {R : Type 0} (h : Ghosts R) (keeper new : KeeperValue R) (Is : ActState
   has_loaded (Err (Fault fault)) loaded = tt
 
 module _ {S R : Type 0} (g : Ghosts S) (h : Ghosts R) (few : ReachedAreFew) (was : Held S) (keeper : KeeperValue R) (opens : OpensAfterCrash g h was keeper.conn) where
-  restored : (Is : ActState → Type 0) (b : ActState) → Is b → IsReached b → AllByRecursion IsReferenced b.accepted → Leaves (tables_of b) (trees_in h keeper.conn) → Restores h keeper Is
+  pub restored : (Is : ActState → Type 0) (b : ActState) → Is b → IsReached b → AllByRecursion IsReferenced b.accepted → Leaves (tables_of b) (trees_in h keeper.conn) → Restores h keeper Is
   restored Is b is reached valid leaves = record {
     schema = one_schema keeper.conn.schema book_schema (trees_in h keeper.conn) (opens.live opens.opens.is_open).0 leaves.sound;
     loads = λ new r loaded. has_loaded h keeper new Is b is (book_left few (trees_in h keeper.conn) b reached valid leaves) leaves r loaded;

@@ -21,3 +21,4 @@ pub mod OldTelling
 pub mod OldParts
 pub mod OldBooks
 pub mod Upgrading
+pub mod OldCrashing

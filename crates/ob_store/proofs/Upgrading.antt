@@ -67,7 +67,7 @@ two_rows row other same one two =
     let numbers : number 1 ≡ number 2 = sym one ∙ ap (λ r. column r 1) is ∙ two in
     absurd (let n : ◌≡◌ {A = ℕ} 1 2 = cc in omega (arith, n))
 
-two_versions : (trees : Trees) → HasVersion 1 trees → HasVersion 2 trees → ⊥
+pub two_versions : (trees : Trees) → HasVersion 1 trees → HasVersion 2 trees → ⊥
 two_versions trees one two =
     two_rows one.0 two.0 (sym (one_permutation _ _ (IsPermutation-trans _ _ _ (IsPermutation-sym _ _ one.1) two.1))) one.2 two.2
 

@@ -9,6 +9,7 @@ pub mod Versions
 pub mod Loading
 pub mod Crashing
 pub mod Migrating
+pub mod OldCrashing
 pub mod Upgrading
 pub mod Leading
 pub mod Differing

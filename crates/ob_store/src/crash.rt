@@ -1,6 +1,8 @@
-//! A law of what a keeper finds of a book once its store has been through a crash.
+//! Laws of what a keeper finds of a book once its store has been through a crash.
 ghost use Rattle.ob_store.specs.Crashing.{CrashLaw};
+ghost use Rattle.ob_store.specs.OldCrashing.{OldCrashLaw};
 
+use ob_migrate::upgrade_law;
 use ob_record::naming_law;
 use sqlite::Alter;
 
@@ -10,4 +12,13 @@ pub fn crash_law<S: Alter, R: Alter>()
     ensures { CrashLaw S.Store R.Store }
 {
     naming_law();
+}
+
+/// The same of a book of version 1: whatever a crash leaves of it shows its tables, and a keeper makes them those of version 2
+/// of that book; where the crash came in a migration, that holds, or a keeper loads the book. This does nothing when it runs.
+pub fn old_crash_law<S: Alter, R: Alter>()
+    ensures { OldCrashLaw S.Store R.Store }
+{
+    naming_law();
+    upgrade_law();
 }

@@ -1,6 +1,6 @@
 //! The keeper: a book, and the connection to the store that keeps its tables.
 use crate::acting::act_on;
-use crate::crash::crash_law;
+use crate::crash::{crash_law, old_crash_law};
 use crate::creating::create_on;
 use crate::loading::{audit_on, load_on};
 use crate::migrating::migrate_on;
@@ -53,6 +53,7 @@ impl<S: Alter, T: Timeline> Keeper<S, T> {
     ghost use Rattle.ob_store.specs.Creating.{Created};
     ghost use Rattle.ob_store.specs.Loading.{Audited, Loaded};
     ghost use Rattle.ob_store.specs.Migrating.{KeepsOldBook, LeavesKept, LeftAsItWas, Migrated, MigratesKept};
+    ghost use Rattle.ob_store.specs.OldCrashing.{OldCrashLaw};
     ghost use Rattle.ob_upgrade.specs.Laws.{AcceptedByBoth, SameFigures};
     ghost use Rattle.ob_store.specs.MovingOut.{HandsOver, IsBookAfterMoves, MovesAreRows, MovesOut};
     ghost use Rattle.ob_tables.specs.Schema.{book_schema};
@@ -242,8 +243,10 @@ impl<S: Alter, T: Timeline> Keeper<S, T> {
         // the book has the amounts and the counts that version 1 gave it, and its commands are accepted now as then
         ensures figures { SameFigures }
         ensures accepted { AcceptedByBoth }
+        ensures crash { OldCrashLaw S.Store S.Store }
     {
         version_law();
+        old_crash_law::<S, S>();
         match migrate_on::<S, T>(self.alloc, &mut self.conn) {
             Ok(done) => Ok(done),
             Err(Stop::Fault(Fault::Store)) => {

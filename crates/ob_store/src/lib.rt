@@ -15,7 +15,7 @@ mod reply;
 mod stored;
 mod version;
 
-pub use crash::crash_law;
+pub use crash::{crash_law, old_crash_law};
 pub use ob_compare::{Progress, Silent, Work};
 pub use keeper::Keeper;
 pub use moving::MoveSink;
