@@ -9,7 +9,9 @@ ghost use Rattle.ob_store.specs.Leading.{HasNoPeriodOf, HasParts, IsBegun, IsLed
 use crate::named::{BAD_BOOK, Named, read_named};
 use ob_base::{Name, Stop};
 use ob_book::{Book, next_law};
-use ob_compare::{EndNodes, Heading, Progress, are_distinct, holds_moves, lead, names_of, reaching_law};
+use ob_compare::{
+    EndNodes, Heading, Progress, are_distinct, holds_moves, lead, names_of, reaching_law,
+};
 use ob_record::naming_law;
 use ob_sweep::Timeline;
 use ob_tables::Version;
@@ -93,7 +95,14 @@ pub(crate) fn follow<S: Alter, T: Timeline, P: Progress>(
         Ok(led) => led,
         Err(stop) => return Err(stop),
     };
-    match holds_moves(conn, &mut led.book, &named.commands, &mut led.ends, version, progress) {
+    match holds_moves(
+        conn,
+        &mut led.book,
+        &named.commands,
+        &mut led.ends,
+        version,
+        progress,
+    ) {
         Ok(true) => {
             led.moved = true;
             Ok(Some(led))

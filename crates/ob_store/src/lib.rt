@@ -16,7 +16,7 @@ mod stored;
 mod version;
 
 pub use crash::{crash_law, old_crash_law};
-pub use ob_compare::{Progress, Silent, Work};
 pub use keeper::Keeper;
 pub use moving::MoveSink;
+pub use ob_compare::{Progress, Silent, Work};
 pub use reply::{Moves, Reply};
