@@ -1,5 +1,5 @@
 -- What the commands of a version lead to.
-use Rattle.std.proofs.Common.{◌≡◌, ◌≤◌, List, [], ◌∷◌, length, Option, Some, None, is_none, if◌then◌else◌, refl, sym, ap, subst, ◌∙◌}
+use Rattle.std.proofs.Common.{◌≡◌, List, [], ◌∷◌, Option, Some, None, is_none, if◌then◌else◌, refl, sym, ap, subst, ◌∙◌}
 use Rattle.std.proofs.lemmas.List.Elements.{All-nil}
 use Rattle.ob_base.specs.declared.stop.Refusal.{Refusal}
 use Rattle.ob_base.specs.Life.{whole_life}
@@ -11,7 +11,7 @@ use Rattle.ob_command.specs.declared.command.Command.{Command}
 use Rattle.ob_state.specs.State.{BookState, empty_book}
 use Rattle.ob_state.specs.Refusals.{refusal}
 use Rattle.ob_state.specs.Next.{next, next_all}
-use Rattle.ob_book.specs.Acts.{ActState, PeriodStays, Referenced, acts, start}
+use Rattle.ob_book.specs.Acts.{ActState, PeriodStays, acts, start}
 use Rattle.ob_upgrade.specs.Laws.{AcceptedByBoth, LiveAlways, ReachedByBoth}
 use Rattle.ob_upgrade.specs.Old.{old_acts, old_next_all}
 use Rattle.ob_tables.specs.declared.table.Table.TheVariants.{Command as CommandTable, Moved}
@@ -25,7 +25,6 @@ use Rattle.ob_compare.specs.Ordered.{RowsHaveOneOrder}
 use Rattle.ob_compare.specs.Reading.{command_rows}
 use Rattle.ob_compare.specs.Versioned.{next_all_in}
 use Rattle.ob_migrate.specs.Laws.{OldIsReached, TablesAreAlike}
-use Rattle.ob_migrate.specs.OldTables.{IsOldReached}
 use Rattle.ob_store.specs.Books.{IsReachedIn, tables_in}
 use Rattle.ob_store.specs.Laws.{Laws}
 
@@ -93,7 +92,7 @@ module _ (few : ReachedAreFew) (accepted : ActsAreAccepted) (reaching : ReachedB
     laws_old ordered = record {
       ordered = ordered;
       few = λ b r. few b (old b r).0;
-        accepted = λ b r. (distinct_now b (old b r).0, ((one b.book.period b).0 r.in_turn).1);
+      accepted = λ b r. (distinct_now b (old b r).0, ((one b.book.period b).0 r.in_turn).1);
       reached = λ p list s is text distinct led.
           let now : acts (start p) list ≡ record { book = s; accepted = list } = reaching p list s distinct (today p (commands_of list) s led) in
           let before : old_acts (start p) list ≡ record { book = s; accepted = list } = (one p (record { book = s; accepted = list })).1 (now, led) in

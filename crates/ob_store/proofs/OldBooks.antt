@@ -1,17 +1,17 @@
 -- The book of version 1 that the tables hold, and what makes it one of version 2.
-use Rattle.std.proofs.Common.{◌≡◌, ◌≢◌, ◌⊎◌, inl, inr, ℕ, Bool, true, false, true≢false, List, [], ◌∷◌, length, map, Option, Some, None, is_some, Result, Ok, Err, IsTrue, refl, sym, ap, ap₂, subst, ◌∙◌}
-use Rattle.std.specs.Prelude.{◌↔◌, ⊤, IfOk, IfErr}
+use Rattle.std.proofs.Common.{◌≡◌, ◌≢◌, inr, ℕ, true, false, true≢false, List, [], ◌∷◌, length, map, Option, is_some, Result, Ok, Err, refl, sym, ap, subst, ◌∙◌}
+use Rattle.std.specs.Prelude.{⊤, IfOk, IfErr}
 use Rattle.std.specs.List.{AllByRecursion}
 use Rattle.std.specs.List.Sorted.{IsPermutation}
 use Rattle.std.proofs.lemmas.List.Sorted.{IsPermutation-refl}
 use Rattle.sqlite_trees.specs.declared.store.Store.{Ghosts}
 use Rattle.sqlite.specs.Tree.{Trees}
-use Rattle.sqlite.specs.Held.{Held, state}
+use Rattle.sqlite.specs.Held.{Held}
 use Rattle.ob_base.specs.Stop.{out_of_memory}
 use Rattle.ob_base.specs.declared.stop.Stop.{Stop}
 use Rattle.ob_state.specs.State.{BookState}
 use Rattle.ob_book.specs.Acts.{ActState, Referenced}
-use Rattle.ob_tables.specs.Rows.{AreApart, Columns, number, shown, tree_of}
+use Rattle.ob_tables.specs.Rows.{number, shown, tree_of}
 use Rattle.ob_tables.specs.Versions.{Has}
 use Rattle.ob_tables.specs.declared.table.Table.{Table}
 use Rattle.ob_tables.specs.declared.table.Table.TheVariants.{Meta, Cause, Node, Device, Life, Customer, Entry, Mark, Command, Moved, Posting}
@@ -21,7 +21,6 @@ use Rattle.ob_record.specs.Naming.{IsReferenced}
 use Rattle.ob_record.specs.Tables.{Shows, moved_rows, tables_of}
 use Rattle.ob_compare.specs.Distinct.{AreDistinct}
 use Rattle.ob_compare.specs.Listing.{filed_of}
-use Rattle.ob_compare.specs.Moves.{HasMoved}
 use Rattle.ob_compare.specs.Reading.{bad_book, command_rows}
 use Rattle.ob_compare.specs.Version.{HasVersion}
 use Rattle.ob_compare.specs.Versioned.{IsReferencedIn}
@@ -32,12 +31,12 @@ use Rattle.ob_store.specs.declared.migrating.Upgrade.{Upgrade}
 use Rattle.ob_store.specs.declared.named.Named.{Named}
 use Rattle.ob_store.specs.Finding.{Finds, HasNoBookIn, IsBookIn, IsNamed}
 use Rattle.ob_store.specs.Leading.{HasNoPeriodOf, IsLedBy, IsLedIn, MovesAre}
-use Rattle.ob_store.specs.Migrating.{HoldsNoOldBook, HoldsOldBook}
+use Rattle.ob_store.specs.Migrating.{HoldsNoOldBook}
 use Rattle.ob_store.specs.Upgrading.{HasOldParts, HasOldRows, IsOldPart, IsUpgradeOf, Upgradable, bare}
 use Rattle.ob_store.proofs.Counting.{rows_counted}
 use Rattle.ob_store.specs.Laws.{Laws}
 use Rattle.ob_store.proofs.Leading.{commands_are, is_led, led_is, moved_is, no_period, twice}
-use Rattle.ob_store.proofs.Reading.{fails, find_as, read_fault, then_bad, then_fault, then_good, then_more}
+use Rattle.ob_store.proofs.Reading.{fails, read_fault, then_bad, then_fault, then_good, then_more}
 
 -- ---- a book of version 1 that trees hold is one that they name
 valid_old : (list : List Referenced) → AllByRecursion IsReferenced list → AllByRecursion IsOldCommand list → AllByRecursion (IsReferencedIn One) list

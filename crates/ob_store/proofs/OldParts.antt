@@ -1,5 +1,5 @@
 -- The tables of version 1, found one after another to be those of a book or not.
-use Rattle.std.proofs.Common.{◌≡◌, ◌≢◌, ◌⊎◌, inl, inr, ℕ, zero, suc, ◌+◌, ◌<◌, List, [], ◌∷◌, map, get_or, Bool, true, false, true≢false, Result, Ok, Err, IsTrue, refl, sym, ap, subst, ◌∙◌, arith}
+use Rattle.std.proofs.Common.{◌≡◌, ◌⊎◌, inl, inr, ℕ, zero, suc, ◌+◌, ◌<◌, List, [], ◌∷◌, map, get_or, Bool, true, false, true≢false, Result, Ok, Err, IsTrue, refl, sym, subst, ◌∙◌, arith}
 use Rattle.std.specs.Prelude.{◌↔◌, ⊤}
 use Rattle.std.proofs.lemmas.List.Sorted.{IsPermutation-refl}
 use Rattle.sqlite_trees.specs.declared.store.Store.{Ghosts}
@@ -9,7 +9,7 @@ use Rattle.ob_base.specs.declared.stop.Stop.{Stop}
 use Rattle.ob_base.specs.declared.stop.Stop.TheVariants.{Fault}
 use Rattle.ob_base.specs.declared.stop.Fault.TheVariants.{Store}
 use Rattle.ob_state.specs.State.{BookState}
-use Rattle.ob_tables.specs.Rows.{AreApart, shown, tree_of}
+use Rattle.ob_tables.specs.Rows.{shown, tree_of}
 use Rattle.ob_tables.specs.Versions.{Has}
 use Rattle.ob_tables.specs.declared.table.Table.{Table}
 use Rattle.ob_tables.specs.declared.table.Table.TheVariants.{Meta, Cause, Node, Device, Life, Customer, Entry, Mark, Command, Moved, Posting}

@@ -1,5 +1,5 @@
 -- What is left of the tables of version 1 once they were to be made those of version 2.
-use Rattle.std.proofs.Common.{◌≡◌, ◌≢◌, ◌⊎◌, inl, inr, ℕ, List, [], ◌∷◌, Bool, true, false, true≢false, Result, Ok, Err, IsTrue, refl, sym, ap, subst, ◌∙◌, arith}
+use Rattle.std.proofs.Common.{◌≡◌, ◌⊎◌, inl, inr, ℕ, [], ◌∷◌, Bool, true, false, true≢false, Result, Ok, Err, IsTrue, sym, ap, subst, ◌∙◌, arith}
 use Rattle.std.specs.Prelude.{⊤, IfErr, OnOk}
 use Rattle.std.proofs.lemmas.List.Sorted.{IsPermutation-sym, IsPermutation-trans}
 use Rattle.sqlite_trees.specs.declared.store.Store.{Ghosts}
@@ -26,14 +26,14 @@ use Rattle.ob_tables.specs.declared.version.Version.TheVariants.{One, Two}
 use Rattle.ob_commit.specs.Keeps.{Keeps, KeepsIn, Leaves, LeavesIn}
 use Rattle.ob_commit.specs.Upgrade.{CanUpgrade, KeepsOldOr, LeavesUpgraded, with_upgrade}
 use Rattle.ob_record.specs.Tables.{tables_of}
-use Rattle.ob_compare.specs.Reading.{IsReadFault, bad_book}
+use Rattle.ob_compare.specs.Reading.{IsReadFault}
 use Rattle.ob_compare.specs.Version.{HasVersion}
 use Rattle.ob_migrate.specs.Laws.{OldIsReached}
 use Rattle.ob_migrate.specs.OldTables.{HasOldBook, old_tables_of}
 use Rattle.ob_store.specs.declared.migrating.Upgrade.{Upgrade}
-use Rattle.ob_store.specs.Finding.{Finds, OnlyReads, ShowsTheSame}
+use Rattle.ob_store.specs.Finding.{Finds, OnlyReads}
 use Rattle.ob_store.specs.Keeping.{KeepsBook}
-use Rattle.ob_store.specs.Migrating.{HoldsNoOldBook, HoldsOldBook, KeepsEitherVersion, KeepsOldBook, LeavesKept, LeavesUpgradeOf, LeftAsItWas, Migrated, MigratesKept, OnlyReadsOld, ShowsTheSameOld, StaysOrUpgrades}
+use Rattle.ob_store.specs.Migrating.{HoldsNoOldBook, KeepsEitherVersion, KeepsOldBook, LeavesKept, LeftAsItWas, Migrated, MigratesKept, OnlyReadsOld, StaysOrUpgrades}
 use Rattle.ob_store.specs.Upgrading.{IsTold, IsUntold, IsUpgradeOf, Migrates, Upgradable, Upgraded}
 use Rattle.ob_store.proofs.Accepting.{keeps_as, leaves_as}
 use Rattle.ob_store.proofs.Crashing.{one_schema}

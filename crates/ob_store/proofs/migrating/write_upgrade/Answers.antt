@@ -1,6 +1,4 @@
-use Rattle.std.proofs.Common.{arith}
 use Rattle.sqlite.specs.Held.{state}
-use Rattle.sqlite.specs.State.{HasCleanDisk}
 use Rattle.ob_tables.specs.declared.version.Version.TheVariants.{One}
 use Rattle.ob_commit.specs.Keeps.{KeepsIn}
 use Rattle.ob_migrate.specs.OldTables.{old_tables_of}

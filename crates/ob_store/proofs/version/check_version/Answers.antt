@@ -1,4 +1,3 @@
-use Rattle.std.proofs.Common.{true, false}
 use Rattle.ob_tables.specs.declared.version.Version.TheVariants.{Two}
 use Rattle.ob_store.proofs.Telling.{current, lacks, outdated, unversioned}
 use Rattle.ob_store.proofs.version.check_version.Goals as goal
