@@ -10,7 +10,7 @@ use Rattle.ob_store.proofs.keeper.Keeper.load_with_progress.Goals as goal
 
 pub returns-in-Ok-clause-loaded : goal.returns-in-Ok-clause-loaded
 returns-in-Ok-clause-loaded g c clean schema =
-    let new = c.load_on.new.conn in
+    let new = c.load_on-read.new.conn in
     let conn_is : c.self.inside.conn ≡ c.args.self.now.conn = ap (λ (k : KeeperValue g.row.S.Denot). k.conn) c.self.view_is in
     let found = subst (λ (h : Held g.row.S.Denot). Tells g.S.Store (λ trees (b : BookValue). Holding trees b.state) HoldsNoBook h new (Ok c.in-Ok.book)) conn_is c.in-Ok.ensures in
     let settled = subst (λ (h : Held g.row.S.Denot). IsTrue (state g.S.Store h).is_open → (state g.S.Store h).now ≡ (state g.S.Store h).committed) conn_is (λ live. c.if-prove.ensures.settled (search rules) live) in
