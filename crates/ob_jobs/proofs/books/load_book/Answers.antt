@@ -2,7 +2,7 @@ use Rattle.ob_jobs.proofs.books.load_book.Goals as goal
 
 pub returns : goal.returns
 returns g c =
-    let all = c.load.ensures in
+    let all = c.load_with_progress.ensures in
     record {
       found = all.found;
       dropped = all.dropped;
