@@ -59,8 +59,10 @@ fn an_import_where_memory_is_refused(rt: HostRuntime) {
 
 // Files of the outage of version 1, made anew where the first ones weren't told all.
 fn old_files(rt: &impl Abort, alloc: Global) -> Pair {
-    let (first, files) = run(rt, alloc, blank(alloc), Task::Old);
+    let (first, mut files) = run(rt, alloc, blank(alloc), Task::Old);
     if is_made(first) {
+        // where their closing was refused memory, they are those that one finds who starts again
+        restart(&mut files);
         return files;
     }
     let (second, files) = run(rt, alloc, blank(alloc), Task::Old);
