@@ -53,22 +53,37 @@ fn adopts(
     Ok(())
 }
 
-// The same for the lines of two scripts, one after the other, on the two feeders.
-fn adopts_both(
+// On the two feeders each line of two scripts is adopted once, and for the second one the book searches its network so often at
+// most.
+fn adopts_within(
     rt: &impl Abort,
     alloc: Global,
     book: &mut Book<Counting>,
-    first: &str,
-    then: &str,
+    scripts: (&str, &str),
+    most: u128,
 ) -> Result<(), Fail> {
     take_all(rt, alloc, book, TWO_FEEDERS)?;
-    adopts(rt, alloc, book, first)?;
-    adopts(rt, alloc, book, then)
+    adopts(rt, alloc, book, scripts.0)?;
+    let before = book.net().searches();
+    adopts(rt, alloc, book, scripts.1)?;
+    assert!(rt; book.net().searches().saturating_sub(before) <= most);
+    Ok(())
 }
 
-fn adopts_after(rt: &impl Abort, alloc: Global, first: &str, then: &str) -> Result<(), Fail> {
+fn adopts_by(
+    rt: &impl Abort,
+    alloc: Global,
+    first: &str,
+    then: &str,
+    most: u128,
+) -> Result<(), Fail> {
     let mut book = counting_book(alloc)?;
-    adopts_both(rt, alloc, &mut book, first, then)
+    adopts_within(rt, alloc, &mut book, (first, then), most)
+}
+
+// The same, however often it searches.
+fn adopts_after(rt: &impl Abort, alloc: Global, first: &str, then: &str) -> Result<(), Fail> {
+    adopts_by(rt, alloc, first, then, u128::MAX)
 }
 
 #[test]
@@ -91,23 +106,6 @@ fn a_run_that_goes_on_past_the_next_entry(rt: HostRuntime) -> Result<(), Fail> {
 fn a_closing_withdrawn(rt: HostRuntime) -> Result<(), Fail> {
     let line = "withdraw 3 1 => cause 3 246600, feeder 1 246600, day 0 246600";
     adopts_after(&rt, rt.alloc(), OUTAGE, line)
-}
-
-// On the two feeders each line of two scripts is adopted once, and for the last script the book searches its network so often at
-// most.
-fn adopts_by(
-    rt: &impl Abort,
-    alloc: Global,
-    first: &str,
-    then: &str,
-    most: u128,
-) -> Result<(), Fail> {
-    let mut book = counting_book(alloc)?;
-    adopts_both(rt, alloc, &mut book, first, "")?;
-    let before = book.net().searches();
-    adopts(rt, alloc, &mut book, then)?;
-    assert!(rt; book.net().searches().saturating_sub(before) <= most);
-    Ok(())
 }
 
 #[test]

@@ -1,5 +1,7 @@
 //! Devices that join and leave within the period: they are open outside their lives.
-use crate::feeders::{after_outage, shows, shows_after_outage, two_feeders};
+use crate::example::tell;
+use crate::feeders::{OUTAGE, TWO_FEEDERS, shows, shows_after_outage};
+use crate::step::{ONE_DAY, Step};
 use std::alloc::Global;
 use std::process::Abort;
 use std::test::Fail;
@@ -20,7 +22,14 @@ pub const JOINS_IN_OUTAGE: &'static str =
 #[test]
 fn a_tie_that_joins_after_an_outage_began(rt: HostRuntime) -> Result<(), Fail> {
     let quotients = &[(1, 2), (23, 3), (46, 3), (1, 1), (4_297, 4_320), (1, 2)];
-    after_outage(&rt, rt.alloc())?.show_quotients(&rt, JOINS_IN_OUTAGE, 4_600, quotients)
+    let steps = [
+        Step::Take(TWO_FEEDERS),
+        Step::Take(OUTAGE),
+        Step::Take(JOINS_IN_OUTAGE),
+        Step::Shows(4_600),
+        Step::Quotients(quotients),
+    ];
+    tell(&rt, rt.alloc(), ONE_DAY, &steps)
 }
 
 /// The breaker of S3 goes, and is told to open in the second in which it is gone.
@@ -35,9 +44,13 @@ pub const OPENED_IN_ITS_LAST_SECOND: &'static str =
 
 #[test]
 fn opened_where_its_life_ends_and_before(rt: HostRuntime) -> Result<(), Fail> {
-    let mut example = two_feeders(&rt, rt.alloc(), 1)?;
-    example.take(&rt, BREAKER_GONE)?;
-    example.show(&rt, OPENED_IN_ITS_LAST_SECOND, 414_005)
+    let steps = [
+        Step::Take(TWO_FEEDERS),
+        Step::Take(BREAKER_GONE),
+        Step::Take(OPENED_IN_ITS_LAST_SECOND),
+        Step::Shows(414_005),
+    ];
+    tell(&rt, rt.alloc(), ONE_DAY, &steps)
 }
 
 // What is acted after the outage, and the total that it leaves.

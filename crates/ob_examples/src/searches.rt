@@ -1,14 +1,26 @@
 //! How often the network is searched for a change of the sheet that comes late, and for one of the network.
-use crate::example::Example;
-use crate::feeders::{OUTAGE, two_feeders};
+use crate::example::tell;
+use crate::feeders::{OUTAGE, TWO_FEEDERS};
 use crate::lives::{BREAKER_GONE, JOINS_IN_OUTAGE, OPENED_IN_ITS_LAST_SECOND, TIE_GOES};
+use crate::step::{ONE_DAY, Step};
 use std::alloc::Global;
 use std::process::Abort;
 use std::test::Fail;
 
 // After a script on the two feeders a line takes so many searches at most.
-fn takes(rt: &impl Abort, alloc: Global, script: &str, line: &str, most: u128) -> Result<(), Fail> {
-    two_feeders(rt, alloc, 1)?.take_by(rt, script, line, most)
+fn takes<'t>(
+    rt: &impl Abort,
+    alloc: Global,
+    script: &'t str,
+    line: &'t str,
+    most: u128,
+) -> Result<(), Fail> {
+    let steps = [
+        Step::Take(TWO_FEEDERS),
+        Step::Take(script),
+        Step::Within(line, most),
+    ];
+    tell(rt, alloc, ONE_DAY, &steps)
 }
 
 #[test]
@@ -74,28 +86,33 @@ fn for_a_change_of_the_network(rt: HostRuntime) -> Result<(), Fail> {
 }
 
 // Every hundred seconds B2 opens, and closes fifty seconds later, 500 times.
-fn enter_many(alloc: Global, example: &mut Example) -> Result<(), Fail> {
+fn many(alloc: Global) -> Result<String, Fail> {
+    let mut script = String::new(alloc);
     for number in 1..501u64 {
         let opened = 1_704_067_200 + 100 * number;
         let closed = opened + 50;
-        let opening = format!(in alloc; "switch B2 open {opened} 3 K1")?;
-        let _ = example.act(opening.as_str())?;
-        let closing = format!(in alloc; "switch B2 close {closed} 3 K1")?;
-        let _ = example.act(closing.as_str())?;
+        let lines = format!(in alloc;
+            "switch B2 open {opened} 3 K1\nswitch B2 close {closed} 3 K1\n"
+        )?;
+        script.push_str(lines.as_str())?;
     }
-    Ok(())
+    Ok(script)
 }
 
 // The window of the correction has the closing itself and the next opening.
-fn correct_one(rt: &impl Abort, alloc: Global, example: &mut Example) -> Result<(), Fail> {
-    enter_many(alloc, example)?;
+fn correct_one(rt: &impl Abort, alloc: Global) -> Result<(), Fail> {
+    let script = many(alloc)?;
     let line = "correct 400 1 close 1704087240 3 K1 => cause 3 -50, feeder 2 -50, day 0 -50";
-    example.take_by(rt, "", line, 3)?;
-    example.show(rt, "", 124_950)
+    let steps = [
+        Step::Take(TWO_FEEDERS),
+        Step::Enter(script.as_str()),
+        Step::Within(line, 3),
+        Step::Shows(124_950),
+    ];
+    tell(rt, alloc, ONE_DAY, &steps)
 }
 
 #[test]
 fn in_a_sheet_of_a_thousand_entries(rt: HostRuntime) -> Result<(), Fail> {
-    let mut example = two_feeders(&rt, rt.alloc(), 1)?;
-    correct_one(&rt, rt.alloc(), &mut example)
+    correct_one(&rt, rt.alloc())
 }
