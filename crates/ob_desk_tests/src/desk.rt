@@ -1,8 +1,10 @@
 //! A desk over a store in memory, what streams are answered by it, and what it is tried by.
 use crate::log::Log;
 use crate::streams::{Sink, Source};
+use ob_answers::{ReplyText, Routes, answer};
 use ob_base::Fault;
 use ob_desk::{run_serve, serve_stream};
+use ob_requests::Request;
 use ob_store::Keeper;
 use ob_stream::Watched;
 use ob_sweep::{Timeline, Windowed};
@@ -40,6 +42,15 @@ pub trait Desk {
     /// Whether the book has so many commands, and no table differs from what they give.
     fn stands_with(&mut self, commands: u32) -> bool;
 
+    /// What a request is answered; the stream may end with the reply.
+    fn replies(
+        &mut self,
+        alloc: Global,
+        routes: &Routes,
+        request: &Request,
+        closes: bool,
+    ) -> Result<ReplyText, Fault>;
+
     /// What a stream is answered that gives what a source gives, by this writer.
     fn hears(&mut self, alloc: Global, source: Source<'_>, sink: Sink) -> Heard;
 
@@ -71,6 +82,16 @@ impl<S: Alter, T: Timeline> Desk for Keeper<S, T> {
 
     fn stands_with(&mut self, commands: u32) -> bool {
         self.commands() == Some(commands) && matches!(self.audit(), Ok(None))
+    }
+
+    fn replies(
+        &mut self,
+        alloc: Global,
+        routes: &Routes,
+        request: &Request,
+        closes: bool,
+    ) -> Result<ReplyText, Fault> {
+        answer(alloc, routes, self, request, closes)
     }
 
     fn hears(&mut self, alloc: Global, source: Source<'_>, sink: Sink) -> Heard {

@@ -1,9 +1,12 @@
-//! Tests of the desk over a store in memory: the replies to whole streams, to streams in pieces and to cut ones, readers and
-//! writers that fail, every refusal of a head, and one stream over a socket on this machine.
+//! Tests of the desk: requests as they are read, replies as they are written, and, over a store in memory, what a request is
+//! answered and the replies to whole streams, to streams in pieces and to cut ones, readers and writers that fail, every
+//! refusal of a head, and streams over a socket on this machine.
 //!
 //! It holds tests alone. The replies are worked out by hand from the formats and from RFC 9112.
 #![tactic(auto)]
 
+#[cfg(test)]
+mod answers;
 #[cfg(test)]
 mod commands;
 #[cfg(test)]
@@ -20,6 +23,10 @@ mod log;
 mod loopback;
 #[cfg(test)]
 mod memory;
+#[cfg(test)]
+mod replies;
+#[cfg(test)]
+mod requests;
 #[cfg(test)]
 mod retries;
 #[cfg(test)]

@@ -1,150 +1,254 @@
-//! What a test knows of a keeper.
-use crate::host::{Input, Output, Server, Sink, Source};
-use crate::texts::OUTAGE;
-use ob_base::{Fault, Stop};
-use ob_jobs::{
-    Silent, audit_book, export_from_book, import_into_book, make_book, migrate_book, print_book,
-    run_export, run_import, run_table, serve_book,
+//! What a test knows of a keeper, and what a keeper is tried by.
+use crate::sinks::{Shelf, Sink};
+use crate::sources::Source;
+use crate::tables::has_rows;
+use ob_export::export_moves;
+use ob_import::{
+    ImportFault, ImportReport, Progress, Work, import, import_text, import_with_progress,
 };
+use ob_net::{Fault, Refusal, Stop, Watched};
 use ob_store::Keeper;
-use ob_stream::Watched;
-use ob_sweep::Timeline;
-use ob_words::{Unfinished, status_of_run};
+use ob_sweep::{Timeline, Windowed};
 use sqlite::{Alter, Connection};
-use std::alloc::Global;
+use std::alloc::{AllocError, Global};
+use std::process::Abort;
 
-/// A job.
-#[derive(Clone, Copy)]
-pub enum Ask {
-    /// A book of 2024-01-01 in UTC is made, of so many days.
-    Make(u16),
-    /// This text is imported, or an input that can't be opened.
-    Import(Option<&'static str>),
-    /// What the commands moved is written into an output with so much room, or one that can't be made.
-    Export(Option<usize>),
-    /// The annual table is printed.
-    Print,
-    /// The tables are compared.
-    Audit,
-    /// A book of version 1 is made one of version 2.
-    Migrate,
-    /// The book is served at a port that is free or not.
-    Serve(bool),
-}
+/// What an import answers.
+pub type Report = Result<ImportReport, ImportFault>;
 
-/// Why a job stopped, and at which row.
-pub type Halt = Option<(Stop, Option<u32>)>;
+/// The first day of a book, how many days it has, and its zone.
+pub type Period = (&'static str, u16, &'static str);
 
-/// How a job ended: the status, why it stopped, what it told, and whether an input, an output or a port was tried.
+/// What an export answers, and what its writer has taken.
 #[derive(Drop)]
+pub struct Written {
+    pub end: Result<u64, Stop>,
+    pub bytes: Vec<u8>,
+}
+
+impl Written {
+    /// Whether it answers this, and these bytes were written.
+    pub fn is(&self, end: Result<u64, Stop>, bytes: &[u8]) -> bool {
+        self.end == end && self.bytes.as_slice() == bytes
+    }
+}
+
+/// What was heard of an import: the rows of its text, the last one that acted, how many did, and whether it ended.
+#[derive(Clone, Copy, PartialEq)]
 pub struct Heard {
-    pub status: u8,
-    pub halt: Halt,
-    pub told: Vec<u8>,
-    pub tried: bool,
+    pub expected: u64,
+    pub last: u32,
+    pub rows: u32,
+    pub ended: bool,
 }
 
-/// A store that jobs are done on. A test knows no more of a keeper than this: with the clauses of a keeper's calls each function
-/// that makes some is long to prove.
-pub trait Office: Drop {
-    /// What a job tells this writer, and how it ends.
-    fn does(&mut self, alloc: Global, ask: Ask, sink: Sink) -> Heard;
+impl Progress for Heard {
+    fn begin(&mut self, _work: Work, steps: u64) {
+        self.expected = steps;
+    }
 
-    /// Whether the work of jobs on a book is refused for want of one, and nothing written.
-    fn lacks_book(&mut self, alloc: Global) -> bool;
+    fn step(&mut self, number: u32) {
+        self.last = number;
+        self.rows = self.rows.wrapping_add(1);
+    }
 
-    /// Another keeper, without a book, over the tables after some statements.
-    fn changed(self, alloc: Global, sql: &str) -> Result<Self, Stop>;
-}
-
-/// There is no book.
-const REOPEN: Stop = Stop::Fault(Fault::Reopen);
-
-/// A fault of the store.
-pub const STORE: Stop = Stop::Fault(Fault::Store);
-
-fn ended_as(run: &Result<(), Unfinished>, writer: Watched<Sink>, tried: bool) -> Heard {
-    let halt = match run {
-        Err(Unfinished::Stopped(stop, row)) => Some((*stop, *row)),
-        Ok(()) | Err(Unfinished::Words(_)) | Err(Unfinished::Differs) => None,
-    };
-    Heard {
-        status: status_of_run(run),
-        halt,
-        told: writer.into_parts().0.taken,
-        tried,
+    fn end(&mut self) {
+        self.ended = true;
     }
 }
 
-impl<S: Alter + Drop, T: Timeline> Office for Keeper<S, T> {
-    fn does(&mut self, alloc: Global, ask: Ask, sink: Sink) -> Heard {
+/// A book, or none, that texts are imported into and moved amounts are exported from. A test knows no more of a keeper
+/// than this: with the clauses of a keeper's calls each function that makes some is long to prove.
+pub trait Office {
+    /// Makes a new book of a period.
+    fn makes(&mut self, period: &Period) -> bool;
+
+    /// Reads the book that the tables hold.
+    fn loads(&mut self) -> bool;
+
+    /// Makes the tables of version 1 those of version 2. Answers whether they were of version 1.
+    fn migrates(&mut self) -> Result<bool, Stop>;
+
+    /// Whether no table differs from what the commands give, or there is no book in the tables, as there is none here.
+    fn is_sound(&mut self) -> bool;
+
+    /// What the import of a text is answered.
+    fn takes(&mut self, alloc: Global, text: &[u8]) -> Report;
+
+    /// What the import of what a reader gives is answered.
+    fn reads(&mut self, alloc: Global, source: Source<'_>) -> Report;
+
+    /// What is heard of the import of what a reader gives.
+    fn hears(&mut self, alloc: Global, source: Source<'_>) -> Heard;
+
+    /// What an export to a writer is answered.
+    fn writes(&mut self, alloc: Global, sink: Sink) -> Written;
+
+    /// What a sink makes of the moved amounts.
+    fn hands(&mut self, shelf: &mut Shelf) -> Result<u64, Stop>;
+
+    /// Puts what a command moved, by its stored reply, on a shelf. Answers whether there is such a reply.
+    fn tells(&mut self, no: u32, shelf: &mut Shelf) -> Result<bool, Stop>;
+
+    /// Whether the book has these totals.
+    fn has_totals(&self, text: &[u8]) -> bool;
+
+    /// Whether the book has this annual table.
+    fn has_table(&self, text: &[u8]) -> bool;
+}
+
+impl<S: Alter, T: Timeline> Office for Keeper<S, T> {
+    fn makes(&mut self, period: &Period) -> bool {
+        let (first, days, zone) = *period;
+        self.create(first.as_bytes(), days, zone.as_bytes()).is_ok()
+    }
+
+    fn loads(&mut self) -> bool {
+        self.load().is_ok()
+    }
+
+    fn migrates(&mut self) -> Result<bool, Stop> {
+        self.migrate()
+    }
+
+    fn is_sound(&mut self) -> bool {
+        match self.audit() {
+            Ok(found) => found.is_none(),
+            Err(stop) => stop == Stop::Refused(Refusal::BadBook) && self.book().is_none(),
+        }
+    }
+
+    fn takes(&mut self, alloc: Global, text: &[u8]) -> Report {
+        import_text(alloc, text, self)
+    }
+
+    fn reads(&mut self, alloc: Global, source: Source<'_>) -> Report {
+        import(alloc, &mut Watched::new(source), self)
+    }
+
+    fn hears(&mut self, alloc: Global, source: Source<'_>) -> Heard {
+        let mut heard = Heard {
+            expected: 0,
+            last: 0,
+            rows: 0,
+            ended: false,
+        };
+        let _ = import_with_progress(alloc, &mut Watched::new(source), self, &mut heard);
+        heard
+    }
+
+    fn writes(&mut self, alloc: Global, sink: Sink) -> Written {
         let mut writer = Watched::new(sink);
-        match ask {
-            Ask::Make(days) => {
-                let run = make_book(self, b"2024-01-01", days, b"UTC0", &mut writer);
-                ended_as(&run, writer, false)
-            }
-            Ask::Import(text) => {
-                let mut input = Input { text, tried: false };
-                let run = import_into_book(alloc, self, &mut input, &mut Silent, &mut writer);
-                ended_as(&run, writer, input.tried)
-            }
-            Ask::Export(room) => {
-                let mut output = Output {
-                    alloc,
-                    room,
-                    tried: false,
-                };
-                let run = export_from_book(alloc, self, &mut output, &mut Silent, &mut writer);
-                ended_as(&run, writer, output.tried)
-            }
-            Ask::Print => {
-                let run = print_book(self, &mut Silent, &mut writer);
-                ended_as(&run, writer, false)
-            }
-            Ask::Audit => {
-                let run = audit_book(alloc, self, &mut writer);
-                ended_as(&run, writer, false)
-            }
-            Ask::Migrate => {
-                let run = migrate_book(self, &mut writer);
-                ended_as(&run, writer, false)
-            }
-            Ask::Serve(free) => {
-                let mut server = Server { free, tried: false };
-                let run = serve_book(self, &mut server, &mut Silent);
-                ended_as(&run, writer, server.tried)
-            }
+        let end = export_moves(alloc, self, &mut writer);
+        Written {
+            end,
+            bytes: writer.into_parts().0.taken,
         }
     }
 
-    fn lacks_book(&mut self, alloc: Global) -> bool {
-        let mut told = Watched::new(Sink::new(alloc, 100));
-        let mut file = Watched::new(Sink::new(alloc, 100));
-        let mut input = Watched::new(Source::new(OUTAGE));
-        let imported = run_import(alloc, self, &mut input, &mut Silent, &mut told) == Err(REOPEN);
-        let exported = run_export(alloc, self, &mut file, &mut told) == Err(REOPEN);
-        let printed = run_table(self, &mut told) == Err(REOPEN);
-        let silent = told.into_parts().0.taken.is_empty() && file.into_parts().0.taken.is_empty();
-        imported && exported && printed && silent
+    fn hands(&mut self, shelf: &mut Shelf) -> Result<u64, Stop> {
+        self.moves_out(shelf)
     }
 
-    fn changed(self, alloc: Global, sql: &str) -> Result<Keeper<S, T>, Stop> {
-        let mut conn = self.into_connection();
-        match conn.execute_batch(sql) {
-            Ok(()) => adopted(alloc, conn),
-            Err(_) => Err(STORE),
+    fn tells(&mut self, no: u32, shelf: &mut Shelf) -> Result<bool, Stop> {
+        match self.reply_of(no) {
+            Ok(Some(reply)) => match shelf.take_all(no, reply.moved.as_slice()) {
+                Ok(()) => Ok(true),
+                Err(fault) => Err(Stop::Fault(fault)),
+            },
+            Ok(None) => Ok(false),
+            Err(stop) => Err(stop),
+        }
+    }
+
+    fn has_totals(&self, text: &[u8]) -> bool {
+        match self.book() {
+            Some(book) => matches!(book.totals_text(), Ok(found) if found.as_slice() == text),
+            None => false,
+        }
+    }
+
+    fn has_table(&self, text: &[u8]) -> bool {
+        match self.book() {
+            Some(book) => matches!(book.annual_text(), Ok(found) if found.as_slice() == text),
+            None => false,
         }
     }
 }
 
-/// A keeper without a book, over a database.
-pub fn adopted<S: Alter + Drop, T: Timeline>(
+/// What a keeper is tried by.
+pub trait Trial {
+    fn run<A: Abort, O: Office>(&self, rt: &A, alloc: Global, office: &mut O);
+}
+
+/// A keeper without a book over a store in memory is tried. In the end no table differs from what the commands give,
+/// and the tables have so many rows.
+pub fn over_a_store<C: Trial>(
+    rt: &impl Abort,
+    alloc: Global,
+    trial: &C,
+    rows: &[i64],
+) -> Result<(), AllocError> {
+    over_tables(rt, alloc, trial, &Nothing, rows)
+}
+
+/// The same, and before the rows are counted another keeper over the tables that the first one left is tried by what
+/// comes next.
+pub fn over_tables<C: Trial, N: Trial>(
+    rt: &impl Abort,
+    alloc: Global,
+    trial: &C,
+    next: &N,
+    rows: &[i64],
+) -> Result<(), AllocError> {
+    let Ok(conn) = Connection::open_in_memory(alloc) else {
+        return Err(AllocError);
+    };
+    let conn = over(rt, alloc, conn, trial);
+    let mut conn = over(rt, alloc, conn, next);
+    has_rows(rt, alloc, &mut conn, rows);
+    Ok(())
+}
+
+/// A keeper without a book over the tables that some statements make is tried. In the end no table differs from what the
+/// commands give, and the tables have so many rows.
+pub fn over_statements<C: Trial>(
+    rt: &impl Abort,
+    alloc: Global,
+    sql: &str,
+    trial: &C,
+    rows: &[i64],
+) -> Result<(), AllocError> {
+    let Ok(mut conn) = Connection::open_in_memory(alloc) else {
+        return Err(AllocError);
+    };
+    assert!(rt; conn.execute_batch(sql).is_ok());
+    let mut conn = over(rt, alloc, conn, trial);
+    has_rows(rt, alloc, &mut conn, rows);
+    Ok(())
+}
+
+// Nothing is tried.
+struct Nothing;
+
+impl Trial for Nothing {
+    fn run<A: Abort, O: Office>(&self, _: &A, _: Global, _: &mut O) {}
+}
+
+// A keeper over a database is tried. Answers the database that it leaves.
+fn over<S: Alter + Drop, C: Trial>(
+    rt: &impl Abort,
     alloc: Global,
     conn: Connection<S>,
-) -> Result<Keeper<S, T>, Stop> {
-    if !conn.is_autocommit() {
-        return Err(STORE);
-    }
-    Ok(Keeper::adopt_connection(alloc, conn))
+    trial: &C,
+) -> Connection<S> {
+    assert!(rt; conn.is_autocommit());
+    let mut keeper: Keeper<S, Windowed> = Keeper::adopt_connection(alloc, conn);
+    is_tried(rt, alloc, &mut keeper, trial);
+    keeper.into_connection()
+}
+
+fn is_tried<O: Office, C: Trial>(rt: &impl Abort, alloc: Global, office: &mut O, trial: &C) {
+    trial.run(rt, alloc, office);
+    assert!(rt; office.is_sound());
 }

@@ -1,108 +1,148 @@
-//! Steps on a store in memory, one after another, and what each is answered.
-use crate::host::Sink;
-use crate::office::{Ask, Halt, Heard, Office, STORE, adopted};
-use crate::texts::OUTAGE;
-use ob_base::{Fault, Refusal, Stop};
-use ob_store::Keeper;
-use ob_sweep::Windowed;
-use sqlite::{Alter, Connection};
+//! Steps with a keeper, one after another, and what each is answered.
+use crate::office::{Office, Period, Report, Trial, over_a_store};
+use crate::sinks::Sink;
+use crate::sources::Source;
+use ob_import::{ImportFault, ImportReport};
+use ob_net::{Fault, Refusal, Stop};
 use std::alloc::{AllocError, Global};
+use std::io::ErrorKind;
 use std::process::Abort;
 
-/// The tables are no book's.
-pub const BAD_BOOK: Halt = Some((Stop::Refused(Refusal::BadBook), None));
+/// What an import is answered.
+#[derive(Clone, Copy)]
+pub enum Outcome {
+    /// So many rows were new, and so many were there already.
+    Took(u32, u32),
+    /// After so many new ones and so many that were there already this row was refused.
+    Stopped(u32, u32, u32, Refusal),
+    /// A fault came after so many new ones and so many that were there already.
+    Broken(u32, u32, Fault),
+}
 
-/// The book was made by version 1.
-pub const OLD_VERSION: Halt = Some((Stop::Refused(Refusal::OldVersion(1)), None));
+impl Outcome {
+    /// The report that says so.
+    pub fn report(&self) -> Report {
+        match *self {
+            Outcome::Took(added, again) => Ok(ImportReport {
+                added,
+                again,
+                stopped: None,
+            }),
+            Outcome::Stopped(added, again, row, refusal) => Ok(ImportReport {
+                added,
+                again,
+                stopped: Some((row, refusal)),
+            }),
+            Outcome::Broken(added, again, fault) => Err(ImportFault {
+                fault,
+                added,
+                again,
+            }),
+        }
+    }
+}
 
-/// An input or a port can't be opened.
-pub const INPUT: Halt = Some((Stop::Fault(Fault::Input), None));
+/// 2024-01-01 in UTC.
+pub const A_DAY: Period = ("2024-01-01", 1, "UTC0");
 
-/// An output can't be made or written.
-pub const OUTPUT: Halt = Some((Stop::Fault(Fault::Output), None));
-
-/// A step on a store, and what it is answered: a job, its status, why it stopped, and what it told.
+/// A step with a keeper, and how it is answered.
 pub enum Step {
-    /// Another keeper goes on, after these statements.
-    Change(&'static str),
-    /// The work on a book is refused for want of one.
-    Lack,
-    /// The job tells this.
-    Do(Ask, u8, Halt, &'static str),
-    /// What the job tells begins with this.
-    Begin(Ask, &'static str),
+    /// A new book of this period is made.
+    Make(Period),
+    /// The book that the tables hold is read.
+    Load,
+    /// The tables aren't those of a book of today.
+    LoadNone,
+    /// The tables of version 1 are made those of version 2, or this is answered.
+    Migrate(Result<bool, Stop>),
+    /// This text is imported, from memory or from a reader.
+    Import(&'static str, Outcome),
+    /// This text is imported from a reader that is interrupted before each byte.
+    ImportJolting(&'static str, Outcome),
+    /// This text is imported from a reader that is interrupted for ever behind it.
+    ImportStuck(&'static str, Outcome),
+    /// The book has these totals.
+    Totals(&'static str),
+    /// The book has this annual table.
+    Table(&'static str),
+    /// An export writes this.
+    Export(Result<u64, Stop>, &'static str),
+    /// An export writes this by a writer that is interrupted before each byte.
+    ExportJolting(Result<u64, Stop>, &'static str),
 }
 
-/// A book with an outage is made.
-pub const OUTAGE_BOOK: &[Step] = &[
-    Step::Do(Ask::Make(1), 0, None, "created\n"),
-    Step::Do(Ask::Import(Some(OUTAGE)), 0, None, "added 25 again 0\n"),
-];
-
-/// Whether a job ended so and told this. Where the tables are no book's of this version, nothing was opened.
-pub fn ended(heard: &Heard, status: u8, halt: Halt, told: &[u8]) -> bool {
-    heard.status == status
-        && heard.halt == halt
-        && heard.told.as_slice() == told
-        && !(heard.tried && (halt == BAD_BOOK || halt == OLD_VERSION))
+/// Steps in their order. The texts lie in memory, or each comes from a reader.
+#[derive(Clone, Copy)]
+pub struct Script<'s> {
+    pub steps: &'s [Step],
+    pub by_reader: bool,
 }
 
-// Whether a step is answered as it says.
-fn holds<O: Office>(alloc: Global, office: &mut O, step: &Step, sink: Sink) -> bool {
-    match step {
-        Step::Change(_) => true,
-        Step::Lack => office.lacks_book(alloc),
-        Step::Do(ask, status, halt, told) => {
-            let heard = office.does(alloc, *ask, sink);
-            ended(&heard, *status, *halt, told.as_bytes())
+impl Script<'_> {
+    // What the import of a text is answered.
+    fn imported<O: Office>(&self, alloc: Global, office: &mut O, text: &str) -> Report {
+        if self.by_reader {
+            office.reads(alloc, Source::new(text.as_bytes(), None))
+        } else {
+            office.takes(alloc, text.as_bytes())
         }
-        Step::Begin(ask, told) => {
-            let heard = office.does(alloc, *ask, sink);
-            heard.status == 0 && heard.told.starts_with(told.as_bytes())
+    }
+
+    // Whether a step is answered as it says.
+    fn holds<O: Office>(&self, alloc: Global, office: &mut O, step: &Step) -> bool {
+        match step {
+            Step::Make(period) => office.makes(period),
+            Step::Load => office.loads(),
+            Step::LoadNone => !office.loads(),
+            Step::Migrate(wanted) => office.migrates() == *wanted,
+            Step::Import(text, wanted) => self.imported(alloc, office, text) == wanted.report(),
+            Step::ImportJolting(text, wanted) => {
+                office.reads(alloc, Source::jolting(text.as_bytes(), None)) == wanted.report()
+            }
+            Step::ImportStuck(text, wanted) => {
+                let source = Source::new(text.as_bytes(), Some(ErrorKind::Interrupted));
+                office.reads(alloc, source) == wanted.report()
+            }
+            Step::Totals(text) => office.has_totals(text.as_bytes()),
+            Step::Table(text) => office.has_table(text.as_bytes()),
+            Step::Export(end, text) => office
+                .writes(alloc, Sink::new(alloc))
+                .is(*end, text.as_bytes()),
+            Step::ExportJolting(end, text) => {
+                let sink = Sink::jolting(alloc, text.len(), None);
+                office.writes(alloc, sink).is(*end, text.as_bytes())
+            }
         }
     }
 }
 
-/// The steps are answered as they say. Answers the keeper that they leave.
-pub fn answered<O: Office>(
+impl Trial for Script<'_> {
+    fn run<A: Abort, O: Office>(&self, rt: &A, alloc: Global, office: &mut O) {
+        for (place, step) in self.steps.iter().enumerate() {
+            assert!(rt; self.holds(alloc, office, step), "step {place}, from 0");
+        }
+    }
+}
+
+/// The steps are answered as they say by a keeper over a store in memory, and the tables then have so many rows.
+pub fn are_answered(
     rt: &impl Abort,
     alloc: Global,
-    office: O,
     steps: &[Step],
-) -> Result<O, Stop> {
-    let mut office = office;
-    for (place, step) in steps.iter().enumerate() {
-        if let Step::Change(sql) = step {
-            office = office.changed(alloc, sql)?;
-        }
-        let sink = Sink::wide(alloc)?;
-        assert!(rt;
-            holds(alloc, &mut office, step, sink),
-            "step {place}, from 0"
-        );
-    }
-    Ok(office)
+    rows: &[i64],
+) -> Result<(), AllocError> {
+    let by_reader = false;
+    over_a_store(rt, alloc, &Script { steps, by_reader }, rows)
 }
 
-/// What a keeper without a book, over a store that holds nothing, is tried by.
-pub trait Trial {
-    fn run<A: Abort, O: Office>(&self, rt: &A, alloc: Global, office: O) -> Result<(), Stop>;
-}
-
-/// A store in memory is tried.
-pub fn over_a_store<C: Trial>(rt: &impl Abort, alloc: Global, trial: &C) -> Result<(), Stop> {
-    match Connection::open_in_memory(alloc) {
-        Ok(conn) => over(rt, alloc, conn, trial),
-        Err(_) => Err(STORE),
-    }
-}
-
-fn over<S: Alter + Drop, C: Trial>(
+/// The same where each text lies in memory, and where it comes from a reader.
+pub fn are_answered_both_ways(
     rt: &impl Abort,
     alloc: Global,
-    conn: Connection<S>,
-    trial: &C,
-) -> Result<(), Stop> {
-    let keeper: Keeper<S, Windowed> = adopted(alloc, conn)?;
-    trial.run(rt, alloc, keeper)
+    steps: &[Step],
+    rows: &[i64],
+) -> Result<(), AllocError> {
+    are_answered(rt, alloc, steps, rows)?;
+    let by_reader = true;
+    over_a_store(rt, alloc, &Script { steps, by_reader }, rows)
 }

@@ -9,6 +9,15 @@ section,R3,S1,1,,,,
 section,R4,S1,2,,,,
 ";
 
+/// The same with another name for the second section.
+pub const TWO_NAMES: &'static str = "\
+kind,ref,f1,f2,f3,f4,f5,f6
+cause,R1,3,STORM,,,,
+bus,R2,BUS-A,,,,,
+section,R3,S1,1,,,,
+section,R4,S2,1,,,,
+";
+
 /// Two feeders of one bus with a tie between them, S1 and S2 behind the breaker B1 and S3 behind B2, with two, three
 /// and five customers. An hour after the start of 2024 B1 opens; ten minutes later W1 opens and the tie takes S2 over;
 /// an hour after its opening B1 closes.
@@ -41,7 +50,39 @@ switch,N24,T1,close,1704071400,3,K1,
 switch,N25,B1,close,1704074400,3,K1,
 ";
 
-/// What makes of the tables of that text those that version 1 had: no lives, and none in the bodies of the devices.
+/// The network of the outage and its customers, without a switching. Each device is there from 0 on, which is to say always.
+pub const BASE: &'static str = "\
+kind,ref,f1,f2,f3,f4,f5,f6
+cause,N1,3,STORM,,,,
+cause,N2,4,PLANNED,,,,
+bus,N3,BUS-A,,,,,
+section,N4,S1,1,,,,
+section,N5,S2,1,,,,
+section,N6,S3,2,,,,
+device,N7,I1,GRID,BUS-A,closed,0,
+device,N8,B1,BUS-A,S1,closed,0,
+device,N9,W1,S1,S2,closed,0,
+device,N10,B2,BUS-A,S3,closed,0,
+device,N11,T1,S2,S3,open,0,
+connect,N12,1,S1,1704067200,,,
+connect,N13,2,S1,1704067200,,,
+connect,N14,3,S2,1704067200,,,
+connect,N15,4,S2,1704067200,,,
+connect,N16,5,S2,1704067200,,,
+connect,N17,6,S3,1704067200,,,
+connect,N18,7,S3,1704067200,,,
+connect,N19,8,S3,1704067200,,,
+connect,N20,9,S3,1704067200,,,
+connect,N21,10,S3,1704067200,,,
+";
+
+/// The breaker closed ten minutes earlier.
+pub const CORRECTION: &'static str = "\
+kind,ref,f1,f2,f3,f4,f5,f6
+correct,FIX1,4,1,close,1704073800,3,K1
+";
+
+/// What makes of the tables of the outage those that version 1 had: no lives, and none in the bodies of the devices.
 pub const TO_VERSION_1: &'static str = "\
 DROP TABLE life;
 UPDATE cmd SET body = 'device I1 GRID BUS-A closed' WHERE id = 7;

@@ -1,11 +1,10 @@
 //! Commands under references: what each is answered, and what the tables hold in the end.
-use crate::books::{ends, outage, reopened, take, two_feeders};
-use crate::office::{InMemory, Office};
+use crate::books::{OUTAGE_BOOK, TWO_FEEDERS_BOOK};
 use crate::scripts::{
     APART, BREAKER_GONE, CONNECTED, CORRECTED, JOINS_IN_OUTAGE, OPENED_AGAIN, OPENED_BEFORE,
     OUTAGE, PARTS_JOIN, REFUSED, RELABELLED, TIE_STAYS, WITHDRAWN,
 };
-use crate::texts::stored_text;
+use crate::steps::{Step, tell};
 use ob_net::Stop;
 use std::alloc::Global;
 use std::process::Abort;
@@ -109,22 +108,22 @@ const STORIES: &'static [Story] = &[
 
 // On the two feeders the lines of two scripts are answered as they say, and leave the book, so many rows and so much in
 // total.
-fn is_told<O: Office>(rt: &impl Abort, alloc: Global, story: &Story) -> Result<(), Stop> {
-    let mut office: O = two_feeders(rt, alloc)?;
-    take(rt, alloc, &mut office, story.first)?;
-    ends(rt, alloc, office, story.then, story.rows, story.total)
-}
-
-fn are_told<O: Office>(rt: &impl Abort, alloc: Global, stories: &[Story]) -> Result<(), Stop> {
+fn are_told(rt: &impl Abort, alloc: Global, stories: &[Story]) -> Result<(), Stop> {
     for story in stories {
-        is_told::<O>(rt, alloc, story)?;
+        let steps = &[
+            Step::Tell(story.first),
+            Step::Tell(story.then),
+            Step::Reopen,
+            Step::Leave(story.rows, story.total),
+        ];
+        tell(rt, alloc, story.then, &[TWO_FEEDERS_BOOK, steps])?;
     }
     Ok(())
 }
 
 #[test]
 fn commands_and_what_they_leave(rt: HostRuntime) -> Result<(), Stop> {
-    are_told::<InMemory>(&rt, rt.alloc(), STORIES)
+    are_told(&rt, rt.alloc(), STORIES)
 }
 
 // What is told on the two feeders, which row of lives that leaves, and how many whole lives.
@@ -153,65 +152,38 @@ const LIVED: &'static [Lived] = &[
     ),
 ];
 
-// The lines of a script leave a row that a query finds, and so many whole lives.
-fn leaves_lives<O: Office>(rt: &impl Abort, alloc: Global, case: &Lived) -> Result<(), Stop> {
-    let (script, sql, whole) = *case;
-    let mut office: O = two_feeders(rt, alloc)?;
-    take(rt, alloc, &mut office, script)?;
-    let queries = &[
-        sql,
-        "SELECT count(*) FROM life WHERE since = 0 AND until IS NULL",
-    ];
-    let found = reopened(rt, alloc, office)?.finds(alloc, queries)?;
-    assert!(rt; found.as_slice() == [1, whole].as_slice(), "{script}");
-    Ok(())
-}
+const WHOLE_LIVES: &'static str = "SELECT count(*) FROM life WHERE since = 0 AND until IS NULL";
 
-fn leave_lives<O: Office>(rt: &impl Abort, alloc: Global, cases: &[Lived]) -> Result<(), Stop> {
-    for case in cases {
-        leaves_lives::<O>(rt, alloc, case)?;
+// The lines of a script leave a row that a query finds, and so many whole lives.
+fn leave_lives(rt: &impl Abort, alloc: Global, cases: &[Lived]) -> Result<(), Stop> {
+    for (script, sql, whole) in cases {
+        let steps = &[
+            Step::Tell(script),
+            Step::Reopen,
+            Step::Find(sql, 1),
+            Step::Find(WHOLE_LIVES, *whole),
+        ];
+        tell(rt, alloc, script, &[TWO_FEEDERS_BOOK, steps])?;
     }
     Ok(())
 }
 
 #[test]
 fn lives_in_the_tables(rt: HostRuntime) -> Result<(), Stop> {
-    leave_lives::<InMemory>(&rt, rt.alloc(), LIVED)
-}
-
-// These are the stored replies.
-fn are_stored<O: Office>(
-    rt: &impl Abort,
-    alloc: Global,
-    office: &mut O,
-    replies: &[(u32, &'static str)],
-) -> Result<(), Stop> {
-    for (no, wanted) in replies {
-        let found = stored_text(alloc, &office.replies(*no))?;
-        assert!(rt; found.as_str() == *wanted, "{no}: {found}");
-    }
-    Ok(())
+    leave_lives(&rt, rt.alloc(), LIVED)
 }
 
 // After the outage and its correction these are the stored replies.
-fn stores<O: Office>(
-    rt: &impl Abort,
-    alloc: Global,
-    replies: &[(u32, &'static str)],
-) -> Result<(), Stop> {
-    let mut office: O = outage(rt, alloc)?;
-    take(rt, alloc, &mut office, CORRECTED)?;
-    are_stored(rt, alloc, &mut office, replies)
-}
+const REPLIES: &[Step] = &[
+    Step::Tell(CORRECTED),
+    Step::Reply(0, "none"),
+    Step::Reply(1, "1"),
+    Step::Reply(22, "22: cause 3 414000, feeder 1 414000, day 0 414000"),
+    Step::Reply(26, "26: cause 3 -1200, feeder 1 -1200, day 0 -1200"),
+    Step::Reply(27, "none"),
+];
 
 #[test]
 fn stored_replies(rt: HostRuntime) -> Result<(), Stop> {
-    let replies = &[
-        (0, "none"),
-        (1, "1"),
-        (22, "22: cause 3 414000, feeder 1 414000, day 0 414000"),
-        (26, "26: cause 3 -1200, feeder 1 -1200, day 0 -1200"),
-        (27, "none"),
-    ];
-    stores::<InMemory>(&rt, rt.alloc(), replies)
+    tell(&rt, rt.alloc(), "replies", &[OUTAGE_BOOK, REPLIES])
 }

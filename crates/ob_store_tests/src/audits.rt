@@ -1,38 +1,10 @@
 //! Tables that are no book's: which of them the audit names, and that they aren't loaded.
-use crate::books::{outage, take};
-use crate::office::{BAD_BOOK, InMemory, OLD_VERSION, Office};
+use crate::books::MARKED_BOOK;
+use crate::office::{BAD_BOOK, OLD_VERSION};
+use crate::steps::{Step, tell};
 use ob_net::Stop;
 use std::alloc::Global;
 use std::process::Abort;
-
-// The outage, with its day marked.
-fn marked<O: Office>(rt: &impl Abort, alloc: Global) -> Result<O, Stop> {
-    let mut office: O = outage(rt, alloc)?;
-    take(rt, alloc, &mut office, "N26 mark 2024-01-01 E1 => 26")?;
-    assert!(rt; office.audits() == "none");
-    Ok(office)
-}
-
-// There is no book in the tables.
-fn is_not_loaded<O: Office>(rt: &impl Abort, office: &mut O) {
-    assert!(rt; office.loads() == BAD_BOOK);
-    assert!(rt; !office.has_book());
-}
-
-// After this statement the audit names this table, or the refusal, and no book is loaded.
-fn is_found<O: Office>(
-    rt: &impl Abort,
-    alloc: Global,
-    sql: &str,
-    wanted: &str,
-) -> Result<(), Stop> {
-    let marked: O = marked(rt, alloc)?;
-    let mut office = marked.changed(alloc, sql)?;
-    let found = office.audits();
-    assert!(rt; found == wanted, "{sql}: {found}");
-    is_not_loaded(rt, &mut office);
-    Ok(())
-}
 
 // What is done to the tables, and what the audit then names.
 type Case = (&'static str, &'static str);
@@ -135,36 +107,43 @@ const SEVERAL: &'static [Case] = &[
     ("DELETE FROM posting; DELETE FROM moved", "moved"),
 ];
 
-fn are_found<O: Office>(rt: &impl Abort, alloc: Global, cases: &[Case]) -> Result<(), Stop> {
+// After these statements the audit names this table, or the refusal, and no book is loaded.
+fn are_found(rt: &impl Abort, alloc: Global, cases: &[Case]) -> Result<(), Stop> {
     for (sql, wanted) in cases {
-        is_found::<O>(rt, alloc, sql, wanted)?;
+        let steps = &[
+            Step::Change(sql),
+            Step::Audit(wanted),
+            Step::Load(BAD_BOOK),
+            Step::Has(false),
+        ];
+        tell(rt, alloc, sql, &[MARKED_BOOK, steps])?;
     }
     Ok(())
 }
 
 #[test]
 fn a_row_that_is_changed(rt: HostRuntime) -> Result<(), Stop> {
-    are_found::<InMemory>(&rt, rt.alloc(), CHANGED)
+    are_found(&rt, rt.alloc(), CHANGED)
 }
 
 #[test]
 fn rows_more_or_less(rt: HostRuntime) -> Result<(), Stop> {
-    are_found::<InMemory>(&rt, rt.alloc(), MORE_OR_LESS)
+    are_found(&rt, rt.alloc(), MORE_OR_LESS)
 }
 
 #[test]
 fn another_heading_or_number(rt: HostRuntime) -> Result<(), Stop> {
-    are_found::<InMemory>(&rt, rt.alloc(), RENAMED)
+    are_found(&rt, rt.alloc(), RENAMED)
 }
 
 #[test]
 fn headings_and_commands_of_no_book(rt: HostRuntime) -> Result<(), Stop> {
-    are_found::<InMemory>(&rt, rt.alloc(), NO_BOOK)
+    are_found(&rt, rt.alloc(), NO_BOOK)
 }
 
 #[test]
 fn several_tables_that_are_changed(rt: HostRuntime) -> Result<(), Stop> {
-    are_found::<InMemory>(&rt, rt.alloc(), SEVERAL)
+    are_found(&rt, rt.alloc(), SEVERAL)
 }
 
 // What is done to the tables, so that they are of version 1, whatever else stands in them.
@@ -176,49 +155,42 @@ const OLD: &'static [&'static str] = &[
     "DELETE FROM moved; DELETE FROM cmd; UPDATE meta SET version = 1",
 ];
 
-// After this statement audit and load name the version.
-fn is_old<O: Office>(rt: &impl Abort, alloc: Global, sql: &str) -> Result<(), Stop> {
-    let marked: O = marked(rt, alloc)?;
-    let mut office = marked.changed(alloc, sql)?;
-    assert!(rt; office.audits() == "OldVersion", "{sql}");
-    assert!(rt; office.loads() == OLD_VERSION, "{sql}");
-    assert!(rt; !office.has_book());
-    Ok(())
-}
-
-fn are_old<O: Office>(rt: &impl Abort, alloc: Global, cases: &[&str]) -> Result<(), Stop> {
+// After these statements audit and load name the version.
+fn are_old(rt: &impl Abort, alloc: Global, cases: &[&'static str]) -> Result<(), Stop> {
     for sql in cases {
-        is_old::<O>(rt, alloc, sql)?;
+        let steps = &[
+            Step::Change(sql),
+            Step::Audit("OldVersion"),
+            Step::Load(OLD_VERSION),
+            Step::Has(false),
+        ];
+        tell(rt, alloc, sql, &[MARKED_BOOK, steps])?;
     }
     Ok(())
 }
 
 #[test]
 fn tables_of_version_one(rt: HostRuntime) -> Result<(), Stop> {
-    are_old::<InMemory>(&rt, rt.alloc(), OLD)
+    are_old(&rt, rt.alloc(), OLD)
 }
 
-// A database that is made by some statements holds no book.
-fn holds_none<O: Office>(rt: &impl Abort, alloc: Global, sql: &str) -> Result<(), Stop> {
-    let mut office = O::opens(alloc)?.changed(alloc, sql)?;
-    assert!(rt; office.audits() == "BadBook");
-    is_not_loaded(rt, &mut office);
-    Ok(())
-}
-
-fn hold_none<O: Office>(rt: &impl Abort, alloc: Global, cases: &[&str]) -> Result<(), Stop> {
-    for sql in cases {
-        holds_none::<O>(rt, alloc, sql)?;
-    }
-    Ok(())
-}
+// Databases of nothing and of something else hold no book.
+const NONE: &[Step] = &[
+    Step::Audit("BadBook"),
+    Step::Load(BAD_BOOK),
+    Step::Has(false),
+    Step::Change("CREATE TABLE note (id INTEGER PRIMARY KEY) STRICT"),
+    Step::Audit("BadBook"),
+    Step::Load(BAD_BOOK),
+    Step::Has(false),
+    Step::Open,
+    Step::Change("CREATE TABLE meta (id INTEGER PRIMARY KEY) STRICT"),
+    Step::Audit("BadBook"),
+    Step::Load(BAD_BOOK),
+    Step::Has(false),
+];
 
 #[test]
 fn databases_of_something_else(rt: HostRuntime) -> Result<(), Stop> {
-    let cases = &[
-        "",
-        "CREATE TABLE note (id INTEGER PRIMARY KEY) STRICT",
-        "CREATE TABLE meta (id INTEGER PRIMARY KEY) STRICT",
-    ];
-    hold_none::<InMemory>(&rt, rt.alloc(), cases)
+    tell(&rt, rt.alloc(), "no book", &[NONE])
 }

@@ -1,25 +1,13 @@
 //! Books that are loaded: commands go on, and a book stays where the tables turn into those of none.
-use crate::books::{ends, outage, reopened, take};
-use crate::office::{BAD_BOOK, InMemory, NO_OLD_BOOK, OLD_VERSION, Office};
+use crate::books::OUTAGE_BOOK;
+use crate::office::{BAD_BOOK, NO_OLD_BOOK, OLD_VERSION};
 use crate::scripts::{
     CORRECTED, JOINS_IN_OUTAGE, OPENED_BEFORE, PARTS_JOIN, REFUSED, TIE_STAYS, WITHDRAWN,
 };
+use crate::steps::{Step, tell};
 use ob_net::Stop;
 use std::alloc::Global;
 use std::process::Abort;
-
-// After the outage another keeper loads the book; the lines are then answered as they say, and leave the book, so many
-// rows and so much in total.
-fn goes_on<O: Office>(
-    rt: &impl Abort,
-    alloc: Global,
-    then: &str,
-    rows: &[i64],
-    total: i64,
-) -> Result<(), Stop> {
-    let office: O = outage(rt, alloc)?;
-    ends(rt, alloc, reopened(rt, alloc, office)?, then, rows, total)
-}
 
 // What is told after the outage, and how many rows and how much it leaves.
 type Told = (&'static str, &'static [i64], i64);
@@ -45,16 +33,24 @@ const TOLD: &'static [Told] = &[
     (PARTS_JOIN, &[1, 3, 7, 6, 6, 11, 4, 0, 30, 18, 320], 91_800),
 ];
 
-fn go_on<O: Office>(rt: &impl Abort, alloc: Global, told: &[Told]) -> Result<(), Stop> {
+// After the outage another keeper loads the book; the lines are then answered as they say, and leave the book, so many
+// rows and so much in total.
+fn go_on(rt: &impl Abort, alloc: Global, told: &[Told]) -> Result<(), Stop> {
     for (then, rows, total) in told {
-        goes_on::<O>(rt, alloc, then, rows, *total)?;
+        let steps = &[
+            Step::Reopen,
+            Step::Tell(then),
+            Step::Reopen,
+            Step::Leave(rows, *total),
+        ];
+        tell(rt, alloc, then, &[OUTAGE_BOOK, steps])?;
     }
     Ok(())
 }
 
 #[test]
 fn commands_in_a_loaded_book(rt: HostRuntime) -> Result<(), Stop> {
-    go_on::<InMemory>(&rt, rt.alloc(), TOLD)
+    go_on(&rt, rt.alloc(), TOLD)
 }
 
 // The heading's row, but while there are 26 commands it is of another version.
@@ -67,51 +63,52 @@ const VERSION_ONE: &'static str =
     "DROP TABLE meta; CREATE VIEW meta AS SELECT 1 AS id, CASE max(id) WHEN 26 THEN 1 ELSE 2 END \
      AS version, '2024-01-01' AS day0, 1 AS days, 'UTC0' AS zone FROM cmd";
 
-// The outage, loaded under such a heading.
-fn headed<O: Office>(rt: &impl Abort, alloc: Global, heading: &str) -> Result<O, Stop> {
-    let outage: O = outage(rt, alloc)?;
-    let mut office = outage.changed(alloc, heading)?;
-    office.loads()?;
-    Ok(office)
-}
+// The outage is loaded under such a heading. After a correction the tables are audited and loaded as this and can't be migrated,
+// and the keeper goes on with the book that it has.
+const OVER_ANOTHER_VERSION: &[Step] = &[
+    Step::Change(OTHER_VERSION),
+    Step::Load(Ok(())),
+    Step::Tell(CORRECTED),
+    Step::Note,
+    Step::Audit("meta"),
+    Step::Load(BAD_BOOK),
+    Step::Migrate(NO_OLD_BOOK),
+    Step::Same,
+    Step::Tell(CORRECTED),
+    Step::Tell("N27 mark 2024-01-01 E1 => 27"),
+    Step::Reopen,
+];
 
-// The tables are audited and loaded as this and can't be migrated, and the keeper goes on with the book that it has.
-fn stays<O: Office>(
-    rt: &impl Abort,
-    office: &mut O,
-    audited: &str,
-    loaded: &Result<(), Stop>,
-) -> Result<(), Stop> {
-    let shown = office.shows()?;
-    assert!(rt; office.audits() == audited);
-    assert!(rt; office.loads() == *loaded);
-    assert!(rt; office.migrates() == NO_OLD_BOOK);
-    assert!(rt; office.shows()? == shown);
-    Ok(())
-}
-
-fn keeps_its_book<O: Office>(
-    rt: &impl Abort,
-    alloc: Global,
-    heading: &str,
-    audited: &str,
-    loaded: &Result<(), Stop>,
-) -> Result<(), Stop> {
-    let mut office: O = headed(rt, alloc, heading)?;
-    take(rt, alloc, &mut office, CORRECTED)?;
-    stays(rt, &mut office, audited, loaded)?;
-    take(rt, alloc, &mut office, CORRECTED)?;
-    take(rt, alloc, &mut office, "N27 mark 2024-01-01 E1 => 27")?;
-    reopened(rt, alloc, office)?;
-    Ok(())
-}
+const OVER_VERSION_ONE: &[Step] = &[
+    Step::Change(VERSION_ONE),
+    Step::Load(Ok(())),
+    Step::Tell(CORRECTED),
+    Step::Note,
+    Step::Audit("OldVersion"),
+    Step::Load(OLD_VERSION),
+    Step::Migrate(NO_OLD_BOOK),
+    Step::Same,
+    Step::Tell(CORRECTED),
+    Step::Tell("N27 mark 2024-01-01 E1 => 27"),
+    Step::Reopen,
+];
 
 #[test]
 fn a_book_stays(rt: HostRuntime) -> Result<(), Stop> {
-    keeps_its_book::<InMemory>(&rt, rt.alloc(), OTHER_VERSION, "meta", &BAD_BOOK)
+    tell(
+        &rt,
+        rt.alloc(),
+        "version 3",
+        &[OUTAGE_BOOK, OVER_ANOTHER_VERSION],
+    )
 }
 
 #[test]
 fn a_book_stays_over_an_old_version(rt: HostRuntime) -> Result<(), Stop> {
-    keeps_its_book::<InMemory>(&rt, rt.alloc(), VERSION_ONE, "OldVersion", &OLD_VERSION)
+    tell(
+        &rt,
+        rt.alloc(),
+        "version 1",
+        &[OUTAGE_BOOK, OVER_VERSION_ONE],
+    )
 }

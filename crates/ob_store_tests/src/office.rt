@@ -61,8 +61,8 @@ pub trait Office: Drop {
     /// Another keeper, without a book, over the same tables, and the rows that stand in them.
     fn with_rows(self, alloc: Global) -> Result<(Self, Vec<u8>), Stop>;
 
-    /// Gives the keeper up. Answers the number that each query finds in the tables.
-    fn finds(self, alloc: Global, queries: &[&str]) -> Result<Vec<i64>, Stop>;
+    /// Another keeper, without a book, over the same tables, and the number that each query finds in them.
+    fn finds(self, alloc: Global, queries: &[&str]) -> Result<(Self, Vec<i64>), Stop>;
 }
 
 /// A store that a new database begins in.
@@ -204,8 +204,9 @@ impl<S: Blank, T: Timeline> Office for Keeper<S, T> {
         Ok((adopted(alloc, conn)?, rows))
     }
 
-    fn finds(self, alloc: Global, queries: &[&str]) -> Result<Vec<i64>, Stop> {
+    fn finds(self, alloc: Global, queries: &[&str]) -> Result<(Keeper<S, T>, Vec<i64>), Stop> {
         let mut conn = self.into_connection();
-        numbers(alloc, &mut conn, queries)
+        let found = numbers(alloc, &mut conn, queries)?;
+        Ok((adopted(alloc, conn)?, found))
     }
 }

@@ -1,0 +1,4 @@
+//! Replies, and commands as JSON. Expected texts are written by hand from the form of replies.
+mod bodies;
+mod bytes;
+mod commands;

@@ -1,2 +1,0 @@
-mod Bounds
-mod Leaving

@@ -1,0 +1,260 @@
+//! Steps with a keeper over a store in memory, one after another, and what each is answered.
+use crate::office::{InMemory, Office};
+use crate::texts::{answer_text, stored_text};
+use ob_net::{Life, Stop};
+use std::alloc::Global;
+use std::process::Abort;
+
+/// A step with a keeper, and what it is answered.
+pub enum Step {
+    /// A keeper over another database, which holds nothing, goes on.
+    Open,
+    /// A new book of a first day, so many days and a zone is made, or why it isn't.
+    Make(&'static [u8], u16, &'static [u8], Result<(), Stop>),
+    /// The lines of a script are answered as they say.
+    Tell(&'static str),
+    /// The stored reply of a command.
+    Reply(u32, &'static str),
+    /// Another keeper, without a book, goes on after these statements.
+    Change(&'static str),
+    /// The table that an audit names, `none`, or why it names none.
+    Audit(&'static str),
+    /// Whether a book is read, or why it isn't.
+    Load(Result<(), Stop>),
+    /// Whether the tables were of version 1 and are made those of version 2.
+    Migrate(Result<bool, Stop>),
+    /// Whether there is a book.
+    Has(bool),
+    /// What the book shows, the stored replies and the lives of the devices are noted.
+    Note,
+    /// They are those that were noted.
+    Same,
+    /// The rows of the tables are noted. Another keeper, without a book, goes on.
+    NoteRows,
+    /// They are those that were noted. Another keeper, without a book, goes on.
+    SameRows,
+    /// Another keeper loads the same tables, and then shows the same book, the same lives and the same replies.
+    Reopen,
+    /// The number that a query finds. Another keeper, without a book, goes on.
+    Find(&'static str, i64),
+    /// The tables have so many rows: the period, causes, nodes, devices, lives, customers, entries, marked days, commands, moves,
+    /// amounts. The amounts of each dimension add up to the total, and each is what the commands moved under its key.
+    Leave(&'static [i64], i64),
+}
+
+/// A new book of 2024-01-01 in UTC.
+pub const NEW: Step = Step::Make(b"2024-01-01", 1, b"UTC0", Ok(()));
+
+// What was noted.
+#[derive(Drop)]
+struct Noted {
+    shown: Vec<u8>,
+    lives: Vec<Life>,
+    rows: Vec<u8>,
+}
+
+impl Noted {
+    fn nothing(alloc: Global) -> Noted {
+        Noted {
+            shown: Vec::new(alloc),
+            lives: Vec::new(alloc),
+            rows: Vec::new(alloc),
+        }
+    }
+}
+
+/// A keeper over a store in memory that holds nothing is told steps, some after others. What is said of a step that doesn't hold
+/// begins with the title.
+pub fn tell(rt: &impl Abort, alloc: Global, title: &str, parts: &[&[Step]]) -> Result<(), Stop> {
+    told::<InMemory>(rt, alloc, title, parts)
+}
+
+fn told<O: Office>(
+    rt: &impl Abort,
+    alloc: Global,
+    title: &str,
+    parts: &[&[Step]],
+) -> Result<(), Stop> {
+    let mut noted = Noted::nothing(alloc);
+    let mut office = O::opens(alloc)?;
+    for steps in parts {
+        office = goes_on(rt, alloc, office, &mut noted, title, steps)?;
+    }
+    Ok(())
+}
+
+fn goes_on<O: Office>(
+    rt: &impl Abort,
+    alloc: Global,
+    office: O,
+    noted: &mut Noted,
+    title: &str,
+    steps: &[Step],
+) -> Result<O, Stop> {
+    let mut office = office;
+    for (place, step) in steps.iter().enumerate() {
+        let (next, holds) = taken(rt, alloc, office, noted, step)?;
+        assert!(rt; holds, "{title}: step {place}, from 0");
+        office = next;
+    }
+    Ok(office)
+}
+
+// The keeper that goes on after a step, and whether it is answered as it says.
+fn taken<O: Office>(
+    rt: &impl Abort,
+    alloc: Global,
+    office: O,
+    noted: &mut Noted,
+    step: &Step,
+) -> Result<(O, bool), Stop> {
+    match step {
+        Step::Open => Ok((O::opens(alloc)?, true)),
+        Step::Change(sql) => Ok((office.changed(alloc, sql)?, true)),
+        Step::Reopen => reopened(alloc, office, noted),
+        Step::NoteRows | Step::SameRows => rows(alloc, office, noted, step),
+        Step::Find(sql, wanted) => finds(alloc, office, &[*sql], &[*wanted]),
+        Step::Leave(rows, total) => leaves(alloc, office, rows, *total),
+        _ => {
+            let mut office = office;
+            let holds = is_answered(rt, alloc, &mut office, noted, step)?;
+            Ok((office, holds))
+        }
+    }
+}
+
+fn is_answered<O: Office>(
+    rt: &impl Abort,
+    alloc: Global,
+    office: &mut O,
+    noted: &mut Noted,
+    step: &Step,
+) -> Result<bool, Stop> {
+    match step {
+        Step::Make(first, days, zone, wanted) => Ok(office.makes(first, *days, zone) == *wanted),
+        Step::Tell(script) => is_told(rt, alloc, office, script),
+        Step::Reply(no, wanted) => is_stored(alloc, office, *no, wanted),
+        Step::Audit(wanted) => Ok(office.audits() == *wanted),
+        Step::Load(wanted) => Ok(office.loads() == *wanted),
+        Step::Migrate(wanted) => Ok(office.migrates() == *wanted),
+        Step::Has(wanted) => Ok(office.has_book() == *wanted),
+        Step::Note => note(alloc, office, noted),
+        Step::Same => is_same(alloc, office, noted),
+        _ => Ok(true),
+    }
+}
+
+// The lines of a script are answered as they say, one after another.
+fn is_told<O: Office>(
+    rt: &impl Abort,
+    alloc: Global,
+    office: &mut O,
+    script: &str,
+) -> Result<bool, Stop> {
+    for line in script.lines() {
+        let (asked, wanted) = line.split_once(" => ").unwrap_or((line, ""));
+        let found = answer_text(alloc, &office.acts(asked))?;
+        assert!(rt; found.as_str() == wanted, "{asked}: {found}");
+    }
+    Ok(true)
+}
+
+fn is_stored<O: Office>(
+    alloc: Global,
+    office: &mut O,
+    no: u32,
+    wanted: &str,
+) -> Result<bool, Stop> {
+    let found = stored_text(alloc, &office.replies(no))?;
+    Ok(found.as_str() == wanted)
+}
+
+// What the book shows, and the stored replies of its commands, of which there are fewer than forty.
+fn shown<O: Office>(alloc: Global, office: &mut O) -> Result<Vec<u8>, Stop> {
+    let mut text = office.shows()?;
+    for no in 0..40 {
+        let reply = stored_text(alloc, &office.replies(no))?;
+        text.extend_from_slice(reply.as_bytes())?;
+    }
+    Ok(text)
+}
+
+fn note<O: Office>(alloc: Global, office: &mut O, noted: &mut Noted) -> Result<bool, Stop> {
+    noted.shown = shown(alloc, office)?;
+    noted.lives = office.lives(alloc)?;
+    Ok(true)
+}
+
+fn is_same<O: Office>(alloc: Global, office: &mut O, noted: &Noted) -> Result<bool, Stop> {
+    Ok(shown(alloc, office)? == noted.shown && office.lives(alloc)? == noted.lives)
+}
+
+fn reopened<O: Office>(alloc: Global, mut office: O, noted: &mut Noted) -> Result<(O, bool), Stop> {
+    note(alloc, &mut office, noted)?;
+    let mut again = office.changed(alloc, "")?;
+    let is_sound = again.audits() == "none" && again.loads() == Ok(());
+    let holds = is_sound && is_same(alloc, &mut again, noted)?;
+    Ok((again, holds))
+}
+
+// The rows are noted, or are those that were.
+fn rows<O: Office>(
+    alloc: Global,
+    office: O,
+    noted: &mut Noted,
+    step: &Step,
+) -> Result<(O, bool), Stop> {
+    let (office, rows) = office.with_rows(alloc)?;
+    if let Step::SameRows = step {
+        let holds = rows == noted.rows;
+        return Ok((office, holds));
+    }
+    noted.rows = rows;
+    Ok((office, true))
+}
+
+fn finds<O: Office>(
+    alloc: Global,
+    office: O,
+    queries: &[&str],
+    wanted: &[i64],
+) -> Result<(O, bool), Stop> {
+    let (office, found) = office.finds(alloc, queries)?;
+    let holds = found.as_slice() == wanted;
+    Ok((office, holds))
+}
+
+fn leaves<O: Office>(
+    alloc: Global,
+    office: O,
+    rows: &[i64],
+    total: i64,
+) -> Result<(O, bool), Stop> {
+    let (office, are_counted) = finds(alloc, office, COUNTS, rows)?;
+    let (office, add_up) = finds(alloc, office, SUMS, &[total, total, total, 0])?;
+    Ok((office, are_counted && add_up))
+}
+
+/// How many rows each table has.
+const COUNTS: &'static [&'static str] = &[
+    "SELECT count(*) FROM meta",
+    "SELECT count(*) FROM cause",
+    "SELECT count(*) FROM node",
+    "SELECT count(*) FROM device",
+    "SELECT count(*) FROM life",
+    "SELECT count(*) FROM customer",
+    "SELECT count(*) FROM entry",
+    "SELECT count(*) FROM mark",
+    "SELECT count(*) FROM cmd",
+    "SELECT count(*) FROM moved",
+    "SELECT count(*) FROM posting",
+];
+
+/// The sum of each dimension's amounts, and how many amounts are not what the commands moved.
+const SUMS: &'static [&'static str] = &[
+    "SELECT sum(amount) FROM posting WHERE dim = 1",
+    "SELECT sum(amount) FROM posting WHERE dim = 2",
+    "SELECT sum(amount) FROM posting WHERE dim = 3",
+    "SELECT count(*) FROM posting WHERE amount <> (SELECT coalesce(sum(delta), 0) FROM moved \
+     WHERE moved.dim = posting.dim AND moved.k = posting.k)",
+];

@@ -1,0 +1,35 @@
+//! A new book that is made over files that may stop, and what is then kept.
+use crate::stopped::office::Office;
+use crate::stopped::sending::failed;
+use crate::stopped::tasks::Kept;
+use ob_net::{Refusal, Stop};
+use std::process::Abort;
+
+/// Makes a new book: one may be there where the store failed, and one is where it was answered.
+pub fn make<O: Office>(rt: &impl Abort, office: &mut O) -> Kept {
+    match office.makes() {
+        Ok(()) => Kept::all(1),
+        Err(stop) => failed(rt, office, stop, Kept { least: 0, most: 1 }),
+    }
+}
+
+// How many books the files hold.
+fn found<O: Office>(rt: &impl Abort, office: &mut O) -> u32 {
+    match office.loads() {
+        Ok(()) => 1,
+        Err(stop) => {
+            assert!(rt; stop == Stop::Refused(Refusal::BadBook));
+            assert!(rt; office.makes().is_ok());
+            0
+        }
+    }
+}
+
+/// Loads the new book, or makes it where there is none and none was acknowledged; it takes a command.
+pub fn holds_new<O: Office>(rt: &impl Abort, office: &mut O, kept: Kept) -> Kept {
+    let found = found(rt, office);
+    assert!(rt; kept.allows(found));
+    assert!(rt; office.shows() == Some((0, 0)));
+    assert!(rt; office.acts("N1 cause 3 STORM") == Ok(1));
+    Kept::all(found)
+}

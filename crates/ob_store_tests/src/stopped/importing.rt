@@ -1,0 +1,63 @@
+//! An import into a book whose store may stop, and the rows that are then kept.
+use crate::stopped::office::Office;
+use crate::stopped::sending::{BEFORE, failed};
+use crate::stopped::tasks::Kept;
+use std::alloc::Global;
+use std::process::Abort;
+
+// The breaker closed ten minutes earlier, the day marked, and the breaker closed when it was.
+const ROWS: &'static [u8] = b"\
+kind,ref,f1,f2,f3,f4,f5,f6
+correct,FIX1,4,1,close,1704073800,3,K1
+mark,FIX2,2024-01-01,E1,,,,
+correct,FIX3,4,2,close,1704074400,3,K1
+";
+
+/// How many commands the book has with all rows.
+pub const IMPORTED: u32 = 28;
+
+// The customer-seconds of the book of so many commands.
+fn total_of(accepted: u32) -> u64 {
+    if BEFORE < accepted && accepted < IMPORTED {
+        7_800
+    } else {
+        9_000
+    }
+}
+
+/// Loads the book and imports the rows. Where the store fails, those that were acknowledged are kept, and perhaps one more.
+pub fn import<O: Office>(rt: &impl Abort, alloc: Global, office: &mut O) -> Kept {
+    if let Err(stop) = office.loads() {
+        return failed(rt, office, stop, Kept::all(BEFORE));
+    }
+    let found = office.imports(alloc, ROWS);
+    let rows = found.rows();
+    assert!(rt; rows <= 3);
+    match found.stop {
+        None => {
+            assert!(rt; rows == 3);
+            Kept::all(IMPORTED)
+        }
+        Some(stop) => failed(
+            rt,
+            office,
+            stop,
+            Kept {
+                least: BEFORE + rows,
+                most: BEFORE + rows + 1,
+            },
+        ),
+    }
+}
+
+/// Loads the book: it has the rows that were acknowledged, and at most one more. Then it takes the rest of them.
+pub fn holds_rows<O: Office>(rt: &impl Abort, alloc: Global, office: &mut O, kept: Kept) -> Kept {
+    assert!(rt; office.loads().is_ok());
+    let (accepted, total) = office.shows().unwrap_or((0, 0));
+    assert!(rt; kept.allows(accepted));
+    assert!(rt; total == total_of(accepted));
+    let found = office.imports(alloc, ROWS);
+    assert!(rt; found.rows() == 3 && found.stop == None);
+    assert!(rt; office.shows() == Some((IMPORTED, total_of(IMPORTED))));
+    Kept::all(accepted)
+}

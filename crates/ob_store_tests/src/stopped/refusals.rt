@@ -1,0 +1,91 @@
+//! Tests that hold whichever one allocation of their run is refused: a book over two files, from their opening to their closing.
+use crate::stopped::disks::{Pair, blank, restart};
+use crate::stopped::scripts::COMMANDS;
+use crate::stopped::tasks::{Kept, Task, run};
+use std::alloc::Global;
+use std::process::Abort;
+
+// The same task where so much is kept.
+fn from_there(task: Task, kept: Kept) -> Task {
+    match task {
+        Task::Read(_) => Task::Read(kept),
+        Task::Upgrade(_) => Task::Upgrade(kept),
+        _ => Task::Act(kept),
+    }
+}
+
+// Opens the files and goes on with a task where it came. Answers what is kept, and the files as one finds them who starts again.
+fn again(
+    rt: &impl Abort,
+    alloc: Global,
+    files: Pair,
+    task: Task,
+    kept: Kept,
+) -> (Option<Kept>, Pair) {
+    let (found, mut left) = run(rt, alloc, files, from_there(task, kept));
+    restart(&mut left);
+    (found, left)
+}
+
+// A book over new files, whose files are then opened again; and once more, where the second time didn't come to its end.
+fn comes_to_its_end(rt: &impl Abort, alloc: Global, task: Task) {
+    let none = Kept::all(0);
+    let (first, files) = again(rt, alloc, blank(alloc), task, none);
+    let (second, files) = again(rt, alloc, files, task, first.unwrap_or(none));
+    if has_all(second) {
+        return;
+    }
+    let kept = second.or(first).unwrap_or(none);
+    let (third, _) = again(rt, alloc, files, task, kept);
+    assert!(rt; has_all(third));
+}
+
+fn has_all(kept: Option<Kept>) -> bool {
+    match kept {
+        Some(kept) => kept.least == COMMANDS,
+        None => false,
+    }
+}
+
+#[test]
+fn commands_where_memory_is_refused(rt: HostRuntime) {
+    comes_to_its_end(&rt, rt.alloc(), Task::Act(Kept::all(0)));
+}
+
+#[test]
+fn an_import_where_memory_is_refused(rt: HostRuntime) {
+    comes_to_its_end(&rt, rt.alloc(), Task::Read(Kept::all(0)));
+}
+
+// Files of the outage of version 1, made anew where the first ones weren't told all.
+fn old_files(rt: &impl Abort, alloc: Global) -> Pair {
+    let (first, mut files) = run(rt, alloc, blank(alloc), Task::Old);
+    if is_made(first) {
+        // where their closing was refused memory, they are those that one finds who starts again
+        restart(&mut files);
+        return files;
+    }
+    let (second, files) = run(rt, alloc, blank(alloc), Task::Old);
+    assert!(rt; is_made(second));
+    files
+}
+
+fn is_made(kept: Option<Kept>) -> bool {
+    kept.is_some_and(|kept| kept.least == 1)
+}
+
+// Old files three times, of which one at most doesn't come to its end.
+fn is_upgraded(rt: &impl Abort, alloc: Global) {
+    let none = Kept::all(0);
+    let task = Task::Upgrade(none);
+    let (first, files) = again(rt, alloc, old_files(rt, alloc), task, none);
+    let (second, files) = again(rt, alloc, files, task, first.unwrap_or(none));
+    let kept = second.or(first).unwrap_or(none);
+    let (third, _) = again(rt, alloc, files, task, kept);
+    assert!(rt; is_made(third.or(second)));
+}
+
+#[test]
+fn a_migration_where_memory_is_refused(rt: HostRuntime) {
+    is_upgraded(&rt, rt.alloc());
+}

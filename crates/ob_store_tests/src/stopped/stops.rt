@@ -1,0 +1,158 @@
+//! A task that is stopped at each call of either file, and what is left.
+use crate::stopped::disks::{Pair, Which, blank, copies, crash_db, crash_log, have_stopped};
+use crate::stopped::importing::IMPORTED;
+use crate::stopped::scripts::{CORRECTION, JOINING, LEAVING, Last};
+use crate::stopped::sending::{AFTER, BEFORE};
+use crate::stopped::tasks::{Kept, Task, run};
+use std::alloc::Global;
+use std::process::Abort;
+
+// What is held where a task came so far; nothing was done where the files weren't opened.
+fn held(task: Task, kept: Option<Kept>) -> Task {
+    match task {
+        Task::Make => Task::HoldNew(kept.unwrap_or(Kept::all(0))),
+        Task::Import => Task::HoldRows(kept.unwrap_or(Kept::all(BEFORE))),
+        Task::Migrate => Task::HoldUpgraded(kept.unwrap_or(Kept::all(0))),
+        Task::Send(last) => Task::Hold(kept.unwrap_or(Kept::all(BEFORE)), last),
+        _ => Task::Hold(kept.unwrap_or(Kept::all(BEFORE)), CORRECTION),
+    }
+}
+
+// The files are opened, and hold it.
+fn hold(rt: &impl Abort, alloc: Global, files: &Pair, task: Task) {
+    let copies = copies(rt, alloc, files, Which::Log, u64::MAX);
+    let (kept, _) = run(rt, alloc, copies, task);
+    assert!(rt; kept.is_some());
+}
+
+// So they do as they are, and where the log, or both, lost what was not synced.
+fn leave(rt: &impl Abort, alloc: Global, files: &mut Pair, task: Task) {
+    hold(rt, alloc, files, task);
+    if crash_log(rt, alloc, files) {
+        hold(rt, alloc, files, task);
+    }
+    if crash_db(rt, alloc, files) {
+        hold(rt, alloc, files, task);
+    }
+}
+
+// One file stops after so many calls of the task. Where the task ends before that, answers what is kept.
+fn stopped_at(
+    rt: &impl Abort,
+    alloc: Global,
+    files: &Pair,
+    which: Which,
+    calls: u64,
+    task: Task,
+) -> Option<Kept> {
+    let copies = copies(rt, alloc, files, which, calls);
+    let (kept, mut left) = run(rt, alloc, copies, task);
+    let is_stopped = have_stopped(&mut left);
+    leave(rt, alloc, &mut left, held(task, kept));
+    if is_stopped { None } else { kept }
+}
+
+// One file stops at each call of the task in turn, up to a run that ends before it stops. By then so much is acknowledged.
+fn stopped(rt: &impl Abort, alloc: Global, files: &Pair, which: Which, task: Task, wanted: u32) {
+    for calls in 0..10_000u64 {
+        if let Some(kept) = stopped_at(rt, alloc, files, which, calls, task) {
+            assert!(rt; calls > 20, "{calls}");
+            assert!(rt; kept.least == wanted);
+            return;
+        }
+    }
+    panic!(rt; "calls without end");
+}
+
+// What is sent to the book with the outage, stopped so.
+fn stopped_in_outage(rt: &impl Abort, alloc: Global, which: Which, task: Task, wanted: u32) {
+    let (_, files) = run(rt, alloc, blank(alloc), Task::Outage);
+    stopped(rt, alloc, &files, which, task, wanted);
+}
+
+// A new book, stopped so.
+fn stopped_in_creation(rt: &impl Abort, alloc: Global, which: Which) {
+    stopped(rt, alloc, &blank(alloc), which, Task::Make, 1);
+}
+
+// The tables of version 1 made those of version 2, stopped so.
+fn stopped_in_migration(rt: &impl Abort, alloc: Global, which: Which) {
+    let (kept, files) = run(rt, alloc, blank(alloc), Task::Old);
+    assert!(rt; kept.is_some_and(|kept| kept.least == 1));
+    stopped(rt, alloc, &files, which, Task::Migrate, 1);
+}
+
+// This command, sent to that book and stopped so.
+fn stopped_in_sending(rt: &impl Abort, alloc: Global, which: Which, last: Last) {
+    stopped_in_outage(rt, alloc, which, Task::Send(last), AFTER);
+}
+
+#[test]
+fn a_command_over_a_log_that_stops(rt: HostRuntime) {
+    stopped_in_sending(&rt, rt.alloc(), Which::Log, CORRECTION);
+}
+
+#[test]
+fn a_command_over_a_database_file_that_stops(rt: HostRuntime) {
+    stopped_in_sending(&rt, rt.alloc(), Which::Db, CORRECTION);
+}
+
+#[test]
+fn a_device_that_joins_over_a_log_that_stops(rt: HostRuntime) {
+    stopped_in_sending(&rt, rt.alloc(), Which::Log, JOINING);
+}
+
+#[test]
+fn a_device_that_joins_over_a_database_file_that_stops(rt: HostRuntime) {
+    stopped_in_sending(&rt, rt.alloc(), Which::Db, JOINING);
+}
+
+#[test]
+fn a_life_over_a_log_that_stops(rt: HostRuntime) {
+    stopped_in_sending(&rt, rt.alloc(), Which::Log, LEAVING);
+}
+
+#[test]
+fn a_life_over_a_database_file_that_stops(rt: HostRuntime) {
+    stopped_in_sending(&rt, rt.alloc(), Which::Db, LEAVING);
+}
+
+#[test]
+fn a_request_over_a_log_that_stops(rt: HostRuntime) {
+    stopped_in_outage(&rt, rt.alloc(), Which::Log, Task::Serve, AFTER);
+}
+
+#[test]
+fn a_request_over_a_database_file_that_stops(rt: HostRuntime) {
+    stopped_in_outage(&rt, rt.alloc(), Which::Db, Task::Serve, AFTER);
+}
+
+#[test]
+fn an_import_over_a_log_that_stops(rt: HostRuntime) {
+    stopped_in_outage(&rt, rt.alloc(), Which::Log, Task::Import, IMPORTED);
+}
+
+#[test]
+fn an_import_over_a_database_file_that_stops(rt: HostRuntime) {
+    stopped_in_outage(&rt, rt.alloc(), Which::Db, Task::Import, IMPORTED);
+}
+
+#[test]
+fn a_new_book_over_a_log_that_stops(rt: HostRuntime) {
+    stopped_in_creation(&rt, rt.alloc(), Which::Log);
+}
+
+#[test]
+fn a_new_book_over_a_database_file_that_stops(rt: HostRuntime) {
+    stopped_in_creation(&rt, rt.alloc(), Which::Db);
+}
+
+#[test]
+fn a_migration_over_a_log_that_stops(rt: HostRuntime) {
+    stopped_in_migration(&rt, rt.alloc(), Which::Log);
+}
+
+#[test]
+fn a_migration_over_a_database_file_that_stops(rt: HostRuntime) {
+    stopped_in_migration(&rt, rt.alloc(), Which::Db);
+}

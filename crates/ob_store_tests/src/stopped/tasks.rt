@@ -1,0 +1,139 @@
+//! What a keeper is to do over files that may stop, from their opening to their closing.
+use crate::old::TO_VERSION_ONE;
+use crate::stopped::creations::{holds_new, make};
+use crate::stopped::importing::{holds_rows, import};
+use crate::stopped::office::Office;
+use crate::stopped::scripts::Last;
+use crate::stopped::sending::{holds, outage, send};
+use crate::stopped::serving::serve;
+use crate::stopped::upgrades::{holds_upgraded, migrate, prepare, upgrade};
+use crate::stopped::working::{act, read};
+use ob_store::Keeper;
+use ob_sweep::Windowed;
+use sqlite::{Alter, Connection, FileStore, Files, Options};
+use sqlite_disk::Disk;
+use std::alloc::Global;
+use std::process::Abort;
+
+/// How much the files hold: so much was acknowledged, and so much may have come.
+#[derive(Clone, Copy)]
+pub struct Kept {
+    pub least: u32,
+    pub most: u32,
+}
+
+impl Kept {
+    /// Just so much.
+    pub fn all(count: u32) -> Kept {
+        Kept {
+            least: count,
+            most: count,
+        }
+    }
+
+    /// So much may be there.
+    pub fn allows(&self, count: u32) -> bool {
+        self.least <= count && count <= self.most
+    }
+}
+
+/// What a keeper is to do.
+#[derive(Clone, Copy)]
+pub enum Task {
+    /// Make a book with the outage.
+    Outage,
+    /// Load the book and send it this command.
+    Send(Last),
+    /// Load the book that is kept, and go on with this command.
+    Hold(Kept, Last),
+    /// Load the book and serve it a stream with the correction.
+    Serve,
+    /// Load the book and import rows into it.
+    Import,
+    /// Load the book with the rows that are kept, and import the others.
+    HoldRows(Kept),
+    /// Make a new book.
+    Make,
+    /// Load the new book that is kept, or make it, and go on.
+    HoldNew(Kept),
+    /// Make a book with the outage, and its tables those of version 1; nothing is kept where a call failed.
+    Old,
+    /// Make the tables of version 1 those of version 2.
+    Migrate,
+    /// Load the book of version 2 that is kept, or make it of that of version 1, and go on.
+    HoldUpgraded(Kept),
+    /// Load the book of version 2 that is kept, or make it of that of version 1, where memory may be refused.
+    Upgrade(Kept),
+    /// Load the book that is kept, or make it, and send it the rest of the outage and what comes afterwards.
+    Act(Kept),
+    /// The same by an import.
+    Read(Kept),
+}
+
+/// Opens the files, does a task with a keeper over them, and closes them. Answers what they then hold; None where they weren't
+/// opened.
+pub fn run<D: Disk + Drop>(
+    rt: &impl Abort,
+    alloc: Global,
+    files: Files<D>,
+    task: Task,
+) -> (Option<Kept>, Files<D>) {
+    assert!(rt; files.may_be_used());
+    match Connection::open_files(alloc, files, Options::new(7)) {
+        Ok(conn) => {
+            let (kept, conn) = over(rt, alloc, conn, task);
+            (Some(kept), closed(conn))
+        }
+        Err((_, left)) => (None, left.into_files()),
+    }
+}
+
+// Closes the files; where they stop, they are left as they are.
+fn closed<D: Disk + Drop>(conn: Connection<FileStore<D>>) -> Files<D> {
+    match conn.close_files() {
+        Ok(files) => files,
+        Err((_, store)) => store.close(),
+    }
+}
+
+// Does a task with a keeper over a database.
+fn over<S: Alter + Drop>(
+    rt: &impl Abort,
+    alloc: Global,
+    conn: Connection<S>,
+    task: Task,
+) -> (Kept, Connection<S>) {
+    assert!(rt; conn.is_autocommit());
+    let mut keeper: Keeper<S, Windowed> = Keeper::adopt_connection(alloc, conn);
+    if let Task::Old = task {
+        let is_told = prepare(&mut keeper);
+        return made_old(keeper.into_connection(), is_told);
+    }
+    let kept = done(rt, alloc, &mut keeper, task);
+    (kept, keeper.into_connection())
+}
+
+// Makes the tables of the outage those of version 1, where it was told.
+fn made_old<S: Alter>(mut conn: Connection<S>, is_told: bool) -> (Kept, Connection<S>) {
+    let is_old = is_told && conn.execute_batch(TO_VERSION_ONE).is_ok();
+    (Kept::all(u32::from(is_old)), conn)
+}
+
+fn done<O: Office>(rt: &impl Abort, alloc: Global, office: &mut O, task: Task) -> Kept {
+    match task {
+        Task::Outage => outage(rt, office),
+        Task::Send(last) => send(rt, office, last),
+        Task::Hold(kept, last) => holds(rt, office, kept, last),
+        Task::Serve => serve(rt, alloc, office),
+        Task::Import => import(rt, alloc, office),
+        Task::HoldRows(kept) => holds_rows(rt, alloc, office, kept),
+        Task::Make => make(rt, office),
+        Task::HoldNew(kept) => holds_new(rt, office, kept),
+        Task::Old => Kept::all(0),
+        Task::Migrate => migrate(rt, office),
+        Task::HoldUpgraded(kept) => holds_upgraded(rt, office, kept),
+        Task::Upgrade(kept) => upgrade(rt, office, kept),
+        Task::Act(kept) => act(rt, office, kept),
+        Task::Read(kept) => read(rt, alloc, office, kept),
+    }
+}

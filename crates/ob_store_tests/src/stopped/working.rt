@@ -1,0 +1,131 @@
+//! The outage and what comes afterwards, on a book, where memory may be refused to one call: command by command, or by an import.
+use crate::stopped::memory::{NO_MEMORY, goes_on, holds, load};
+use crate::stopped::office::{Office, STORE};
+use crate::stopped::scripts::{AFTERWARDS, COMMANDS, OUTAGE, ROWS};
+use crate::stopped::sending::BEFORE;
+use crate::stopped::tasks::Kept;
+use ob_net::{Refusal, Stop};
+use std::alloc::Global;
+use std::process::Abort;
+
+// Makes the book. False where the store failed.
+fn makes<O: Office>(rt: &impl Abort, office: &mut O) -> bool {
+    match office.makes() {
+        Ok(()) => true,
+        Err(stop) => {
+            assert!(rt; office.views() == None);
+            assert!(rt; stop == NO_MEMORY || stop == STORE);
+            stop == NO_MEMORY && office.makes().is_ok()
+        }
+    }
+}
+
+// Loads the book that is kept, or makes it. False where the store failed.
+fn begins<O: Office>(rt: &impl Abort, office: &mut O, kept: Kept) -> bool {
+    match load(rt, office) {
+        Ok(()) => {}
+        Err(Stop::Refused(Refusal::BadBook)) => {
+            assert!(rt; kept.least == 0);
+            if !makes(rt, office) {
+                return false;
+            }
+        }
+        Err(stop) => {
+            assert!(rt; stop == STORE);
+            return false;
+        }
+    }
+    assert!(rt; holds(office, kept));
+    true
+}
+
+// How many commands the book has.
+fn accepted<O: Office>(office: &O) -> u32 {
+    match office.shows() {
+        Some((accepted, _)) => accepted,
+        None => 0,
+    }
+}
+
+// So many commands are kept, and perhaps one more.
+fn or_one_more(least: u32) -> Kept {
+    Kept {
+        least,
+        most: least.saturating_add(1),
+    }
+}
+
+// Sends the command of this number, or sends it again. Where memory is refused to it, it is sent once more. False where the
+// store failed and can't be read over these files.
+fn sends<O: Office>(rt: &impl Abort, office: &mut O, line: &str, no: u32) -> bool {
+    let before = office.views();
+    let least = accepted(office);
+    let mut found = office.acts(line);
+    if let Err(stop) = found {
+        assert!(rt; stop != NO_MEMORY || office.views() == before);
+        if !goes_on(rt, office, stop, Kept { least, most: no }) {
+            return false;
+        }
+        found = office.acts(line);
+    }
+    assert!(rt; found == Ok(no));
+    assert!(rt; holds(office, Kept::all(no)));
+    true
+}
+
+// Sends the lines of a script that follow so many commands, those that the book lacks and the last of all. Answers what is
+// kept, and that is less where the store failed.
+fn sends_all<O: Office>(rt: &impl Abort, office: &mut O, script: &str, first: u32) -> Kept {
+    let mut no = first;
+    for line in script.lines() {
+        no = no.saturating_add(1);
+        let is_sent = accepted(office) < no || no == COMMANDS;
+        if is_sent && !sends(rt, office, line, no) {
+            return or_one_more(no.saturating_sub(1));
+        }
+    }
+    Kept::all(no)
+}
+
+/// Sends the commands that the book lacks, one by one, and the last of them again.
+pub fn act<O: Office>(rt: &impl Abort, office: &mut O, kept: Kept) -> Kept {
+    if !begins(rt, office, kept) {
+        return kept;
+    }
+    let found = sends_all(rt, office, OUTAGE, 0);
+    if found.least < BEFORE {
+        return found;
+    }
+    sends_all(rt, office, AFTERWARDS, BEFORE)
+}
+
+// Imports all rows, of which so many were in the book.
+fn is_imported<O: Office>(rt: &impl Abort, alloc: Global, office: &mut O, before: u32) {
+    let found = office.imports(alloc, ROWS);
+    assert!(rt; found.stop == None);
+    assert!(rt; found.again == before && found.rows() == COMMANDS);
+    assert!(rt; holds(office, Kept::all(COMMANDS)));
+}
+
+/// Imports the rows of all commands. Where memory is refused to that, the rows that are acknowledged are kept, and the same
+/// import goes on behind them.
+pub fn read<O: Office>(rt: &impl Abort, alloc: Global, office: &mut O, kept: Kept) -> Kept {
+    if !begins(rt, office, kept) {
+        return kept;
+    }
+    let before = accepted(office);
+    let found = office.imports(alloc, ROWS);
+    let kept = or_one_more(before.max(found.rows()));
+    assert!(rt; found.again == before.min(found.rows()));
+    match found.stop {
+        None => assert!(rt; found.rows() == COMMANDS),
+        Some(stop) => {
+            if !goes_on(rt, office, stop, kept) {
+                return kept;
+            }
+            let before = accepted(office);
+            is_imported(rt, alloc, office, before);
+        }
+    }
+    Kept::all(COMMANDS)
+}
