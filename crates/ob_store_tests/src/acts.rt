@@ -110,7 +110,7 @@ const STORIES: &'static [Story] = &[
 // total.
 fn are_told(rt: &impl Abort, alloc: Global, stories: &[Story]) -> Result<(), Stop> {
     for story in stories {
-        let steps = &[
+        let steps: &[Step] = &[
             Step::Tell(story.first),
             Step::Tell(story.then),
             Step::Reopen,
@@ -157,10 +157,10 @@ const WHOLE_LIVES: &'static str = "SELECT count(*) FROM life WHERE since = 0 AND
 // The lines of a script leave a row that a query finds, and so many whole lives.
 fn leave_lives(rt: &impl Abort, alloc: Global, cases: &[Lived]) -> Result<(), Stop> {
     for (script, sql, whole) in cases {
-        let steps = &[
-            Step::Tell(script),
+        let steps: &[Step] = &[
+            Step::Tell(*script),
             Step::Reopen,
-            Step::Find(sql, 1),
+            Step::Find(*sql, 1),
             Step::Find(WHOLE_LIVES, *whole),
         ];
         tell(rt, alloc, script, &[TWO_FEEDERS_BOOK, steps])?;

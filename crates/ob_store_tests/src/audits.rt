@@ -110,9 +110,9 @@ const SEVERAL: &'static [Case] = &[
 // After these statements the audit names this table, or the refusal, and no book is loaded.
 fn are_found(rt: &impl Abort, alloc: Global, cases: &[Case]) -> Result<(), Stop> {
     for (sql, wanted) in cases {
-        let steps = &[
-            Step::Change(sql),
-            Step::Audit(wanted),
+        let steps: &[Step] = &[
+            Step::Change(*sql),
+            Step::Audit(*wanted),
             Step::Load(BAD_BOOK),
             Step::Has(false),
         ];
@@ -158,8 +158,8 @@ const OLD: &'static [&'static str] = &[
 // After these statements audit and load name the version.
 fn are_old(rt: &impl Abort, alloc: Global, cases: &[&'static str]) -> Result<(), Stop> {
     for sql in cases {
-        let steps = &[
-            Step::Change(sql),
+        let steps: &[Step] = &[
+            Step::Change(*sql),
             Step::Audit("OldVersion"),
             Step::Load(OLD_VERSION),
             Step::Has(false),

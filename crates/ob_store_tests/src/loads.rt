@@ -37,11 +37,11 @@ const TOLD: &'static [Told] = &[
 // rows and so much in total.
 fn go_on(rt: &impl Abort, alloc: Global, told: &[Told]) -> Result<(), Stop> {
     for (then, rows, total) in told {
-        let steps = &[
+        let steps: &[Step] = &[
             Step::Reopen,
-            Step::Tell(then),
+            Step::Tell(*then),
             Step::Reopen,
-            Step::Leave(rows, *total),
+            Step::Leave(*rows, *total),
         ];
         tell(rt, alloc, then, &[OUTAGE_BOOK, steps])?;
     }

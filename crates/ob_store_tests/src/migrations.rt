@@ -132,10 +132,10 @@ const MARKED: &'static str = "N26 mark 2024-01-01 E1 => 26";
 
 fn are_no_book(rt: &impl Abort, alloc: Global, cases: &[&'static str]) -> Result<(), Stop> {
     for sql in cases {
-        let steps = &[
+        let steps: &[Step] = &[
             Step::Tell(MARKED),
             Step::Change(TO_VERSION_ONE),
-            Step::Change(sql),
+            Step::Change(*sql),
         ];
         tell(rt, alloc, sql, &[OUTAGE_BOOK, steps, LEFT])?;
     }
@@ -239,10 +239,10 @@ fn are_no_old_stories(
     cases: &[(&'static str, &'static str)],
 ) -> Result<(), Stop> {
     for (then, sql) in cases {
-        let steps = &[
-            Step::Tell(then),
+        let steps: &[Step] = &[
+            Step::Tell(*then),
             Step::Change(TO_VERSION_ONE),
-            Step::Change(sql),
+            Step::Change(*sql),
         ];
         tell(rt, alloc, then, &[OUTAGE_BOOK, steps, LEFT])?;
     }
