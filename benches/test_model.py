@@ -359,13 +359,13 @@ class Examples(unittest.TestCase):
     def test_texts_of_the_tests(self):
         """The crates' tests have the files of the sample fortnight as they stand in `examples/`."""
         root = Path(__file__).resolve().parent.parent
-        sources = [root / f"crates/ob_jobs_tests/src/fortnight_{name}.rt" for name in ["texts", "moves"]]
+        sources = [root / f"crates/ob_office_tests/src/fortnight_{name}.rt" for name in ["texts", "moves"]]
         source = "".join(file.read_text(encoding="ascii") for file in sources)
         for name in ["fortnight", "corrections"]:
             for file in [f"{name}.{end}" for end in ["csv", "table.txt", "moves.csv"]]:
                 text = (root / "examples" / file).read_text(encoding="ascii")
                 self.assertIn(f'"\\\n{text}";', source, file)
-        source = (root / "crates/ob_jobs_tests/src/old_fortnight.rt").read_text(encoding="ascii")
+        source = (root / "crates/ob_office_tests/src/old_fortnight.rt").read_text(encoding="ascii")
         source = re.sub(r" \\\n +", " ", source)
         for file in ["fortnight-version-1.sql", "fortnight-version-1.table.txt"]:
             text = (root / "examples" / file).read_text(encoding="ascii")

@@ -1,6 +1,6 @@
 //! Tests of the keeper over a store in memory: commands under references with what each is answered, new books, what
 //! stands in the tables in the end, the books that are loaded from them, tables of version 1 that are made those of version
-//! 2, and tables that are no book's. And over files that stop, or where memory is refused.
+//! 2, and tables that are no book's. And random lists of commands against a plain count.
 //!
 //! It holds tests alone. The amounts are worked out by hand from the definitions.
 #![tactic(auto)]
@@ -22,13 +22,13 @@ mod office;
 #[cfg(test)]
 mod old;
 #[cfg(test)]
+mod random;
+#[cfg(test)]
 mod rows;
 #[cfg(test)]
 mod scripts;
 #[cfg(test)]
 mod steps;
-#[cfg(test)]
-mod stopped;
 #[cfg(test)]
 mod texts;
 #[cfg(test)]

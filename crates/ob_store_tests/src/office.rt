@@ -80,8 +80,8 @@ impl Blank for MemStore {
 /// A keeper over a store in memory.
 pub type InMemory = Keeper<MemStore, Windowed>;
 
-// A keeper without a book, over a database.
-fn adopted<S: Alter + Drop, T: Timeline>(
+/// A keeper without a book, over a database.
+pub fn adopted<S: Alter + Drop, T: Timeline>(
     alloc: Global,
     conn: Connection<S>,
 ) -> Result<Keeper<S, T>, Stop> {

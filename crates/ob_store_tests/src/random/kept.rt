@@ -1,18 +1,17 @@
 //! The lists, under references, by a keeper over a store in memory: it answers each command as the plain lists do, and
 //! again where it is told again; another keeper loads the same book from its tables and goes on, and the eleven tables then
 //! have the rows of the plain lists.
-use crate::compare::{has_figures, has_posted};
-use crate::draw::command;
-use crate::office::Office;
-use crate::random::Random;
-use crate::rows::rows_of;
-use crate::told::Told;
+use crate::office::InMemory;
+use crate::random::compare::{has_figures, has_posted};
+use crate::random::draw::command;
+use crate::random::numbers::Random;
+use crate::random::office::Office;
+use crate::random::rows::rows_of;
+use crate::random::told::Told;
 use ob_book::{Command, read_body};
 use ob_net::{Ref, Refusal, Stop};
 use ob_post::Moved;
-use ob_store::{Keeper, Reply};
-use ob_sweep::Windowed;
-use sqlite::MemStore;
+use ob_store::Reply;
 use std::alloc::Global;
 use std::process::Abort;
 use std::test::Fail;
@@ -173,5 +172,5 @@ fn keeps_lists<O: Office>(rt: &impl Abort, alloc: Global, lists: u32) -> Result<
 
 #[test]
 fn keepers_answer_as_the_plain_lists_do(rt: HostRuntime) -> Result<(), Fail> {
-    keeps_lists::<Keeper<MemStore, Windowed>>(&rt, rt.alloc(), 20)
+    keeps_lists::<InMemory>(&rt, rt.alloc(), 20)
 }

@@ -1,6 +1,6 @@
 //! The body texts of commands, as the plain lists write them.
-use crate::refusal::day_of;
-use crate::text::{Cell, put_cells};
+use crate::random::refusal::day_of;
+use crate::random::text::{Cell, put_cells};
 use ob_book::Command;
 use ob_command::{CauseCode, CivilDate, Moment, Serial};
 use ob_net::{Crew, Pos};

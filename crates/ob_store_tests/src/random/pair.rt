@@ -1,9 +1,9 @@
 //! Two books, and plain lists beside them, that are told the same.
-use crate::books::Acts;
-use crate::compare::{has_figures, has_posted};
-use crate::count::{Counted, count, differences};
-use crate::plain::Plain;
-use crate::seen::Seen;
+use crate::random::books::Acts;
+use crate::random::compare::{has_figures, has_posted};
+use crate::random::count::{Counted, count, differences};
+use crate::random::plain::Plain;
+use crate::random::seen::Seen;
 use ob_book::Command;
 use ob_net::Stop;
 use ob_post::Moved;

@@ -1,7 +1,7 @@
 //! The plain lists under references: what a command is answered, and the accepted commands with what they moved.
-use crate::body::body_of;
-use crate::count::{Counted, count, differences};
-use crate::plain::Plain;
+use crate::random::body::body_of;
+use crate::random::count::{Counted, count, differences};
+use crate::random::plain::Plain;
 use ob_book::Command;
 use ob_net::{Ref, Refusal};
 use ob_post::Moved;

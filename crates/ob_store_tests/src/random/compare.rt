@@ -1,8 +1,8 @@
 //! What a book shows, compared with the plain lists.
-use crate::books::Shows;
-use crate::count::{Counted, KEYS};
-use crate::figures::figures;
-use crate::plain::Plain;
+use crate::random::books::Shows;
+use crate::random::count::{Counted, KEYS};
+use crate::random::figures::figures;
+use crate::random::plain::Plain;
 use ob_index::Which;
 use std::process::Abort;
 

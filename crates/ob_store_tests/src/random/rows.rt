@@ -1,12 +1,15 @@
 //! The rows of the eleven tables, as the plain lists have them.
-use crate::count::{Counted, KEYS};
-use crate::plain::{Plain, PlainCustomer};
-use crate::text::{Cell, put_row};
-use crate::told::Told;
+use crate::random::count::{Counted, KEYS};
+use crate::random::plain::{Plain, PlainCustomer};
+use crate::random::text::{Cell, put_row};
+use crate::random::told::Told;
 use ob_net::Second;
 use ob_post::{Dim, Moved};
 use std::alloc::Global;
 use std::test::Fail;
+
+// What stands before the rows of a table.
+const TABLE: &'static [u8] = b"table\n";
 
 /// The rows of all tables, each by its key.
 pub fn rows_of(alloc: Global, told: &Told) -> Result<Vec<u8>, Fail> {
@@ -16,16 +19,16 @@ pub fn rows_of(alloc: Global, told: &Told) -> Result<Vec<u8>, Fail> {
     put_commands(alloc, &mut text, told)?;
     put_moves(alloc, &mut text, told)?;
     put_amounts(alloc, &mut text, &told.counted)?;
+    put_lives(alloc, &mut text, &told.plain)?;
     Ok(text)
 }
 
-// The period, causes, nodes, and devices with their lives.
+// The period, causes, nodes and devices.
 fn put_parts(alloc: Global, text: &mut Vec<u8>, plain: &Plain) -> Result<(), Fail> {
-    text.extend_from_slice(b"1 2 1970-01-02 2 UTC0\n")?;
+    text.extend_from_slice(b"table\n1 2 1970-01-02 2 UTC0\n")?;
     put_causes(alloc, text, plain)?;
     put_nodes(alloc, text, plain)?;
-    put_devices(alloc, text, plain)?;
-    put_lives(alloc, text, plain)
+    put_devices(alloc, text, plain)
 }
 
 // Customers, entries and marks.
@@ -36,6 +39,7 @@ fn put_acts(alloc: Global, text: &mut Vec<u8>, plain: &Plain) -> Result<(), Fail
 }
 
 fn put_causes(alloc: Global, text: &mut Vec<u8>, plain: &Plain) -> Result<(), Fail> {
+    text.extend_from_slice(TABLE)?;
     for code in 0..64u8 {
         if let Some(cause) = plain.cause_of(code) {
             let cells = &[
@@ -49,6 +53,7 @@ fn put_causes(alloc: Global, text: &mut Vec<u8>, plain: &Plain) -> Result<(), Fa
 }
 
 fn put_nodes(alloc: Global, text: &mut Vec<u8>, plain: &Plain) -> Result<(), Fail> {
+    text.extend_from_slice(TABLE)?;
     for (id, node) in plain.nodes.iter().enumerate() {
         let kind = match (id, node.feeder) {
             (0, _) => 0,
@@ -68,6 +73,7 @@ fn put_nodes(alloc: Global, text: &mut Vec<u8>, plain: &Plain) -> Result<(), Fai
 }
 
 fn put_devices(alloc: Global, text: &mut Vec<u8>, plain: &Plain) -> Result<(), Fail> {
+    text.extend_from_slice(TABLE)?;
     for (id, device) in plain.devices.iter().enumerate() {
         let (a, b, normal) = (place(device.a), place(device.b), flag(device.is_closed));
         let cells = &[place(id), Cell::Word(device.name.bytes()), a, b, normal];
@@ -77,6 +83,7 @@ fn put_devices(alloc: Global, text: &mut Vec<u8>, plain: &Plain) -> Result<(), F
 }
 
 fn put_lives(alloc: Global, text: &mut Vec<u8>, plain: &Plain) -> Result<(), Fail> {
+    text.extend_from_slice(TABLE)?;
     for (id, device) in plain.devices.iter().enumerate() {
         let (since, until) = (Cell::Number(device.since), end(device.until));
         put_row(alloc, text, &[place(id), since, until])?;
@@ -86,6 +93,7 @@ fn put_lives(alloc: Global, text: &mut Vec<u8>, plain: &Plain) -> Result<(), Fai
 
 // The lists number customers from 1 to 6.
 fn put_customers(alloc: Global, text: &mut Vec<u8>, plain: &Plain) -> Result<(), Fail> {
+    text.extend_from_slice(TABLE)?;
     for no in 1..7u32 {
         if let Some(at) = plain.customer_of(no) {
             let customer = plain.customers.get(at).ok_or("a customer")?;
@@ -107,6 +115,7 @@ fn put_customer(
 }
 
 fn put_entries(alloc: Global, text: &mut Vec<u8>, plain: &Plain) -> Result<(), Fail> {
+    text.extend_from_slice(TABLE)?;
     for (at, entry) in plain.entries.iter().enumerate() {
         let cells = &[
             place(at.saturating_add(1)),
@@ -124,6 +133,7 @@ fn put_entries(alloc: Global, text: &mut Vec<u8>, plain: &Plain) -> Result<(), F
 }
 
 fn put_marks(alloc: Global, text: &mut Vec<u8>, plain: &Plain) -> Result<(), Fail> {
+    text.extend_from_slice(TABLE)?;
     for day in 0..2usize {
         if let Some(engineer) = plain.engineer_of(day) {
             put_row(alloc, text, &[place(day), Cell::Word(engineer.bytes())])?;
@@ -133,6 +143,7 @@ fn put_marks(alloc: Global, text: &mut Vec<u8>, plain: &Plain) -> Result<(), Fai
 }
 
 fn put_commands(alloc: Global, text: &mut Vec<u8>, told: &Told) -> Result<(), Fail> {
+    text.extend_from_slice(TABLE)?;
     for (at, sent) in told.sent.iter().enumerate() {
         let body = Cell::Word(told.body_at(at));
         let cells = &[
@@ -146,6 +157,7 @@ fn put_commands(alloc: Global, text: &mut Vec<u8>, told: &Told) -> Result<(), Fa
 }
 
 fn put_moves(alloc: Global, text: &mut Vec<u8>, told: &Told) -> Result<(), Fail> {
+    text.extend_from_slice(TABLE)?;
     for at in 0..told.sent.len() {
         put_moves_of(alloc, text, place(at.saturating_add(1)), told.moves_at(at))?;
     }
@@ -168,6 +180,7 @@ fn put_moves_of(
 }
 
 fn put_amounts(alloc: Global, text: &mut Vec<u8>, counted: &Counted) -> Result<(), Fail> {
+    text.extend_from_slice(TABLE)?;
     for (dim, first, end) in KEYS {
         for key in first..end {
             let amount = Cell::Number(counted.amount(dim, key));

@@ -1,5 +1,4 @@
 //! What a keeper is to do over files that may stop, from their opening to their closing.
-use crate::old::TO_VERSION_ONE;
 use crate::stopped::creations::{holds_new, make};
 use crate::stopped::importing::{holds_rows, import};
 use crate::stopped::office::Office;
@@ -8,6 +7,7 @@ use crate::stopped::sending::{holds, outage, send};
 use crate::stopped::serving::serve;
 use crate::stopped::upgrades::{holds_upgraded, migrate, prepare, upgrade};
 use crate::stopped::working::{act, read};
+use crate::texts::TO_VERSION_1;
 use ob_store::Keeper;
 use ob_sweep::Windowed;
 use sqlite::{Alter, Connection, FileStore, Files, Options};
@@ -115,7 +115,7 @@ fn over<S: Alter + Drop>(
 
 // Makes the tables of the outage those of version 1, where it was told.
 fn made_old<S: Alter>(mut conn: Connection<S>, is_told: bool) -> (Kept, Connection<S>) {
-    let is_old = is_told && conn.execute_batch(TO_VERSION_ONE).is_ok();
+    let is_old = is_told && conn.execute_batch(TO_VERSION_1).is_ok();
     (Kept::all(u32::from(is_old)), conn)
 }
 

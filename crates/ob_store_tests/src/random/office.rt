@@ -1,18 +1,16 @@
 //! What a test knows of a keeper.
-use crate::books::Shows;
-use crate::stored::stored_rows;
+use crate::office::{Blank, adopted};
+use crate::random::books::Shows;
+use crate::rows::stored_rows;
 use ob_book::Command;
 use ob_index::{Indices, Which};
-use ob_net::{Fault, Ref, Stop};
+use ob_net::{Ref, Stop};
 use ob_post::Dim;
 use ob_store::{Keeper, Reply};
 use ob_sweep::Timeline;
-use sqlite::{Alter, Connection, MemStore};
+use sqlite::Alter;
 use std::alloc::Global;
 use std::test::Fail;
-
-/// A fault of the store.
-const STORE: Stop = Stop::Fault(Fault::Store);
 
 /// The calls of a keeper over a store, without their clauses: with these each function that makes some is long to prove.
 pub trait Office: Shows + Drop {
@@ -33,29 +31,6 @@ pub trait Office: Shows + Drop {
 
     /// Gives the keeper up. Answers the rows of all tables.
     fn rows(self, alloc: Global) -> Result<Vec<u8>, Fail>;
-}
-
-/// A store that a new database begins in.
-pub trait Blank: Alter + Drop {
-    /// A connection to a database that holds nothing.
-    fn connects(alloc: Global) -> Result<Connection<Self>, Stop>;
-}
-
-impl Blank for MemStore {
-    fn connects(alloc: Global) -> Result<Connection<MemStore>, Stop> {
-        Connection::open_in_memory(alloc).map_err(|_| STORE)
-    }
-}
-
-// A keeper without a book, over a database.
-fn adopted<S: Alter + Drop, T: Timeline>(
-    alloc: Global,
-    conn: Connection<S>,
-) -> Result<Keeper<S, T>, Stop> {
-    if !conn.is_autocommit() {
-        return Err(STORE);
-    }
-    Ok(Keeper::adopt_connection(alloc, conn))
 }
 
 impl<S: Alter, T: Timeline> Shows for Keeper<S, T> {
@@ -95,6 +70,6 @@ impl<S: Blank, T: Timeline> Office for Keeper<S, T> {
 
     fn rows(self, alloc: Global) -> Result<Vec<u8>, Fail> {
         let mut conn = self.into_connection();
-        stored_rows(alloc, &mut conn)
+        Ok(stored_rows(alloc, &mut conn)?)
     }
 }
