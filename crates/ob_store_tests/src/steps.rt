@@ -6,6 +6,7 @@ use std::alloc::Global;
 use std::process::Abort;
 
 /// A step with a keeper, and what it is answered.
+#[derive(Drop)]
 pub enum Step {
     /// A keeper over another database, which holds nothing, goes on.
     Open,
