@@ -110,13 +110,19 @@ const STORIES: &'static [Story] = &[
 // total.
 fn are_told(rt: &impl Abort, alloc: Global, stories: &[Story]) -> Result<(), Stop> {
     for story in stories {
-        let steps: &[Step] = &[
-            Step::Tell(story.first),
-            Step::Tell(story.then),
-            Step::Reopen,
-            Step::Leave(story.rows, story.total),
-        ];
-        tell(rt, alloc, story.then, &[TWO_FEEDERS_BOOK, steps])?;
+        tell(
+            rt,
+            alloc,
+            story.then,
+            TWO_FEEDERS_BOOK,
+            &[
+                Step::Tell(story.first),
+                Step::Tell(story.then),
+                Step::Reopen,
+                Step::Leave(story.rows, story.total),
+            ],
+            &[],
+        )?;
     }
     Ok(())
 }
@@ -157,13 +163,19 @@ const WHOLE_LIVES: &'static str = "SELECT count(*) FROM life WHERE since = 0 AND
 // The lines of a script leave a row that a query finds, and so many whole lives.
 fn leave_lives(rt: &impl Abort, alloc: Global, cases: &[Lived]) -> Result<(), Stop> {
     for (script, sql, whole) in cases {
-        let steps: &[Step] = &[
-            Step::Tell(*script),
-            Step::Reopen,
-            Step::Find(*sql, 1),
-            Step::Find(WHOLE_LIVES, *whole),
-        ];
-        tell(rt, alloc, script, &[TWO_FEEDERS_BOOK, steps])?;
+        tell(
+            rt,
+            alloc,
+            script,
+            TWO_FEEDERS_BOOK,
+            &[
+                Step::Tell(*script),
+                Step::Reopen,
+                Step::Find(*sql, 1),
+                Step::Find(WHOLE_LIVES, *whole),
+            ],
+            &[],
+        )?;
     }
     Ok(())
 }
@@ -185,5 +197,5 @@ const REPLIES: &[Step] = &[
 
 #[test]
 fn stored_replies(rt: HostRuntime) -> Result<(), Stop> {
-    tell(&rt, rt.alloc(), "replies", &[OUTAGE_BOOK, REPLIES])
+    tell(&rt, rt.alloc(), "replies", OUTAGE_BOOK, REPLIES, &[])
 }

@@ -110,13 +110,19 @@ const SEVERAL: &'static [Case] = &[
 // After these statements the audit names this table, or the refusal, and no book is loaded.
 fn are_found(rt: &impl Abort, alloc: Global, cases: &[Case]) -> Result<(), Stop> {
     for (sql, wanted) in cases {
-        let steps: &[Step] = &[
-            Step::Change(*sql),
-            Step::Audit(*wanted),
-            Step::Load(BAD_BOOK),
-            Step::Has(false),
-        ];
-        tell(rt, alloc, sql, &[MARKED_BOOK, steps])?;
+        tell(
+            rt,
+            alloc,
+            sql,
+            MARKED_BOOK,
+            &[
+                Step::Change(*sql),
+                Step::Audit(*wanted),
+                Step::Load(BAD_BOOK),
+                Step::Has(false),
+            ],
+            &[],
+        )?;
     }
     Ok(())
 }
@@ -158,13 +164,19 @@ const OLD: &'static [&'static str] = &[
 // After these statements audit and load name the version.
 fn are_old(rt: &impl Abort, alloc: Global, cases: &[&'static str]) -> Result<(), Stop> {
     for sql in cases {
-        let steps: &[Step] = &[
-            Step::Change(*sql),
-            Step::Audit("OldVersion"),
-            Step::Load(OLD_VERSION),
-            Step::Has(false),
-        ];
-        tell(rt, alloc, sql, &[MARKED_BOOK, steps])?;
+        tell(
+            rt,
+            alloc,
+            sql,
+            MARKED_BOOK,
+            &[
+                Step::Change(*sql),
+                Step::Audit("OldVersion"),
+                Step::Load(OLD_VERSION),
+                Step::Has(false),
+            ],
+            &[],
+        )?;
     }
     Ok(())
 }
@@ -192,5 +204,5 @@ const NONE: &[Step] = &[
 
 #[test]
 fn databases_of_something_else(rt: HostRuntime) -> Result<(), Stop> {
-    tell(&rt, rt.alloc(), "no book", &[NONE])
+    tell(&rt, rt.alloc(), "no book", NONE, &[], &[])
 }

@@ -24,7 +24,9 @@ fn a_book_is_made_once(rt: HostRuntime) -> Result<(), Stop> {
         &rt,
         rt.alloc(),
         "a second book",
-        &[TWO_FEEDERS_BOOK, SECOND],
+        TWO_FEEDERS_BOOK,
+        SECOND,
+        &[],
     )
 }
 
@@ -46,7 +48,7 @@ const PERIODS: &[Step] = &[
 
 #[test]
 fn a_period_that_there_is_not(rt: HostRuntime) -> Result<(), Stop> {
-    tell(&rt, rt.alloc(), "periods", &[PERIODS])
+    tell(&rt, rt.alloc(), "periods", PERIODS, &[], &[])
 }
 
 // In a database that holds a table no book can be made.
@@ -58,7 +60,7 @@ const SOMETHING_ELSE: &[Step] = &[
 
 #[test]
 fn a_database_of_something_else(rt: HostRuntime) -> Result<(), Stop> {
-    tell(&rt, rt.alloc(), "a table", &[SOMETHING_ELSE])
+    tell(&rt, rt.alloc(), "a table", SOMETHING_ELSE, &[], &[])
 }
 
 // Without a book a command and a stored reply ask for one to be loaded; then a book is made, and takes commands.
@@ -71,5 +73,5 @@ const BEGUN: &[Step] = &[
 
 #[test]
 fn without_a_book(rt: HostRuntime) -> Result<(), Stop> {
-    tell(&rt, rt.alloc(), "no book", &[BEGUN])
+    tell(&rt, rt.alloc(), "no book", BEGUN, &[], &[])
 }

@@ -37,13 +37,19 @@ const TOLD: &'static [Told] = &[
 // rows and so much in total.
 fn go_on(rt: &impl Abort, alloc: Global, told: &[Told]) -> Result<(), Stop> {
     for (then, rows, total) in told {
-        let steps: &[Step] = &[
-            Step::Reopen,
-            Step::Tell(*then),
-            Step::Reopen,
-            Step::Leave(*rows, *total),
-        ];
-        tell(rt, alloc, then, &[OUTAGE_BOOK, steps])?;
+        tell(
+            rt,
+            alloc,
+            then,
+            OUTAGE_BOOK,
+            &[
+                Step::Reopen,
+                Step::Tell(*then),
+                Step::Reopen,
+                Step::Leave(*rows, *total),
+            ],
+            &[],
+        )?;
     }
     Ok(())
 }
@@ -99,7 +105,9 @@ fn a_book_stays(rt: HostRuntime) -> Result<(), Stop> {
         &rt,
         rt.alloc(),
         "version 3",
-        &[OUTAGE_BOOK, OVER_ANOTHER_VERSION],
+        OUTAGE_BOOK,
+        OVER_ANOTHER_VERSION,
+        &[],
     )
 }
 
@@ -109,6 +117,8 @@ fn a_book_stays_over_an_old_version(rt: HostRuntime) -> Result<(), Stop> {
         &rt,
         rt.alloc(),
         "version 1",
-        &[OUTAGE_BOOK, OVER_VERSION_ONE],
+        OUTAGE_BOOK,
+        OVER_VERSION_ONE,
+        &[],
     )
 }

@@ -2,7 +2,7 @@
 use crate::books::OUTAGE_BOOK;
 use crate::office::{BAD_BOOK, NO_OLD_BOOK, OLD_VERSION};
 use crate::old::TO_VERSION_ONE;
-use crate::scripts::{CORRECTED, JOINS_IN_OUTAGE};
+use crate::scripts::{CORRECTED, JOINS_IN_OUTAGE, OUTAGE, TWO_FEEDERS};
 use crate::steps::{NEW, Step, tell};
 use ob_net::Stop;
 use std::alloc::Global;
@@ -19,12 +19,21 @@ const MIGRATED: &[Step] = &[
     Step::Migrate(Ok(false)),
 ];
 
-// What the outage leaves today.
-const OF_TODAY: &[Step] = &[Step::Note, Step::NoteRows, Step::Open];
+// What the outage leaves today; then a book of it is made over another database.
+const OF_TODAY: &[Step] = &[
+    Step::Note,
+    Step::NoteRows,
+    Step::Open,
+    NEW,
+    Step::Tell(TWO_FEEDERS),
+    Step::Tell(OUTAGE),
+];
 
-// Of version 1 the tables are made, row by row, those that the outage leaves today, and hold its book: what it shows, its
+// Of version 1 its tables are made, row by row, those that the outage leaves today, and hold its book: what it shows, its
 // replies, and a whole life for each device.
 const AS_TODAY: &[Step] = &[
+    Step::Change(TO_VERSION_ONE),
+    Step::Migrate(Ok(true)),
     Step::SameRows,
     Step::Audit("none"),
     Step::Load(Ok(())),
@@ -37,8 +46,14 @@ const AS_TODAY: &[Step] = &[
 
 #[test]
 fn the_outage_of_version_one(rt: HostRuntime) -> Result<(), Stop> {
-    let parts = &[OUTAGE_BOOK, OF_TODAY, OUTAGE_BOOK, MIGRATED, AS_TODAY];
-    tell(&rt, rt.alloc(), "version 1", parts)
+    tell(
+        &rt,
+        rt.alloc(),
+        "version 1",
+        OUTAGE_BOOK,
+        OF_TODAY,
+        AS_TODAY,
+    )
 }
 
 // What stands in the tables of the outage then: five lives, 25 commands, a device's text, no other command's text with two
@@ -60,7 +75,7 @@ const FOUND: &[Step] = &[
 
 #[test]
 fn rows_of_the_outage(rt: HostRuntime) -> Result<(), Stop> {
-    tell(&rt, rt.alloc(), "rows", &[OUTAGE_BOOK, MIGRATED, FOUND])
+    tell(&rt, rt.alloc(), "rows", OUTAGE_BOOK, MIGRATED, FOUND)
 }
 
 // A device's command under its reference is known, another one is none, and a device may join from then on.
@@ -93,13 +108,17 @@ fn commands_of_a_migrated_book(rt: HostRuntime) -> Result<(), Stop> {
         &rt,
         alloc,
         "a correction",
-        &[OUTAGE_BOOK, MIGRATED, CORRECTED_THEN],
+        OUTAGE_BOOK,
+        MIGRATED,
+        CORRECTED_THEN,
     )?;
     tell(
         &rt,
         alloc,
         "a device joins",
-        &[OUTAGE_BOOK, MIGRATED, JOINED_THEN],
+        OUTAGE_BOOK,
+        MIGRATED,
+        JOINED_THEN,
     )
 }
 
@@ -116,7 +135,7 @@ const OF_VERSION_TWO: &[Step] = &[
 
 #[test]
 fn a_book_of_today(rt: HostRuntime) -> Result<(), Stop> {
-    tell(&rt, rt.alloc(), "today", &[OUTAGE_BOOK, OF_VERSION_TWO])
+    tell(&rt, rt.alloc(), "today", OUTAGE_BOOK, OF_VERSION_TWO, &[])
 }
 
 // The tables are no book's of version 1, and stay as they are, row by row.
@@ -132,12 +151,18 @@ const MARKED: &'static str = "N26 mark 2024-01-01 E1 => 26";
 
 fn are_no_book(rt: &impl Abort, alloc: Global, cases: &[&'static str]) -> Result<(), Stop> {
     for sql in cases {
-        let steps: &[Step] = &[
-            Step::Tell(MARKED),
-            Step::Change(TO_VERSION_ONE),
-            Step::Change(*sql),
-        ];
-        tell(rt, alloc, sql, &[OUTAGE_BOOK, steps, LEFT])?;
+        tell(
+            rt,
+            alloc,
+            sql,
+            OUTAGE_BOOK,
+            &[
+                Step::Tell(MARKED),
+                Step::Change(TO_VERSION_ONE),
+                Step::Change(*sql),
+            ],
+            LEFT,
+        )?;
     }
     Ok(())
 }
@@ -239,12 +264,18 @@ fn are_no_old_stories(
     cases: &[(&'static str, &'static str)],
 ) -> Result<(), Stop> {
     for (then, sql) in cases {
-        let steps: &[Step] = &[
-            Step::Tell(*then),
-            Step::Change(TO_VERSION_ONE),
-            Step::Change(*sql),
-        ];
-        tell(rt, alloc, then, &[OUTAGE_BOOK, steps, LEFT])?;
+        tell(
+            rt,
+            alloc,
+            then,
+            OUTAGE_BOOK,
+            &[
+                Step::Tell(*then),
+                Step::Change(TO_VERSION_ONE),
+                Step::Change(*sql),
+            ],
+            LEFT,
+        )?;
     }
     Ok(())
 }
@@ -271,26 +302,21 @@ const TWO_OVER_OLD: &[Step] = &[
 #[test]
 fn another_number_in_the_heading(rt: HostRuntime) -> Result<(), Stop> {
     let alloc = rt.alloc();
-    tell(
-        &rt,
-        alloc,
-        "version 1",
-        &[OUTAGE_BOOK, ONE_OVER_TODAYS, LEFT],
-    )?;
-    tell(&rt, alloc, "version 2", &[OUTAGE_BOOK, TWO_OVER_OLD])
+    tell(&rt, alloc, "version 1", OUTAGE_BOOK, ONE_OVER_TODAYS, LEFT)?;
+    tell(&rt, alloc, "version 2", OUTAGE_BOOK, TWO_OVER_OLD, &[])
 }
 
 // Databases of something else.
 const NOTE: &[Step] = &[Step::Change("CREATE TABLE note (id INTEGER PRIMARY KEY) STRICT")];
 
-const META: &[Step] = &[
-    Step::Open,
-    Step::Change("CREATE TABLE meta (id INTEGER PRIMARY KEY) STRICT"),
-];
+const META: &[Step] = &[Step::Change("CREATE TABLE meta (id INTEGER PRIMARY KEY) STRICT")];
 
 #[test]
 fn databases_of_something_else(rt: HostRuntime) -> Result<(), Stop> {
-    tell(&rt, rt.alloc(), "no book", &[LEFT, NOTE, LEFT, META, LEFT])
+    let alloc = rt.alloc();
+    tell(&rt, alloc, "nothing", &[], &[], LEFT)?;
+    tell(&rt, alloc, "a note", &[], NOTE, LEFT)?;
+    tell(&rt, alloc, "another heading", &[], META, LEFT)
 }
 
 // A book of version 1 of nothing but its period.
@@ -307,5 +333,5 @@ const BEGUN: &[Step] = &[
 
 #[test]
 fn a_book_without_commands(rt: HostRuntime) -> Result<(), Stop> {
-    tell(&rt, rt.alloc(), "no commands", &[BEGUN])
+    tell(&rt, rt.alloc(), "no commands", BEGUN, &[], &[])
 }

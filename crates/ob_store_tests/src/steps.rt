@@ -64,23 +64,32 @@ impl Noted {
     }
 }
 
-/// A keeper over a store in memory that holds nothing is told steps, some after others. What is said of a step that doesn't hold
-/// begins with the title.
-pub fn tell(rt: &impl Abort, alloc: Global, title: &str, parts: &[&[Step]]) -> Result<(), Stop> {
-    told::<InMemory>(rt, alloc, title, parts)
+/// A keeper over a store in memory that holds nothing is told the steps of a book, some steps, and others then. What is said of a
+/// step that doesn't hold begins with the title.
+pub fn tell(
+    rt: &impl Abort,
+    alloc: Global,
+    title: &str,
+    book: &[Step],
+    steps: &[Step],
+    then: &[Step],
+) -> Result<(), Stop> {
+    told::<InMemory>(rt, alloc, title, book, steps, then)
 }
 
 fn told<O: Office>(
     rt: &impl Abort,
     alloc: Global,
     title: &str,
-    parts: &[&[Step]],
+    book: &[Step],
+    steps: &[Step],
+    then: &[Step],
 ) -> Result<(), Stop> {
     let mut noted = Noted::nothing(alloc);
-    let mut office = O::opens(alloc)?;
-    for steps in parts {
-        office = goes_on(rt, alloc, office, &mut noted, title, steps)?;
-    }
+    let office = O::opens(alloc)?;
+    let office = goes_on(rt, alloc, office, &mut noted, title, book)?;
+    let office = goes_on(rt, alloc, office, &mut noted, title, steps)?;
+    goes_on(rt, alloc, office, &mut noted, title, then)?;
     Ok(())
 }
 
