@@ -1,7 +1,7 @@
 //! The jobs where one allocation is refused.
 use crate::jobs::host::Sink;
 use crate::jobs::office::{Ask, Heard, Office};
-use crate::jobs::script::{BAD_BOOK, Step, Trial, answered, over_a_store};
+use crate::jobs::script::{BAD_BOOK, Trial, over_a_store};
 use crate::texts::{OUTAGE, TO_VERSION_1};
 use ob_base::Stop;
 use std::alloc::Global;
@@ -42,6 +42,13 @@ const JOBS: &[(Ask, &'static str)] = &[
     (Ask::Migrate, "version 2\n"),
 ];
 
+// What a migration tells; one that is tried again may have been made already.
+fn is_migrated(heard: &Heard) -> bool {
+    heard.status == 0
+        && (heard.told.as_slice() == b"migrated\n".as_slice()
+            || heard.told.as_slice() == b"version 2\n".as_slice())
+}
+
 struct Refused;
 
 impl Trial for Refused {
@@ -54,14 +61,10 @@ impl Trial for Refused {
             assert!(rt; heard.status == 0 && heard.told.starts_with(line.as_bytes()));
         }
         let mut old = office.changed(alloc, TO_VERSION_1)?;
-        let heard = comes_through(rt, alloc, &mut old, Ask::Migrate)?;
-        assert!(rt; heard.status == 0 && heard.told.as_slice() == b"migrated\n".as_slice());
-        answered(
-            rt,
-            alloc,
-            old,
-            &[Step::Do(Ask::Audit, 0, None, "audit ok\n")],
-        )?;
+        let migrated = comes_through(rt, alloc, &mut old, Ask::Migrate)?;
+        assert!(rt; is_migrated(&migrated));
+        let audited = comes_through(rt, alloc, &mut old, Ask::Audit)?;
+        assert!(rt; audited.told.as_slice() == b"audit ok\n".as_slice());
         Ok(())
     }
 }
