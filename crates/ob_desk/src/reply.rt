@@ -6,7 +6,7 @@ ghost use Rattle.ob_desk.specs.Exchanges.{head_status};
 ghost use Rattle.ob_desk.specs.Standing.{IsKept, fault_of};
 ghost use Rattle.ob_desk.specs.Turns.{HasAnswerCause, IsAnswered, IsUnanswered};
 
-use ob_answers::{Routes, answer};
+use ob_routes::{Routes, answer};
 use ob_base::Fault;
 use ob_replies::{Status, empty_reply};
 use ob_requests::{HeadRefusal, Request};

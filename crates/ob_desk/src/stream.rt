@@ -8,7 +8,7 @@ ghost use Rattle.ob_desk.specs.Serving.{Fails, Serves};
 ghost use Rattle.ob_desk.specs.Standing.{IsKept, fault_of};
 
 use crate::turn::{Turn, serve_turn};
-use ob_answers::Routes;
+use ob_routes::Routes;
 use ob_base::Fault;
 use ob_requests::Ahead;
 use ob_store::Keeper;

@@ -8,7 +8,7 @@ ghost use Rattle.ob_desk.specs.Standing.{IsKept, fault_of};
 ghost use Rattle.ob_desk.specs.Turns.{TurnFails, TurnIs};
 
 use crate::reply::{head_status, reply_to};
-use ob_answers::Routes;
+use ob_routes::Routes;
 use ob_base::Fault;
 use ob_replies::empty_reply;
 use ob_requests::{Ahead, Next, Request, read_request};

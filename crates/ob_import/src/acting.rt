@@ -12,7 +12,7 @@ use ob_base::{Fault, Ref, Refusal, Stop};
 use ob_book::Command;
 use ob_command::read_row;
 use ob_record::reached_law;
-use ob_rows::Row;
+use ob_csv::Row;
 use ob_store::Keeper;
 use ob_sweep::Timeline;
 use sqlite::Alter;

@@ -6,7 +6,7 @@ ghost use Rattle.ob_stream.specs.Watching.{HasJustFailed, watched_bytes};
 ghost use Rattle.ob_stream.specs.Streams.{Passes};
 ghost use Rattle.ob_import.specs.Gathering.{is_over};
 
-use ob_rows::whole_rows_end;
+use ob_csv::whole_rows_end;
 use ob_stream::{Retries, Watched, read_some};
 use std::alloc::{AllocError, Global};
 use std::io::Read;
@@ -53,7 +53,7 @@ pub(crate) fn gather<R: Read>(
 
 impl Gathered {
     ghost use Rattle.std.specs.Prelude.{◌≡◌};
-    ghost use Rattle.ob_rows.specs.Rows.{rows_of};
+    ghost use Rattle.ob_csv.specs.Rows.{rows_of};
     ghost use Rattle.ob_import.specs.Gathering.{gathered_rows};
 
     /// The part that has the rows which may act: all of a whole text, and of one that broke off its whole rows.

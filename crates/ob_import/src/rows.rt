@@ -1,14 +1,14 @@
 //! The rows of a text act in turn, up to the first refusal.
 ghost use Rattle.std.specs.Prelude.{◌≡◌, ◌≢◌, true, false, [], Some, Ok, IsSome, IfSome, IfOk, IfErr};
-ghost use Rattle.ob_rows.specs.Rows.{TakesRow};
-ghost use Rattle.ob_rows.specs.RowReading.{rows_left};
+ghost use Rattle.ob_csv.specs.Rows.{TakesRow};
+ghost use Rattle.ob_csv.specs.RowReading.{rows_left};
 ghost use Rattle.ob_import.specs.Imports.{after_header};
 ghost use Rattle.ob_import.specs.Reports.{HasCause, Runs};
 
 use crate::acting::act_row;
 use crate::report::{ImportFault, ImportReport};
 use ob_base::{Fault, Refusal, Stop};
-use ob_rows::{MOST_ROWS, Row, RowReader};
+use ob_csv::{MOST_ROWS, Row, RowReader};
 use ob_store::{Keeper, Progress};
 use ob_sweep::Timeline;
 use sqlite::Alter;

@@ -4,7 +4,7 @@ ghost use Rattle.sqlite.specs.Held.{state};
 ghost use Rattle.sqlite.specs.State.{HasCleanDisk};
 ghost use Rattle.ob_stream.specs.Streams.{Passes};
 ghost use Rattle.ob_stream.specs.Watching.{HasJustFailed, watched_bytes};
-ghost use Rattle.ob_rows.specs.Rows.{rows_of};
+ghost use Rattle.ob_csv.specs.Rows.{rows_of};
 ghost use Rattle.ob_book.specs.Acts.{ActState};
 ghost use Rattle.ob_store.specs.Keeping.{Ties};
 ghost use Rattle.ob_import.specs.Gathering.{IsWithin, gathered_rows};
@@ -16,7 +16,7 @@ use crate::report::{ImportFault, ImportReport};
 use crate::rows::import_all;
 use ob_base::Fault;
 use ob_command::rows_law;
-use ob_rows::{MOST_BYTES, RowReader, whole_rows_law};
+use ob_csv::{MOST_BYTES, RowReader, whole_rows_law};
 use ob_store::{Keeper, Progress, Silent, Work};
 use ob_stream::{Retries, Watched};
 use ob_sweep::Timeline;
@@ -55,7 +55,7 @@ pub fn import_text<S: Alter, T: Timeline>(
 }
 
 /// Imports the commands of the CSV text that a reader gives, as `import_text` does. The text has at most
-/// `ob_rows::MOST_BYTES` bytes; an interrupted read is tried again, 65,536 times in all.
+/// `ob_csv::MOST_BYTES` bytes; an interrupted read is tried again, 65,536 times in all.
 ///
 /// # Errors
 ///

@@ -18,7 +18,7 @@ use ob_import::{ImportReport, Progress};
 use ob_store::Keeper;
 use ob_stream::Watched;
 use ob_sweep::Timeline;
-use ob_words::Unfinished;
+use ob_cli::Unfinished;
 use sqlite::Alter;
 use std::alloc::Global;
 use std::io::Write;

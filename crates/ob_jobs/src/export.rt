@@ -4,7 +4,7 @@ ghost use Rattle.ob_jobs.specs.Importing.{ExportOf, TellsExport, export_line};
 
 use crate::tell::tell;
 use ob_base::{Fault, Stop};
-use ob_export::export_moves;
+use crate::export_moves;
 use ob_store::Keeper;
 use ob_stream::Watched;
 use ob_sweep::Timeline;
@@ -12,12 +12,12 @@ use sqlite::Alter;
 use std::alloc::{AllocError, Global};
 use std::io::Write;
 
-/// Writes what the accepted commands moved into a file, as [`ob_export::export_moves`], and then `rows`, how many amounts they
+/// Writes what the accepted commands moved into a file, as [`ob_jobs::export_moves`], and then `rows`, how many amounts they
 /// are, and LF.
 ///
 /// # Errors
 ///
-/// Those of [`ob_export::export_moves`], and then nothing is told; `Fault::Output` also where the writer fails.
+/// Those of [`ob_jobs::export_moves`], and then nothing is told; `Fault::Output` also where the writer fails.
 pub fn run_export<F: Write, S: Alter, T: Timeline, W: Write>(
     alloc: Global,
     keeper: &mut Keeper<S, T>,

@@ -2,7 +2,7 @@
 use crate::sinks::{Shelf, Sink};
 use crate::sources::Source;
 use crate::tables::has_rows;
-use ob_export::export_moves;
+use ob_jobs::export_moves;
 use ob_import::{
     ImportFault, ImportReport, Progress, Work, import, import_text, import_with_progress,
 };

@@ -10,7 +10,7 @@ ghost use Rattle.ob_state.specs.States.{AreRunsOf, IsSoundState};
 ghost use Rattle.ob_state.specs.Refusals.{refusal};
 ghost use Rattle.ob_state.specs.Next.{next};
 ghost use Rattle.ob_state.specs.Retimings.{runs_in};
-ghost use Rattle.ob_posting.specs.Balances.{Balances, together};
+ghost use Rattle.ob_post.specs.Balances.{Balances, together};
 ghost use Rattle.ob_state.specs.Effects.{IsEffect, amount_of_node, before_change};
 ghost use Rattle.ob_state.specs.Searches.{most_searches};
 
@@ -20,7 +20,7 @@ use crate::state::State;
 use ob_base::{Life, Name, Pos, Stop};
 use ob_command::{Command, Ends, FeederNumber};
 use ob_post::laws::{section_laws, total_laws};
-use ob_posting::Posting;
+use ob_post::Posting;
 use ob_sweep::{Change, Delta, Timeline};
 use std::alloc::Global;
 

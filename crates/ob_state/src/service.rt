@@ -8,7 +8,7 @@ ghost use Rattle.ob_post.specs.declared.Dim.{Dim as Dimension};
 ghost use Rattle.ob_state.specs.States.{AreRunsOf, IsSoundState};
 ghost use Rattle.ob_state.specs.Refusals.{refusal};
 ghost use Rattle.ob_state.specs.Next.{next};
-ghost use Rattle.ob_posting.specs.Balances.{together, Balances};
+ghost use Rattle.ob_post.specs.Balances.{together, Balances};
 ghost use Rattle.ob_state.specs.Effects.{amount_of_customer, IsEffect};
 
 use crate::change::end_of;
@@ -19,7 +19,7 @@ use ob_base::{Name, Stop};
 use ob_command::{Command, Moment, Serial};
 use ob_cust::{Customer, Roll};
 use ob_post::laws::{roll_laws, section_laws, total_laws};
-use ob_posting::Posting;
+use ob_post::Posting;
 use ob_sweep::Timeline;
 use std::alloc::Global;
 

@@ -1,14 +1,14 @@
 //! What the rows of a text say. The leftmost bad column is refused.
 ghost use Rattle.std.specs.Prelude.{◌≡◌, ◌≢◌, ◌≤◌, ◌<◌, ◌+◌, [], ◌∷◌, length, map, IfOk, IfSome};
 ghost use Rattle.ob_base.specs.Fields.{unix_second_in, until_in};
-ghost use Rattle.ob_rows.specs.RowFields.{fields_in};
+ghost use Rattle.ob_csv.specs.RowFields.{fields_in};
 ghost use Rattle.ob_total.specs.Commands.{IsCommand, IsSpan, with_unused, span_end_in, span_of, cause_of, bus_of, section_of, device_of, other_node_in, since_in, life_of, connect_of, switch_of, kind_in, command_by, command_of};
 
 use ob_base::{
     Crew, LAST_SECOND, Life, Name, Pos, Ref, Refusal, Second, read_act, read_cause, read_feeder,
     read_normal, read_serial, read_unix_second, read_until,
 };
-use ob_rows::{Row, RowFields};
+use ob_csv::{Row, RowFields};
 
 /// The seconds from `first` up to `end`, `end` excluded.
 #[derive(Clone, Copy)]

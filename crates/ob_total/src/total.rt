@@ -4,8 +4,8 @@ ghost use Rattle.std.specs.Io.KnownBytes.{Appends, Keeps};
 ghost use Rattle.ob_base.specs.Stop.{out_of_memory};
 ghost use Rattle.ob_stream.specs.Streams.{Passes};
 ghost use Rattle.ob_stream.specs.Watching.{HasJustFailed, watched_bytes};
-ghost use Rattle.ob_rows.specs.Rows.{TakesRow};
-ghost use Rattle.ob_rows.specs.RowReading.{rows_left};
+ghost use Rattle.ob_csv.specs.Rows.{TakesRow};
+ghost use Rattle.ob_csv.specs.RowReading.{rows_left};
 ghost use Rattle.ob_total.specs.Commands.{command_of, span_of};
 ghost use Rattle.ob_total.specs.Outcomes.{Answers, AnswersKnown, BeginsLine, HasCause, IsWithin, SpeaksOfText};
 ghost use Rattle.ob_total.specs.Steps.{StopsAtRow};
@@ -15,7 +15,7 @@ ghost use Rattle.ob_total.specs.Worlds.{customer_seconds_of};
 use crate::command::{command_in, span_in};
 use crate::world::World;
 use ob_base::{Fault, Refusal, Stop};
-use ob_rows::{MOST_BYTES, MOST_ROWS, Row, RowReader};
+use ob_csv::{MOST_BYTES, MOST_ROWS, Row, RowReader};
 use ob_stream::{Retries, Watched, read_text, write_text};
 use std::alloc::{AllocError, Global};
 use std::io::{Read, Write};
@@ -31,7 +31,7 @@ pub struct TotalStop {
 /// Reads a text of a span, a network, customers and a switching sheet, and writes `W n` and LF, where
 /// n is the customer-seconds without supply in the span. It answers n.
 ///
-/// The text is CSV (RFC 4180) of at most `ob_rows::MOST_BYTES` bytes and `ob_rows::MOST_ROWS` rows after
+/// The text is CSV (RFC 4180) of at most `ob_csv::MOST_BYTES` bytes and `ob_csv::MOST_ROWS` rows after
 /// the header.
 ///
 /// # Errors

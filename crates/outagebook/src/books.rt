@@ -13,7 +13,7 @@ use ob_store::Keeper;
 use ob_stream::Watched;
 use ob_sweep::{Timeline, Windowed};
 use ob_time::Period;
-use ob_words::{Unfinished, Word};
+use ob_cli::{Unfinished, Word};
 use sqlite::{Alter, Connection, Error, ErrorCode, FileFrom, FileStore, Unknown};
 use std::fs::File;
 use std::io;

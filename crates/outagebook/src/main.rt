@@ -13,7 +13,7 @@ use crate::books::{Task, look_at_period, run_on_book};
 use ob_base::{Fault, Stop};
 use ob_stream::Watched;
 pub use ob_total::{TotalStop, run_total};
-pub use ob_words::{Job, Unfinished, Word, WrongWords, complaint_of, read_words, status_of_run};
+pub use ob_cli::{Job, Unfinished, Word, WrongWords, complaint_of, read_words, status_of_run};
 use std::alloc::{AllocError, Global};
 use std::env::{self, Env};
 use std::io;

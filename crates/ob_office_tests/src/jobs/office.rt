@@ -9,7 +9,7 @@ use ob_jobs::{
 use ob_store::Keeper;
 use ob_stream::Watched;
 use ob_sweep::Timeline;
-use ob_words::{Unfinished, status_of_run};
+use ob_cli::{Unfinished, status_of_run};
 use sqlite::{Alter, Connection};
 use std::alloc::Global;
 

@@ -1,5 +1,5 @@
 use Rattle.std.proofs.Common.{◌≡◌, ◌≤◌, ap, arith, Ok}
-use Rattle.ob_rows.specs.RowReading.{rows_left}
+use Rattle.ob_csv.specs.RowReading.{rows_left}
 use Rattle.ob_import.proofs.Importing.{runs_fault_by, runs_full, runs_none, runs_refused_by, runs_unread_by, so_far_more, so_far_none}
 use Rattle.ob_import.proofs.rows.import_rows.Goals as goal
 

@@ -4,7 +4,7 @@ use Rattle.ob_time.specs.Calendar.{Calendar, day_count}
 use Rattle.ob_post.specs.Moved.{moves_by}
 use Rattle.ob_post.specs.MoveLaws.{change_from}
 use Rattle.ob_state.specs.Amounts.{amount}
-use Rattle.ob_posting.specs.Balances.{Balances, IsOfSmall}
+use Rattle.ob_post.specs.Balances.{Balances, IsOfSmall}
 use Rattle.ob_state.specs.Effects.{before_change}
 use Rattle.ob_state.specs.Retimings.{runs_in}
 use Rattle.ob_state.specs.State.{BookState}

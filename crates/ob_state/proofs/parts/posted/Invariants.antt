@@ -1,6 +1,6 @@
 use Rattle.std.proofs.Common.{take}
 use Rattle.ob_time.specs.Calendar.{day_count}
-use Rattle.ob_posting.specs.Balances.{Balances}
+use Rattle.ob_post.specs.Balances.{Balances}
 use Rattle.ob_state.specs.Effects.{amount_of_nodes, before_change}
 use Rattle.ob_state.proofs.parts.posted.Given as goal
 

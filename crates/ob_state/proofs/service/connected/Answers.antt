@@ -8,7 +8,7 @@ use Rattle.ob_net.specs.Network.{section_of}
 use Rattle.ob_state.specs.States.{BookValue}
 use Rattle.ob_state.specs.Amounts.{amount}
 use Rattle.ob_state.specs.Next.{next}
-use Rattle.ob_posting.specs.Balances.{Balances, IsOfSmall}
+use Rattle.ob_post.specs.Balances.{Balances, IsOfSmall}
 use Rattle.ob_state.proofs.Accepted.{connect_accepted}
 use Rattle.ob_state.proofs.Amounting.{small}
 use Rattle.ob_state.proofs.Serving.{customer_of, connect_balance, connect_small}

@@ -10,7 +10,7 @@ use Rattle.ob_post.specs.Moved.{moves_by}
 use Rattle.ob_state.specs.States.{BookValue}
 use Rattle.ob_state.specs.Amounts.{amount}
 use Rattle.ob_state.specs.Next.{next}
-use Rattle.ob_posting.specs.Balances.{Balances, IsOfSmall, together}
+use Rattle.ob_post.specs.Balances.{Balances, IsOfSmall, together}
 use Rattle.ob_state.specs.Effects.{amount_of_customer}
 use Rattle.ob_state.proofs.Accepted.{customer_holds, found_customer, revise_accepted, service_of_one}
 use Rattle.ob_state.proofs.Amounting.{small}

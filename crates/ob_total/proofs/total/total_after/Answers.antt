@@ -1,7 +1,7 @@
 use Rattle.std.proofs.Common.{◌≡◌, arith, true, false, nat_lt}
 use Rattle.std.proofs.lemmas.Bool.{lt-ltb, le-ltb}
 use Rattle.std.proofs.lemmas.Result.{err_from_is_err_and}
-use Rattle.ob_rows.specs.RowReading.{rows_left}
+use Rattle.ob_csv.specs.RowReading.{rows_left}
 use Rattle.ob_total.specs.Totals.{total_from}
 use Rattle.ob_total.proofs.TotalLaws.{says_done, says_more, says_stop, says_full}
 use Rattle.ob_total.proofs.total.total_after.Goals as goal
