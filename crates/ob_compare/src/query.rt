@@ -33,14 +33,17 @@ fn unprepared(error: Error) -> Stop
 pub(crate) fn prepare<S: Alter>(conn: &mut Connection<S>, sql: &str) -> Result<Statement, Stop>
     ensures mode { conn.old.in_transaction ≡ false → conn.new.in_transaction ≡ false }
     ensures survives { Survives (state S.Store conn.old) (state S.Store conn.new) (λ _. ⊥) }
-    ensures kept { (v : Version) (t : Tables) → KeepsIn v (state S.Store conn.old) t → KeepsIn v (state S.Store conn.new) t }
+    ensures kept { (v : Version) (t : Tables) → KeepsIn v (state S.Store conn.old) t
+        → KeepsIn v (state S.Store conn.new) t }
     ensures faults { IfErr result IsReadFault }
-    ensures foreign { HasCleanDisk (state S.Store conn.new) → IfErr result (λ stop. stop ≡ bad_book
-        → HasNoMeaning conn.old.schema sql.now × IsUnchanged (state S.Store conn.old) (state S.Store conn.new)) }
+    ensures foreign { HasCleanDisk (state S.Store conn.new)
+        → IfErr result (λ stop. stop ≡ bad_book → HasNoMeaning conn.old.schema sql.now
+        × IsUnchanged (state S.Store conn.old) (state S.Store conn.new)) }
     ensures missed { HasCleanDisk (state S.Store conn.new) → HasNoMeaning conn.old.schema sql.now
         → IsMissed (state S.Store conn.old) (state S.Store conn.new) result }
-    ensures prepared { HasCleanDisk (state S.Store conn.new) → IfOk result (λ statement.
-        (statement.text ≡ sql.now) × IsUnchanged (state S.Store conn.old) (state S.Store conn.new)) }
+    ensures prepared { HasCleanDisk (state S.Store conn.new)
+        → IfOk result (λ statement. (statement.text ≡ sql.now)
+        × IsUnchanged (state S.Store conn.old) (state S.Store conn.new)) }
 {
     match conn.prepare(sql) {
         Ok(statement) => Ok(statement),
@@ -53,17 +56,21 @@ pub(crate) fn list_all<S: Alter>(conn: &mut Connection<S>, sql: &str) -> Result<
     ensures mode { conn.old.in_transaction ≡ false → conn.new.in_transaction ≡ false }
     ensures clean { HasCleanDisk (state S.Store conn.new) → HasCleanDisk (state S.Store conn.old) }
     ensures faults { IfErr result IsReadFault }
-    ensures foreign { HasCleanDisk (state S.Store conn.new) → IfErr result (λ stop. stop ≡ bad_book
-        → (schema : Schema) (l : Listing) → IsListingOver schema l → l.text ≡ sql.now → conn.old.schema ≢ schema) }
+    ensures foreign { HasCleanDisk (state S.Store conn.new)
+        → IfErr result (λ stop. stop ≡ bad_book → (schema : Schema) (l : Listing)
+        → IsListingOver schema l → l.text ≡ sql.now → conn.old.schema ≢ schema) }
     ensures missed { HasNoMeaning conn.old.schema sql.now
         → Survives (state S.Store conn.old) (state S.Store conn.new) (λ _. ⊥)
-        × (HasCleanDisk (state S.Store conn.new) → IsMissed (state S.Store conn.old) (state S.Store conn.new) result) }
+        × (HasCleanDisk (state S.Store conn.new) → IsMissed (state S.Store conn.old)
+        (state S.Store conn.new) result) }
     ensures survives { (schema : Schema) (l : Listing) → IsListingOver schema l → l.text ≡ sql.now
         → Survives (state S.Store conn.old) (state S.Store conn.new) (λ _. ⊥) }
     ensures kept { (v : Version) (l : Listing) → IsListingOver (schema_of v) l → l.text ≡ sql.now
-        → (t : Tables) → KeepsIn v (state S.Store conn.old) t → KeepsIn v (state S.Store conn.new) t }
-    ensures listed { HasCleanDisk (state S.Store conn.new) → IfOk result (λ rows.
-        (schema : Schema) (l : Listing) → IsListingOver schema l → l.text ≡ sql.now → conn.old.schema ≡ schema
+        → (t : Tables) → KeepsIn v (state S.Store conn.old) t
+        → KeepsIn v (state S.Store conn.new) t }
+    ensures listed { HasCleanDisk (state S.Store conn.new)
+        → IfOk result (λ rows. (schema : Schema) (l : Listing) → IsListingOver schema l
+        → l.text ≡ sql.now → conn.old.schema ≡ schema
         → Lists l (state S.Store conn.old).now rows.items
         × IsUnchanged (state S.Store conn.old) (state S.Store conn.new)) }
 {

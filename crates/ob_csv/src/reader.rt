@@ -44,7 +44,8 @@ impl<R: Read> RowReader<R> {
     /// for that failure too: whoever holds that reader knows which of the two it was. After an error
     /// `row` may hold anything, and the reader gives no further row.
     pub fn next_row(&mut self, row: &mut Row) -> Result<bool, Stop>
-        ensures takes { IfOk result (λ found. TakesRow (rows_left R.remaining self.old) (rows_left R.remaining self.new) found row.new) }
+        ensures takes { IfOk result (λ found. TakesRow (rows_left R.remaining self.old)
+            (rows_left R.remaining self.new) found row.new) }
         ensures going { OnOk result (has_stopped self.new ≡ has_stopped self.old) }
         ensures memory { IfErr result (λ stop. stop ≡ out_of_memory) }
         ensures stops { IfErr result (λ _. has_stopped self.new ≡ true) }

@@ -86,7 +86,8 @@ fn names_columns(row: &RowFields<'_>) -> bool
 }
 
 fn eight_fields(row: &ByteRecord) -> Option<RowFields<'_>>
-    ensures { MatchOption result (length (fields_of row.now) ≢ 8) (λ fields. fields_of row.now ≡ fields_in fields) }
+    ensures { MatchOption result (length (fields_of row.now) ≢ 8) (λ fields. fields_of row.now
+        ≡ fields_in fields) }
 {
     if row.len() != 8 {
         return None;

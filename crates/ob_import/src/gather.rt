@@ -26,9 +26,13 @@ pub(crate) fn gather<R: Read>(
     limit: usize,
 ) -> Result<Gathered, AllocError>
     requires { limit < 2 ^ 32 }
-    ensures consumed { IfOk result (λ g. Consumes (watched_bytes R.remaining reader.old) (watched_bytes R.remaining reader.new) g.bytes.items) }
-    ensures whole { IfOk result (λ g. g.whole ≡ true → (is_over (watched_bytes R.remaining reader.new) ≡ true) × (length g.bytes.items ≤ limit)) }
-    ensures cut { IfOk result (λ g. g.whole ≡ false → HasJustFailed reader.new ⊎ Passes (watched_bytes R.remaining reader.old) limit) }
+    ensures consumed { IfOk result (λ g. Consumes (watched_bytes R.remaining reader.old)
+        (watched_bytes R.remaining reader.new) g.bytes.items) }
+    ensures whole { IfOk result (λ g. g.whole ≡ true
+        → (is_over (watched_bytes R.remaining reader.new) ≡ true)
+        × (length g.bytes.items ≤ limit)) }
+    ensures cut { IfOk result (λ g. g.whole ≡ false
+        → HasJustFailed reader.new ⊎ Passes (watched_bytes R.remaining reader.old) limit) }
 {
     let mut bytes = Vec::new(alloc);
     let mut chunk = [0u8; 4096];

@@ -25,7 +25,8 @@ pub(crate) fn import_all<R: Read, S: Alter, T: Timeline, P: Progress>(
     progress: &mut P,
 ) -> Result<ImportReport, ImportFault>
     requires { IsSome keeper.old.book }
-    ensures runs { Runs S.Store after_header keeper.old keeper.new (rows_left R.remaining rows.old) whole result }
+    ensures runs { Runs S.Store after_header keeper.old keeper.new (rows_left R.remaining rows.old)
+        whole result }
     ensures some { whole ≡ false → IfOk result (λ _. rows_left R.remaining rows.old ≢ Some []) }
 {
     let mut row = Row::new(alloc);
@@ -58,7 +59,8 @@ fn import_rows<R: Read, S: Alter, T: Timeline, P: Progress>(
     progress: &mut P,
 ) -> Result<ImportReport, ImportFault>
     requires { IsSome keeper.old.book }
-    ensures runs { Runs S.Store (λ rows. Some rows) keeper.old keeper.new (rows_left R.remaining rows.old) whole result }
+    ensures runs { Runs S.Store (λ rows. Some rows) keeper.old keeper.new
+        (rows_left R.remaining rows.old) whole result }
 {
     let mut tally = Tally { added: 0, again: 0 };
     for number in 1..MOST_ROWS + 1 {
@@ -85,11 +87,13 @@ fn import_rows<R: Read, S: Alter, T: Timeline, P: Progress>(
 
 /// The next row into `row`, and whether there was one. `Input` behind the last row of what isn't the whole text.
 fn take_row<R: Read>(rows: &mut RowReader<R>, row: &mut Row, whole: bool) -> Result<bool, Fault>
-    ensures takes { IfOk result (λ found. TakesRow (rows_left R.remaining rows.old) (rows_left R.remaining rows.new) found row.new) }
+    ensures takes { IfOk result (λ found. TakesRow (rows_left R.remaining rows.old)
+        (rows_left R.remaining rows.new) found row.new) }
     ensures ended { result ≡ Ok false → whole ≡ true }
     ensures fault { IfErr result (λ f. HasCause f (whole ≡ false)) }
     ensures store { IfErr result (λ f. f ≢ Fault.Store) }
-    ensures all { IfErr result (λ f. f ≡ Fault.Input → IfSome (rows_left R.remaining rows.old) (λ rows. rows ≡ [])) }
+    ensures all { IfErr result (λ f. f ≡ Fault.Input
+        → IfSome (rows_left R.remaining rows.old) (λ rows. rows ≡ [])) }
 {
     match rows.next_row(row) {
         Ok(found) => {

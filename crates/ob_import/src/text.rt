@@ -41,9 +41,11 @@ pub fn import_text<S: Alter, T: Timeline>(
 ) -> Result<ImportReport, ImportFault>
     ensures reopen { (keeper.old.book ≡ None) ↔ (result ≡ no_book) }
     ensures unopened { keeper.old.book ≡ None → keeper.new ≡ keeper.old }
-    ensures imported { HasCleanDisk (state S.Store keeper.new.conn) → (b : ActState) → Ties S.Store keeper.old b
-        → IsSome keeper.old.book → Imported S.Store keeper.new b (Some (rows_of text.now)) result }
-    ensures clean { HasCleanDisk (state S.Store keeper.new.conn) → HasCleanDisk (state S.Store keeper.old.conn) }
+    ensures imported { HasCleanDisk (state S.Store keeper.new.conn) → (b : ActState)
+        → Ties S.Store keeper.old b → IsSome keeper.old.book
+        → Imported S.Store keeper.new b (Some (rows_of text.now)) result }
+    ensures clean { HasCleanDisk (state S.Store keeper.new.conn)
+        → HasCleanDisk (state S.Store keeper.old.conn) }
     ensures dropped { IsSome keeper.old.book → (keeper.new.book ≡ None) ↔ IsStoreFault result }
     ensures cause { IsSome keeper.old.book → IfErr result (λ e. HasCause e.fault ⊥) }
 {
@@ -68,16 +70,22 @@ pub fn import<R: Read, S: Alter, T: Timeline>(
 ) -> Result<ImportReport, ImportFault>
     ensures reopen { (keeper.old.book ≡ None) ↔ (result ≡ no_book) }
     ensures unopened { keeper.old.book ≡ None → keeper.new ≡ keeper.old }
-    ensures imported { HasCleanDisk (state S.Store keeper.new.conn) → (b : ActState) → Ties S.Store keeper.old b
-        → IsSome keeper.old.book → Imported S.Store keeper.new b (option_map rows_of (watched_bytes R.remaining reader.old)) result }
-    ensures clean { HasCleanDisk (state S.Store keeper.new.conn) → HasCleanDisk (state S.Store keeper.old.conn) }
+    ensures imported { HasCleanDisk (state S.Store keeper.new.conn) → (b : ActState)
+        → Ties S.Store keeper.old b → IsSome keeper.old.book
+        → Imported S.Store keeper.new b (option_map rows_of (watched_bytes R.remaining reader.old))
+        result }
+    ensures clean { HasCleanDisk (state S.Store keeper.new.conn)
+        → HasCleanDisk (state S.Store keeper.old.conn) }
     ensures dropped { IsSome keeper.old.book → (keeper.new.book ≡ None) ↔ IsStoreFault result }
     ensures cause { IsSome keeper.old.book → IfErr result (λ e. HasCause e.fault
         (HasJustFailed reader.new ⊎ Passes (watched_bytes R.remaining reader.old) 268435456)) }
-    ensures broken { HasCleanDisk (state S.Store keeper.new.conn) → (b : ActState) → Ties S.Store keeper.old b
-        → IsSome keeper.old.book → IfErr result (λ e. e.fault ≡ Fault.Input
-        → HoldsWholeRows S.Store keeper.new b (watched_bytes R.remaining reader.old) (watched_bytes R.remaining reader.new) e.added e.again) }
-    ensures bound { IfOk result (λ r. r.stopped ≡ None → IsWithin (watched_bytes R.remaining reader.old) 268435456) }
+    ensures broken { HasCleanDisk (state S.Store keeper.new.conn) → (b : ActState)
+        → Ties S.Store keeper.old b → IsSome keeper.old.book
+        → IfErr result (λ e. e.fault ≡ Fault.Input
+        → HoldsWholeRows S.Store keeper.new b (watched_bytes R.remaining reader.old)
+        (watched_bytes R.remaining reader.new) e.added e.again) }
+    ensures bound { IfOk result (λ r. r.stopped ≡ None
+        → IsWithin (watched_bytes R.remaining reader.old) 268435456) }
 {
     import_with_progress(alloc, reader, keeper, &mut Silent)
 }
@@ -96,16 +104,22 @@ pub fn import_with_progress<R: Read, S: Alter, T: Timeline, P: Progress>(
 ) -> Result<ImportReport, ImportFault>
     ensures reopen { (keeper.old.book ≡ None) ↔ (result ≡ no_book) }
     ensures unopened { keeper.old.book ≡ None → keeper.new ≡ keeper.old }
-    ensures imported { HasCleanDisk (state S.Store keeper.new.conn) → (b : ActState) → Ties S.Store keeper.old b
-        → IsSome keeper.old.book → Imported S.Store keeper.new b (option_map rows_of (watched_bytes R.remaining reader.old)) result }
-    ensures clean { HasCleanDisk (state S.Store keeper.new.conn) → HasCleanDisk (state S.Store keeper.old.conn) }
+    ensures imported { HasCleanDisk (state S.Store keeper.new.conn) → (b : ActState)
+        → Ties S.Store keeper.old b → IsSome keeper.old.book
+        → Imported S.Store keeper.new b (option_map rows_of (watched_bytes R.remaining reader.old))
+        result }
+    ensures clean { HasCleanDisk (state S.Store keeper.new.conn)
+        → HasCleanDisk (state S.Store keeper.old.conn) }
     ensures dropped { IsSome keeper.old.book → (keeper.new.book ≡ None) ↔ IsStoreFault result }
     ensures cause { IsSome keeper.old.book → IfErr result (λ e. HasCause e.fault
         (HasJustFailed reader.new ⊎ Passes (watched_bytes R.remaining reader.old) 268435456)) }
-    ensures broken { HasCleanDisk (state S.Store keeper.new.conn) → (b : ActState) → Ties S.Store keeper.old b
-        → IsSome keeper.old.book → IfErr result (λ e. e.fault ≡ Fault.Input
-        → HoldsWholeRows S.Store keeper.new b (watched_bytes R.remaining reader.old) (watched_bytes R.remaining reader.new) e.added e.again) }
-    ensures bound { IfOk result (λ r. r.stopped ≡ None → IsWithin (watched_bytes R.remaining reader.old) 268435456) }
+    ensures broken { HasCleanDisk (state S.Store keeper.new.conn) → (b : ActState)
+        → Ties S.Store keeper.old b → IsSome keeper.old.book
+        → IfErr result (λ e. e.fault ≡ Fault.Input
+        → HoldsWholeRows S.Store keeper.new b (watched_bytes R.remaining reader.old)
+        (watched_bytes R.remaining reader.new) e.added e.again) }
+    ensures bound { IfOk result (λ r. r.stopped ≡ None
+        → IsWithin (watched_bytes R.remaining reader.old) 268435456) }
 {
     if keeper.book().is_none() {
         return Err(unopened());
@@ -132,8 +146,8 @@ fn import_gathered<S: Alter, T: Timeline, P: Progress>(
     requires { IsSome keeper.old.book }
     ensures runs { Runs S.Store after_header keeper.old keeper.new
         (Some (gathered_rows gathered.now.whole gathered.now.bytes.items)) gathered.now.whole result }
-    ensures some { gathered.now.whole ≡ false
-        → IfOk result (λ _. Some (gathered_rows gathered.now.whole gathered.now.bytes.items) ≢ Some []) }
+    ensures some { gathered.now.whole ≡ false → IfOk result
+        (λ _. Some (gathered_rows gathered.now.whole gathered.now.bytes.items) ≢ Some []) }
 {
     let part = gathered.whole_part();
     // the first line is the header

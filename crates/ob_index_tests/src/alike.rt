@@ -50,7 +50,9 @@ pub fn twice(first: i64, second: i64) -> [Moved; 6]
 }
 
 fn three(delta: i64) -> [Moved; 3]
-    ensures { result ≡ record { dim = Dim.Cause; key = 3; delta = delta } ∷ record { dim = Dim.Feeder; key = 1; delta = delta } ∷ record { dim = Dim.Day; key = 0; delta = delta } ∷ [] }
+    ensures { result ≡ record { dim = Dim.Cause; key = 3; delta = delta }
+        ∷ record { dim = Dim.Feeder; key = 1; delta = delta }
+        ∷ record { dim = Dim.Day; key = 0; delta = delta } ∷ [] }
 {
     [
         row(Dim::Cause, 3, delta),
@@ -60,7 +62,12 @@ fn three(delta: i64) -> [Moved; 3]
 }
 
 fn six(first: i64, second: i64) -> [Moved; 6]
-    ensures { result ≡ record { dim = Dim.Day; key = 0; delta = first } ∷ record { dim = Dim.Cause; key = 3; delta = first } ∷ record { dim = Dim.Feeder; key = 1; delta = first } ∷ record { dim = Dim.Feeder; key = 1; delta = second } ∷ record { dim = Dim.Cause; key = 3; delta = second } ∷ record { dim = Dim.Day; key = 0; delta = second } ∷ [] }
+    ensures { result ≡ record { dim = Dim.Day; key = 0; delta = first }
+        ∷ record { dim = Dim.Cause; key = 3; delta = first }
+        ∷ record { dim = Dim.Feeder; key = 1; delta = first }
+        ∷ record { dim = Dim.Feeder; key = 1; delta = second }
+        ∷ record { dim = Dim.Cause; key = 3; delta = second }
+        ∷ record { dim = Dim.Day; key = 0; delta = second } ∷ [] }
 {
     [
         row(Dim::Day, 0, first),

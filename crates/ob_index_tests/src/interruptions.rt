@@ -48,7 +48,8 @@ fn sheet(
     switched: &[(Pos, Second)],
 ) -> Result<Sheet, Fail>
     ensures devices { IfOk result (λ s. NameDevices (length net.now.network.devices) s.entries) }
-    ensures between { IfOk result (λ s. LieBetween (first_second_of period.now) (end_second_of period.now) s.entries) }
+    ensures between { IfOk result (λ s. LieBetween (first_second_of period.now)
+        (end_second_of period.now) s.entries) }
 {
     let mut sheet = Sheet::new(alloc);
     for (pos, second) in switched {
@@ -67,9 +68,11 @@ fn switch(
     second: Second,
 ) -> Result<(), Fail>
     requires devices { NameDevices (length net.now.network.devices) sheet.old.entries }
-    requires between { All (λ e. (first_second_of period.now ≤ e.second) × (e.second < end_second_of period.now)) sheet.old.entries }
+    requires between { All (λ e. (first_second_of period.now ≤ e.second)
+        × (e.second < end_second_of period.now)) sheet.old.entries }
     ensures devices { OnOk result (NameDevices (length net.now.network.devices) sheet.new.entries) }
-    ensures between { OnOk result (All (λ e. (first_second_of period.now ≤ e.second) × (e.second < end_second_of period.now)) sheet.new.entries) }
+    ensures between { OnOk result (All (λ e. (first_second_of period.now ≤ e.second)
+        × (e.second < end_second_of period.now)) sheet.new.entries) }
 {
     assert!(rt; 0 < net.devices() && !sheet.is_full());
     assert!(rt; period.first_second() <= second && second < period.end_second());
@@ -133,7 +136,8 @@ fn have_counts(
     wanted: &(Counts, Counts),
 ) -> Result<(), Fail>
     requires devices { NameDevices (length net.old.network.devices) sheet.now.entries }
-    requires between { LieBetween (first_second_of period.now) (end_second_of period.now) sheet.now.entries }
+    requires between { LieBetween (first_second_of period.now) (end_second_of period.now)
+        sheet.now.entries }
 {
     assert!(rt; are_on_sections(net, roll));
     let marks = marked(rt, alloc, period)?;

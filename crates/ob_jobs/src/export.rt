@@ -2,9 +2,9 @@
 ghost use Rattle.std.specs.Prelude.{◌≡◌, IfOk, string_bytes};
 ghost use Rattle.ob_jobs.specs.Importing.{ExportOf, TellsExport, export_line};
 
+use crate::export_moves;
 use crate::tell::tell;
 use ob_base::{Fault, Stop};
-use crate::export_moves;
 use ob_store::Keeper;
 use ob_stream::Watched;
 use ob_sweep::Timeline;
@@ -24,7 +24,8 @@ pub fn run_export<F: Write, S: Alter, T: Timeline, W: Write>(
     file: &mut Watched<F>,
     writer: &mut Watched<W>,
 ) -> Result<u64, Stop>
-    ensures { TellsExport S.Store F.contents W.contents keeper.old keeper.new file.old file.new writer.old writer.new result }
+    ensures { TellsExport S.Store F.contents W.contents keeper.old keeper.new file.old file.new
+        writer.old writer.new result }
 {
     let rows = match export_rows(alloc, keeper, file) {
         Ok(rows) => rows,

@@ -21,7 +21,8 @@ fn name_of(dim: Dim) -> &'static [u8]
 
 /// The text of one record.
 fn record_text(alloc: Global, fields: &[&[u8]]) -> Result<Vec<u8>, Error>
-    ensures { IfOk result (λ text. text.items ≡ row_text default_writer (map (λ f. f.now) fields.now)) }
+    ensures { IfOk result (λ text. text.items ≡ row_text default_writer
+        (map (λ f. f.now) fields.now)) }
 {
     let mut writer = WriterBuilder::new().from_writer(Vec::new(alloc));
     writer.write_fields(fields)?;

@@ -31,9 +31,9 @@ fn write_lines<W: Write, S: Alter, T: Timeline>(
     ensures output { result ≡ Err (Stop.Fault Fault.Output) → HasJustFailed writer.new }
     ensures survives { keeper.old.conn.schema ≡ book_schema
         → Survives (state S.Store keeper.old.conn) (state S.Store keeper.new.conn) (λ _. ⊥) }
-    ensures exports { HasCleanDisk (state S.Store keeper.new.conn) → (b : ActState) → Ties S.Store keeper.old b
-        → Exports W.contents S.Store keeper.old keeper.new (watched_bytes W.contents writer.old) writer.new
-        b (lines_of (all_moves b)) result }
+    ensures exports { HasCleanDisk (state S.Store keeper.new.conn) → (b : ActState)
+        → Ties S.Store keeper.old b → Exports W.contents S.Store keeper.old keeper.new
+        (watched_bytes W.contents writer.old) writer.new b (lines_of (all_moves b)) result }
 {
     let mut lines = Lines::new(alloc, writer, retries);
     keeper.moves_out(&mut lines)
@@ -48,14 +48,15 @@ pub fn export_moves<W: Write, S: Alter, T: Timeline>(
     writer: &mut Watched<W>,
 ) -> Result<u64, Stop>
     ensures reopen { (keeper.old.book ≡ None) ↔ (result ≡ Err (Stop.Fault Fault.Reopen)) }
-    ensures unopened { keeper.old.book ≡ None → (keeper.new ≡ keeper.old) × (writer.new ≡ writer.old) }
+    ensures unopened { keeper.old.book ≡ None → (keeper.new ≡ keeper.old)
+        × (writer.new ≡ writer.old) }
     ensures output { result ≡ Err (Stop.Fault Fault.Output) → HasJustFailed writer.new }
     ensures survives { keeper.old.conn.schema ≡ book_schema
         → Survives (state S.Store keeper.old.conn) (state S.Store keeper.new.conn) (λ _. ⊥) }
-    ensures exports { HasCleanDisk (state S.Store keeper.new.conn) → (b : ActState) → Ties S.Store keeper.old b
-        → IsSome keeper.old.book
-        → Exports W.contents S.Store keeper.old keeper.new (watched_bytes W.contents writer.old) writer.new
-        b (moves_text b) result }
+    ensures exports { HasCleanDisk (state S.Store keeper.new.conn) → (b : ActState)
+        → Ties S.Store keeper.old b → IsSome keeper.old.book
+        → Exports W.contents S.Store keeper.old keeper.new (watched_bytes W.contents writer.old)
+        writer.new b (moves_text b) result }
 {
     if keeper.book().is_none() {
         return Err(Stop::Fault(Fault::Reopen));

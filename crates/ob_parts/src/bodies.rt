@@ -14,7 +14,8 @@ use std::alloc::Global;
 /// of other commands are the ones that they had. The error is that memory was refused.
 pub fn new_bodies(alloc: Global, commands: &[Filed]) -> Result<Vec<NewBody>, Stop>
     requires few { length commands.now ≤ 1_000_000 }
-    ensures texts { IfOk result (λ bodies. texts_of bodies.items ≡ new_texts 1 (filed_of commands.now)) }
+    ensures texts { IfOk result (λ bodies. texts_of bodies.items
+        ≡ new_texts 1 (filed_of commands.now)) }
     ensures faults { IfErr result (λ stop. stop ≡ out_of_memory) }
 {
     let mut bodies = Vec::new(alloc);
@@ -31,7 +32,8 @@ fn add_body(
     no: u32,
     command: &Command,
 ) -> Result<(), Stop>
-    ensures texts { OnOk result (texts_of bodies.new.items ≡ texts_of bodies.old.items ++ new_text no command.now) }
+    ensures texts { OnOk result (texts_of bodies.new.items
+        ≡ texts_of bodies.old.items ++ new_text no command.now) }
     ensures faults { IfErr result (λ stop. stop ≡ out_of_memory) }
 {
     if matches!(command, Command::Device { .. }) {

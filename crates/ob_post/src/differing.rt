@@ -53,7 +53,8 @@ fn common_front(old: &[Run], new: &[Run]) -> usize
 fn common_back(old: &[Run], new: &[Run]) -> usize
     ensures old { result ≤ length old.now }
     ensures new { result ≤ length new.now }
-    ensures common { drop (length old.now - result) old.now ≡ drop (length new.now - result) new.now }
+    ensures common { drop (length old.now - result) old.now
+        ≡ drop (length new.now - result) new.now }
 {
     let most = old.len().min(new.len());
     for count in 0..most {

@@ -2,11 +2,11 @@
 ghost use Rattle.std.specs.Prelude.{◌≡◌};
 
 use crate::differing::compare;
+use crate::laws::move_laws;
 use crate::run_causes::{cause_after, cause_before, causes_after, causes_before, recaused};
+use crate::{MOST_DAYS, Moved, moves, post_run, post_runs};
 use ob_base::Stop;
 use ob_cust::Roll;
-use crate::laws::move_laws;
-use crate::{MOST_DAYS, Moved, moves, post_run, post_runs};
 use ob_sheet::Sheet;
 use ob_sweep::{Change, Run};
 use ob_time::CivilDays;
@@ -58,10 +58,11 @@ impl Posting {
         requires causes { All (λ e. e.cause < 64) sheet.now.entries }
         requires feeder { 1 ≤ feeder }
         requires within { LieWithin (first_second_of period.now) (end_second_of period.now) runs.now }
-        ensures taken { (old new : Dimension → ℕ → ℕ) → Balances (day_count period.now) self.old old new
+        ensures taken { (old new : Dimension → ℕ → ℕ)
+            → Balances (day_count period.now) self.old old new
             → OnOk result (Balances (day_count period.now) self.new
-            (together old (amount_of_runs sheet.now.entries roll.now.customers (days_of period.now) feeder
-            runs.now)) new) }
+            (together old (amount_of_runs sheet.now.entries roll.now.customers (days_of period.now)
+            feeder runs.now)) new) }
         ensures err { IfErr result (λ stop. stop ≡ out_of_memory) }
     {
         let causes = causes_before(self.alloc, sheet, runs)?;
@@ -81,9 +82,11 @@ impl Posting {
         requires causes { All (λ e. e.cause < 64) sheet.now.entries }
         requires feeder { 1 ≤ feeder }
         requires within { LieWithin (first_second_of period.now) (end_second_of period.now) runs.now }
-        ensures given { (old new : Dimension → ℕ → ℕ) → Balances (day_count period.now) self.old old new
+        ensures given { (old new : Dimension → ℕ → ℕ)
+            → Balances (day_count period.now) self.old old new
             → OnOk result (Balances (day_count period.now) self.new old
-            (together new (amount_of_runs sheet.now.entries roll.now.customers (days_of period.now) feeder runs.now))) }
+            (together new (amount_of_runs sheet.now.entries roll.now.customers (days_of period.now)
+            feeder runs.now))) }
         ensures err { IfErr result (λ stop. stop ≡ out_of_memory) }
     {
         let causes = causes_before(self.alloc, sheet, runs)?;
@@ -104,7 +107,8 @@ impl Posting {
         requires change { IsSoundChange change.now sheet.now.entries }
         requires feeder { 1 ≤ feeder }
         requires within { LieWithin (first_second_of period.now) (end_second_of period.now) runs.now }
-        ensures given { (old new : Dimension → ℕ → ℕ) → Balances (day_count period.now) self.old old new
+        ensures given { (old new : Dimension → ℕ → ℕ)
+            → Balances (day_count period.now) self.old old new
             → OnOk result (Balances (day_count period.now) self.new old
             (together new (amount_of_runs (changed change.now sheet.now.entries) roll.now.customers
             (days_of period.now) feeder runs.now))) }
@@ -134,9 +138,9 @@ impl Posting {
         requires rising { AllPairs (λ r s. r.until < s.since) old.now }
         requires cut { BeginAtCutters sheet.now.entries old.now }
         ensures posted { Posts (day_count period.now) self.old self.new result
-            (amount_of_runs sheet.now.entries roll.now.customers (days_of period.now) feeder old.now)
-            (amount_of_runs (changed change.now sheet.now.entries) roll.now.customers (days_of period.now) feeder
-            new.now) }
+            (amount_of_runs sheet.now.entries roll.now.customers (days_of period.now) feeder
+            old.now) (amount_of_runs (changed change.now sheet.now.entries) roll.now.customers
+            (days_of period.now) feeder new.now) }
         ensures err { IfErr result (λ stop. stop ≡ out_of_memory) }
     {
         let runs = compare(old, new);
@@ -163,9 +167,9 @@ impl Posting {
         requires rising { AllPairs (λ r s. r.until < s.since) runs.now }
         requires cut { BeginAtCutters sheet.now.entries runs.now }
         ensures posted { Posts (day_count period.now) self.old self.new result
-            (amount_of_runs sheet.now.entries roll.now.customers (days_of period.now) feeder runs.now)
-            (amount_of_runs (changed change.now sheet.now.entries) roll.now.customers (days_of period.now) feeder
-            runs.now) }
+            (amount_of_runs sheet.now.entries roll.now.customers (days_of period.now) feeder
+            runs.now) (amount_of_runs (changed change.now sheet.now.entries) roll.now.customers
+            (days_of period.now) feeder runs.now) }
         ensures err { IfErr result (λ stop. stop ≡ out_of_memory) }
     {
         let Some(place) = recaused(runs, change) else {
@@ -208,8 +212,10 @@ impl Posting {
     /// What is given less what is taken, by key, in a period. The error is that memory was refused.
     pub fn moves(&self, period: &CivilDays) -> Result<Vec<Moved>, Stop>
         requires small { IsOfSmall (day_count period.now) self.now }
-        ensures moves { (old new : Dimension → ℕ → ℕ) → Balances (day_count period.now) self.now old new
-            → IfOk result (λ moved. moved.items ≡ moves_by (change_from old new) (day_count period.now)) }
+        ensures moves { (old new : Dimension → ℕ → ℕ)
+            → Balances (day_count period.now) self.now old new
+            → IfOk result (λ moved. moved.items ≡ moves_by (change_from old new)
+            (day_count period.now)) }
         ensures err { IfErr result (λ stop. stop ≡ out_of_memory) }
     {
         move_laws();

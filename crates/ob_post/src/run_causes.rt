@@ -10,8 +10,8 @@ ghost use Rattle.ob_post.specs.CauseLaws.{cause_with as cause_of_run_with};
 ghost use Rattle.ob_post.specs.SectionAmounts.{run_cause};
 ghost use Rattle.ob_post.specs.Causes.{BeginAtCutters, StayBut};
 
-use ob_base::Stop;
 use crate::laws::cause_laws;
+use ob_base::Stop;
 use ob_sheet::{Entry, Sheet};
 use ob_sweep::{Change, Run};
 use std::alloc::Global;
@@ -50,7 +50,8 @@ pub fn recaused(runs: &[Run], change: &Change) -> Option<usize>
     requires rising { AllPairs (λ r s. r.until < s.since) runs.now }
     ensures within { IfSome result (λ place. place < length runs.now) }
     ensures others { (entries : List AnEntry) → Applies change.now entries → AreNumbered entries
-        → BeginAtCutters entries runs.now → StayBut result entries (changed change.now entries) runs.now }
+        → BeginAtCutters entries runs.now → StayBut result entries (changed change.now entries)
+        runs.now }
 {
     cause_laws();
     match change {
@@ -63,7 +64,8 @@ pub fn recaused(runs: &[Run], change: &Change) -> Option<usize>
 
 /// The causes that runs have under a sheet.
 pub fn causes_before(alloc: Global, sheet: &Sheet, runs: &[Run]) -> Result<Vec<u8>, Stop>
-    ensures causes { IfOk result (λ causes. causes.items ≡ map (run_cause sheet.now.entries) runs.now) }
+    ensures causes { IfOk result (λ causes. causes.items
+        ≡ map (run_cause sheet.now.entries) runs.now) }
     ensures err { IfErr result (λ stop. stop ≡ out_of_memory) }
 {
     let mut causes = Vec::with_capacity(alloc, runs.len())?;

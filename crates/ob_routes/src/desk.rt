@@ -34,13 +34,18 @@ pub fn answer<S: Alter, T: Timeline>(
     request: &Request,
     closes: bool,
 ) -> Result<ReplyText, Fault>
-    ensures constant { IfSome (bookless (message_of request.now)) (λ a. IsReplyOf a closes result × (keeper.new ≡ keeper.old)) }
-    ensures unopened { keeper.old.book ≡ None → (keeper.new ≡ keeper.old) × Unopened (bookless (message_of request.now)) closes result }
+    ensures constant { IfSome (bookless (message_of request.now)) (λ a. IsReplyOf a closes result
+        × (keeper.new ≡ keeper.old)) }
+    ensures unopened { keeper.old.book ≡ None → (keeper.new ≡ keeper.old)
+        × Unopened (bookless (message_of request.now)) closes result }
     ensures faults { IsSome keeper.old.book → IfErr result IsAnswerFault }
-    ensures dropped { IsSome keeper.old.book → (keeper.new.book ≡ None) ↔ (result ≡ Err Fault.Store) }
-    ensures clean { HasCleanDisk (state S.Store keeper.new.conn) → HasCleanDisk (state S.Store keeper.old.conn) }
-    ensures answered { HasCleanDisk (state S.Store keeper.new.conn) → (b : ActState) → Ties S.Store keeper.old b
-        → IsSome keeper.old.book → Answered S.Store keeper.new b (message_of request.now) closes result }
+    ensures dropped { IsSome keeper.old.book → (keeper.new.book ≡ None)
+        ↔ (result ≡ Err Fault.Store) }
+    ensures clean { HasCleanDisk (state S.Store keeper.new.conn)
+        → HasCleanDisk (state S.Store keeper.old.conn) }
+    ensures answered { HasCleanDisk (state S.Store keeper.new.conn) → (b : ActState)
+        → Ties S.Store keeper.old b → IsSome keeper.old.book
+        → Answered S.Store keeper.new b (message_of request.now) closes result }
 {
     let route = routes.route_of(request.path());
     answer_route(alloc, keeper, request.method, route, &request.body, closes)
@@ -55,7 +60,8 @@ fn answer_route<S: Alter, T: Timeline>(
     body: &[u8],
     closes: bool,
 ) -> Result<ReplyText, Fault>
-    ensures { Serves S.Store keeper.old keeper.new (λ b. RouteAnswered S.Store keeper.new b method route body.now closes result)
+    ensures { Serves S.Store keeper.old keeper.new
+        (λ b. RouteAnswered S.Store keeper.new b method route body.now closes result)
         (bookless_at method route) closes result }
 {
     match route {
@@ -74,7 +80,8 @@ fn answer_get<S: Alter, T: Timeline>(
     route: Route,
     closes: bool,
 ) -> Result<ReplyText, Fault>
-    ensures { Serves S.Store keeper.old keeper.new (λ b. Gives S.Store keeper.new b (got b route) closes result)
+    ensures { Serves S.Store keeper.old keeper.new
+        (λ b. Gives S.Store keeper.new b (got b route) closes result)
         (bookless_at Method.Get (Some route)) closes result }
 {
     match route {
@@ -93,7 +100,8 @@ fn answer_post<S: Alter, T: Timeline>(
     body: &[u8],
     closes: bool,
 ) -> Result<ReplyText, Fault>
-    ensures { Serves S.Store keeper.old keeper.new (λ b. RouteAnswered S.Store keeper.new b Method.Post (Some route) body.now closes result)
+    ensures { Serves S.Store keeper.old keeper.new
+        (λ b. RouteAnswered S.Store keeper.new b Method.Post (Some route) body.now closes result)
         (bookless_at Method.Post (Some route)) closes result }
 {
     match route {

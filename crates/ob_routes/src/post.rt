@@ -24,7 +24,9 @@ fn act<S: Alter, T: Timeline>(
     closes: bool,
 ) -> Result<ReplyText, Fault>
     requires { IsSome keeper.old.book }
-    ensures { Serves S.Store keeper.old keeper.new (λ b. ActGives S.Store keeper.new b (under reference command) closes result) None closes result }
+    ensures { Serves S.Store keeper.old keeper.new
+        (λ b. ActGives S.Store keeper.new b (under reference command) closes result) None closes
+        result }
 {
     match keeper.act(reference, command) {
         Ok(reply) => accepted(alloc, &reply, closes),
@@ -40,7 +42,9 @@ pub(crate) fn post_command<S: Alter, T: Timeline>(
     body: &[u8],
     closes: bool,
 ) -> Result<ReplyText, Fault>
-    ensures { Serves S.Store keeper.old keeper.new (λ b. RouteAnswered S.Store keeper.new b Method.Post (Some Route.Commands) body.now closes result) None closes result }
+    ensures { Serves S.Store keeper.old keeper.new
+        (λ b. RouteAnswered S.Store keeper.new b Method.Post (Some Route.Commands) body.now closes
+        result) None closes result }
 {
     if keeper.book().is_none() {
         return Err(Fault::Reopen);
@@ -59,7 +63,9 @@ pub(crate) fn post_import<S: Alter, T: Timeline>(
     body: &[u8],
     closes: bool,
 ) -> Result<ReplyText, Fault>
-    ensures { Serves S.Store keeper.old keeper.new (λ b. RouteAnswered S.Store keeper.new b Method.Post (Some Route.Import) body.now closes result) None closes result }
+    ensures { Serves S.Store keeper.old keeper.new
+        (λ b. RouteAnswered S.Store keeper.new b Method.Post (Some Route.Import) body.now closes
+        result) None closes result }
 {
     if keeper.book().is_none() {
         return Err(Fault::Reopen);

@@ -18,7 +18,8 @@ use std::alloc::Global;
 
 /// The entry of a number, and the name of its device; None where there is none.
 fn named_entry<T: Timeline>(book: &Book<T>, no: u32) -> Option<(Entry, Name)>
-    ensures { result ≡ option_map (λ e. (e, name_of_device book.now.state e.device)) (entry_of book.now.state.entries «no») }
+    ensures { result ≡ option_map (λ e. (e, name_of_device book.now.state e.device))
+        (entry_of book.now.state.entries «no») }
 {
     // What the devices of entries are, by a clause of this call.
     let _ = book.accepted();
@@ -45,7 +46,8 @@ fn view_text<T: Timeline>(
     book: &Book<T>,
     view: View,
 ) -> Result<Option<Vec<u8>>, Stop>
-    ensures text { IfOk result (λ text. option_map (λ t. t.items) text ≡ view_text_of book.now.state view) }
+    ensures text { IfOk result (λ text. option_map (λ t. t.items) text
+        ≡ view_text_of book.now.state view) }
     ensures err { IfErr result (λ stop. stop ≡ out_of_memory) }
 {
     match view {
@@ -89,7 +91,8 @@ pub(crate) fn show_view<S: Alter, T: Timeline>(
     view: View,
     closes: bool,
 ) -> Result<ReplyText, Fault>
-    ensures { Serves S.Store keeper.now keeper.now (λ b. Gives S.Store keeper.now b (got b (Route.View view)) closes result) None closes result }
+    ensures { Serves S.Store keeper.now keeper.now
+        (λ b. Gives S.Store keeper.now b (got b (Route.View view)) closes result) None closes result }
 {
     match keeper.book() {
         Some(book) => show(alloc, book, view, closes),
@@ -104,7 +107,9 @@ pub(crate) fn show_command<S: Alter, T: Timeline>(
     no: u32,
     closes: bool,
 ) -> Result<ReplyText, Fault>
-    ensures { Serves S.Store keeper.old keeper.new (λ b. Gives S.Store keeper.new b (got b (Route.Command «no»)) closes result) None closes result }
+    ensures { Serves S.Store keeper.old keeper.new
+        (λ b. Gives S.Store keeper.new b (got b (Route.Command «no»)) closes result) None closes
+        result }
 {
     match keeper.reply_of(no) {
         Ok(Some(reply)) => accepted(alloc, &reply, closes),

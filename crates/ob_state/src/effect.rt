@@ -39,7 +39,8 @@ pub fn effect_of<T: Timeline>(
     ensures effect { IfOk result (IsEffect state.old.state (next state.old.state command.now)) }
     ensures err { IfErr result (λ stop. stop ≡ out_of_memory) }
     ensures state { state.new.state ≡ state.old.state }
-    ensures searches { state.new.searches ≤ state.old.searches + most_searches T.bound state.old.state command.now }
+    ensures searches { state.new.searches ≤ state.old.searches + most_searches T.bound
+        state.old.state command.now }
 {
     match *command {
         Command::Cause { .. } | Command::Mark { .. } | Command::Unmark { .. } => Ok(Effect {

@@ -45,12 +45,16 @@ pub fn run_total<R: Read, W: Write>(
     writer: &mut Watched<W>,
 ) -> Result<u64, TotalStop>
     ensures said { AnswersKnown total_of (watched_bytes R.remaining reader.old) result }
-    ensures written { IfOk result (λ n. Appends (watched_bytes W.contents writer.old) (watched_bytes W.contents writer.new) (total_line n)) }
-    ensures nothing { IfErr result (λ e. e.stop ≢ Stop.Fault Fault.Output → Keeps (watched_bytes W.contents writer.old) (watched_bytes W.contents writer.new)) }
-    ensures front { IfErr result (λ e. e.stop ≡ Stop.Fault Fault.Output → BeginsLine (watched_bytes R.remaining reader.old) (watched_bytes W.contents writer.old) (watched_bytes W.contents writer.new)) }
+    ensures written { IfOk result (λ n. Appends (watched_bytes W.contents writer.old)
+        (watched_bytes W.contents writer.new) (total_line n)) }
+    ensures nothing { IfErr result (λ e. e.stop ≢ Stop.Fault Fault.Output
+        → Keeps (watched_bytes W.contents writer.old) (watched_bytes W.contents writer.new)) }
+    ensures front { IfErr result (λ e. e.stop ≡ Stop.Fault Fault.Output
+        → BeginsLine (watched_bytes R.remaining reader.old) (watched_bytes W.contents writer.old)
+        (watched_bytes W.contents writer.new)) }
     ensures length { SpeaksOfText result → IsWithin (watched_bytes R.remaining reader.old) 268435456 }
-    ensures cause { IfErr result (λ e. HasCause e.stop
-        (HasJustFailed reader.new ⊎ Passes (watched_bytes R.remaining reader.old) 268435456) (HasJustFailed writer.new)) }
+    ensures cause { IfErr result (λ e. HasCause e.stop (HasJustFailed reader.new
+        ⊎ Passes (watched_bytes R.remaining reader.old) 268435456) (HasJustFailed writer.new)) }
 {
     let mut retries = Retries::new();
     let text = match read_text(alloc, reader, &mut retries, MOST_BYTES) {
@@ -124,7 +128,8 @@ fn total_after<R: Read>(
 
 /// The next row into `row`, and whether there was one.
 fn take_row<R: Read>(rows: &mut RowReader<R>, row: &mut Row) -> Result<bool, TotalStop>
-    ensures takes { IfOk result (λ found. TakesRow (rows_left R.remaining rows.old) (rows_left R.remaining rows.new) found row.new) }
+    ensures takes { IfOk result (λ found. TakesRow (rows_left R.remaining rows.old)
+        (rows_left R.remaining rows.new) found row.new) }
     ensures stop { IfErr result (λ e. (e.stop ≡ out_of_memory) × (e.row ≡ None)) }
 {
     match rows.next_row(row) {
@@ -151,7 +156,8 @@ fn begin(alloc: Global, row: &Row) -> Result<World, TotalStop>
 /// Makes the change of the command that a row says.
 fn act_row(world: &mut World, row: &Row, number: u32) -> Result<(), TotalStop>
     ensures ok { OnOk result (stepped world.old (command_of row.now) ≡ Ok world.new) }
-    ensures stop { IfErr result (λ e. StopsAtRow e.stop e.row number (stepped world.old (command_of row.now))) }
+    ensures stop { IfErr result (λ e. StopsAtRow e.stop e.row number
+        (stepped world.old (command_of row.now))) }
 {
     let command = match command_in(row) {
         Ok(command) => command,

@@ -11,9 +11,9 @@ mod progress;
 
 use crate::books::{Task, look_at_period, run_on_book};
 use ob_base::{Fault, Stop};
+pub use ob_cli::{Job, Unfinished, Word, WrongWords, complaint_of, read_words, status_of_run};
 use ob_stream::Watched;
 pub use ob_total::{TotalStop, run_total};
-pub use ob_cli::{Job, Unfinished, Word, WrongWords, complaint_of, read_words, status_of_run};
 use std::alloc::{AllocError, Global};
 use std::env::{self, Env};
 use std::io;
