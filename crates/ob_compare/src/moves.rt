@@ -32,7 +32,7 @@ use ob_book::Book;
 use ob_command::Command;
 use ob_post::Moved;
 use ob_sweep::Timeline;
-use ob_tables::{Table, Version, int, signed, stop_of};
+use ob_tables::{Table, Version, int, signed_value, stop_of};
 use ob_upgrade::fits_version_one;
 use sqlite::{Alter, Connection, Row, Rows};
 
@@ -48,7 +48,7 @@ fn is_moved(row: &Row, no: u32, it: &Moved) -> bool
             int(no),
             int(u32::from(dim.number())),
             int(u32::from(key)),
-            signed(delta),
+            signed_value(delta),
         ],
     )
 }

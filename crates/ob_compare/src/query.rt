@@ -16,7 +16,7 @@ use ob_tables::stop_of;
 use sqlite::{Alter, Connection, Error, ErrorCode, Row, Statement};
 
 /// Why a text wasn't prepared: the tables lack what it names, as those of no book, or the store failed.
-fn unprepared(error: Error) -> Stop
+fn stop_of_prepare(error: Error) -> Stop
     ensures faults { IsReadFault result }
     ensures foreign { result ≡ bad_book → IsInputError error }
     ensures missed { IsInputError error → result ≡ bad_book }
@@ -47,7 +47,7 @@ pub(crate) fn prepare<S: Alter>(conn: &mut Connection<S>, sql: &str) -> Result<S
 {
     match conn.prepare(sql) {
         Ok(statement) => Ok(statement),
-        Err(error) => Err(unprepared(error)),
+        Err(error) => Err(stop_of_prepare(error)),
     }
 }
 

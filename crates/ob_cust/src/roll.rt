@@ -194,8 +194,10 @@ impl Roll {
             return 0;
         }
         let shelf = &self.shelves[shelf_of(section, self.shelves.len())];
-        let begun = shelf.services.passed(section, b) + shelf.ends.passed(section, a);
-        let over = shelf.services.passed(section, a) + shelf.ends.passed(section, b);
+        let begun = shelf.services.seconds_passed(section, b)
+            + shelf.ends.seconds_passed(section, a);
+        let over = shelf.services.seconds_passed(section, a)
+            + shelf.ends.seconds_passed(section, b);
         (begun - over) as u64
     }
 

@@ -160,7 +160,7 @@ impl Services {
 
     /// How many seconds have passed at `x` since the services of the section began, summed over their
     /// customers.
-    pub fn passed(&self, section: u16, x: Second) -> u128
+    pub fn seconds_passed(&self, section: u16, x: Second) -> u128
         ensures { result ≡ sum_of (since_start section x) self.now.blocks }
     {
         let place = begun_before(&self.blocks, section, x);

@@ -61,13 +61,13 @@ fn act<S: Alter, T: Timeline>(
         → Ties S.Store keeper.old b → Adds S.Store keeper.new b (under reference command) result }
 {
     reached_law();
-    let before = accepted(keeper);
+    let before = accepted_count(keeper);
     keeper.act(reference, command)?;
-    Ok(before < accepted(keeper))
+    Ok(before < accepted_count(keeper))
 }
 
 /// How many commands the book has accepted.
-fn accepted<S: Alter, T: Timeline>(keeper: &Keeper<S, T>) -> u32
+fn accepted_count<S: Alter, T: Timeline>(keeper: &Keeper<S, T>) -> u32
     ensures { IfSome keeper.now.book (λ s. result ≡ s.accepted) }
 {
     match keeper.book() {

@@ -67,7 +67,7 @@ fn import_rows<R: Read, S: Alter, T: Timeline, P: Progress>(
         match take_row(rows, row, whole) {
             Ok(true) => {}
             Ok(false) => return Ok(report(tally, None)),
-            Err(fault) => return Err(broken(tally, fault)),
+            Err(fault) => return Err(fault_after(tally, fault)),
         }
         match act_row(keeper, row) {
             Ok(is_new) => {
@@ -75,13 +75,13 @@ fn import_rows<R: Read, S: Alter, T: Timeline, P: Progress>(
                 progress.step(number);
             }
             Err(Stop::Refused(refusal)) => return Ok(report(tally, Some((number, refusal)))),
-            Err(Stop::Fault(fault)) => return Err(broken(tally, fault)),
+            Err(Stop::Fault(fault)) => return Err(fault_after(tally, fault)),
         }
     }
     match take_row(rows, row, whole) {
         Ok(true) => Ok(report(tally, Some((MOST_ROWS + 1, Refusal::Full(MOST_ROWS))))),
         Ok(false) => Ok(report(tally, None)),
-        Err(fault) => Err(broken(tally, fault)),
+        Err(fault) => Err(fault_after(tally, fault)),
     }
 }
 
@@ -145,7 +145,7 @@ fn report(tally: Tally, stopped: Option<(u32, Refusal)>) -> ImportReport
     }
 }
 
-fn broken(tally: Tally, fault: Fault) -> ImportFault
+fn fault_after(tally: Tally, fault: Fault) -> ImportFault
     ensures fault { result ≡ record { fault = fault; added = tally.added; again = tally.again } }
 {
     ImportFault {

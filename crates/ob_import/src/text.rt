@@ -50,7 +50,7 @@ pub fn import_text<S: Alter, T: Timeline>(
     ensures cause { IsSome keeper.old.book → IfErr result (λ e. HasCause e.fault ⊥) }
 {
     if keeper.book().is_none() {
-        return Err(unopened());
+        return Err(fault_without_book());
     }
     let mut rows = RowReader::new(alloc, text);
     import_all(alloc, &mut rows, true, keeper, &mut Silent)
@@ -122,7 +122,7 @@ pub fn import_with_progress<R: Read, S: Alter, T: Timeline, P: Progress>(
         → IsWithin (watched_bytes R.remaining reader.old) 268435456) }
 {
     if keeper.book().is_none() {
-        return Err(unopened());
+        return Err(fault_without_book());
     }
     let mut retries = Retries::new();
     whole_rows_law();
@@ -164,7 +164,7 @@ fn lines_of(text: &[u8]) -> u64 {
 }
 
 /// There is no book to import into.
-fn unopened() -> ImportFault
+fn fault_without_book() -> ImportFault
     ensures { Err result ≡ no_book }
 {
     ImportFault {

@@ -3,7 +3,7 @@ ghost use Rattle.std.specs.Prelude.{◌≡◌};
 
 use crate::differing::compare;
 use crate::laws::move_laws;
-use crate::run_causes::{cause_after, cause_before, causes_after, causes_before, recaused};
+use crate::run_causes::{cause_after, cause_before, causes_after, causes_before, place_recaused};
 use crate::{MOST_DAYS, Moved, moves, post_run, post_runs};
 use ob_base::Stop;
 use ob_cust::Roll;
@@ -172,7 +172,7 @@ impl Posting {
             (days_of period.now) feeder runs.now) }
         ensures err { IfErr result (λ stop. stop ≡ out_of_memory) }
     {
-        let Some(place) = recaused(runs, change) else {
+        let Some(place) = place_recaused(runs, change) else {
             return Ok(());
         };
         let run = &runs[place];

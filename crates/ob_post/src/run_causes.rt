@@ -45,7 +45,7 @@ pub fn cause_after(sheet: &Sheet, change: &Change, run: &Run) -> u8
 
 /// The place of the one run that may have another cause after a change: a corrected entry's
 /// run begins at the entry's second.
-pub fn recaused(runs: &[Run], change: &Change) -> Option<usize>
+pub fn place_recaused(runs: &[Run], change: &Change) -> Option<usize>
     requires some { All (λ r. r.since < r.until) runs.now }
     requires rising { AllPairs (λ r s. r.until < s.since) runs.now }
     ensures within { IfSome result (λ place. place < length runs.now) }

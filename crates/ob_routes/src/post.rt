@@ -5,7 +5,7 @@ ghost use Rattle.ob_routes.specs.Answering.{ActGives, RouteAnswered, Serves};
 ghost use Rattle.ob_requests.specs.declared.framing.Method.{Method};
 ghost use Rattle.ob_routes.specs.declared.routes.Route.{Route};
 
-use crate::reply::{ReplyText, accepted, refused, reported};
+use crate::reply::{ReplyText, accepted_reply, refused_reply, report_reply};
 use ob_base::{Fault, Ref, Stop};
 use ob_book::Command;
 use ob_import::import_text;
@@ -29,8 +29,8 @@ fn act<S: Alter, T: Timeline>(
         result }
 {
     match keeper.act(reference, command) {
-        Ok(reply) => accepted(alloc, &reply, closes),
-        Err(Stop::Refused(refusal)) => refused(alloc, &refusal, closes),
+        Ok(reply) => accepted_reply(alloc, &reply, closes),
+        Err(Stop::Refused(refusal)) => refused_reply(alloc, &refusal, closes),
         Err(Stop::Fault(fault)) => Err(fault),
     }
 }
@@ -51,7 +51,7 @@ pub(crate) fn post_command<S: Alter, T: Timeline>(
     }
     match read_command(alloc, body) {
         Ok(said) => act(alloc, keeper, said.0, said.1, closes),
-        Err(Stop::Refused(refusal)) => refused(alloc, &refusal, closes),
+        Err(Stop::Refused(refusal)) => refused_reply(alloc, &refusal, closes),
         Err(Stop::Fault(_)) => Err(Fault::OutOfMemory),
     }
 }
@@ -71,7 +71,7 @@ pub(crate) fn post_import<S: Alter, T: Timeline>(
         return Err(Fault::Reopen);
     }
     match import_text(alloc, body, keeper) {
-        Ok(report) => reported(alloc, report, closes),
+        Ok(report) => report_reply(alloc, report, closes),
         Err(stopped) => Err(stopped.fault),
     }
 }

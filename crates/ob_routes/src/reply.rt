@@ -38,7 +38,7 @@ impl ReplyText {
 }
 
 /// The reply without a body.
-pub(crate) fn nothing(status: Status, closes: bool) -> ReplyText
+pub(crate) fn empty_reply(status: Status, closes: bool) -> ReplyText
     ensures { text_bytes result ≡ answer_text (empty status) closes }
 {
     ReplyText::Constant(empty_reply(status, closes))
@@ -73,7 +73,7 @@ pub(crate) fn found(
 }
 
 /// The reply to an accepted command.
-pub(crate) fn accepted(alloc: Global, reply: &Reply, closes: bool) -> Result<ReplyText, Fault>
+pub(crate) fn accepted_reply(alloc: Global, reply: &Reply, closes: bool) -> Result<ReplyText, Fault>
     ensures { Makes (outcome (Ok (reply_as reply.now))) closes result }
 {
     match accepted_text(alloc, reply.no, reply.moved.as_slice()) {
@@ -83,7 +83,11 @@ pub(crate) fn accepted(alloc: Global, reply: &Reply, closes: bool) -> Result<Rep
 }
 
 /// The reply to a refused command.
-pub(crate) fn refused(alloc: Global, refusal: &Refusal, closes: bool) -> Result<ReplyText, Fault>
+pub(crate) fn refused_reply(
+    alloc: Global,
+    refusal: &Refusal,
+    closes: bool,
+) -> Result<ReplyText, Fault>
     ensures { Makes (refused_of refusal.now) closes result }
 {
     match refused_text(alloc, refusal) {
@@ -99,7 +103,7 @@ pub(crate) fn refused(alloc: Global, refusal: &Refusal, closes: bool) -> Result<
 }
 
 /// The reply to an import.
-pub(crate) fn reported(
+pub(crate) fn report_reply(
     alloc: Global,
     report: ImportReport,
     closes: bool,

@@ -68,7 +68,7 @@ pub fn with_section<T: Timeline>(
     let change = Change::Section {
         feeder: feeder.get(),
     };
-    let delta = planned(state, timeline, &change);
+    let delta = plan_change(state, timeline, &change);
     state.take_back_node();
     Ok(Effect {
         moves: Vec::new(alloc),
@@ -103,7 +103,7 @@ pub fn with_device<T: Timeline>(
         device: number,
         life: device.life,
     };
-    let effect = altered(alloc, state, timeline, &change);
+    let effect = effect_on_network(alloc, state, timeline, &change);
     state.take_back_device();
     effect
 }
@@ -137,13 +137,13 @@ pub fn with_life<T: Timeline>(
         old,
         new: life,
     };
-    let effect = altered(alloc, state, timeline, &change);
+    let effect = effect_on_network(alloc, state, timeline, &change);
     state.set_life(device, old);
     effect
 }
 
 // The effect of a change of the devices that was made, where a timeline holds the runs before it.
-fn altered<T: Timeline>(
+fn effect_on_network<T: Timeline>(
     alloc: Global,
     state: &mut State,
     timeline: &T,
@@ -164,8 +164,8 @@ fn altered<T: Timeline>(
 {
     total_laws();
     let _ = state.accepted();
-    let delta = planned(state, timeline, change)?;
-    let posting = posted(alloc, state, timeline, change, &delta)?;
+    let delta = plan_change(state, timeline, change)?;
+    let posting = post_sections(alloc, state, timeline, change, &delta)?;
     Ok(Effect {
         moves: posting.moves(&state.period)?,
         retiming: Retiming::By(delta),
@@ -173,7 +173,7 @@ fn altered<T: Timeline>(
 }
 
 // What a change of the network that was made alters in the runs, where a timeline holds those before it.
-fn planned<T: Timeline>(state: &mut State, timeline: &T, change: &Change) -> Result<Delta, Stop>
+fn plan_change<T: Timeline>(state: &mut State, timeline: &T, change: &Change) -> Result<Delta, Stop>
     requires part { changed change.now state.old.state.entries ≡ state.old.state.entries }
     requires applies { Applies change.now state.old.state.entries }
     requires after { IsAfter change.now state.old.state.network }
@@ -190,7 +190,7 @@ fn planned<T: Timeline>(state: &mut State, timeline: &T, change: &Change) -> Res
 }
 
 // What is posted for a change of the devices that was made: the runs of the sections that it touches.
-fn posted<T: Timeline>(
+fn post_sections<T: Timeline>(
     alloc: Global,
     state: &State,
     timeline: &T,

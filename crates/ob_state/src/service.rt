@@ -24,7 +24,7 @@ use ob_sweep::Timeline;
 use std::alloc::Global;
 
 /// The effect of a customer that isn't refused. The error is that memory was refused.
-pub fn connected<T: Timeline>(
+pub fn effect_of_connect<T: Timeline>(
     alloc: Global,
     state: &State,
     timeline: &T,
@@ -62,7 +62,7 @@ pub fn connected<T: Timeline>(
 
 /// The effect of another service of a customer, which isn't refused. The error is that memory was
 /// refused.
-pub fn revised<T: Timeline>(
+pub fn effect_of_revise<T: Timeline>(
     alloc: Global,
     state: &State,
     timeline: &T,

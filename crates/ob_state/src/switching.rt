@@ -38,7 +38,7 @@ pub struct Operation {
 }
 
 /// The effect of a new entry that isn't refused. The error is that memory was refused.
-pub fn entered<T: Timeline>(
+pub fn effect_of_switch<T: Timeline>(
     alloc: Global,
     state: &mut State,
     timeline: &T,
@@ -62,11 +62,11 @@ pub fn entered<T: Timeline>(
     };
     let _ = state.accepted();
     let entry = next_entry(state, device, operation);
-    switched(alloc, state, timeline, &Change::Entered(entry))
+    effect_on_sheet(alloc, state, timeline, &Change::Entered(entry))
 }
 
 /// The effect of a correction that isn't refused. The error is that memory was refused.
-pub fn corrected<T: Timeline>(
+pub fn effect_of_correct<T: Timeline>(
     alloc: Global,
     state: &mut State,
     timeline: &T,
@@ -89,11 +89,11 @@ pub fn corrected<T: Timeline>(
     let old = entry_at(state, entry, revision);
     let _ = state.accepted();
     let change = correction(old, operation);
-    switched(alloc, state, timeline, &change)
+    effect_on_sheet(alloc, state, timeline, &change)
 }
 
 /// The effect of a withdrawal that isn't refused. The error is that memory was refused.
-pub fn withdrawn<T: Timeline>(
+pub fn effect_of_withdraw<T: Timeline>(
     alloc: Global,
     state: &mut State,
     timeline: &T,
@@ -111,7 +111,7 @@ pub fn withdrawn<T: Timeline>(
 {
     let old = entry_at(state, entry, revision);
     let _ = state.accepted();
-    switched(alloc, state, timeline, &Change::Withdrawn(old))
+    effect_on_sheet(alloc, state, timeline, &Change::Withdrawn(old))
 }
 
 // The kept entry with a number and a revision.
@@ -163,7 +163,7 @@ fn correction(old: Entry, operation: Operation) -> Change
 }
 
 // The effect of a change of the sheet.
-fn switched<T: Timeline>(
+fn effect_on_sheet<T: Timeline>(
     alloc: Global,
     state: &mut State,
     timeline: &T,

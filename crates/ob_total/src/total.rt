@@ -81,7 +81,7 @@ fn total_of_text(alloc: Global, text: &[u8]) -> Result<u64, TotalStop>
     let mut row = Row::new(alloc);
     let found = take_row(&mut rows, &mut row)?;
     if !found || !row.is_header() {
-        return Err(refused(Refusal::BadField(0), 0));
+        return Err(refused_stop(Refusal::BadField(0), 0));
     }
     total_of_rows(alloc, &mut rows, &mut row)
 }
@@ -97,7 +97,7 @@ fn total_of_rows<R: Read>(
 {
     let found = take_row(rows, row)?;
     if !found {
-        return Err(refused(Refusal::BadField(0), 0));
+        return Err(refused_stop(Refusal::BadField(0), 0));
     }
     let mut world = begin(alloc, row)?;
     total_after(rows, row, &mut world)
@@ -121,7 +121,7 @@ fn total_after<R: Read>(
     }
     let found = take_row(rows, row)?;
     if found {
-        return Err(refused(Refusal::Full(MOST_ROWS), MOST_ROWS + 1));
+        return Err(refused_stop(Refusal::Full(MOST_ROWS), MOST_ROWS + 1));
     }
     total_of_world(world)
 }
@@ -145,7 +145,7 @@ fn begin(alloc: Global, row: &Row) -> Result<World, TotalStop>
 {
     let span = match span_in(row) {
         Ok(span) => span,
-        Err(refusal) => return Err(refused(refusal, 1)),
+        Err(refusal) => return Err(refused_stop(refusal, 1)),
     };
     match World::new(alloc, span) {
         Ok(world) => Ok(world),
@@ -161,11 +161,11 @@ fn act_row(world: &mut World, row: &Row, number: u32) -> Result<(), TotalStop>
 {
     let command = match command_in(row) {
         Ok(command) => command,
-        Err(refusal) => return Err(refused(refusal, number)),
+        Err(refusal) => return Err(refused_stop(refusal, number)),
     };
     match world.act(&command) {
         Ok(()) => Ok(()),
-        Err(Stop::Refused(refusal)) => Err(refused(refusal, number)),
+        Err(Stop::Refused(refusal)) => Err(refused_stop(refusal, number)),
         Err(Stop::Fault(e)) => Err(fault(e)),
     }
 }
@@ -198,7 +198,7 @@ fn fault(fault: Fault) -> TotalStop
     }
 }
 
-fn refused(refusal: Refusal, row: u32) -> TotalStop
+fn refused_stop(refusal: Refusal, row: u32) -> TotalStop
     ensures stop { result.stop ≡ Stop.Refused refusal }
     ensures row { result.row ≡ Some row }
 {

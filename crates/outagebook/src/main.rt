@@ -21,7 +21,7 @@ use std::process::ExitCode;
 
 fn main(rt: HostRuntime) -> ExitCode {
     let run = run(&rt);
-    ExitCode::from(status_of_run(&told(&rt, run)))
+    ExitCode::from(status_of_run(&tell_end(&rt, run)))
 }
 
 /// Runs the job that the words name.
@@ -107,7 +107,7 @@ fn total<R: Input + Print + AllocGlobal>(rt: &R) -> Result<(), Unfinished> {
 
 /// Tells help on standard output, or on standard error why the job wasn't done. It answers the run as it
 /// was, but help that can't be printed is a fault.
-fn told<R: Print + Eprint + AllocGlobal>(
+fn tell_end<R: Print + Eprint + AllocGlobal>(
     rt: &R,
     run: Result<(), Unfinished>,
 ) -> Result<(), Unfinished> {

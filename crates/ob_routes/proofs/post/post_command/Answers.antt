@@ -19,8 +19,8 @@ pub returns-in-Err-Refused : goal.returns-in-Err-Refused
 returns-in-Err-Refused g c =
     let there : IsSome c.args.keeper.now.book = search rules in
     let says = rw c.in-Err-Refused.field-0-is at c.in-Err-Refused.ensures in
-    serves_made g.S.Store c.args.keeper.now _ (refused c.in-Err-Refused.refusal) c.args.closes c.refused.result there c.refused.ensures
-    (λ b ties. answered_unsaid g.S.Store c.args.keeper.now b c.in-Err-Refused.refusal c.args.body.now c.args.closes c.refused.result says c.refused.ensures ties)
+    serves_made g.S.Store c.args.keeper.now _ (refused c.in-Err-Refused.refusal) c.args.closes c.refused_reply.result there c.refused_reply.ensures
+    (λ b ties. answered_unsaid g.S.Store c.args.keeper.now b c.in-Err-Refused.refusal c.args.body.now c.args.closes c.refused_reply.result says c.refused_reply.ensures ties)
 
 pub returns-in-Err-Fault : goal.returns-in-Err-Fault
 returns-in-Err-Fault g c =

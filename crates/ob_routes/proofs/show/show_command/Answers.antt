@@ -6,14 +6,14 @@ use Rattle.ob_routes.proofs.show.show_command.Goals as goal
 pub returns-in-Ok-Some : goal.returns-in-Ok-Some
 returns-in-Ok-Some g c =
     let e = c.in-Ok-Some.ensures in
-    serves_found g.S.Store c.args.keeper.now c.reply_of.new.self c.args.«no» (Ok c.in-Ok-Some.field-0) c.args.closes c.accepted.result e.reopen e.unopened e.faults e.dropped e.clean e.replied
-    (rw c.in-Ok-Some.field-0-is c.accepted.ensures)
+    serves_found g.S.Store c.args.keeper.now c.reply_of.new.self c.args.«no» (Ok c.in-Ok-Some.field-0) c.args.closes c.accepted_reply.result e.reopen e.unopened e.faults e.dropped e.clean e.replied
+    (rw c.in-Ok-Some.field-0-is c.accepted_reply.ensures)
 
 pub returns-in-Ok-None : goal.returns-in-Ok-None
 returns-in-Ok-None g c =
     let e = c.in-Ok-None.ensures in
-    serves_found g.S.Store c.args.keeper.now c.reply_of.new.self c.args.«no» (Ok c.in-Ok-None.field-0) c.args.closes (Ok c.nothing.result) e.reopen e.unopened e.faults e.dropped e.clean e.replied
-    (rw c.in-Ok-None.field-0-is c.nothing.ensures)
+    serves_found g.S.Store c.args.keeper.now c.reply_of.new.self c.args.«no» (Ok c.in-Ok-None.field-0) c.args.closes (Ok c.empty_reply.result) e.reopen e.unopened e.faults e.dropped e.clean e.replied
+    (rw c.in-Ok-None.field-0-is c.empty_reply.ensures)
 
 pub returns-in-Err-Fault : goal.returns-in-Err-Fault
 returns-in-Err-Fault g c =

@@ -37,8 +37,8 @@ returns-then-found-clause-said g c =
     let takes = rw c.if-found.true at c.in_ok-found-2.ensures.takes in
     let at : c.loop-number.number ≡ 1000001 = omega arith in
     let past : nat_lt 1000000 c.loop-number.number ≡ true = lt-ltb 1000000 c.loop-number.number (omega arith) in
-    says_full (total_from 2 c.args.world.now) c.loop-number.number c.loop-number.world (left c.args.rows.now) (left c.loop-number.rows) (left c.take_row-2.new.rows) c.take_row-2.new.row c.refused.result
-    past c.loop-number.invariant takes c.refused.ensures.stop (rw at c.refused.ensures.row)
+    says_full (total_from 2 c.args.world.now) c.loop-number.number c.loop-number.world (left c.args.rows.now) (left c.loop-number.rows) (left c.take_row-2.new.rows) c.take_row-2.new.row c.refused_stop.result
+    past c.loop-number.invariant takes c.refused_stop.ensures.stop (rw at c.refused_stop.ensures.row)
 
 pub returns-clause-said : goal.returns-clause-said
 returns-clause-said g c =

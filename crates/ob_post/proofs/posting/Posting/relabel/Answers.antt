@@ -17,7 +17,7 @@ returns-in_default-clause-posted c = λ old new b.
     let was = c.args.sheet.now.entries in
     let now = changed c.args.change.now was in
     none_recaused (day_count c.args.period.now) c.args.self.now was now c.args.roll.now.customers (days_of c.args.period.now) c.args.feeder c.args.runs.now old new
-    (subst (λ place. StayBut place was now c.args.runs.now) c.in_default.is (c.recaused.ensures.others was c.requires.change.applies c.requires.change.numbered c.requires.cut))
+    (subst (λ place. StayBut place was now c.args.runs.now) c.in_default.is (c.place_recaused.ensures.others was c.requires.change.applies c.requires.change.numbered c.requires.cut))
     b
 
 pub relabel_run-requires-clause-before : goal.relabel_run-requires-clause-before
@@ -31,7 +31,7 @@ returns-clause-posted c = λ old new b.
     let was = c.args.sheet.now.entries in
     let now = changed c.args.change.now was in
     let runs = c.args.runs.now in
-    let stay = subst (λ place. StayBut place was now runs) c.in-Some.is (c.recaused.ensures.others was c.requires.change.applies c.requires.change.numbered c.requires.cut) in
+    let stay = subst (λ place. StayBut place was now runs) c.in-Some.is (c.place_recaused.ensures.others was c.requires.change.applies c.requires.change.numbered c.requires.cut) in
     on_ok_weaker c.relabel_run.result
     (λ h. one_recaused (day_count c.args.period.now) c.relabel_run.new.self was now c.args.roll.now.customers (days_of c.args.period.now) c.args.feeder runs c.in-Some.place absent
     c.cause_before-before.result c.cause_after-after.result old new c.in-Some.ensures.within stay c.cause_before-before.ensures c.cause_after-after.ensures h)
