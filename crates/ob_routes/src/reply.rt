@@ -61,7 +61,7 @@ fn with_body(
 }
 
 /// The reply that shows what was found.
-pub(crate) fn found(
+pub(crate) fn shown_reply(
     alloc: Global,
     media: MediaType,
     body: &[u8],
@@ -77,7 +77,7 @@ pub(crate) fn accepted_reply(alloc: Global, reply: &Reply, closes: bool) -> Resu
     ensures { Makes (outcome (Ok (reply_as reply.now))) closes result }
 {
     match accepted_text(alloc, reply.no, reply.moved.as_slice()) {
-        Ok(body) => found(alloc, MediaType::Json, &body, closes),
+        Ok(body) => shown_reply(alloc, MediaType::Json, &body, closes),
         Err(_) => Err(Fault::OutOfMemory),
     }
 }

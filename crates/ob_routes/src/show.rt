@@ -5,7 +5,7 @@ ghost use Rattle.ob_sheet.specs.Order.{entry_of};
 ghost use Rattle.ob_routes.specs.Answers.{found as found_of, got, media_of, name_of_device, shown_entry, view_text as view_text_of};
 ghost use Rattle.ob_routes.specs.Answering.{Gives, Makes, Serves};
 
-use crate::reply::{ReplyText, accepted_reply, empty_reply, found};
+use crate::reply::{ReplyText, accepted_reply, empty_reply, shown_reply};
 use crate::routes::View;
 use ob_base::{Fault, Name, Stop};
 use ob_book::Book;
@@ -78,7 +78,7 @@ fn show<T: Timeline>(
     ensures { Makes (found_of (media_of view) (view_text_of book.now.state view)) closes result }
 {
     match view_text(alloc, book, view) {
-        Ok(Some(body)) => found(alloc, media_of_view(view), &body, closes),
+        Ok(Some(body)) => shown_reply(alloc, media_of_view(view), &body, closes),
         Ok(None) => Ok(empty_reply(Status::NotFound, closes)),
         Err(_) => Err(Fault::OutOfMemory),
     }
