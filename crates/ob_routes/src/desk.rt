@@ -9,7 +9,7 @@ ghost use Rattle.ob_routes.specs.Answers.{bookless, bookless_at, got};
 ghost use Rattle.ob_routes.specs.Answering.{Answered, Gives, IsAnswerFault, IsReplyOf, RouteAnswered, Serves, Unopened};
 
 use crate::post::{post_command, post_import};
-use crate::reply::{ReplyText, empty_reply};
+use crate::reply::{ReplyText, bare_reply};
 use crate::routes::{Route, Routes};
 use crate::show::{show_command, show_view};
 use ob_base::Fault;
@@ -65,7 +65,7 @@ fn answer_route<S: Alter, T: Timeline>(
         (bookless_at method route) closes result }
 {
     match route {
-        None => Ok(empty_reply(Status::NotFound, closes)),
+        None => Ok(bare_reply(Status::NotFound, closes)),
         Some(route) => match method {
             Method::Get => answer_get(alloc, keeper, route, closes),
             Method::Post => answer_post(alloc, keeper, route, body, closes),
@@ -87,8 +87,8 @@ fn answer_get<S: Alter, T: Timeline>(
     match route {
         Route::View(view) => show_view(alloc, keeper, view, closes),
         Route::Command(no) => show_command(alloc, keeper, no, closes),
-        Route::Commands => Ok(empty_reply(Status::MethodNotAllowed(Allow::Post), closes)),
-        Route::Import => Ok(empty_reply(Status::MethodNotAllowed(Allow::Post), closes)),
+        Route::Commands => Ok(bare_reply(Status::MethodNotAllowed(Allow::Post), closes)),
+        Route::Import => Ok(bare_reply(Status::MethodNotAllowed(Allow::Post), closes)),
     }
 }
 
@@ -107,7 +107,7 @@ fn answer_post<S: Alter, T: Timeline>(
     match route {
         Route::Commands => post_command(alloc, keeper, body, closes),
         Route::Import => post_import(alloc, keeper, body, closes),
-        Route::Command(_) => Ok(empty_reply(Status::MethodNotAllowed(Allow::Get), closes)),
-        Route::View(_) => Ok(empty_reply(Status::MethodNotAllowed(Allow::Get), closes)),
+        Route::Command(_) => Ok(bare_reply(Status::MethodNotAllowed(Allow::Get), closes)),
+        Route::View(_) => Ok(bare_reply(Status::MethodNotAllowed(Allow::Get), closes)),
     }
 }

@@ -38,7 +38,7 @@ impl ReplyText {
 }
 
 /// The reply without a body.
-pub(crate) fn empty_reply(status: Status, closes: bool) -> ReplyText
+pub(crate) fn bare_reply(status: Status, closes: bool) -> ReplyText
     ensures { text_bytes result ≡ answer_text (empty status) closes }
 {
     ReplyText::Constant(empty_reply(status, closes))

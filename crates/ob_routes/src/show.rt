@@ -5,7 +5,7 @@ ghost use Rattle.ob_sheet.specs.Order.{entry_of};
 ghost use Rattle.ob_routes.specs.Answers.{found as found_of, got, media_of, name_of_device, shown_entry, view_text as view_text_of};
 ghost use Rattle.ob_routes.specs.Answering.{Gives, Makes, Serves};
 
-use crate::reply::{ReplyText, accepted_reply, empty_reply, shown_reply};
+use crate::reply::{ReplyText, accepted_reply, bare_reply, shown_reply};
 use crate::routes::View;
 use ob_base::{Fault, Name, Stop};
 use ob_book::Book;
@@ -79,7 +79,7 @@ fn show<T: Timeline>(
 {
     match view_text(alloc, book, view) {
         Ok(Some(body)) => shown_reply(alloc, media_of_view(view), &body, closes),
-        Ok(None) => Ok(empty_reply(Status::NotFound, closes)),
+        Ok(None) => Ok(bare_reply(Status::NotFound, closes)),
         Err(_) => Err(Fault::OutOfMemory),
     }
 }
@@ -113,7 +113,7 @@ pub(crate) fn show_command<S: Alter, T: Timeline>(
 {
     match keeper.reply_of(no) {
         Ok(Some(reply)) => accepted_reply(alloc, &reply, closes),
-        Ok(None) => Ok(empty_reply(Status::NotFound, closes)),
+        Ok(None) => Ok(bare_reply(Status::NotFound, closes)),
         Err(Stop::Refused(_)) => Err(Fault::OutOfMemory),
         Err(Stop::Fault(fault)) => Err(fault),
     }

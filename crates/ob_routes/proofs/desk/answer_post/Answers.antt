@@ -14,11 +14,11 @@ returns-in-Import g c = rw c.in-Import.is c.post_import.ensures
 pub returns-in-Command : goal.returns-in-Command
 returns-in-Command g c =
     rw c.in-Command.is
-    (serves_plain g.S.Store c.args.keeper.now _ (empty (statuses.MethodNotAllowed allows.Get)) c.args.closes c.empty_reply.result c.empty_reply.ensures
-    (λ b ties. (empty (statuses.MethodNotAllowed allows.Get), b, (refl, refl), c.empty_reply.ensures, ties)))
+    (serves_plain g.S.Store c.args.keeper.now _ (empty (statuses.MethodNotAllowed allows.Get)) c.args.closes c.bare_reply.result c.bare_reply.ensures
+    (λ b ties. (empty (statuses.MethodNotAllowed allows.Get), b, (refl, refl), c.bare_reply.ensures, ties)))
 
 pub returns-in-View : goal.returns-in-View
 returns-in-View g c =
     rw c.in-View.is
-    (serves_plain g.S.Store c.args.keeper.now _ (empty (statuses.MethodNotAllowed allows.Get)) c.args.closes c.empty_reply-in-View.result c.empty_reply-in-View.ensures
-    (λ b ties. (empty (statuses.MethodNotAllowed allows.Get), b, (refl, refl), c.empty_reply-in-View.ensures, ties)))
+    (serves_plain g.S.Store c.args.keeper.now _ (empty (statuses.MethodNotAllowed allows.Get)) c.args.closes c.bare_reply-in-View.result c.bare_reply-in-View.ensures
+    (λ b ties. (empty (statuses.MethodNotAllowed allows.Get), b, (refl, refl), c.bare_reply-in-View.ensures, ties)))

@@ -8,8 +8,8 @@ use Rattle.ob_routes.proofs.desk.answer_route.Goals as goal
 pub returns-in-None : goal.returns-in-None
 returns-in-None g c =
     rw c.in-None.is
-    (serves_plain g.S.Store c.args.keeper.now _ (empty statuses.NotFound) c.args.closes c.empty_reply.result c.empty_reply.ensures
-    (λ b ties. (empty statuses.NotFound, b, (refl, refl), c.empty_reply.ensures, ties)))
+    (serves_plain g.S.Store c.args.keeper.now _ (empty statuses.NotFound) c.args.closes c.bare_reply.result c.bare_reply.ensures
+    (λ b ties. (empty statuses.NotFound, b, (refl, refl), c.bare_reply.ensures, ties)))
 
 pub returns-in-Get : goal.returns-in-Get
 returns-in-Get g c =

@@ -12,8 +12,8 @@ returns-in-Ok-Some g c =
 pub returns-in-Ok-None : goal.returns-in-Ok-None
 returns-in-Ok-None g c =
     let e = c.in-Ok-None.ensures in
-    serves_found g.S.Store c.args.keeper.now c.reply_of.new.self c.args.«no» (Ok c.in-Ok-None.field-0) c.args.closes (Ok c.empty_reply.result) e.reopen e.unopened e.faults e.dropped e.clean e.replied
-    (rw c.in-Ok-None.field-0-is c.empty_reply.ensures)
+    serves_found g.S.Store c.args.keeper.now c.reply_of.new.self c.args.«no» (Ok c.in-Ok-None.field-0) c.args.closes (Ok c.bare_reply.result) e.reopen e.unopened e.faults e.dropped e.clean e.replied
+    (rw c.in-Ok-None.field-0-is c.bare_reply.ensures)
 
 pub returns-in-Err-Fault : goal.returns-in-Err-Fault
 returns-in-Err-Fault g c =
