@@ -21,7 +21,7 @@ from contextlib import closing
 from pathlib import Path
 from statistics import median
 
-from compare import PROGRAM
+from places import PROGRAM
 from plain_office import Office
 from state import Period
 

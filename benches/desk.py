@@ -21,10 +21,9 @@ import time
 from pathlib import Path
 from statistics import median
 
-from compare import PROGRAM
 from import_year import clear
+from places import BENCHES, DATA, PROGRAM
 
-BENCHES = Path(__file__).resolve().parent
 FIRST = 1_704_067_200
 PERIOD = ["--first", "2024-01-01", "--days", "1", "--zone", "UTC0"]
 AT_ONCE = 20  # divides the 1,000 requests of a stream
@@ -187,7 +186,7 @@ def main():
     words.add_argument("--commands", type=int, default=400, help="how many POSTs a round")
     words.add_argument("--rounds", type=int, default=5)
     words.add_argument("--program", default=PROGRAM, help="the program (that of crates/outagebook)")
-    words.add_argument("--folder", type=Path, default=BENCHES.parent / "bench-data", help="where books on disk are made")
+    words.add_argument("--folder", type=Path, default=DATA, help="where books on disk are made")
     words.add_argument("--memory", type=Path, default=Path("/dev/shm"), help="where books in memory are made")
     words.add_argument("--plain", action="store_true", help="the plain desk in place of the program")
     words = words.parse_args()

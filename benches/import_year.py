@@ -16,10 +16,9 @@ import tempfile
 from contextlib import closing
 from pathlib import Path
 
-from compare import PROGRAM
 from make_year import DAYS, FIRST_DATE, csv_lines, year_lines
+from places import BENCHES, DATA, PROGRAM
 
-BENCHES = Path(__file__).resolve().parent
 TABLES = ["meta", "cause", "node", "device", "life", "customer", "entry", "mark", "cmd", "moved", "posting"]
 
 
@@ -72,7 +71,7 @@ def main():
     words.add_argument("--lives", type=int, default=0, help="devices that join, and ties and lines that are taken down")
     words.add_argument("--seed", type=int, default=1)
     words.add_argument("--program", default=PROGRAM, help="the program (that of crates/outagebook)")
-    words.add_argument("--folder", type=Path, default=BENCHES.parent / "bench-data", help="where books are made")
+    words.add_argument("--folder", type=Path, default=DATA, help="where books are made")
     words = words.parse_args()
     words.folder.mkdir(exist_ok=True)
     text, book, plain = (words.folder / name for name in ["import.csv", "import.db", "import-plain.db"])

@@ -14,7 +14,7 @@ import sys
 import tempfile
 from pathlib import Path
 
-from compare import EXAMPLES, PROGRAM
+from places import EXAMPLES, PROGRAM
 
 END = "---- end of a command ----"
 

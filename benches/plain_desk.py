@@ -13,6 +13,7 @@ import os
 import sys
 from http.server import BaseHTTPRequestHandler, HTTPServer
 
+import places  # noqa: F401, the modules of oracle/
 from commands import NAMES, Refusal
 from plain_office import Office
 from state import Period

@@ -14,33 +14,12 @@ import sqlite3
 import sys
 import time
 
+import places  # noqa: F401, the modules of oracle/
 from make_year import DAYS, FIRST_DATE
 from model import VERSION, kind_of
 from state import Period, State
+from tables import TABLES
 from year import Book
-
-TABLES = """
-CREATE TABLE meta (id INTEGER PRIMARY KEY CHECK (id = 1), version INTEGER NOT NULL, day0 TEXT NOT NULL,
-    days INTEGER NOT NULL, zone TEXT NOT NULL) STRICT;
-CREATE TABLE cause (code INTEGER PRIMARY KEY, name TEXT NOT NULL UNIQUE) STRICT;
-CREATE TABLE node (id INTEGER PRIMARY KEY, name TEXT NOT NULL UNIQUE, kind INTEGER NOT NULL,
-    feeder INTEGER NOT NULL) STRICT;
-CREATE TABLE device (id INTEGER PRIMARY KEY, name TEXT NOT NULL UNIQUE, a INTEGER NOT NULL REFERENCES node (id),
-    b INTEGER NOT NULL REFERENCES node (id), normal INTEGER NOT NULL CHECK (normal >= 0 AND normal <= 1)) STRICT;
-CREATE TABLE customer (id INTEGER PRIMARY KEY, section INTEGER NOT NULL REFERENCES node (id),
-    since INTEGER NOT NULL, until INTEGER) STRICT;
-CREATE TABLE entry (id INTEGER PRIMARY KEY, rev INTEGER NOT NULL, device INTEGER NOT NULL REFERENCES device (id),
-    pos INTEGER NOT NULL CHECK (pos >= 0 AND pos <= 1), second INTEGER NOT NULL,
-    cause INTEGER NOT NULL REFERENCES cause (code), crew TEXT NOT NULL,
-    kept INTEGER NOT NULL CHECK (kept >= 0 AND kept <= 1)) STRICT;
-CREATE TABLE mark (day INTEGER PRIMARY KEY, engineer TEXT NOT NULL) STRICT;
-CREATE TABLE cmd (id INTEGER PRIMARY KEY, ref TEXT NOT NULL UNIQUE, body TEXT NOT NULL) STRICT;
-CREATE TABLE moved (cmd INTEGER NOT NULL REFERENCES cmd (id), dim INTEGER NOT NULL, k INTEGER NOT NULL,
-    delta INTEGER NOT NULL CHECK (delta <> 0), PRIMARY KEY (cmd, dim, k)) STRICT;
-CREATE TABLE posting (dim INTEGER NOT NULL, k INTEGER NOT NULL, amount INTEGER NOT NULL CHECK (amount >= 0),
-    PRIMARY KEY (dim, k)) STRICT;
-CREATE TABLE life (device INTEGER PRIMARY KEY REFERENCES device (id), since INTEGER NOT NULL, until INTEGER) STRICT;
-"""
 
 
 class Amounts(dict):

@@ -25,10 +25,9 @@ from collections import Counter
 from itertools import count
 from pathlib import Path
 
-from compare import PROGRAM
 from import_year import TABLES
+from places import BENCHES, PROGRAM
 
-BENCHES = Path(__file__).resolve().parent
 HEADER = "kind,ref,f1,f2,f3,f4,f5,f6\n"
 ROWS = "cause,R1,3,STORM,,,,\nbus,R2,BUS-A,,,,,\nsection,R3,S1,1,,,,\n"
 TEXTS = {"stopped.csv": HEADER + ROWS + "section,R4,S1,2,,,,\n", "changed.csv": HEADER + ROWS + "section,R4,S2,1,,,,\n"}

@@ -18,7 +18,8 @@ from concurrent.futures import ThreadPoolExecutor
 from itertools import count, islice
 from pathlib import Path
 
-from refused_memory import BENCHES, built_library
+from places import BENCHES
+from refused_memory import built_library
 
 PROGRAM = BENCHES.parent / "crates/ob_office_tests/out/ob_office_tests_tests"
 TESTS = {

@@ -18,12 +18,9 @@ from statistics import median
 
 from make_data import large_text, small_text
 from make_year import year_lines
+from places import BENCHES, DATA, PROGRAM, ROOT
 from reference import customer_seconds, read_book
 
-ROOT = Path(__file__).resolve().parent.parent
-BENCHES = ROOT / "benches"
-DATA = ROOT / "bench-data"
-PROGRAM = ROOT / "crates/outagebook/out/outagebook"
 LIBRARY = ROOT / "crates/bench_calls/out"
 WORKED = DATA / "worked"
 SEARCH = DATA / "search"

@@ -22,7 +22,7 @@ from collections import Counter
 from contextlib import closing
 from pathlib import Path
 
-from compare import EXAMPLES, FORTNIGHT, PROGRAM
+from places import EXAMPLES, FORTNIGHT, PROGRAM
 
 TEXT = EXAMPLES / "fortnight.csv"
 

@@ -17,7 +17,7 @@ import time
 from collections import Counter
 from contextlib import closing
 
-from compare import EXAMPLES
+from places import EXAMPLES
 from soak import Wrong, words_of
 
 SQL = EXAMPLES / "fortnight-version-1.sql"

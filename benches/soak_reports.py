@@ -20,7 +20,7 @@ import threading
 import time
 from pathlib import Path
 
-from compare import PROGRAM, ROOT
+from places import PROGRAM, ROOT
 from soak import TEXT, Office, Wrong
 from soak_desk import BROKEN, Desk
 

@@ -1,7 +1,6 @@
 """Compares the program with the plain model, over small random books (make_commands.py) and the sample fortnight.
 
-    python3 benches/compare.py [--seeds N] [--program FILE]
-    python3 benches/compare.py --plain                      # the plain office in place of the program
+    python3 oracle/compare.py [--seeds N] [--program FILE]
 
 For each text: `init`, `import`, and the same import again; `table`, `export`, `audit`; and every row of the eleven tables.
 All that is printed, the messages and the statuses have to be the model's. It ends with status 1 at the first
@@ -9,6 +8,7 @@ difference; the text is then bench-data/difference.csv.
 """
 
 import argparse
+import os
 import subprocess
 import sys
 import tempfile
@@ -16,11 +16,10 @@ from pathlib import Path
 
 from make_commands import period_of, text_of
 from model import Book, first_difference
-from plain_office import Office
 from state import Period
 
 ROOT = Path(__file__).resolve().parent.parent
-PROGRAM = ROOT / "crates/outagebook/out/outagebook"
+PROGRAM = Path(os.environ.get("OUTAGEBOOK", ROOT / "crates/outagebook/out/outagebook"))
 DATA = ROOT / "bench-data"
 EXAMPLES = ROOT / "examples"
 FORTNIGHT = ("2025-03-24", 14, "CET-1CEST,M3.5.0,M10.5.0/3")
@@ -70,17 +69,10 @@ def difference(program, period, data):
     book = Book(Period(*period))
     wanted = wanted_of(book, data)
     with tempfile.TemporaryDirectory() as folder:
-        if program:
-            found = found_of(program, folder, period, data)
-            for job, answer in wanted.items():
-                if found.get(job) != answer:
-                    return job, answer, found.get(job)
-        else:
-            office = Office(f"{folder}/book.db", Period(*period), "wal", "off")
-            found = [said_of(*office.import_text(data)) for _ in range(2)]
-            office.database.close()
-            if found != [wanted["import"], wanted["second import"]]:
-                return "import", wanted["import"], found
+        found = found_of(program, folder, period, data)
+        for job, answer in wanted.items():
+            if found.get(job) != answer:
+                return job, answer, found.get(job)
         table = first_difference(book, f"{folder}/book.db")
     return table and (f"table {table}", None, None)
 
@@ -95,15 +87,11 @@ def texts(seeds):
         yield f"seed {seed}", period_of(seed), text_of(seed)
 
 
-def main():
-    words = argparse.ArgumentParser(description="Compares the program with the plain model.")
-    words.add_argument("--seeds", type=int, default=200, help="how many random books (200)")
-    words.add_argument("--program", default=PROGRAM, help="the program (that of crates/outagebook)")
-    words.add_argument("--plain", action="store_true", help="compare the plain office in its place")
-    words = words.parse_args()
+def compare(seeds, difference_of):
+    """Compares text by text up to the first difference, which it prints; answers the status to end with."""
     count = 0
-    for name, period, data in texts(words.seeds):
-        found = difference(None if words.plain else words.program, period, data)
+    for name, period, data in texts(seeds):
+        found = difference_of(period, data)
         if found:
             DATA.mkdir(exist_ok=True)
             (DATA / "difference.csv").write_bytes(data)
@@ -112,6 +100,14 @@ def main():
         count += 1
     print(f"{count} books are those of the model")
     return 0
+
+
+def main():
+    words = argparse.ArgumentParser(description="Compares the program with the plain model.")
+    words.add_argument("--seeds", type=int, default=200, help="how many random books (200)")
+    words.add_argument("--program", default=PROGRAM, help="the program (that of crates/outagebook)")
+    words = words.parse_args()
+    return compare(words.seeds, lambda period, data: difference(words.program, period, data))
 
 
 if __name__ == "__main__":

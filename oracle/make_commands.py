@@ -1,7 +1,7 @@
 """Small random books as CSV of commands, each from a seed, with what is seldom in a book.
 
-    python3 benches/make_commands.py 7                # the text
-    python3 benches/make_commands.py 7 --period       # first day, days and zone of its book
+    python3 oracle/make_commands.py 7                # the text
+    python3 oracle/make_commands.py 7 --period       # first day, days and zone of its book
 
 Meshed networks, devices side by side, parts that come after customers and after switchings, lives and services inside
 the period, at its bounds or outside, lives that are set anew, switchings outside them, several switchings in one second

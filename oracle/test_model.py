@@ -1,6 +1,6 @@
-"""Worked outages, by hand, against the plain model of benches/model.py.
+"""Worked outages, by hand, against the plain model of oracle/model.py.
 
-    python3 benches/test_model.py
+    python3 oracle/test_model.py
 
 The network of most: a bus fed from the grid; a feeder 1 of two sections in a row, S1 behind breaker B1 and S2 behind
 switch W1; a feeder 2 of section S3 behind breaker B2; a tie T1 between the ends of both, normally open. Two customers
@@ -14,10 +14,8 @@ import unittest
 from pathlib import Path
 
 from commands import KINDS, Refusal, RowRefusal, read_date, read_row, read_second
-from make_year import DAYS, FIRST_DATE, csv_lines, year_lines
 from model import Book, quotient, quotient_text
 from state import Period, midnight_of
-from year import Book as YearBook
 
 T = 1_704_067_200  # 2024-01-01T00:00:00Z
 NETWORK = """\
@@ -384,24 +382,6 @@ class Examples(unittest.TestCase):
         table = (examples / "fortnight-version-1.table.txt").read_text(encoding="ascii")
         self.assertEqual("".join(f"{line}\n" for line in book.table_lines()), table)
         self.assertEqual(sorted(book.moves), moves)
-
-
-class MadeYears(unittest.TestCase):
-    def test_lives_in_a_year(self):
-        """A made year with lives: each command is accepted, and the windows of year.py find what the model finds."""
-        lines = [*year_lines(80, 1, 60, "rising", 10, lives=30)]
-        book, plain = Book(Period(FIRST_DATE.isoformat(), DAYS, "UTC0"), keeps_moves=False), YearBook()
-        text = "".join(f"{row}\n" for row in csv_lines(lines))
-        self.assertEqual(book.import_text(text.encode()), (len(lines), 0, None))
-        for line in lines:
-            plain.act(*line.split())
-        self.assertEqual([body for _, body in book.commands], lines)
-        amounts = book.amounts()
-        for dimension, found in enumerate([plain.by_cause, plain.by_feeder, plain.by_day], 1):
-            wanted = {key: amount for (other, key), amount in amounts.items() if other == dimension}
-            self.assertEqual({key: amount for key, amount in found.items() if amount}, wanted)
-        joined = sum(line.startswith("device JOINED-") for line in lines)
-        self.assertEqual((joined, sum(line.startswith("life ") for line in lines)), (10, 30))
 
 
 class Fields(unittest.TestCase):
