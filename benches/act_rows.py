@@ -141,14 +141,14 @@ def compare(name, folder, words):
 
 
 def main():
-    words = argparse.ArgumentParser(description="Times the rows of one command by Python's sqlite3 and by the program.")
-    words.add_argument("--acts", type=int, default=10_000, help="how many acts, in batches of 500; at most 50,000")
-    words.add_argument("--moved", type=int, default=3, help="how many amounts an act of Python's moves, 1 to 368")
-    words.add_argument("--rounds", type=int, default=5, help="how often each is timed")
-    words.add_argument("--folder", help="where the books in files are made (that of temporary files)")
-    words.add_argument("--memory", default="/dev/shm", help="a folder of a file system in memory")
-    words.add_argument("--program", default=PROGRAM, help="the program (that of crates/outagebook)")
-    words = words.parse_args()
+    parser = argparse.ArgumentParser(description="Times the rows of one command by Python's sqlite3 and by the program.")
+    parser.add_argument("--acts", type=int, default=10_000, help="how many acts, in batches of 500; at most 50,000")
+    parser.add_argument("--moved", type=int, default=3, help="how many amounts an act of Python's moves, 1 to 368")
+    parser.add_argument("--rounds", type=int, default=5, help="how often each is timed")
+    parser.add_argument("--folder", help="where the books in files are made (that of temporary files)")
+    parser.add_argument("--memory", default="/dev/shm", help="a folder of a file system in memory")
+    parser.add_argument("--program", default=PROGRAM, help="the program (that of crates/outagebook)")
+    words = parser.parse_args()
     print("| An act, us | by the clock | Python's | ratio | processor | Python's | ratio |")
     print("|---|---|---|---|---|---|---|")
     compare("file system in memory", words.memory, words)

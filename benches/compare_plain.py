@@ -32,9 +32,9 @@ def difference(period, data):
 
 
 def main():
-    words = argparse.ArgumentParser(description="Compares the plain office with the plain model.")
-    words.add_argument("--seeds", type=int, default=200, help="how many random books (200)")
-    words = words.parse_args()
+    parser = argparse.ArgumentParser(description="Compares the plain office with the plain model.")
+    parser.add_argument("--seeds", type=int, default=200, help="how many random books (200)")
+    words = parser.parse_args()
     return compare(words.seeds, difference)
 
 

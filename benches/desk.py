@@ -181,15 +181,15 @@ def measure(name, folder, text, words):
 
 
 def main():
-    words = argparse.ArgumentParser(description="Times requests to the program and to a plain desk in Python.")
-    words.add_argument("--views", type=int, default=2_000, help="how many GETs a round, a multiple of 1,000")
-    words.add_argument("--commands", type=int, default=400, help="how many POSTs a round")
-    words.add_argument("--rounds", type=int, default=5)
-    words.add_argument("--program", default=PROGRAM, help="the program (that of crates/outagebook)")
-    words.add_argument("--folder", type=Path, default=DATA, help="where books on disk are made")
-    words.add_argument("--memory", type=Path, default=Path("/dev/shm"), help="where books in memory are made")
-    words.add_argument("--plain", action="store_true", help="the plain desk in place of the program")
-    words = words.parse_args()
+    parser = argparse.ArgumentParser(description="Times requests to the program and to a plain desk in Python.")
+    parser.add_argument("--views", type=int, default=2_000, help="how many GETs a round, a multiple of 1,000")
+    parser.add_argument("--commands", type=int, default=400, help="how many POSTs a round")
+    parser.add_argument("--rounds", type=int, default=5)
+    parser.add_argument("--program", default=PROGRAM, help="the program (that of crates/outagebook)")
+    parser.add_argument("--folder", type=Path, default=DATA, help="where books on disk are made")
+    parser.add_argument("--memory", type=Path, default=Path("/dev/shm"), help="where books in memory are made")
+    parser.add_argument("--plain", action="store_true", help="the plain desk in place of the program")
+    words = parser.parse_args()
     words.folder.mkdir(exist_ok=True)
     text = words.folder / "desk.csv"
     text.write_text(book_text(), encoding="ascii")

@@ -65,14 +65,14 @@ def first_difference(one, other):
 
 
 def main():
-    words = argparse.ArgumentParser(description="Times the jobs of the program over a made year.")
-    words.add_argument("--entries", type=int, default=10_000, help="even")
-    words.add_argument("--customers", type=int, default=100_000)
-    words.add_argument("--lives", type=int, default=0, help="devices that join, and ties and lines that are taken down")
-    words.add_argument("--seed", type=int, default=1)
-    words.add_argument("--program", default=PROGRAM, help="the program (that of crates/outagebook)")
-    words.add_argument("--folder", type=Path, default=DATA, help="where books are made")
-    words = words.parse_args()
+    parser = argparse.ArgumentParser(description="Times the jobs of the program over a made year.")
+    parser.add_argument("--entries", type=int, default=10_000, help="even")
+    parser.add_argument("--customers", type=int, default=100_000)
+    parser.add_argument("--lives", type=int, default=0, help="devices that join, and ties and lines that are taken down")
+    parser.add_argument("--seed", type=int, default=1)
+    parser.add_argument("--program", default=PROGRAM, help="the program (that of crates/outagebook)")
+    parser.add_argument("--folder", type=Path, default=DATA, help="where books are made")
+    words = parser.parse_args()
     words.folder.mkdir(exist_ok=True)
     text, book, plain = (words.folder / name for name in ["import.csv", "import.db", "import-plain.db"])
     moves = words.folder / "import-moves.csv"

@@ -296,15 +296,15 @@ def civil(second):
 
 
 def main():
-    words = argparse.ArgumentParser(description="Writes a made year to standard output.")
-    words.add_argument("entries", type=int, help="the number of entries of the sheet, even")
-    words.add_argument("seed", type=int)
-    words.add_argument("--customers", type=int, default=100_000)
-    words.add_argument("--order", choices=["rising", "falling", "random"], default="rising", help="of their numbers")
-    words.add_argument("--late", type=int, default=0, help="short outages that are entered after all others")
-    words.add_argument("--lives", type=int, default=0, help="devices that join, and ties and lines that are taken down")
-    words.add_argument("--csv", action="store_true", help="rows of CSV in place of body texts")
-    words = words.parse_args()
+    parser = argparse.ArgumentParser(description="Writes a made year to standard output.")
+    parser.add_argument("entries", type=int, help="the number of entries of the sheet, even")
+    parser.add_argument("seed", type=int)
+    parser.add_argument("--customers", type=int, default=100_000)
+    parser.add_argument("--order", choices=["rising", "falling", "random"], default="rising", help="of their numbers")
+    parser.add_argument("--late", type=int, default=0, help="short outages that are entered after all others")
+    parser.add_argument("--lives", type=int, default=0, help="devices that join, and ties and lines that are taken down")
+    parser.add_argument("--csv", action="store_true", help="rows of CSV in place of body texts")
+    words = parser.parse_args()
     if words.entries % 2 or words.entries + 2 * words.late > MOST_ENTRIES:
         sys.exit("the entries are even, and with the late ones 50,000 at most")
     if words.lives > MOST_LIVES:

@@ -92,14 +92,14 @@ class Desk(BaseHTTPRequestHandler):
 
 
 def main():
-    words = argparse.ArgumentParser(description="Serves a new book over HTTP with kept connections.")
-    words.add_argument("text", help="the commands that the book begins with, as CSV")
-    words.add_argument("--book", required=True, help="the file of the new book")
-    words.add_argument("--first", required=True, help="the first day of the period")
-    words.add_argument("--days", type=int, required=True, help="how many days it has")
-    words.add_argument("--zone", default="UTC0", help="the POSIX rule of the zone")
-    words.add_argument("--port", type=int, default=0, help="the port (one that is free)")
-    words = words.parse_args()
+    parser = argparse.ArgumentParser(description="Serves a new book over HTTP with kept connections.")
+    parser.add_argument("text", help="the commands that the book begins with, as CSV")
+    parser.add_argument("--book", required=True, help="the file of the new book")
+    parser.add_argument("--first", required=True, help="the first day of the period")
+    parser.add_argument("--days", type=int, required=True, help="how many days it has")
+    parser.add_argument("--zone", default="UTC0", help="the POSIX rule of the zone")
+    parser.add_argument("--port", type=int, default=0, help="the port (one that is free)")
+    words = parser.parse_args()
     if os.path.exists(words.book):
         sys.exit(f"{words.book}: there is a book already")
     Desk.office = Office(words.book, Period(words.first, words.days, words.zone), "wal", "full")

@@ -144,15 +144,15 @@ def end_of(until):
 
 
 def main():
-    words = argparse.ArgumentParser(description="Imports CSV texts into a new book of SQLite and prints the seconds.")
-    words.add_argument("texts", nargs="+", help="the texts")
-    words.add_argument("--book", default=":memory:", help="the file of the new book (in memory)")
-    words.add_argument("--first", default=FIRST_DATE.isoformat(), help="the first day of the period")
-    words.add_argument("--days", type=int, default=DAYS, help="how many days it has")
-    words.add_argument("--zone", default="UTC0", help="the POSIX rule of the zone")
-    words.add_argument("--journal", choices=["wal", "delete"], default="wal")
-    words.add_argument("--synchronous", choices=["full", "normal", "off"], default="full")
-    words = words.parse_args()
+    parser = argparse.ArgumentParser(description="Imports CSV texts into a new book of SQLite and prints the seconds.")
+    parser.add_argument("texts", nargs="+", help="the texts")
+    parser.add_argument("--book", default=":memory:", help="the file of the new book (in memory)")
+    parser.add_argument("--first", default=FIRST_DATE.isoformat(), help="the first day of the period")
+    parser.add_argument("--days", type=int, default=DAYS, help="how many days it has")
+    parser.add_argument("--zone", default="UTC0", help="the POSIX rule of the zone")
+    parser.add_argument("--journal", choices=["wal", "delete"], default="wal")
+    parser.add_argument("--synchronous", choices=["full", "normal", "off"], default="full")
+    words = parser.parse_args()
     if os.path.exists(words.book):
         sys.exit(f"{words.book}: there is a book already")
     office = Office(words.book, Period(words.first, words.days, words.zone), words.journal, words.synchronous)

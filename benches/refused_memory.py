@@ -132,13 +132,13 @@ def built_library(folder):
 
 
 def main():
-    words = argparse.ArgumentParser(description="Each request for memory, read and write refused in turn.")
-    words.add_argument("--program", default=PROGRAM, help="the program (that of crates/outagebook)")
-    words.add_argument("--what", nargs="+", default=["memory", "read", "write"], choices=["memory", "read", "write"])
-    words.add_argument("--only", nargs="+", help="the jobs whose requests are refused (all)")
-    words.add_argument("--first", type=int, default=1, help="the first request that is refused (1)")
-    words.add_argument("--every", type=int, default=1, help="which of them from there on: each second one, .. (1, all)")
-    words = words.parse_args()
+    parser = argparse.ArgumentParser(description="Each request for memory, read and write refused in turn.")
+    parser.add_argument("--program", default=PROGRAM, help="the program (that of crates/outagebook)")
+    parser.add_argument("--what", nargs="+", default=["memory", "read", "write"], choices=["memory", "read", "write"])
+    parser.add_argument("--only", nargs="+", help="the jobs whose requests are refused (all)")
+    parser.add_argument("--first", type=int, default=1, help="the first request that is refused (1)")
+    parser.add_argument("--every", type=int, default=1, help="which of them from there on: each second one, .. (1, all)")
+    words = parser.parse_args()
     with tempfile.TemporaryDirectory() as folder:
         library = built_library(Path(folder))
         print("| Refused | Job | Runs | Answers |\n|---|---|---|---|")

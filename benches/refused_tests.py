@@ -71,13 +71,13 @@ class Test:
 
 
 def main():
-    words = argparse.ArgumentParser(description="Each request for memory of a test refused in turn.")
-    words.add_argument("tests", nargs="*", metavar="TEST", help="the tests' names (those of TESTS)")
-    words.add_argument("--program", default=PROGRAM, help="the program of tests")
-    words.add_argument("--first", type=int, default=1, help="the first request that is refused (1)")
-    words.add_argument("--every", type=int, default=1, help="which of them from there on: each second one, .. (1, all)")
-    words.add_argument("--jobs", type=int, default=1, help="how many runs at a time (1)")
-    words = words.parse_args()
+    parser = argparse.ArgumentParser(description="Each request for memory of a test refused in turn.")
+    parser.add_argument("tests", nargs="*", metavar="TEST", help="the tests' names (those of TESTS)")
+    parser.add_argument("--program", default=PROGRAM, help="the program of tests")
+    parser.add_argument("--first", type=int, default=1, help="the first request that is refused (1)")
+    parser.add_argument("--every", type=int, default=1, help="which of them from there on: each second one, .. (1, all)")
+    parser.add_argument("--jobs", type=int, default=1, help="how many runs at a time (1)")
+    words = parser.parse_args()
     program = Path(words.program).resolve()
     print("| Test | Runs | Refused | All passed | Seconds |\n|---|---|---|---|---|")
     with tempfile.TemporaryDirectory() as folder:

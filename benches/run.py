@@ -405,11 +405,11 @@ PARTS = {
 
 
 def main():
-    words = argparse.ArgumentParser(description="Runs the benchmarks.")
-    words.add_argument("--repeats", type=int, default=100, help="timed calls for each search (100)")
-    words.add_argument("--no-build", action="store_true", help="take what an earlier run has built")
-    words.add_argument("--only", choices=PARTS, help="one part alone")
-    words = words.parse_args()
+    parser = argparse.ArgumentParser(description="Runs the benchmarks.")
+    parser.add_argument("--repeats", type=int, default=100, help="timed calls for each search (100)")
+    parser.add_argument("--no-build", action="store_true", help="take what an earlier run has built")
+    parser.add_argument("--only", choices=PARTS, help="one part alone")
+    words = parser.parse_args()
     DATA.mkdir(exist_ok=True)
     if not words.no_build:
         print("building: the first time this proves each crate below", flush=True)

@@ -139,13 +139,13 @@ def soak(program, folder, kills, seed):
 
 def words_of(description):
     """The words of the command line, with the number of kills and the folder as they count."""
-    words = argparse.ArgumentParser(description=description)
-    words.add_argument("--kills", type=int, default=1000)
-    words.add_argument("--quick", action="store_true", help="50 kills")
-    words.add_argument("--seed", type=int, default=1)
-    words.add_argument("--program", default=PROGRAM, help="the program (that of crates/outagebook)")
-    words.add_argument("--folder", type=Path, help="where books are made (a temporary folder)")
-    words = words.parse_args()
+    parser = argparse.ArgumentParser(description=description)
+    parser.add_argument("--kills", type=int, default=1000)
+    parser.add_argument("--quick", action="store_true", help="50 kills")
+    parser.add_argument("--seed", type=int, default=1)
+    parser.add_argument("--program", default=PROGRAM, help="the program (that of crates/outagebook)")
+    parser.add_argument("--folder", type=Path, help="where books are made (a temporary folder)")
+    words = parser.parse_args()
     words.kills = 50 if words.quick else words.kills
     words.folder = Path(words.folder or tempfile.mkdtemp(prefix="soak-"))
     words.folder.mkdir(exist_ok=True)

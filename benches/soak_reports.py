@@ -147,13 +147,13 @@ def soak(office, client, reports):
 
 
 def main():
-    words = argparse.ArgumentParser(description="Makes reports of a book while its desk acts commands.")
-    words.add_argument("--commands", type=int, default=1000)
-    words.add_argument("--reports", type=int, default=50)
-    words.add_argument("--seed", type=int, default=1)
-    words.add_argument("--program", default=PROGRAM, help="the program (that of crates/outagebook)")
-    words.add_argument("--folder", type=Path, help="where the book is made (a temporary folder)")
-    words = words.parse_args()
+    parser = argparse.ArgumentParser(description="Makes reports of a book while its desk acts commands.")
+    parser.add_argument("--commands", type=int, default=1000)
+    parser.add_argument("--reports", type=int, default=50)
+    parser.add_argument("--seed", type=int, default=1)
+    parser.add_argument("--program", default=PROGRAM, help="the program (that of crates/outagebook)")
+    parser.add_argument("--folder", type=Path, help="where the book is made (a temporary folder)")
+    words = parser.parse_args()
     folder = Path(words.folder or tempfile.mkdtemp(prefix="soak-"))
     folder.mkdir(exist_ok=True)
     office = Office(words.program, folder)

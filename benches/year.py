@@ -425,10 +425,10 @@ def amount_lines(book):
 
 
 def main():
-    words = argparse.ArgumentParser(description="Keeps the book of a made year and prints its customer-seconds.")
-    words.add_argument("text", help="the made year")
-    words.add_argument("--indices", action="store_true", help="print counts and indices too")
-    words = words.parse_args()
+    parser = argparse.ArgumentParser(description="Keeps the book of a made year and prints its customer-seconds.")
+    parser.add_argument("text", help="the made year")
+    parser.add_argument("--indices", action="store_true", help="print counts and indices too")
+    words = parser.parse_args()
     book = Book()
     with open(words.text, encoding="ascii") as text:
         for line in text:
