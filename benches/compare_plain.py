@@ -11,13 +11,13 @@ import sys
 import tempfile
 
 import places  # noqa: F401, the modules of oracle/
-from compare import compare, said_of
+from compare import Difference, PeriodWords, compare, said_of
 from model import Book, first_difference
 from plain_office import Office
 from state import Period
 
 
-def difference(period, data):
+def difference(period: PeriodWords, data: bytes) -> Difference | None:
     """The first import, or table of the database, in which the plain office and the model differ, with what each has."""
     book = Book(Period(*period))
     wanted = [said_of(*book.import_text(data)) for _ in range(2)]
@@ -28,10 +28,10 @@ def difference(period, data):
         if found != wanted:
             return "import", wanted, found
         table = first_difference(book, f"{folder}/book.db")
-    return table and (f"table {table}", None, None)
+    return (f"table {table}", None, None) if table else None
 
 
-def main():
+def main() -> int:
     parser = argparse.ArgumentParser(description="Compares the plain office with the plain model.")
     parser.add_argument("--seeds", type=int, default=200, help="how many random books (200)")
     words = parser.parse_args()

@@ -121,7 +121,7 @@ class Shell:
         assert self.child.stdin is not None and self.child.stdout is not None
         self.child.stdin.write(f"{command}\nset -- $?; echo '{END}'; (exit $1)\n")
         self.child.stdin.flush()
-        lines = []
+        lines = list[str]()
         for line in self.child.stdout:
             if line.rstrip("\n").endswith(END):
                 rest = line.rstrip("\n")[: -len(END)]

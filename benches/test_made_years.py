@@ -13,7 +13,7 @@ from year import Book as YearBook
 
 
 class MadeYears(unittest.TestCase):
-    def test_lives_in_a_year(self):
+    def test_lives_in_a_year(self) -> None:
         """A made year with lives: each command is accepted, and the windows of year.py find what the model finds."""
         lines = [*year_lines(80, 1, 60, "rising", 10, lives=30)]
         book, plain = Book(Period(FIRST_DATE.isoformat(), DAYS, "UTC0"), keeps_moves=False), YearBook()
