@@ -1,11 +1,11 @@
-"""Makes the book files of the tools' tests: of each text the eleven tables and the annual table by benches/model.py.
+"""Makes the book files of the tools' tests: of each text the eleven tables and the annual table by oracle/model.py.
 
     python3 tools/made_books.py FOLDER [--seeds N | --list FILE]
 
 The model acts commands and finds everything anew each time; the tools share nothing with it, so their tests compare two
 programs. FOLDER gets NAME.csv, NAME.db and NAME.table.txt of the sample fortnight, of the corrected one and of N random
 books, and prints the name, the period's first day, its days and the zone of each. It is a program of its own because
-the modules of benches/ have names that these here have too.
+the modules of oracle/ have names that these here have too.
 """
 
 import argparse
@@ -14,12 +14,12 @@ import sys
 from contextlib import closing
 from pathlib import Path
 
-sys.path[0] = str(Path(__file__).resolve().parent.parent / "benches")
+sys.path[0] = str(Path(__file__).resolve().parent.parent / "oracle")
 
 from compare import texts  # noqa: E402
 from model import Book  # noqa: E402
-from plain_office import TABLES  # noqa: E402
 from state import Period  # noqa: E402
+from tables import TABLES  # noqa: E402
 
 
 def write_book(book, path):

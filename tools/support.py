@@ -1,4 +1,4 @@
-"""For the tools' tests: books made by benches/model.py, in a folder that goes away when the tests end."""
+"""For the tools' tests: books made by oracle/model.py, in a folder that goes away when the tests end."""
 
 from __future__ import annotations
 

@@ -3,7 +3,11 @@
 import csv
 import io
 import re
+from collections.abc import Callable, Iterator
 from datetime import date
+
+Value = str | int  # of a field, as it is read
+Reader = Callable[[str], Value | None]
 
 HEADER = ["kind", "ref", "f1", "f2", "f3", "f4", "f5", "f6"]
 MOST_ROWS = 1_000_000
@@ -31,20 +35,20 @@ NAMES = {
 class Refusal(Exception):
     """A refusal by its number, with its detail where it has one."""
 
-    def __init__(self, number, detail=None):
+    def __init__(self, number: int, detail: int | None = None) -> None:
         super().__init__(number, detail)
         self.number = number
         self.detail = detail
 
-    def __str__(self):
+    def __str__(self) -> str:
         detail = "" if self.detail is None else f" {self.detail}"
         return f"refused {self.number} {NAMES[self.number]}{detail}"
 
 
-def number_reader(digits, most):
+def number_reader(digits: int, most: int) -> Reader:
     """A reader of 1 to so many digits with a value from 1 up to the most."""
 
-    def read(text):
+    def read(text: str) -> Value | None:
         if re.fullmatch(f"[0-9]{{1,{digits}}}", text) and 1 <= int(text) <= most:
             return int(text)
         return None
@@ -52,21 +56,21 @@ def number_reader(digits, most):
     return read
 
 
-def identifier_reader(most):
+def identifier_reader(most: int) -> Reader:
     """A reader of 1 to so many bytes of A to Z, 0 to 9, - and _."""
 
-    def read(text):
+    def read(text: str) -> Value | None:
         return text if re.fullmatch(f"[A-Z0-9_-]{{1,{most}}}", text) else None
 
     return read
 
 
-def word_reader(values):
+def word_reader(values: dict[str, str]) -> Reader:
     """A reader of one of some words."""
     return values.get
 
 
-def read_second(text):
+def read_second(text: str) -> int | None:
     """The Unix second of a moment: 1 to 11 digits, or a civil moment with its offset; None where it is neither."""
     if re.fullmatch("[0-9]{1,11}", text):
         return int(text)
@@ -74,8 +78,8 @@ def read_second(text):
     match = re.fullmatch(form, text)
     if match is None:
         return None
-    day, hours, minutes, seconds, offset = match.groups()
-    hours, minutes, seconds = int(hours), int(minutes), int(seconds)
+    day, offset = match[1], match[5]
+    hours, minutes, seconds = int(match[2]), int(match[3]), int(match[4])
     ahead_hours, ahead_minutes = (0, 0) if offset == "Z" else (int(offset[1:3]), int(offset[4:]))
     if read_date(day) is None or max(hours, ahead_hours) > 23 or max(minutes, seconds, ahead_minutes) > 59:
         return None
@@ -89,7 +93,7 @@ def read_second(text):
     return second if 0 <= second <= LAST_SECOND else None
 
 
-def read_date(text):
+def read_date(text: str) -> str | None:
     """A true civil date as its text; the year 0000 is one, with a leap day."""
     if re.fullmatch("[0-9]{4}-[0-9]{2}-[0-9]{2}", text) is None:
         return None
@@ -101,12 +105,12 @@ def read_date(text):
     return text
 
 
-def read_since(text):
+def read_since(text: str) -> int | None:
     """The beginning of a life: an empty one is 0."""
     return 0 if text == "" else read_second(text)
 
 
-def read_until(text):
+def read_until(text: str) -> Value | None:
     """The end of a service or a life: `-` is none."""
     return "-" if text == "" else read_second(text)
 
@@ -120,7 +124,7 @@ SERIAL = number_reader(10, 4_294_967_295)
 NORMAL = word_reader({"open": "open", "closed": "closed"})
 ACT = word_reader({"open": "open", "close": "close"})
 
-KINDS = {
+KINDS: dict[str, list[Reader]] = {
     "cause": [CAUSE, NAME],
     "bus": [NAME],
     "section": [NAME, FEEDER],
@@ -136,7 +140,7 @@ KINDS = {
 }
 
 
-def read_row(row):
+def read_row(row: list[str]) -> tuple[str, str, list[Value]]:
     """The reference, the kind and the fields' values of a row; the leftmost bad column refuses it."""
     if len(row) != 8:
         raise Refusal(1, 0)
@@ -146,7 +150,7 @@ def read_row(row):
     if REF(ref) is None:
         raise Refusal(1, 2)
     readers = KINDS[kind]
-    values = []
+    values: list[Value] = []
     for column, text in enumerate(texts, 3):
         if len(values) == len(readers):
             if text:
@@ -160,12 +164,12 @@ def read_row(row):
     return ref, kind, values
 
 
-def body_text(kind, values):
+def body_text(kind: str, values: list[Value]) -> str:
     """The one text of a command: two spellings of a command have one."""
     return " ".join([kind, *map(str, values)])
 
 
-def rows_of(data):
+def rows_of(data: bytes) -> Iterator[tuple[int, list[str]]]:
     """The rows of a CSV text behind its header, numbered from 1, as pairs of the number and the fields.
 
     Where the header is missing, or is another, row 0 is refused.
@@ -184,10 +188,10 @@ def rows_of(data):
 class RowRefusal(Exception):
     """A refusal of a row."""
 
-    def __init__(self, row, refusal):
+    def __init__(self, row: int, refusal: Refusal) -> None:
         super().__init__(row, refusal)
         self.row = row
         self.refusal = refusal
 
-    def __str__(self):
+    def __str__(self) -> str:
         return f"{self.refusal} row {self.row}"

@@ -1,7 +1,7 @@
 """Small random books as CSV of commands, each from a seed, with what is seldom in a book.
 
-    python3 benches/make_commands.py 7                # the text
-    python3 benches/make_commands.py 7 --period       # first day, days and zone of its book
+    python3 oracle/make_commands.py 7                # the text
+    python3 oracle/make_commands.py 7 --period       # first day, days and zone of its book
 
 Meshed networks, devices side by side, parts that come after customers and after switchings, lives and services inside
 the period, at its bounds or outside, lives that are set anew, switchings outside them, several switchings in one second
@@ -12,9 +12,10 @@ marks, rows that are sent again in another spelling. The last row of every third
 
 import argparse
 import random
+from collections.abc import Iterator
 from datetime import datetime, timedelta, timezone
 
-from commands import HEADER, Refusal
+from commands import HEADER, Refusal, Value
 from state import Period, State
 
 PERIODS = [
@@ -30,7 +31,7 @@ PERIODS = [
 ]
 
 
-def period_of(seed):
+def period_of(seed: int) -> tuple[str, int, str]:
     """The first day, the number of days and the zone of a seed's book."""
     rng = random.Random(f"period {seed}")
     first, zone = rng.choice(PERIODS)
@@ -40,17 +41,17 @@ def period_of(seed):
 class Accepted(State):
     """What was said, with the rows that were accepted."""
 
-    def __init__(self, period):
+    def __init__(self, period: Period) -> None:
         super().__init__(period)
-        self.rows = {}
+        self.rows: dict[str, list[str]] = {}
 
-    def known(self, _ref):
+    def known(self, _ref: str) -> None:
         return None
 
-    def accepted(self):
+    def accepted(self) -> int:
         return len(self.rows)
 
-    def accept(self, ref, kind, values, _body):
+    def accept(self, ref: str, kind: str, values: list[Value], _body: str) -> int:
         self.say(kind, values)
         return len(self.rows) + 1
 
@@ -58,16 +59,16 @@ class Accepted(State):
 class Text:
     """The rows of a text, drawn one after another; those that would be refused are left out."""
 
-    def __init__(self, seed):
+    def __init__(self, seed: int) -> None:
         self.rng = random.Random(f"commands {seed}")
         self.state = Accepted(Period(*period_of(seed)))
-        self.rows = []
+        self.rows: list[list[str]] = []
         self.draw_parts()
         self.draw_sheet()
         if seed % 3 == 0:
             self.draw_refused()
 
-    def add(self, kind, *fields):
+    def add(self, kind: str, *fields: object) -> None:
         """Adds a row where it is accepted; some are sent again later."""
         row = [kind, f"R-{self.state.accepted() + 1}", *map(str, fields)]
         row += [""] * (8 - len(row))
@@ -80,7 +81,7 @@ class Text:
         if self.rng.random() < 0.05:
             self.rows.append(self.spelled_anew(self.rng.choice(self.rows)))
 
-    def spelled_anew(self, row):
+    def spelled_anew(self, row: list[str]) -> list[str]:
         """The same command in another spelling: moments with another offset, zeros before numbers."""
         anew = list(row)
         for place, field in enumerate(row[2:], 2):
@@ -92,12 +93,12 @@ class Text:
                 anew[place] = "" if field else "0"
         return anew
 
-    def civil(self, second):
+    def civil(self, second: int) -> str:
         offset = self.rng.choice([-570, -300, -60, 0, 60, 120, 345])
         moment = datetime.fromtimestamp(second, timezone(timedelta(minutes=offset)))
         return moment.isoformat() if offset or self.rng.random() < 0.5 else moment.strftime("%Y-%m-%dT%H:%M:%SZ")
 
-    def second(self):
+    def second(self) -> int:
         """A second of the period, often one that a switching has already, or a bound of a day."""
         rng, period = self.rng, self.state.period
         said = [entry.second for entry in self.state.entries]
@@ -106,25 +107,25 @@ class Text:
         bounds = [period.first, period.end - 1, rng.choice(period.bounds), rng.randrange(period.first, period.end)]
         return rng.choice(near * 3 + bounds)
 
-    def moment(self):
+    def moment(self) -> str:
         second = max(0, self.second())
         return self.civil(second) if self.rng.random() < 0.3 else str(second)
 
-    def service(self):
+    def service(self) -> tuple[str, str]:
         """The two ends of a service; one that ends before it begins is refused."""
         rng, period = self.rng, self.state.period
         since = rng.choice(["0", str(period.first), self.moment(), self.moment()])
         until = rng.choice(["", "", str(period.end), str(period.end + 5), self.moment(), self.moment()])
         return since, until
 
-    def life(self):
+    def life(self) -> tuple[str, str]:
         """The two ends of a life, either of which may be empty; one that ends before it begins is refused."""
         rng, period = self.rng, self.state.period
         since = rng.choice(["", "", "0", str(period.first), self.moment(), self.moment()])
         until = rng.choice(["", "", "", str(period.end - 1), str(period.end), self.moment(), self.moment()])
         return since, until
 
-    def draw_parts(self):
+    def draw_parts(self) -> None:
         rng = self.rng
         for code in rng.sample(range(1, 64), rng.randint(1, 4)):
             self.add("cause", code, f"CAUSE-{code}")
@@ -137,7 +138,7 @@ class Text:
             else:
                 self.draw_node(part)
 
-    def draw_node(self, kind):
+    def draw_node(self, kind: str) -> None:
         """A bus or a section, in most cases behind a device that is normally closed."""
         rng = self.rng
         name = f"N{len(self.state.feeders)}"
@@ -145,18 +146,18 @@ class Text:
         if rng.random() < 0.85:
             self.draw_device(name)
 
-    def draw_device(self, node):
+    def draw_device(self, node: str) -> None:
         other = self.rng.choice(["GRID", *self.state.feeders])
         normal = self.rng.choice(["open", "closed", "closed", "closed"])
         life = self.life() if self.rng.random() < 0.3 else ("", "")
         self.add("device", f"D{len(self.state.devices)}", other, node, normal, *life)
 
-    def draw_connection(self):
+    def draw_connection(self) -> None:
         sections = [node for node, feeder in self.state.feeders.items() if feeder is not None]
         if sections:
             self.add("connect", self.rng.randint(1, 30), self.rng.choice(sections), *self.service())
 
-    def draw_sheet(self):
+    def draw_sheet(self) -> None:
         for _ in range(self.rng.randint(0, 30)):
             if self.rng.random() < 0.15 and self.state.devices:
                 self.draw_flurry()
@@ -165,7 +166,7 @@ class Text:
             else:
                 self.draw_command()
 
-    def draw_flurry(self):
+    def draw_flurry(self) -> None:
         """One device opened and closed by turns in one second, under several causes."""
         rng, state = self.rng, self.state
         device = rng.choice(list(state.devices))
@@ -174,7 +175,7 @@ class Text:
         for act in (["open", "close"] * 3)[begin : begin + rng.randint(2, 4)]:
             self.add("switch", device, act, second, rng.choice(sorted(state.causes)[1:]), "K2")
 
-    def draw_joining(self):
+    def draw_joining(self) -> None:
         """A device to a new section that joins in the period, opened before it does, and closed later in some."""
         rng, state = self.rng, self.state
         period, name = state.period, f"D{len(state.devices)}"
@@ -188,7 +189,7 @@ class Text:
         if rng.random() < 0.5:
             self.add("switch", name, "close", closed, cause, "K3")
 
-    def draw_command(self):
+    def draw_command(self) -> None:
         rng, state = self.rng, self.state
         kinds = ["switch"] * 8 + ["correct"] * 3 + ["withdraw", "connect", "revise", "mark", "unmark", "cause"]
         kinds += ["life"] * 3 + ["device", "section", "bus"]
@@ -219,19 +220,19 @@ class Text:
         elif kind in ["section", "bus"]:
             self.draw_node(kind)
 
-    def draw_refused(self):
+    def draw_refused(self) -> None:
         """A last row that is refused, but for chance."""
         rng = self.rng
         if rng.random() < 0.3:
             row = list(rng.choice(self.rows))
             row[rng.randrange(8)] = rng.choice(["*", " ", "a", "100000000000"])
         else:
-            kind, *fields = rng.choice(list(self.refused_commands()))
-            row = [kind, rng.choice(["R-1", "X", "X", "X"]), *map(str, fields)]
+            kind, *fields = map(str, rng.choice(list(self.refused_commands())))
+            row = [kind, rng.choice(["R-1", "X", "X", "X"]), *fields]
             row += [""] * (8 - len(row))
         self.rows.append(row)
 
-    def refused_commands(self):
+    def refused_commands(self) -> Iterator[tuple[object, ...]]:
         """Commands that most states refuse, each for another reason."""
         state = self.state
         first, end = state.period.first, state.period.end
@@ -271,23 +272,23 @@ class Text:
         for number, day in enumerate(state.period.days[:-1]):
             yield "mark" if number in state.marks else "unmark", day, "ENG"
 
-    def data(self):
+    def data(self) -> bytes:
         end = self.rng.choice(["\n", "\r\n", "\r"])
         mark = "\ufeff" if self.rng.random() < 0.2 else ""
         lines = [",".join(row) + end for row in [HEADER, *self.rows]]
         return (mark + "".join(lines)).encode()
 
 
-def text_of(seed):
+def text_of(seed: int) -> bytes:
     """The bytes of a seed's text."""
     return Text(seed).data()
 
 
-def main():
-    words = argparse.ArgumentParser(description="Writes a small random text of commands to standard output.")
-    words.add_argument("seed", type=int)
-    words.add_argument("--period", action="store_true", help="the period in place of the text")
-    words = words.parse_args()
+def main() -> None:
+    parser = argparse.ArgumentParser(description="Writes a small random text of commands to standard output.")
+    parser.add_argument("seed", type=int)
+    parser.add_argument("--period", action="store_true", help="the period in place of the text")
+    words = parser.parse_args()
     if words.period:
         print(*period_of(words.seed))
     else:

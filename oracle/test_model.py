@@ -1,6 +1,6 @@
-"""Worked outages, by hand, against the plain model of benches/model.py.
+"""Worked outages, by hand, against the plain model of oracle/model.py.
 
-    python3 benches/test_model.py
+    python3 oracle/test_model.py
 
 The network of most: a bus fed from the grid; a feeder 1 of two sections in a row, S1 behind breaker B1 and S2 behind
 switch W1; a feeder 2 of section S3 behind breaker B2; a tie T1 between the ends of both, normally open. Two customers
@@ -14,10 +14,8 @@ import unittest
 from pathlib import Path
 
 from commands import KINDS, Refusal, RowRefusal, read_date, read_row, read_second
-from make_year import DAYS, FIRST_DATE, csv_lines, year_lines
 from model import Book, quotient, quotient_text
 from state import Period, midnight_of
-from year import Book as YearBook
 
 T = 1_704_067_200  # 2024-01-01T00:00:00Z
 NETWORK = """\
@@ -43,14 +41,14 @@ switch B1 close +7200 3 K1
 """
 
 
-def row_of(line, ref):
+def row_of(line: str, ref: str) -> list[str]:
     """The row of a command in words; +N is N seconds after T."""
     kind, *fields = line.split()
     fields = [str(T + int(field[1:])) if field[0] == "+" else field for field in fields]
     return [kind, ref, *fields, *[""] * (6 - len(fields))]
 
 
-def act(book, lines):
+def act(book: Book, lines: str) -> list[list[tuple[int, int, int]]]:
     """Acts commands: what each moves, as a list of triples of dimension, key and amount."""
     answers = []
     for line in lines.splitlines():
@@ -59,18 +57,18 @@ def act(book, lines):
     return answers
 
 
-def base(days=1, lines=NETWORK + CUSTOMERS):
+def base(days: int = 1, lines: str = NETWORK + CUSTOMERS) -> Book:
     book = Book(Period("2024-01-01", days, "UTC0"))
     act(book, lines)
     return book
 
 
-def everywhere(amount, cause=3, feeder=1, day=0):
+def everywhere(amount: int, cause: int = 3, feeder: int = 1, day: int = 0) -> list[tuple[int, int, int]]:
     """The moves of an amount under one key of each dimension."""
     return [(1, cause, amount), (2, feeder, amount), (3, day, amount)]
 
 
-def figures(book, is_unmarked=False):
+def figures(book: Book, is_unmarked: bool = False) -> list[object]:
     """W and the first seven lines of indices, without their decimals."""
     word = "unmarked" if is_unmarked else "all"
     lines = [line.split() for line in book.table_lines()]
@@ -79,19 +77,19 @@ def figures(book, is_unmarked=False):
 
 
 class Outages(unittest.TestCase):
-    def check(self, book, *wanted):
+    def check(self, book: Book, *wanted: object) -> None:
         """W, SAIFI, SAIDI, CAIDI, CAIFI, ASAI, CEMI-1, CEMI-2 or the first of them."""
         self.assertEqual(figures(book)[: len(wanted)], list(wanted))
 
-    def test_empty_book(self):
+    def test_empty_book(self) -> None:
         book = Book(Period("2024-01-01", 1, "UTC0"))
         self.check(book, 0, *["undefined"] * 7)
         self.assertEqual(book.seconds_in_service(), 0)
 
-    def test_nobody_is_interrupted(self):
+    def test_nobody_is_interrupted(self) -> None:
         self.check(base(), 0, "0/1", "0/1", "undefined", "undefined", "1/1", "0/1", "0/1")
 
-    def test_tie_restores_a_section(self):
+    def test_tie_restores_a_section(self) -> None:
         book = base()
         moves = [everywhere(414_000), [], everywhere(-246_600), everywhere(-158_400)]
         self.assertEqual(act(book, TIE_RESTORES), moves)
@@ -99,7 +97,7 @@ class Outages(unittest.TestCase):
         self.assertEqual([*book.table_lines()][:13], TABLE.splitlines())
         self.assertEqual(book.totals_text(), TOTALS)
 
-    def test_second_by_second(self):
+    def test_second_by_second(self) -> None:
         """The same outage, with every second of the day looked at by itself, and so the tie that is taken down."""
         book = base()
         act(book, TIE_RESTORES)
@@ -107,7 +105,7 @@ class Outages(unittest.TestCase):
         act(book, "life T1 0 +6000")
         self.assertEqual(self.seconds_one_by_one(book), 250_200)
 
-    def seconds_one_by_one(self, book):
+    def seconds_one_by_one(self, book: Book) -> int:
         w = 0
         for second in range(book.period.first, book.period.end):
             positions = {device.name: device.normal for device in book.devices.values()}
@@ -118,13 +116,13 @@ class Outages(unittest.TestCase):
             w += sum(section not in supplied for section, since, _ in book.customers.values() if since <= second)
         return w
 
-    def test_five_minutes_are_momentary(self):
+    def test_five_minutes_are_momentary(self) -> None:
         book = base()
         act(book, "switch B2 open +3600 3 K1\nswitch B2 close +3900 3 K1")
         self.check(book, 1_500, "0/1", "0/1", "undefined", "undefined", "1/1")
         self.assertEqual(book.indices(False)[1], {"SUSTAINED": 0, "MOMENTARY": 5})
 
-    def test_a_second_more_is_sustained(self):
+    def test_a_second_more_is_sustained(self) -> None:
         book = base()
         act(book, "switch B2 open +3600 3 K1\nswitch B2 close +3901 3 K1")
         self.check(book, 1_505, "1/2", "301/120", "301/60", "1/1", "172499/172800")
@@ -132,7 +130,7 @@ class Outages(unittest.TestCase):
         self.assertIn("SAIDI     all      301/120 2.508", lines)
         self.assertIn("CAIDI     all      301/60 5.017", lines)
 
-    def test_opened_and_closed_in_one_second(self):
+    def test_opened_and_closed_in_one_second(self) -> None:
         book = base()
         act(book, "switch B2 open +3600 3 K1\nswitch B2 close +3600 3 K1")
         self.check(book, 0, "0/1")
@@ -140,13 +138,13 @@ class Outages(unittest.TestCase):
         act(book, "switch B2 close +3600 3 K1\nswitch B2 open +3600 3 K1")
         self.check(book, 414_000)
 
-    def test_two_causes_in_one_second(self):
+    def test_two_causes_in_one_second(self) -> None:
         book = base()
         opened = "switch B1 open +3600 3 K1\nswitch B2 open +3600 4 K1\n"
         act(book, opened + "switch B1 close +4200 3 K1\nswitch B2 close +4200 4 K1")
         self.assertEqual(book.totals_text(), TWO_CAUSES)
 
-    def test_late_entry_before_an_earlier_opening(self):
+    def test_late_entry_before_an_earlier_opening(self) -> None:
         book = base()
         act(book, TIE_RESTORES)
         moved = [(1, 3, -1_800), (1, 4, 3_600), (2, 1, 1_800), (3, 0, 1_800)]
@@ -155,7 +153,7 @@ class Outages(unittest.TestCase):
         [run] = [run for run in book.runs() if run.section == "S2"]
         self.assertEqual((run.since, run.cutter), (T + 3_000, 5))
 
-    def test_correction_and_its_reference(self):
+    def test_correction_and_its_reference(self) -> None:
         book = base()
         act(book, TIE_RESTORES)
         correction = row_of("correct 4 1 close +6600 3 K1", "FIX1")
@@ -168,19 +166,19 @@ class Outages(unittest.TestCase):
         self.refused(book, "correct 4 1 close +6600 3 K1", 7, 2)
         self.refused(book, "correct 4 1 close +6000 3 K1", 11, 26, ref="FIX1")
 
-    def refused(self, book, line, number, detail=None, ref="NEW"):
+    def refused(self, book: Book, line: str, number: int, detail: int | None = None, ref: str = "NEW") -> None:
         with self.assertRaises(Refusal) as raised:
             book.act(row_of(line, ref))
         self.assertEqual((raised.exception.number, raised.exception.detail), (number, detail))
 
-    def test_customer_is_connected_late(self):
+    def test_customer_is_connected_late(self) -> None:
         book = base()
         act(book, "switch B2 open +3600 4 K1\nswitch B2 close +7200 4 K1")
         self.assertEqual(act(book, "connect 11 S3 +5400"), [everywhere(1_800, 4, 2)])
         self.check(book, 19_800, "96/175", "1056/35", "55/1", "1/1", "514/525")
         self.assertEqual((book.seconds_in_service(), book.indices(False)[1]["SUSTAINED"]), (945_000, 6))
 
-    def test_day_of_a_clock_change(self):
+    def test_day_of_a_clock_change(self) -> None:
         book = Book(Period("2024-03-10", 2, "EST5EDT,M3.2.0,M11.1.0"))
         act(book, "cause 3 STORM\nsection S1 1\ndevice I1 GRID S1 closed\nconnect 1 S1 0")
         self.assertEqual(book.period.bounds, [1_710_046_800, 1_710_129_600, 1_710_216_000])
@@ -188,7 +186,7 @@ class Outages(unittest.TestCase):
         self.assertEqual(book.amounts(), {(1, 3): 86_400, (2, 1): 86_400, (3, 0): 82_800, (3, 1): 3_600})
         self.check(book, 86_400, "1/1", "1440/1", "1440/1", "1/1", "23/47")
 
-    def test_marked_days(self):
+    def test_marked_days(self) -> None:
         book = base(days=2)
         act(book, "switch B2 open +85800 3 K1\nswitch B2 close +87600 3 K1")
         self.assertEqual(act(book, "mark 2024-01-01 ENG"), [[]])
@@ -199,7 +197,7 @@ class Outages(unittest.TestCase):
         act(book, "unmark 2024-01-01 ENG\nmark 2024-01-02 ENG")
         self.assertEqual(figures(book, True), figures(book))
 
-    def test_first_and_last_second(self):
+    def test_first_and_last_second(self) -> None:
         book = base()
         act(book, "switch B2 open +86399 3 K1")
         self.check(book, 5)
@@ -209,13 +207,13 @@ class Outages(unittest.TestCase):
         self.check(book, 3_000)
         self.assertEqual([run.cutter for run in book.runs()], [1])
 
-    def test_whole_day(self):
+    def test_whole_day(self) -> None:
         book = base()
         act(book, "switch I1 open +0 3 K1")
         self.check(book, 864_000, "1/1", "1440/1", "1440/1", "1/1", "0/1", "1/1")
         self.assertEqual((book.amounts()[2, 1], book.amounts()[2, 2]), (432_000, 432_000))
 
-    def test_greatest_figures(self):
+    def test_greatest_figures(self) -> None:
         """The fractions of the greatest counts, seconds and period that a book may have."""
         most, period = 2**42 - 1, 2**25 - 1
         self.assertEqual(quotient_text(quotient(most * period, most)), "33554431/1 33554431.000")
@@ -223,7 +221,7 @@ class Outages(unittest.TestCase):
         self.assertEqual(quotient_text(quotient(most, 60 * most)), "1/60 0.017")
         self.assertEqual(quotient_text(quotient(most, 0)), "undefined")
 
-    def test_run_gets_another_cutter_past_the_window(self):
+    def test_run_gets_another_cutter_past_the_window(self) -> None:
         book = base()
         act(book, "switch B1 open +3600 3 K1\nswitch W1 close +4000 3 K1\nswitch B1 close +7200 3 K1")
         self.check(book, 18_000)
@@ -231,12 +229,12 @@ class Outages(unittest.TestCase):
         self.assertEqual(act(book, "switch W1 open +3000 4 K1"), [moved])
         self.check(book, 19_800)
 
-    def test_section_without_a_device(self):
+    def test_section_without_a_device(self) -> None:
         book = base()
         act(book, "section S9 9")
         self.assertEqual(act(book, "connect 11 S9 +0"), [everywhere(86_400, 0, 9)])
 
-    def test_closed_and_opened_in_one_second(self):
+    def test_closed_and_opened_in_one_second(self) -> None:
         book = base()
         opened = "switch B2 open +3600 3 K1\nswitch B2 close +4000 3 K1\n"
         act(book, opened + "switch B2 open +4000 4 K1\nswitch B2 close +5000 4 K1")
@@ -244,14 +242,14 @@ class Outages(unittest.TestCase):
         self.assertEqual((book.amounts()[1, 3], book.indices(False)[1]["SUSTAINED"]), (7_000, 5))
         self.assertNotIn((1, 4), book.amounts())
 
-    def test_withdrawal(self):
+    def test_withdrawal(self) -> None:
         book = base()
         act(book, TIE_RESTORES)
         self.assertEqual(act(book, "withdraw 3 1"), [everywhere(246_600)])
         self.check(book, 255_600)
         self.refused(book, "withdraw 3 2", 8)
 
-    def test_refusals(self):
+    def test_refusals(self) -> None:
         book = base()
         act(book, TIE_RESTORES)
         self.refused(book, "switch X9 open +0 3 K1", 2)
@@ -264,24 +262,26 @@ class Outages(unittest.TestCase):
         act(book, "mark 2024-01-01 ENG")
         self.refused(book, "mark 2024-01-01 ENG", 13)
 
-    def test_tie_is_taken_down(self):
+    def test_tie_is_taken_down(self) -> None:
         """The tie that supplies a section ends: nobody switched, so the seconds have no cause; a whole life undoes it."""
         book = base()
         act(book, TIE_RESTORES)
         self.assertEqual(act(book, "life T1 0 +6000"), [everywhere(241_200, 0)])
         self.check(book, 250_200)
         self.assertEqual(book.act(["life", "WHOLE", "T1", "", "", "", "", ""]), 27)
-        self.assertEqual([move for move in book.moves if move[0] == 27], [(27, *move) for move in everywhere(-241_200, 0)])
+        self.assertEqual(
+            [move for move in book.moves if move[0] == 27], [(27, *move) for move in everywhere(-241_200, 0)]
+        )
         self.check(book, 9_000)
 
-    def test_device_joins_during_an_outage(self):
+    def test_device_joins_during_an_outage(self) -> None:
         book = base()
         act(book, TIE_RESTORES)
         self.assertEqual(act(book, "device X1 BUS-A S1 closed +5000"), [everywhere(-4_400)])
         self.check(book, 4_600, "1/2", "23/3", "46/3")
         self.assertEqual(book.commands[-1][1], f"device X1 BUS-A S1 closed {T + 5_000} -")
 
-    def test_switchings_at_the_end_of_a_life(self):
+    def test_switchings_at_the_end_of_a_life(self) -> None:
         """Lives act before the second's entries: one at the end is late, one a second before is the cutter."""
         book = base()
         self.assertEqual(act(book, "life B2 0 +3600"), [everywhere(414_000, 0, 2)])
@@ -289,7 +289,7 @@ class Outages(unittest.TestCase):
         moved = [(1, 0, -414_000), (1, 4, 414_005), (2, 2, 5), (3, 0, 5)]
         self.assertEqual(act(book, "switch B2 open +3599 4 K1"), [moved])
 
-    def test_lives_that_are_refused(self):
+    def test_lives_that_are_refused(self) -> None:
         book = base()
         self.refused(book, "life B2 +10 +10", 18)
         self.refused(book, "life X9 0 +10", 2)
@@ -298,7 +298,7 @@ class Outages(unittest.TestCase):
         self.refused(book, "device X1 GRID BUS-B closed +10 +10", 2)
         self.refused(book, "device X1 GRID BUS-A closed +10 +9", 18)
 
-    def test_parts_after_an_entry(self):
+    def test_parts_after_an_entry(self) -> None:
         book = base()
         act(book, TIE_RESTORES)
         self.assertEqual(act(book, "bus BUS-B"), [[]])
@@ -308,7 +308,7 @@ class Outages(unittest.TestCase):
         self.assertEqual(act(book, "device N1 BUS-B S9 closed\ndevice N2 BUS-A BUS-B closed +43200")[0], [])
         self.check(book, 9_000 + 43_200)
 
-    def test_table_of_lives(self):
+    def test_table_of_lives(self) -> None:
         book = base()
         act(book, "life T1 +10 +20\ndevice X1 BUS-A S1 open +5")
         rows = [(number, 0, None) for number in range(4)] + [(4, T + 10, T + 20), (5, T + 5, None)]
@@ -318,25 +318,25 @@ class Outages(unittest.TestCase):
 
 
 class Imports(unittest.TestCase):
-    def check(self, text, added, again, refusal, book=None):
+    def check(self, text: str, added: int, again: int, refusal: RowRefusal | None, book: Book | None = None) -> Book:
         book = book or Book(Period("2024-01-01", 1, "UTC0"))
         answer = book.import_text(text.encode())
         self.assertEqual(answer[:2], (added, again))
         self.assertEqual(str(answer[2]), str(refusal))
         return book
 
-    def test_stops_at_the_first_refusal(self):
+    def test_stops_at_the_first_refusal(self) -> None:
         text = "cause,A1,3,STORM,,,,\nbus,A2,BUS-A,,,,,\nsection,A3,S1,1,,,,\nsection,A4,S1,2,,,,\n"
         book = self.check(HEADER + text, 3, 0, RowRefusal(4, Refusal(3)))
         self.check(HEADER + text.replace("A4,S1,2", "A4,S2,1"), 1, 3, None, book)
 
-    def test_header(self):
+    def test_header(self) -> None:
         self.check(HEADER, 0, 0, None)
         self.check("\ufeff" + HEADER, 0, 0, None)
         for text in ["", "kind,ref\n", "bus,A1,BUS-A,,,,,\n"]:
             self.check(text, 0, 0, RowRefusal(0, Refusal(1, 0)))
 
-    def test_forms_of_rows(self):
+    def test_forms_of_rows(self) -> None:
         self.check(HEADER + 'bus,A1,A,,,,,\r\n\r\n"bus",A2,B,,,,,\rbus,A3,C,,,,,', 3, 0, None)
         self.check(HEADER + "bus,A1,A\n", 0, 0, RowRefusal(1, Refusal(1, 0)))
         self.check(HEADER + '""\n', 0, 0, RowRefusal(1, Refusal(1, 0)))
@@ -344,7 +344,7 @@ class Imports(unittest.TestCase):
 
 
 class Examples(unittest.TestCase):
-    def test_files_of_the_fortnight(self):
+    def test_files_of_the_fortnight(self) -> None:
         """The table and the moves that stand beside the sample fortnight, and its amounts by hand."""
         examples = Path(__file__).resolve().parent.parent / "examples"
         book = Book(Period("2025-03-24", 14, "CET-1CEST,M3.5.0,M10.5.0/3"))
@@ -356,7 +356,7 @@ class Examples(unittest.TestCase):
                 self.assertEqual({key: amount for key, amount in book.amounts().items() if key[0] == 1}, BY_HAND)
                 self.assertEqual([counts["MOMENTARY"] for _, counts in map(book.indices, [False, True])], [16, 16])
 
-    def test_texts_of_the_tests(self):
+    def test_texts_of_the_tests(self) -> None:
         """The crates' tests have the files of the sample fortnight as they stand in `examples/`."""
         root = Path(__file__).resolve().parent.parent
         sources = [root / f"crates/ob_office_tests/src/fortnight_{name}.rt" for name in ["texts", "moves"]]
@@ -371,7 +371,7 @@ class Examples(unittest.TestCase):
             text = (root / "examples" / file).read_text(encoding="ascii")
             self.assertIn(f'"\\\n{text}";', source, file)
 
-    def test_file_of_version_1(self):
+    def test_file_of_version_1(self) -> None:
         """The fortnight as the program of version 1 left it: its commands have its table and its moves."""
         examples = Path(__file__).resolve().parent.parent / "examples"
         with contextlib.closing(sqlite3.connect(":memory:")) as database:
@@ -386,32 +386,14 @@ class Examples(unittest.TestCase):
         self.assertEqual(sorted(book.moves), moves)
 
 
-class MadeYears(unittest.TestCase):
-    def test_lives_in_a_year(self):
-        """A made year with lives: each command is accepted, and the windows of year.py find what the model finds."""
-        lines = [*year_lines(80, 1, 60, "rising", 10, lives=30)]
-        book, plain = Book(Period(FIRST_DATE.isoformat(), DAYS, "UTC0"), keeps_moves=False), YearBook()
-        text = "".join(f"{row}\n" for row in csv_lines(lines))
-        self.assertEqual(book.import_text(text.encode()), (len(lines), 0, None))
-        for line in lines:
-            plain.act(*line.split())
-        self.assertEqual([body for _, body in book.commands], lines)
-        amounts = book.amounts()
-        for dimension, found in enumerate([plain.by_cause, plain.by_feeder, plain.by_day], 1):
-            wanted = {key: amount for (other, key), amount in amounts.items() if other == dimension}
-            self.assertEqual({key: amount for key, amount in found.items() if amount}, wanted)
-        joined = sum(line.startswith("device JOINED-") for line in lines)
-        self.assertEqual((joined, sum(line.startswith("life ") for line in lines)), (10, 30))
-
-
 class Fields(unittest.TestCase):
-    def bad_column(self, row):
+    def bad_column(self, row: list[str]) -> int | None:
         with self.assertRaises(Refusal) as raised:
             read_row(row)
         self.assertEqual(raised.exception.number, 1)
         return raised.exception.detail
 
-    def test_leftmost_bad_column(self):
+    def test_leftmost_bad_column(self) -> None:
         self.assertEqual(self.bad_column(["buses", "", "", "", "", "", "", ""]), 1)
         self.assertEqual(self.bad_column(["bus", "r", "b", "x", "", "", "", ""]), 2)
         self.assertEqual(self.bad_column(["bus", "R", "b", "x", "", "", "", ""]), 3)
@@ -419,7 +401,7 @@ class Fields(unittest.TestCase):
         self.assertEqual(self.bad_column(["device", "R", "D", "A", "A", "shut", "", ""]), 5)
         self.assertEqual(self.bad_column(["device", "R", "D", "a", "a", "shut", "", ""]), 4)
 
-    def test_lives(self):
+    def test_lives(self) -> None:
         device = ["device", "R", "D", "A", "B", "open", "", ""]
         self.assertEqual(read_row(device)[2], ["D", "A", "B", "open", 0, "-"])
         self.assertEqual(read_row([*device[:6], "1704070800", "2024-01-01T02:00:00Z"])[2][4:], [T + 3_600, T + 7_200])
@@ -429,12 +411,12 @@ class Fields(unittest.TestCase):
         self.assertEqual(self.bad_column(["life", "R", "D", "x", "x", "x", "", ""]), 4)
         self.assertEqual(self.bad_column(["life", "R", "D", "", "", "x", "", ""]), 6)
 
-    def test_one_command_in_two_spellings(self):
+    def test_one_command_in_two_spellings(self) -> None:
         one = read_row(["switch", "R", "B1", "open", "1704070800", "03", "K1", ""])
         other = read_row(["switch", "R", "B1", "open", "2024-01-01T02:00:00+01:00", "3", "K1", ""])
         self.assertEqual(one, other)
 
-    def test_moments(self):
+    def test_moments(self) -> None:
         moments = {
             "0": 0,
             "99999999999": 99_999_999_999,
@@ -458,26 +440,26 @@ class Fields(unittest.TestCase):
         for text, second in moments.items():
             self.assertEqual(read_second(text), second, text)
 
-    def test_dates(self):
+    def test_dates(self) -> None:
         self.assertEqual(read_date("0000-02-29"), "0000-02-29")
         self.assertIsNone(read_date("2100-02-29"))
         self.assertIsNone(read_date("2024-1-1"))
 
-    def test_kinds(self):
+    def test_kinds(self) -> None:
         self.assertEqual(len(KINDS), 12)
 
 
 class Clocks(unittest.TestCase):
-    def test_lengths_of_days(self):
+    def test_lengths_of_days(self) -> None:
         period = Period("2024-11-03", 1, "EST5EDT,M3.2.0,M11.1.0")
         self.assertEqual(period.length, 90_000)
 
-    def test_midnight_in_a_gap(self):
+    def test_midnight_in_a_gap(self) -> None:
         """Clocks go forward at midnight of 2024-09-08: the offset before the gap counts."""
         period = Period("2024-09-07", 2, "<-04>4<-03>,M9.1.6/24,M4.1.6/24")
         self.assertEqual(period.bounds[1], read_second("2024-09-08T04:00:00Z"))
 
-    def test_midnight_in_a_fold(self):
+    def test_midnight_in_a_fold(self) -> None:
         """Clocks go back over midnight: the earlier instant counts."""
         period = Period("2024-10-26", 2, "XXX-1YYY,M3.5.0,M10.5.0/0:30")
         self.assertEqual(period.bounds[1], read_second("2024-10-26T22:00:00Z"))

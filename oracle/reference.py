@@ -7,34 +7,35 @@ one goes from change to change and walks from GRID breadth first.
 
 A text that `total` refuses is no input of the model: it may then fail in any way.
 
-    python3 benches/reference.py < examples/first-run.csv
+    python3 oracle/reference.py < examples/first-run.csv
 """
 
 import csv
 import io
 import sys
 from collections import defaultdict, deque
+from collections.abc import Iterator
 
 GRID = "GRID"
+Life = tuple[int, int | None]  # since, until or none
 
 
 class Book:
     """What a text says."""
 
-    def __init__(self):
-        self.span = None
-        self.sections = set()
-        self.devices = {}  # name: (node, node)
-        self.normal = {}  # name: is it closed
-        self.lives = {}  # name: (since, until or None)
-        self.customers = {}  # number: (section, since, until or None)
-        self.entries = []  # (second, number, device, is it closed from then on)
+    def __init__(self) -> None:
+        self.span = (0, 0)
+        self.sections: set[str] = set()
+        self.devices: dict[str, tuple[str, str]] = {}  # name: (node, node)
+        self.normal: dict[str, bool] = {}  # name: is it closed
+        self.lives: dict[str, Life] = {}
+        self.customers: dict[int, tuple[str, int, int | None]] = {}  # number: (section, since, until or None)
+        self.entries: list[tuple[int, int, str, bool]] = []  # (second, number, device, is it closed from then on)
 
 
-def read_book(data):
+def read_book(data: bytes) -> Book:
     """The book that the bytes of a text say."""
-    rows = csv.reader(io.StringIO(data.decode("utf-8-sig"), newline=""))
-    rows = [row for row in rows if row]
+    rows = [row for row in csv.reader(io.StringIO(data.decode("utf-8-sig"), newline="")) if row]
     if rows[0] != ["kind", "ref", "f1", "f2", "f3", "f4", "f5", "f6"]:
         raise ValueError("no header")
     book = Book()
@@ -58,17 +59,17 @@ def read_book(data):
     return book
 
 
-def read_life(since, until):
+def read_life(since: str, until: str) -> Life:
     """The life that two fields say: from 0 on, or without end, where they are empty."""
     return int(since or "0"), int(until) if until else None
 
 
-def is_alive(life, second):
+def is_alive(life: Life, second: int) -> bool:
     since, until = life
     return since <= second and (until is None or second < until)
 
 
-def reached_from_grid(devices, closed):
+def reached_from_grid(devices: dict[str, tuple[str, str]], closed: set[str]) -> set[str]:
     """The nodes to which closed devices lead from GRID, where `closed` are the names of these."""
     neighbours = defaultdict(list)
     for name, (a, b) in devices.items():
@@ -85,7 +86,7 @@ def reached_from_grid(devices, closed):
     return reached
 
 
-def bounds_of(book):
+def bounds_of(book: Book) -> list[int]:
     """The seconds of the span, its end among them, at which something may change, in order."""
     first, end = book.span
     seconds = {second for second, _, _, _ in book.entries}
@@ -94,7 +95,7 @@ def bounds_of(book):
     return sorted({first, end} | {second for second in seconds if first < second < end})
 
 
-def stretches(book):
+def stretches(book: Book) -> Iterator[tuple[int, int, set[str]]]:
     """For each stretch of seconds without a change: its first second, its end, the closed devices."""
     conducts = dict(book.normal)
     bounds = bounds_of(book)
@@ -107,7 +108,7 @@ def stretches(book):
         yield begin, next_bound, closed
 
 
-def customer_seconds(book):
+def customer_seconds(book: Book) -> int:
     """The customer-seconds without supply in the span."""
     total = 0
     for begin, end, closed in stretches(book):
@@ -119,7 +120,7 @@ def customer_seconds(book):
     return total
 
 
-def main():
+def main() -> None:
     print("W", customer_seconds(read_book(sys.stdin.buffer.read())))
 
 
