@@ -94,6 +94,9 @@ def prove(place: Path, planned: list[Planned], report: Report) -> dict[str, list
     why = f"status {ran.status}" if ran.status else ""
     report.parts.append(Part("rt ci", passed, max(failed, 1 if ran.status else 0), ran.clock, ran.processor, why))
     report.notes.append(of_plan(planned))
+    changed = [it.name for it in planned if it.is_changed]
+    if changed:
+        report.notes.append(f"lines of gate/edits.txt to be recorded (--record): {' '.join(changed)}")
     return judge(planned, ran.said, report)
 
 
