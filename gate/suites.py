@@ -59,12 +59,23 @@ def tests_in(folder: str) -> tuple[str | Path, ...]:
     return (sys.executable, "-m", "unittest", "discover", "-v", "-s", folder)
 
 
-def before_proofs(root: Path) -> list[Suite]:
-    """What wants no program, and takes seconds."""
-    found = [Suite("black", ("black", "--check", "."), as_one)]
+def typed(root: Path) -> list[Suite]:
+    """Types, folder by folder: modules of two folders may have one name.
+
+    The tools' made_books.py is a program over the oracle's modules, so it is looked at beside these.
+    """
+    found = []
     for folder in TYPED:
         if (root / folder).is_dir():
-            found.append(Suite(f"mypy {folder}", ("mypy", folder), as_one))
+            books = [str(book.relative_to(root)) for book in root.glob("tools/**/made_books.py")]
+            beside = books if folder == "oracle" else ["--exclude", "made_books"] if folder == "tools" else []
+            found.append(Suite(f"mypy {folder}", ("mypy", folder, *beside), as_one))
+    return found
+
+
+def before_proofs(root: Path) -> list[Suite]:
+    """What wants no program, and takes seconds."""
+    found = [Suite("black", ("black", "--check", "."), as_one), *typed(root)]
     found.append(Suite("gate's tests", tests_in("gate/tests"), by_tests))
     found.append(Suite("oracle's tests", (sys.executable, "oracle/test_model.py", "-v"), by_tests))
     found.append(Suite("made years", (sys.executable, "benches/test_made_years.py", "-v"), by_tests))
