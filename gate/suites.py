@@ -11,6 +11,7 @@ from pathlib import Path
 from parts import Part, Ran, run, say
 
 Counts = tuple[int, int, str]
+LONGEST = "1800"  # seconds of a suite
 TYPED = ("oracle", "benches", "gate", "tools", "screen")
 RAN = re.compile(r"^Ran ([0-9]+) tests? in ", re.MULTILINE)
 ENDED = re.compile(r"^(?:OK|FAILED)(?: \((.*)\))?$", re.MULTILINE)
@@ -101,7 +102,8 @@ def screen(root: Path) -> list[Suite]:
 
 def run_suite(suite: Suite, root: Path, program: Path | None = None) -> Part:
     """Runs a suite; what it said is shown where something failed."""
-    ran = run(suite.words, root, {"OUTAGEBOOK": str(program)} if program else None)
+    words = ("timeout", "--kill-after=10", LONGEST, *suite.words)
+    ran = run(words, root, {"OUTAGEBOOK": str(program)} if program else None)
     passed, failed, why = suite.counts(ran)
     part = Part(suite.name, passed, failed, ran.clock, ran.processor, why)
     say(f"== {part.line()}" + (f"\n{ran.said.rstrip()}" if failed else ""))
