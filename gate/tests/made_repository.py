@@ -50,6 +50,7 @@ FILES = {
     "README.md": "# A book\n",
     "docs/PAGE.md": PAGE,
     "examples/one.csv": "kind\n",
+    "tools/tests/__init__.py": "",
     "tools/tests/test_tools.py": TEST,
     "oracle/test_model.py": TEST,
     "oracle/compare.py": COMPARE,
