@@ -37,7 +37,7 @@ class Edits(Whole):
         self.made.turn_to(7)
         done = self.passes()
         self.assertEqual(self.made.crates_tried(), [])
-        self.assertIn("tried none; not tried 4 of 4 crates (stands by its sum)", done.stdout)
+        self.assertIn("must-fail edits: 0 tried, 4 of 4 crates stand by their sums", done.stdout)
 
     def test_without_record_nothing_is_written(self) -> None:
         self.passes()
@@ -48,7 +48,9 @@ class Edits(Whole):
         self.made.turn_to(1)
         done = self.passes()
         self.assertEqual(self.made.crates_tried(), ["middle"])
-        self.assertIn("tried 1 of 1 crates (its turn); not tried 3 of 3 crates", done.stdout)
+        self.assertIn(
+            "must-fail edits: 1 tried (1 of 1 crates: its turn), 3 of 3 crates stand by their sums", done.stdout
+        )
 
     def test_all_when_asked(self) -> None:
         self.made.record()
