@@ -147,13 +147,16 @@ def gate(place: Path, said: argparse.Namespace, report: Report) -> None:
     if report.failed:
         report.notes.append("rt ci didn't run, since what comes before it failed")
         return
-    sums = edit_sums(place, kit_of(place))
+    kit = kit_of(place)
+    sums = edit_sums(place, kit)
     planned = plan(place, sums, turn_of(ROOT), said.all)
     if place != ROOT:
         leave_out(place, planned)
     unseen = prove(place, planned, report, said.record)
     suites_with_program(place, lost, report)
-    if said.record:
+    if said.record and place == ROOT and edit_sums(place, kit) != sums:
+        report.notes.append("files changed while rt ci ran: gate/edits.txt is as it was")
+    elif said.record:
         write_seen(ROOT, sums, unseen)
         report.notes.append("gate/edits.txt is written by what was seen refused")
     if not report.failed:
