@@ -56,6 +56,7 @@ class Planned:
     name: str
     edits: tuple[str, ...]
     why: Why
+    is_changed: bool  # its line isn't there, or has another sum
 
     @property
     def is_tried(self) -> bool:
@@ -95,7 +96,7 @@ def plan(root: Path, sums: dict[str, str], turn: int, tries_all: bool = False) -
         is_turn = holds and holding % TURNS == turn
         holding += holds
         why = Why.ASKED if tries_all else Why.CHANGED if not holds else Why.TURN if is_turn else Why.STANDS
-        found.append(Planned(name, edits, why))
+        found.append(Planned(name, edits, why, not holds))
     return found
 
 

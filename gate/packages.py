@@ -7,6 +7,7 @@ import importlib.util
 import os
 import shutil
 from dataclasses import dataclass
+from glob import glob
 from pathlib import Path
 
 from parts import run
@@ -24,9 +25,11 @@ class Missing:
 
 
 def is_there(kind: str, name: str) -> bool:
-    """A program is on the path; a module can be imported by the Python that runs the gate."""
+    """A program is on the path, a file stands where it should, a module can be imported by the Python that runs the gate."""
     if kind == "program":
         return shutil.which(name) is not None
+    if kind == "file":
+        return bool(glob(name))
     importlib.invalidate_caches()
     return importlib.util.find_spec(name) is not None
 

@@ -5,6 +5,7 @@ from __future__ import annotations
 import os
 import subprocess
 import sys
+import tempfile
 import threading
 import time
 from collections.abc import Mapping, Sequence
@@ -50,26 +51,30 @@ def say(text: str) -> None:
 
 
 def run(words: Sequence[str | Path], folder: Path, more: Mapping[str, str] | None = None, shows: bool = False) -> Ran:
-    """Runs a command with no input. It is told while it runs where `shows`; else the caller has what it said."""
+    """Runs a command with no input. It is told while it runs where `shows`; else the caller has what it said.
+
+    Where it isn't told it writes to a file: a program that it leaves at work may keep that open, and nobody waits for it.
+    """
     begun = time.monotonic()
-    child = subprocess.Popen(
-        [*map(str, words)],
-        cwd=folder,
-        env={**os.environ, **(more or {})},
-        stdin=subprocess.DEVNULL,
-        stdout=subprocess.PIPE,
-        stderr=subprocess.STDOUT,
-        encoding="utf-8",
-        errors="replace",
-    )
-    assert child.stdout is not None
-    lines = []
-    for line in child.stdout:
-        lines.append(line)
-        if shows:
-            sys.stdout.write(line)
-            sys.stdout.flush()
-    child.stdout.close()
-    _, status, used = os.wait4(child.pid, 0)
-    child.returncode = os.waitstatus_to_exitcode(status)
-    return Ran(child.returncode, "".join(lines), time.monotonic() - begun, used.ru_utime + used.ru_stime)
+    with tempfile.TemporaryFile("w+", encoding="utf-8", errors="replace") as kept:
+        child = subprocess.Popen(
+            [*map(str, words)],
+            cwd=folder,
+            env={**os.environ, **(more or {})},
+            stdin=subprocess.DEVNULL,
+            stdout=subprocess.PIPE if shows else kept,
+            stderr=subprocess.STDOUT,
+            encoding="utf-8",
+            errors="replace",
+        )
+        if child.stdout is not None:
+            with child.stdout as told:
+                for line in told:
+                    kept.write(line)
+                    sys.stdout.write(line)
+                    sys.stdout.flush()
+        _, status, used = os.wait4(child.pid, 0)
+        child.returncode = os.waitstatus_to_exitcode(status)
+        kept.seek(0)
+        said = kept.read()
+    return Ran(child.returncode, said, time.monotonic() - begun, used.ru_utime + used.ru_stime)

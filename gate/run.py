@@ -61,13 +61,16 @@ def lanes() -> int:
 
 
 def of_plan(planned: list[Planned]) -> str:
-    """How many edits are tried, and how many stand by their sums."""
+    """How many edits are tried, and why; how many stand by their sums."""
     crates, edits = Counter(it.why for it in planned), Counter[Why]()
     for it in planned:
         edits[it.why] += len(it.edits)
-    why = {why: f"{edits[why]} of {crates[why]} crates ({why.value})" for why in Why if crates[why]}
-    stand = why.pop(Why.STANDS, "none stands by its sum")
-    return f"must-fail edits: tried {', '.join(why.values()) or 'none'}; not tried {stand}"
+    reasons = [
+        f"{edits[why]} of {crates[why]} crates: {why.value}" for why in Why if crates[why] and why is not Why.STANDS
+    ]
+    tried = sum(edits.values()) - edits[Why.STANDS]
+    told = f"{tried} tried{' (' + '; '.join(reasons) + ')' if reasons else ''}"
+    return f"must-fail edits: {told}, {edits[Why.STANDS]} of {crates[Why.STANDS]} crates stand by their sums"
 
 
 def judge(planned: list[Planned], said: str, report: Report) -> dict[str, list[str]]:
@@ -87,14 +90,18 @@ def judge(planned: list[Planned], said: str, report: Report) -> dict[str, list[s
     return unseen
 
 
-def prove(place: Path, planned: list[Planned], report: Report) -> dict[str, list[str]]:
+def prove(place: Path, planned: list[Planned], report: Report, records: bool) -> dict[str, list[str]]:
     """`rt ci` over a tree; answers what of the planned edits it hasn't refused."""
     ran = run(["rt", "ci"], place, {"RT_JOBS": str(lanes())}, shows=True)
     passed, failed = counts_of(ran.said) or (0, 1)
     why = f"status {ran.status}" if ran.status else ""
     report.parts.append(Part("rt ci", passed, max(failed, 1 if ran.status else 0), ran.clock, ran.processor, why))
     report.notes.append(of_plan(planned))
-    return judge(planned, ran.said, report)
+    unseen = judge(planned, ran.said, report)
+    seen = [it.name for it in planned if it.is_changed and not unseen[it.name]]
+    if seen and not records:
+        report.notes.append(f"lines of gate/edits.txt that --record would write: {' '.join(seen)}")
+    return unseen
 
 
 def leave_out(place: Path, planned: list[Planned]) -> None:
@@ -140,13 +147,16 @@ def gate(place: Path, said: argparse.Namespace, report: Report) -> None:
     if report.failed:
         report.notes.append("rt ci didn't run, since what comes before it failed")
         return
-    sums = edit_sums(place, kit_of(place))
+    kit = kit_of(place)
+    sums = edit_sums(place, kit)
     planned = plan(place, sums, turn_of(ROOT), said.all)
     if place != ROOT:
         leave_out(place, planned)
-    unseen = prove(place, planned, report)
+    unseen = prove(place, planned, report, said.record)
     suites_with_program(place, lost, report)
-    if said.record:
+    if said.record and place == ROOT and edit_sums(place, kit) != sums:
+        report.notes.append("files changed while rt ci ran: gate/edits.txt is as it was")
+    elif said.record:
         write_seen(ROOT, sums, unseen)
         report.notes.append("gate/edits.txt is written by what was seen refused")
     if not report.failed:

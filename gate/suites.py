@@ -11,6 +11,8 @@ from pathlib import Path
 from parts import Part, Ran, run, say
 
 Counts = tuple[int, int, str]
+LONGEST = "1800"  # seconds of a suite
+MADE_BOOKS = "tools/tests/made_books.py"  # a program over the oracle's modules
 TYPED = ("oracle", "benches", "gate", "tools", "screen")
 RAN = re.compile(r"^Ran ([0-9]+) tests? in ", re.MULTILINE)
 ENDED = re.compile(r"^(?:OK|FAILED)(?: \((.*)\))?$", re.MULTILINE)
@@ -55,17 +57,24 @@ def by_commands(ran: Ran) -> Counts:
     return sum(count for count, _ in counted) - wrong, wrong, ""
 
 
-def tests_in(folder: str) -> tuple[str | Path, ...]:
-    return (sys.executable, "-m", "unittest", "discover", "-v", "-s", folder)
+def tests_in(folder: str, top: str) -> tuple[str | Path, ...]:
+    return (sys.executable, "-m", "unittest", "discover", "-v", "-s", folder, "-t", top)
+
+
+def typed(root: Path) -> list[Suite]:
+    """Types, folder by folder: modules of two folders may have one name."""
+    found = []
+    for folder in TYPED:
+        if (root / folder).is_dir():
+            beside = [MADE_BOOKS] if folder == "oracle" and (root / MADE_BOOKS).exists() else []
+            found.append(Suite(f"mypy {folder}", ("mypy", folder, *beside), as_one))
+    return found
 
 
 def before_proofs(root: Path) -> list[Suite]:
     """What wants no program, and takes seconds."""
-    found = [Suite("black", ("black", "--check", "."), as_one)]
-    for folder in TYPED:
-        if (root / folder).is_dir():
-            found.append(Suite(f"mypy {folder}", ("mypy", folder), as_one))
-    found.append(Suite("gate's tests", tests_in("gate/tests"), by_tests))
+    found = [Suite("black", ("black", "--check", "."), as_one), *typed(root)]
+    found.append(Suite("gate's tests", tests_in("gate/tests", "gate/tests"), by_tests))
     found.append(Suite("oracle's tests", (sys.executable, "oracle/test_model.py", "-v"), by_tests))
     found.append(Suite("made years", (sys.executable, "benches/test_made_years.py", "-v"), by_tests))
     return found
@@ -73,10 +82,9 @@ def before_proofs(root: Path) -> list[Suite]:
 
 def with_program(root: Path) -> list[Suite]:
     """What is run against the program (OUTAGEBOOK) that the proofs ended with."""
-    tests = "tools/tests" if (root / "tools/tests").is_dir() else "tools"
     pages = ("README.md", *sorted(page.relative_to(root).as_posix() for page in root.glob("docs/*.md")))
     return [
-        Suite("tools' tests", tests_in(tests), by_tests),
+        Suite("tools' tests", tests_in("tools/tests", "tools"), by_tests),
         Suite("program and oracle", (sys.executable, "oracle/compare.py"), as_one),
         Suite("pages", (sys.executable, "benches/paste_pages.py", *pages), by_commands),
     ]
@@ -90,7 +98,8 @@ def screen(root: Path) -> list[Suite]:
 
 def run_suite(suite: Suite, root: Path, program: Path | None = None) -> Part:
     """Runs a suite; what it said is shown where something failed."""
-    ran = run(suite.words, root, {"OUTAGEBOOK": str(program)} if program else None)
+    words = ("timeout", "--kill-after=10", LONGEST, *suite.words)
+    ran = run(words, root, {"OUTAGEBOOK": str(program)} if program else None)
     passed, failed, why = suite.counts(ran)
     part = Part(suite.name, passed, failed, ran.clock, ran.processor, why)
     say(f"== {part.line()}" + (f"\n{ran.said.rstrip()}" if failed else ""))

@@ -50,6 +50,7 @@ FILES = {
     "README.md": "# A book\n",
     "docs/PAGE.md": PAGE,
     "examples/one.csv": "kind\n",
+    "tools/tests/__init__.py": "",
     "tools/tests/test_tools.py": TEST,
     "oracle/test_model.py": TEST,
     "oracle/compare.py": COMPARE,
@@ -82,10 +83,9 @@ class MadeRepository:
         self.programs = self.folder / "programs"
         self.programs.mkdir()
         shutil.copy2(TESTS / "made_rt.py", self.programs / "rt")
-        for name in ("rt", "black", "mypy"):
-            if name != "rt":
-                (self.programs / name).write_text("#!/bin/sh\n", encoding="ascii")
-            (self.programs / name).chmod(0o755)
+        (self.programs / "rt").chmod(0o755)
+        for name in ("black", "mypy"):
+            self.program(name, "#!/bin/sh\n")
         subprocess.run(["git", "init", "-q"], cwd=self.root, check=True)
 
     def remove(self) -> None:
@@ -99,15 +99,20 @@ class MadeRepository:
         (self.root / name).parent.mkdir(parents=True, exist_ok=True)
         shutil.copy2(ROOT / name, self.root / name)
 
+    def program(self, name: str, text: str) -> None:
+        """A program on the path of what is run."""
+        (self.programs / name).write_text(text, encoding="ascii")
+        (self.programs / name).chmod(0o755)
+
     def with_real(self, name: str) -> None:
         """Has the machine's own program of that name run in place of the stand-in."""
         (self.programs / name).unlink()
 
-    def run(self, *words: str | Path) -> subprocess.CompletedProcess[str]:
+    def run(self, *words: str | Path, is_ci: bool = False) -> subprocess.CompletedProcess[str]:
         """Runs a command at the top of the repository, where `rt` is the stand-in."""
         env = {name: text for name, text in os.environ.items() if name not in ("CI", "OUTAGEBOOK")}
         env |= {"PATH": f"{self.programs}:{env['PATH']}", "MADE_RT_TRIED": str(self.tried), "MADE_RT_KIT": self.kit}
-        env |= {"RT_JOBS": "2"}
+        env |= {"RT_JOBS": "2", **({"CI": "true"} if is_ci else {})}
         self.tried.unlink(missing_ok=True)
         return subprocess.run([*map(str, words)], cwd=self.root, env=env, capture_output=True, text=True, check=False)
 

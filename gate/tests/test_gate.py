@@ -2,6 +2,7 @@
 
 from __future__ import annotations
 
+import os
 import subprocess
 import unittest
 
@@ -36,7 +37,7 @@ class Edits(Whole):
         self.made.turn_to(7)
         done = self.passes()
         self.assertEqual(self.made.crates_tried(), [])
-        self.assertIn("tried none; not tried 4 of 4 crates (stands by its sum)", done.stdout)
+        self.assertIn("must-fail edits: 0 tried, 4 of 4 crates stand by their sums", done.stdout)
 
     def test_without_record_nothing_is_written(self) -> None:
         self.passes()
@@ -47,7 +48,9 @@ class Edits(Whole):
         self.made.turn_to(1)
         done = self.passes()
         self.assertEqual(self.made.crates_tried(), ["middle"])
-        self.assertIn("tried 1 of 1 crates (its turn); not tried 3 of 3 crates", done.stdout)
+        self.assertIn(
+            "must-fail edits: 1 tried (1 of 1 crates: its turn), 3 of 3 crates stand by their sums", done.stdout
+        )
 
     def test_all_when_asked(self) -> None:
         self.made.record()
@@ -173,6 +176,15 @@ class Suites(Whole):
     def test_package_that_is_missing(self) -> None:
         self.made.write("gate/packages.txt", "program no-such-program black all\n")
         self.fails("no no-such-program: apt-get install black")
+
+    def test_package_that_ci_installs(self) -> None:
+        """In CI, as root, what is missing is installed; nobody else's machine is changed."""
+        self.made.write("gate/packages.txt", "program made-program made-package all\n")
+        made = self.made.programs / "made-program"
+        self.made.program("apt-get", f'#!/bin/sh\n[ "$1" = update ] || {{ touch {made}; chmod +x {made}; }}\n')
+        self.fails("no made-program: apt-get install made-package")
+        done = self.made.run("bash", ".ci/run", is_ci=True)
+        self.assertEqual(done.returncode, 0 if os.geteuid() == 0 else 1, done.stdout + done.stderr)
 
     def test_program_is_left_where_the_tools_look_for_it(self) -> None:
         self.passes()

@@ -2,10 +2,15 @@
 
 from __future__ import annotations
 
+import contextlib
+import io
+import os
+import signal
 import unittest
+from pathlib import Path
 
 import made_repository  # noqa: F401, the modules of gate/
-from parts import Ran
+from parts import Ran, run
 from rt_output import counts_of, tried_edits, unrefused
 from suites import by_commands, by_tests
 
@@ -40,6 +45,21 @@ class Rt(unittest.TestCase):
         self.assertEqual(counts_of("1 passed, 0 failed (ob_base and the crates below alone: not the gate)\n"), (1, 0))
         for said in ["", "rt: stopped\n", "3 passed, 2 failed\nTraceback\n"]:
             self.assertIsNone(counts_of(said))
+
+
+class Commands(unittest.TestCase):
+    def test_what_is_said_and_what_it_took(self) -> None:
+        for shows in (False, True):
+            with contextlib.redirect_stdout(io.StringIO()):
+                ran = run(["sh", "-c", "echo one; echo two >&2; cat; exit 3"], Path.cwd(), shows=shows)
+            self.assertEqual((ran.status, ran.said), (3, "one\ntwo\n"))
+        ran = run(["sh", "-c", "n=0; while [ $n -lt 200000 ]; do n=$((n + 1)); done"], Path.cwd())
+        self.assertGreater(ran.processor, 0.0)
+
+    def test_program_left_at_work(self) -> None:
+        ran = run(["sh", "-c", "sleep 60 & echo $!"], Path.cwd())
+        os.kill(int(ran.said), signal.SIGTERM)
+        self.assertLess(ran.clock, 50)
 
 
 class Tests(unittest.TestCase):
