@@ -4,4 +4,4 @@ set -e
 export DEBIAN_FRONTEND=noninteractive
 packages=$(awk '!/^#/ && NF { print $3 }' "$(dirname "$0")/packages.txt")
 apt-get update
-apt-get install --yes --no-install-recommends $packages
+apt-get install --yes --no-upgrade --no-install-recommends $packages

@@ -3,7 +3,8 @@
 Of the crate itself: src/, specs/, proofs/, c/ and must-fail/. Of each crate below it, whose statements the check reads:
 src/, specs/ and c/, and its lemmas (the files right in proofs/, and folders that proofs/Lib.antt makes public) where
 Lib.antt makes any public, since a proof above may cite them and a tactic may find them. A function's own proof below
-(proofs/F/) can't be cited from above: that it holds is what the gate's proofs show each time. Then the lines of these
+(proofs/F/) can't be cited from above, and is left out unless a lemma there takes something from one: that it holds is
+what the gate's proofs show each time. Then the lines of these
 crates in crates.txt, HANDLES, and the toolchain by its name.
 """
 
@@ -53,6 +54,9 @@ def public_lemmas(crate: Path) -> list[Path]:
     if not public:
         return []
     files = sorted(crate.glob("proofs/*.antt"))
+    of_functions = re.compile(rf"\bRattle\.{crate.name}\.proofs\.[a-z]")
+    if any(of_functions.search(file.read_text(encoding="utf-8")) for file in files):
+        return files_in(crate / "proofs")
     return files + [file for name in sorted(public) for file in files_in(crate / "proofs" / name)]
 
 

@@ -44,6 +44,12 @@ class Sums(unittest.TestCase):
         self.made.write("crates/low/proofs/answer/Answers.antt", "answers\n")
         self.assertEqual(self.changed(), ["low"])
 
+    def test_proof_of_a_function_from_which_a_lemma_takes_something(self) -> None:
+        self.made.write("crates/low/proofs/Law.antt", "use Rattle.low.proofs.answer.Goals as goal\n")
+        self.before = self.sums()
+        self.made.write("crates/low/proofs/answer/Answers.antt", "answers\n")
+        self.assertEqual(self.changed(), ["high", "low", "middle"])
+
     def test_public_lemma_changes_those_above(self) -> None:
         self.made.write("crates/low/proofs/Law.antt", "stronger law\n")
         self.assertEqual(self.changed(), ["high", "low", "middle"])
