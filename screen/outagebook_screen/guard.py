@@ -7,6 +7,7 @@ is too long is told so. The web server behind it sees whole heads alone.
 from __future__ import annotations
 
 import asyncio
+import re
 from typing import cast
 
 HEAD_BYTES = 16_384
@@ -15,6 +16,8 @@ HEAD_SECONDS = 10.0
 BODY_SECONDS = 30.0
 MOST_CONNECTIONS = 2_000
 END_OF_HEAD = b"\r\n\r\n"
+FIRST_LINE = re.compile(rb"[A-Z]{1,20} /[!-~]{0,8000} HTTP/1\.[01]\r\n")
+MOST_FIELDS = 100
 
 
 def refusal(status: str) -> bytes:
@@ -93,8 +96,10 @@ class Guard(asyncio.Protocol):
             self._hand_on(rest)
 
     def _told_length(self, head: bytes) -> int | None:
-        """The length of the body by Content-Length; None where it is told in a way that isn't taken."""
+        """The length of the body by Content-Length; None where the head isn't one that is taken."""
         fields = [line.partition(b":") for line in head.split(b"\r\n")[1:] if line]
+        if not FIRST_LINE.match(head) or len(fields) > MOST_FIELDS:
+            return None
         names = [name.strip().lower() for name, _, _ in fields]
         lengths = [value.strip() for name, _, value in fields if name.strip().lower() == b"content-length"]
         if b"transfer-encoding" in names or len(lengths) > 1 or names.count(b"host") > 1:

@@ -52,11 +52,16 @@ class Sheet:
     order: Places
     by_device: Sequence[Places]
 
-    def position(self, device: Device, second: int) -> bool:
-        """Whether a device is closed once all before a second has acted, its life aside."""
+    def holds(self, device: Device, second: int) -> Entry | None:
+        """The last entry of a device before a second."""
         places = self.by_device[device.number]
         place = bisect_left(places, (second, 0)) - 1
-        return self.entries[places[place][1] - 1].closes if place >= 0 else device.is_closed
+        return self.entries[places[place][1] - 1] if place >= 0 else None
+
+    def position(self, device: Device, second: int) -> bool:
+        """Whether a device is closed once all before a second has acted, its life aside."""
+        entry = self.holds(device, second)
+        return entry.closes if entry else device.is_closed
 
     def closed_at(self, second: int) -> list[bool]:
         """The position of each device at a second, by lives and all entries up to it."""

@@ -105,7 +105,7 @@ def token_of(settings: Settings, login: str) -> str:
 async def check(request: web.Request, handler: Handler) -> web.StreamResponse:
     try:
         refusal = refusal_of(request)
-        return refusal or await handler(request)
+        return await handler(request) if refusal is None else refusal
     except web.HTTPException as error:
         headers = {"Allow": error.headers["Allow"]} if "Allow" in error.headers else None
         reply = complaint(error.status, "http", error.reason)
@@ -201,6 +201,10 @@ async def static(request: web.Request) -> web.StreamResponse:
     return web.Response(body=place.read_bytes(), content_type=TYPES[place.suffix], charset="utf-8")
 
 
+async def icon(request: web.Request) -> web.StreamResponse:
+    return web.Response(body=(STATIC / "icon.svg").read_bytes(), content_type=TYPES[".svg"], charset="utf-8")
+
+
 async def health(request: web.Request) -> web.StreamResponse:
     shown = office_of(request).desk_view()
     return answer(503 if shown["desk"] == "away" else 200, shown)
@@ -285,7 +289,9 @@ async def position(request: web.Request) -> web.StreamResponse:
     if name not in state.device_numbers:
         raise web.HTTPNotFound()
     device, at = state.sheet.devices[state.device_numbers[name]], second_within(request)
-    return answer(200, {"closed": state.sheet.position(device, at + 1), "alive": device.is_alive(at)})
+    holds = state.sheet.holds(device, at + 1)
+    closed = holds.closes if holds else device.is_closed
+    return answer(200, {"closed": closed, "alive": device.is_alive(at), "cause": holds.cause if holds else 0})
 
 
 async def forecast(request: web.Request) -> web.StreamResponse:
@@ -403,6 +409,7 @@ async def write_event(stream: web.StreamResponse, event: dict[str, Any]) -> None
 
 GETS: dict[str, Handler] = {
     "/health": health,
+    "/favicon.ico": icon,
     "/static/{name}": static,
     "/events": events,
     "/report": report,

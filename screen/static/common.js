@@ -112,7 +112,7 @@ export function table(heads, rows, caption = null, rowClasses = []) {
     { class: "scroll" },
     el(
       "table",
-      { class: "cards" },
+      { class: heads.length > 3 ? "cards" : null },
       caption ? el("caption", {}, caption) : "",
       el("thead", {}, el("tr", {}, head)),
       el("tbody", {}, rows.map((row, at) => el("tr", { class: rowClasses[at] || null }, cells(row, at)))),

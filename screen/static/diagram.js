@@ -1,7 +1,7 @@
 // The one-line diagram: GRID at the left, each layer of normally closed devices a column further, ties as arcs.
 import { el, svg } from "./common.js";
 
-const COLUMN = 200, ROW = 62, WIDTH = 122, HEIGHT = 36, EDGE = 14;
+const COLUMN = 224, ROW = 62, WIDTH = 122, HEIGHT = 36, EDGE = 14;
 
 const place = (node) => ({ x: EDGE + node.layer * COLUMN, y: EDGE + 14 + node.row * ROW });
 
@@ -53,19 +53,21 @@ function deviceShapes(device, nodes, link) {
     svg("rect", { class: "hit", x: way.x - 15, y: way.y - 15, width: 30, height: 30 }),
     ...mark,
     svg("rect", { class: "box", x: way.x - 6, y: way.y - 6, width: 12, height: 12 }),
-    svg("text", { x: way.x, y: way.y - 16, "text-anchor": "middle" }, `${device.name}${odd ? (device.closed ? " closed!" : " open!") : ""}`),
+    svg("text", device.tree ? { x: way.x, y: way.y - 16, "text-anchor": "middle" } : { x: way.x + 17, y: way.y + 4 }, `${device.name}${odd ? (device.closed ? " closed!" : " open!") : ""}`),
   );
   return [svg("path", { class: kinds.join(" "), d: way.d }), shown];
 }
 
-export function diagram(shown, link) {
+/** The diagram of a network; where there is room it is drawn larger. */
+export function diagram(shown, link, room) {
   const layers = Math.max(...shown.nodes.map((node) => node.layer)) + 1;
   const rows = Math.max(...shown.nodes.map((node) => node.row)) + 1;
-  const width = EDGE * 2 + layers * COLUMN + 90, height = EDGE * 2 + rows * ROW + 24;
+  const width = EDGE * 2 + layers * COLUMN + 130, height = EDGE * 2 + rows * ROW + 24;
+  const scale = Math.min(1.5, Math.max(1, room / width));
   const parts = shown.devices.map((device) => deviceShapes(device, shown.nodes, link));
   const picture = svg(
     "svg",
-    { class: "diagram", width, height, viewBox: `0 0 ${width} ${height}`, role: "group", "aria-label": "One-line diagram" },
+    { class: "diagram", width: width * scale, height: height * scale, viewBox: `0 0 ${width} ${height}`, role: "group", "aria-label": "One-line diagram" },
     parts.map(([way]) => way),
     shown.nodes.map(nodeShape),
     parts.map(([, device]) => device),

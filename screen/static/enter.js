@@ -9,12 +9,12 @@ const wanted = new URLSearchParams(location.search);
 begin(async () => {
   const device = text({ list: "devices", maxlength: 24, required: true, value: wanted.get("device") || "" });
   const position = choice([["open", "open"], ["close", "close"]]);
-  const cause = choice(causes());
+  const cause = choice([["", "choose a cause"], ...causes()]);
   const crew = text({ list: "crews", maxlength: 16, value: known.me.name });
   const stands = el("div", { class: "note", role: "status" });
   const read = () => {
     const command = { kind: "switch", f1: device.value.trim().toUpperCase(), f2: position.value, f3: second.second, f4: cause.value, f5: crew.value.trim().toUpperCase() };
-    return command.f1 && command.f3 && command.f5 ? command : null;
+    return command.f1 && command.f3 && command.f4 && command.f5 ? command : null;
   };
   const second = new MomentField("Second, by the clock of the book's zone", "", () => look());
   const inputs = [device, position, cause, crew, second.input];
@@ -34,6 +34,7 @@ begin(async () => {
     if (!found) return;
     stands.replaceChildren(`${name} is ${found.closed ? "closed" : "open"} then${found.alive ? "" : ", and not in the network"}.`);
     position.value = found.closed ? "open" : "close";
+    if (!found.closed && found.cause && !cause.value) cause.value = String(found.cause);
   };
   const look = settled(async () => {
     if (!sender.intent) await offerOther();
@@ -56,7 +57,7 @@ begin(async () => {
   );
   main.append(
     known.me.may_send ? "" : el("p", { class: "warn" }, "This login may look: a forecast is shown, and nothing can be sent."),
-    el("div", { class: "two" }, form, el("div", { class: "card" }, sender.element)),
+    el("div", { class: "two wide" }, form, el("div", { class: "card" }, sender.element)),
   );
   onCommands(() => reloadBook());
   const at = wanted.get("at");

@@ -47,7 +47,7 @@ async function show() {
     el("div", { class: "tile" }, at ? "As of" : "As of now, or the period's end", el("b", { class: "when" }, moment(shown.at))),
   );
   list.replaceChildren(el("h2", {}, "Sections without supply ", HERE()), outageTable(shown));
-  picture.replaceChildren(el("h2", {}, "The network ", HERE()), legend(), diagram(shown, link));
+  picture.replaceChildren(el("h2", {}, "The network ", HERE()), legend(), diagram(shown, link, main.clientWidth - 40));
   picture.querySelector(".scroll").scrollTo(...seen);
   document.body.dataset.number = shown.number;
 }

@@ -106,7 +106,7 @@ function work(entry) {
   kind.addEventListener("input", () => { told.hidden = kind.value === "withdraw"; changed(); });
   for (const input of [position, cause, crew]) input.addEventListener("input", changed);
   second.read();
-  return el("form", { class: "two", submit: (event) => { event.preventDefault(); sender.send(); } }, el("div", {}, field("What", kind), told), sender.element);
+  return el("form", { class: "two wide", submit: (event) => { event.preventDefault(); sender.send(); } }, el("div", {}, field("What", kind), told), sender.element);
 }
 
 async function showLog() {

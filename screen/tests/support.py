@@ -103,3 +103,50 @@ def call(url: str, body: bytes | None = None, headers: dict[str, str] | None = N
     except urllib.error.HTTPError as error:
         with error:
             return error.code, error.read()
+
+
+class Screen:
+    """A screen over a book, on a port of its own."""
+
+    def __init__(self, book: Path, *words: str, desk: Desk | None = None):
+        command = [str(SCREEN / "outagebook-screen"), "--book", str(book), "--port", "0", "--program", str(PROGRAM)]
+        command += ["--desk", desk.url] if desk else []
+        self.book = book
+        self.process = subprocess.Popen([*command, *words], stdout=subprocess.PIPE, stderr=subprocess.PIPE, text=True)
+        assert self.process.stdout is not None and self.process.stderr is not None
+        line = self.process.stdout.readline()
+        if not line:
+            raise AssertionError(self.process.stderr.read())
+        self.port = int(line.rpartition(":")[2])
+        self.url = f"http://127.0.0.1:{self.port}"
+        self.headers: dict[str, str] = {}
+
+    def end(self) -> None:
+        self.process.terminate()
+        self.process.wait(20)
+        for pipe in (self.process.stdout, self.process.stderr):
+            assert pipe is not None
+            pipe.close()
+
+    def call(self, route: str, body: bytes | None = None, headers: dict[str, str] | None = None) -> tuple[int, Any]:
+        """The status and the JSON of a request."""
+        status, data = call(self.url + route, body, {**self.headers, **(headers or {})})
+        return status, json.loads(data) if data else None
+
+    def log_in(self, name: str) -> None:
+        """Gives a name, and keeps its cookie and its token."""
+        self.headers = {"Cookie": f"screen_name={name}"}
+        self.headers["X-Screen-Token"] = self.call("/api/me")[1]["token"]
+
+    def post(self, command: dict[str, str]) -> tuple[int, Any]:
+        return self.call("/api/command", json.dumps(command).encode(), {"Content-Type": "application/json"})
+
+    def number(self) -> int:
+        """The last command that the screen knows."""
+        found: int = self.call("/health")[1]["number"]
+        return found
+
+    def desk_process(self) -> int:
+        """The process of the desk that this screen started."""
+        children = Path(f"/proc/{self.process.pid}/task/{self.process.pid}/children").read_text().split()
+        return int(children[0])
