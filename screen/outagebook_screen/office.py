@@ -141,7 +141,7 @@ class Office:
         self.journal.write(login, command["ref"], status=answer.status, answer=body_of(answer))
         reply = answer.json()
         if answer.status != 200:
-            return answer.status, self.refused(command, reply, answer)
+            return answer.status, await self.refused(command, reply, answer)
         number, moves = reply["no"], [(dim, key, amount) for dim, key, amount in reply["moved"]]
         await self.learn(number, accepted(number, command), moves)
         shown = {"reply": reply, "text": answer.body.decode(), "tries": tries, "again": number <= known}
@@ -150,7 +150,12 @@ class Office:
             shown |= {"counted": [list(move) for move in here], "equal": here == moves}
         return 200, shown
 
-    def refused(self, command: dict[str, str], reply: dict[str, Any], answer: Answer) -> dict[str, Any]:
+    async def refused(self, command: dict[str, str], reply: dict[str, Any], answer: Answer) -> dict[str, Any]:
+        """A refusal in words. It often means that another command came first: so the state is brought up to it."""
+        try:
+            await self.look()
+        except Away:
+            pass
         shown = {"error": "refused", "reply": reply, "text": answer.body.decode()}
         shown["words"] = refusals.words_of(self.state, command, reply)
         if reply.get("refused") in (7, 8):

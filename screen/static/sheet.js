@@ -9,6 +9,7 @@ const rows = el("section", { "aria-label": "Entries" });
 const log = el("section", { "aria-label": "The screen's log" });
 const wanted = {};
 let from = 0;
+let opened = null;
 
 const tags = (entry) => ["late", "corrected"].filter((name) => entry[name]).concat(entry.kept ? [] : ["withdrawn"]).map((name) => el("span", { class: `tag ${name}` }, name));
 
@@ -61,8 +62,18 @@ async function show() {
   document.body.dataset.number = shown.number;
 }
 
+/** The entry that is looked at was told anew by somebody: it is offered as it is now. */
+async function lookAgain() {
+  if (!opened || opened.sender?.intent) return;
+  const entry = await get(`/api/entries/${opened.no}`);
+  if (entry.revision === opened.revision || detail.querySelector(".changed")) return;
+  const again = el("button", { type: "button", class: "main anew", click: () => open(entry.no) }, "Look at it as it is now");
+  detail.firstElementChild?.prepend(el("div", { class: "warn changed", role: "status" }, el("p", {}, `Somebody told this entry anew: ${entryWords(entry)}`), again));
+}
+
 async function open(no, focus = true) {
   const entry = await get(`/api/entries/${no}`);
+  opened = { no: entry.no, revision: entry.revision, sender: null };
   const parts = [el("h2", {}, `Entry ${entry.no} `, tags(entry)), el("p", {}, entryWords(entry))];
   for (const command of entry.history) {
     const reply = command.text ? JSON.parse(command.text) : null;
@@ -70,7 +81,7 @@ async function open(no, focus = true) {
     parts.push(el("details", {}, el("summary", {}, words, " ", PROGRAM()), reply ? el("div", { class: "tall scroll" }, movesTable(reply.moved)) : "the desk gives no reply"));
   }
   if (entry.kept && known.me.may_send) parts.push(work(entry));
-  parts.push(el("div", { class: "buttons" }, el("button", { type: "button", click: () => { detail.replaceChildren(); rows.querySelector(`[data-entry="${no}"]`)?.focus(); } }, "Close")));
+  parts.push(el("div", { class: "buttons" }, el("button", { type: "button", click: () => { opened = null; detail.replaceChildren(); rows.querySelector(`[data-entry="${no}"]`)?.focus(); } }, "Close")));
   detail.replaceChildren(el("div", { class: "card" }, parts));
   if (focus) detail.focus();
 }
@@ -95,7 +106,7 @@ function work(entry) {
     read,
     lock: (locked) => inputs.forEach((input) => (input.disabled = locked)),
     after: (shown, refused) => {
-      if (shown) { entry.revision += 1; entry.kept = kind.value === "correct"; inputs.forEach((input) => (input.disabled = true)); }
+      if (shown) { opened.revision = entry.revision += 1; entry.kept = kind.value === "correct"; inputs.forEach((input) => (input.disabled = true)); }
       if (refused?.entry) offerAnew(refused.entry);
     },
   });
@@ -103,6 +114,7 @@ function work(entry) {
     const again = el("button", { type: "button", class: "main anew", click: () => open(now.no) }, "Look at it as it is now");
     sender.outcome.append(el("div", { class: "buttons" }, again));
   };
+  opened.sender = sender;
   kind.addEventListener("input", () => { told.hidden = kind.value === "withdraw"; changed(); });
   for (const input of [position, cause, crew]) input.addEventListener("input", changed);
   second.read();
@@ -121,7 +133,7 @@ async function showLog() {
 
 begin(async () => {
   main.append(filters(), detail, rows, log);
-  onCommands(() => { show(); showLog(); });
+  onCommands(() => { show(); showLog(); lookAgain(); });
   await show();
   await showLog();
   const asked = new URLSearchParams(location.search).get("entry");

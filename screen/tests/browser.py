@@ -47,6 +47,7 @@ class Browser:
             base = "/".join(url.split("/")[:3])
             self.driver.get(f"{base}/static/icon.svg")
             self.driver.add_cookie({"name": "screen_name", "value": name, "path": "/"})
+        self.driver.get_log("browser")
         self.driver.get(url)
         self.ready()
 
@@ -104,8 +105,9 @@ class Browser:
         return support.until(seen, what=what)
 
     def complaints(self) -> list[str]:
-        """What the browser's console complains of."""
-        return [row["message"] for row in self.driver.get_log("browser") if row["level"] == "SEVERE"]
+        """What the browser's console complains of since the page was opened: scripts that failed, what the policy forbids."""
+        rows = [row["message"] for row in self.driver.get_log("browser") if row["level"] == "SEVERE"]
+        return [row for row in rows if "Failed to load resource: the server responded" not in row]
 
     def picture(self, path: str, whole: bool = True) -> None:
         if whole:

@@ -8,6 +8,7 @@ import socket
 import threading
 import time
 import unittest
+from pathlib import Path
 
 import support
 from outagebook_screen import moments, reader
@@ -27,6 +28,13 @@ def talk(port: int, data: bytes, seconds: float = 20) -> bytes:
         except ConnectionResetError:
             pass
         return b"".join(parts)
+
+
+def is_running(process: int) -> bool:
+    try:
+        return Path(f"/proc/{process}/stat").read_text().rpartition(")")[2].split()[0] != "Z"
+    except OSError:
+        return False
 
 
 class Case(unittest.TestCase):
@@ -204,7 +212,7 @@ class Faults(Case):
         screen = self.screen("with-it")
         desk = screen.desk_process()
         screen.process.kill()
-        support.until(lambda: not os.path.exists(f"/proc/{desk}") or "Z" in open(f"/proc/{desk}/stat").read(), what="its end")
+        support.until(lambda: not is_running(desk), what="its end")
 
 
 class Cutter:
