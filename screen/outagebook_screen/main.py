@@ -15,7 +15,7 @@ from .desk import Away, Desk, OwnDesk
 from .guard import Guard
 from .journal import Journal
 from .office import Office, new_state
-from .reader import BookError, Differs, Words
+from .reader import BookError, Differs, Parser
 from .web import Settings, application
 
 FIRST_ANSWER_SECONDS = 600
@@ -23,7 +23,7 @@ BETWEEN_TRIES = 0.5
 
 
 def read_words() -> argparse.Namespace:
-    words = Words(prog="outagebook-screen", description="The screen of an outage book's desk, for browsers on 127.0.0.1.")
+    words = Parser(prog="outagebook-screen", description="The screen of an outage book's desk, for browsers on 127.0.0.1.")
     words.add_argument("--book", metavar="FILE", type=Path, required=True, help="the book that the desk serves")
     words.add_argument("--port", type=int, default=8081, help="the port of 127.0.0.1 (8081); 0 takes one that is free")
     words.add_argument("--desk", metavar="URL", help="a desk that is there; without it the screen starts one of its own")

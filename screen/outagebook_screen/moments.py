@@ -34,13 +34,9 @@ def read_moment(zone: Zone, text: str) -> list[Moment]:
         raise Refused("a moment is typed as 2025-04-05 06:10:00, by the clock of the book's zone")
     day, minute, second, offset = match.groups()
     try:
-        civil = datetime.fromisoformat(f"{day}T{minute}{second or ':00'}+00:00")
-        if offset:
-            told = datetime.fromisoformat(f"{day}T{minute}{second or ':00'}{'+00:00' if offset == 'Z' else offset}")
-            seconds = [int(told.timestamp())]
-        else:
-            seconds = zone.instants(int(civil.timestamp()))
-    except ValueError:
+        shown = datetime.fromisoformat(f"{day}T{minute}{second or ':00'}{offset or ''}")
+        seconds = [int(shown.timestamp())] if offset else zone.instants(shown)
+    except (ValueError, OverflowError):
         raise Refused(f"{text} is no date and time") from None
     if not seconds:
         raise Refused(f"the clock of the book's zone never shows {text}: it is set forward over that hour")

@@ -8,17 +8,17 @@ from contextlib import closing
 from dataclasses import dataclass
 from pathlib import Path
 
-HERE = Path(__file__).resolve().parent
-for folder in (HERE.parent.parent / "tools", HERE.parent):  # in the clone; where they are installed
-    if (folder / "book.py").exists():
-        sys.path.insert(1, str(folder))
-        break
+ROOT = Path(__file__).resolve().parent.parent.parent
+TOOLS = next(folder for folder in (ROOT / "tools", ROOT) if (folder / "outagebook" / "rows.py").exists())
+sys.path.insert(1, str(TOOLS))  # in the clone, or where both are installed
 
-from book import Device, Entry, Period, Section, copy_of, read_book  # noqa: E402
-from clock import Zone  # noqa: E402
-from tool import BookError, Differs, Words  # noqa: E402
+from outagebook.cli import Parser  # noqa: E402
+from outagebook.copies import copy_of  # noqa: E402
+from outagebook.errors import BookError, Differs  # noqa: E402
+from outagebook.rows import Device, Entry, Period, Section, read_book  # noqa: E402
+from outagebook.zone import Zone  # noqa: E402
 
-__all__ = ["BookError", "Command", "Device", "Differs", "Entry", "Period", "Rows", "Section", "Words", "Zone"]
+__all__ = ["BookError", "Command", "Device", "Differs", "Entry", "Period", "Rows", "Parser", "Section", "Zone"]
 __all__ += ["command_of", "copy_of", "moves_by_second_program", "read_later", "read_rows", "report_words", "tool_words"]
 
 DIMENSIONS = {1: "cause", 2: "feeder", 3: "day"}
@@ -108,10 +108,7 @@ def moves_by_second_program(path: Path, number: int) -> Moves:
 
 def tool_words(tool: str) -> list[str]:
     """The words that run one of the tools."""
-    for folder in (HERE.parent.parent / "tools", HERE.parent):
-        if (folder / f"{tool}.py").exists():
-            return [sys.executable, str(folder / f"{tool}.py")]
-    return [f"outagebook-{tool}"]
+    return [sys.executable, str(TOOLS / f"{tool}.py")]
 
 
 def report_words(book: Path, output: Path, program: str) -> list[str]:

@@ -22,7 +22,6 @@ begin(async () => {
     read,
     label: "Send to the desk",
     lock: (locked) => inputs.forEach((input) => (input.disabled = locked)),
-    after: (shown) => shown && look(),
   });
   const offerOther = async () => {
     const name = device.value.trim().toUpperCase();

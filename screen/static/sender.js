@@ -48,11 +48,17 @@ export class Sender {
     this.outcome = el("div", { class: "outcome", role: "status", tabindex: "-1" });
     this.button = el("button", { type: "button", class: "main send", disabled: true, click: () => this.send() }, label);
     this.element = el("div", { class: "sender" }, this.forecast, el("div", { class: "buttons" }, this.button), this.outcome);
-    this.update = settled(() => this.look());
-    onCommands(() => this.intent || this.update());
+    this.rests = false; // after an answer, until a field is changed
+    const later = settled(() => this.rests || this.look());
+    this.update = () => {
+      this.rests = false;
+      later();
+    };
+    onCommands(() => this.intent || this.rests || later());
   }
 
   async look() {
+    if (this.intent) return;
     const count = ++this.count;
     const command = this.read();
     this.shown = null;
@@ -131,6 +137,9 @@ export class Sender {
     parts.push(el("div", { class: "tall scroll" }, movesTable(counted || [], shown.reply.moved)), el("p", { class: "mono reply" }, shown.text));
     this.outcome.replaceChildren(el("div", { class: "card" }, parts));
     this.forecast.replaceChildren();
+    this.shown = null;
+    this.count += 1;
+    this.rests = true;
     this.after(shown);
   }
 

@@ -271,9 +271,9 @@ class Pages(Case):
         told = self.one.says("main", "2025-03-27 14:22:10 +01:00")
         for words in ("CHURCH-ROW", "CB-1", "2 TREE", "OUT-0327-1", "27 min 50 s"):
             self.assertIn(words, told)
-        self.assertEqual(len(self.one.all(".diagram .node.out")), 5)
+        self.assertEqual(len(self.one.all(".diagram .node.out")), 4)
         self.one.fill("Another second", "2025-03-27 15:00:00")
-        self.one.wait(lambda: len(self.one.all(".diagram .node.by_tie")) == 1, "the section on the tie")
+        self.one.wait(lambda: len(self.one.all(".diagram .node.by_tie")) == 3, "the sections on the tie")
         link = self.one.driver.execute_script("return document.querySelector('.diagram a[aria-label^=TIE-1]').href.baseVal || ''")
         self.assertIn("device=TIE-1", link)
 
