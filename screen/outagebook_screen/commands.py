@@ -5,6 +5,7 @@ from __future__ import annotations
 from collections.abc import Callable, Sequence
 from dataclasses import dataclass, replace
 from datetime import date
+from typing import Any
 
 from .reader import Command, Device, Entry, Moves, Service
 from .roll import Roll
@@ -104,7 +105,9 @@ def hints_of(state: State, device: Device, closes: bool, second: int) -> list[st
     """What a person should know who enters this: nothing of it is a refusal."""
     hints = []
     if not device.is_alive(second):
-        hints.append(f"{device.name} isn't in the network at that second: the entry acts from the beginning of a later life on.")
+        hints.append(
+            f"{device.name} isn't in the network at that second: the entry acts from the beginning of a later life on."
+        )
     if state.sheet.position(device, second + 1) == closes:
         hints.append(f"{device.name} is {'closed' if closes else 'open'} at that second already.")
     if second < state.latest_told:
@@ -112,14 +115,10 @@ def hints_of(state: State, device: Device, closes: bool, second: int) -> list[st
     return hints
 
 
-def plan_correct(
-    state: State, number: str, revision: str, action: str, second: str, cause: str, crew: str
-) -> Plan:
+def plan_correct(state: State, number: str, revision: str, action: str, second: str, cause: str, crew: str) -> Plan:
     old, at = entry_of(state, number, revision), int(second)
     check_place(state, at, int(cause))
-    new = replace(
-        old, revision=old.revision + 1, closes=closes_by(action), second=at, cause=int(cause), crew=crew
-    )
+    new = replace(old, revision=old.revision + 1, closes=closes_by(action), second=at, cause=int(cause), crew=crew)
     return changed_sheet(state, old, new, [old.second, at], [])
 
 
@@ -302,9 +301,9 @@ PLANNERS: dict[str, Callable[..., Plan]] = {
 }
 
 
-def sections_of(state: State, planned: Plan) -> list[dict[str, object]]:
+def sections_of(state: State, planned: Plan) -> list[dict[str, Any]]:
     """The sections whose supply a plan changes: seconds lost and got back, and customers when that begins."""
-    rows = []
+    rows: list[dict[str, Any]] = []
     for node, after in planned.change.after.items():
         if not state.is_section(node):
             continue
@@ -323,10 +322,11 @@ def sections_of(state: State, planned: Plan) -> list[dict[str, object]]:
                 "until": until,
                 "loses": sum(end - begin for begin, end in lost),
                 "gets_back": sum(end - begin for begin, end in back),
-                "customer_seconds": sum(roll.between(*part) for part in lost) - sum(roll.between(*part) for part in back),
+                "customer_seconds": sum(roll.between(*part) for part in lost)
+                - sum(roll.between(*part) for part in back),
             }
         )
-    return sorted(rows, key=lambda row: (row["feeder"], row["section"]))  # type: ignore[arg-type,return-value]
+    return sorted(rows, key=lambda row: (row["feeder"], row["section"]))
 
 
 def uncovered(runs: Sequence[Run], others: Sequence[Run]) -> list[tuple[int, int]]:

@@ -23,17 +23,23 @@ BETWEEN_TRIES = 0.5
 
 
 def read_words() -> argparse.Namespace:
-    words = Parser(prog="outagebook-screen", description="The screen of an outage book's desk, for browsers on 127.0.0.1.")
+    words = Parser(
+        prog="outagebook-screen", description="The screen of an outage book's desk, for browsers on 127.0.0.1."
+    )
     words.add_argument("--book", metavar="FILE", type=Path, required=True, help="the book that the desk serves")
     words.add_argument("--port", type=int, default=8081, help="the port of 127.0.0.1 (8081); 0 takes one that is free")
-    words.add_argument("--desk", metavar="URL", help="a desk that is there; without it the screen starts one of its own")
+    words.add_argument(
+        "--desk", metavar="URL", help="a desk that is there; without it the screen starts one of its own"
+    )
     words.add_argument("--no-desk", action="store_true", help="look at a copy of a book, without any desk")
     words.add_argument("--program", metavar="PATH", default="outagebook", help="the program (outagebook on the path)")
     words.add_argument("--read-only", action="store_true", help="nobody may send commands")
     words.add_argument("--proxy", metavar="ADDRESS", help="the address whose X-Remote-User is the login, as 127.0.0.1")
     words.add_argument("--senders", metavar="PREFIX", default="", help="only logins that begin so may send commands")
     words.add_argument("--host", metavar="NAME", action="append", default=[], help="a name by which browsers call it")
-    words.add_argument("--log", metavar="FILE", type=Path, help="the screen's own log (the book's name and -screen.jsonl)")
+    words.add_argument(
+        "--log", metavar="FILE", type=Path, help="the screen's own log (the book's name and -screen.jsonl)"
+    )
     given = words.parse_args()
     if given.desk and given.no_desk:
         words.error("--desk and --no-desk exclude each other")
@@ -80,7 +86,9 @@ async def serve(given: argparse.Namespace) -> None:
     desk, own = await start_desk(given, tasks)
     try:
         log = given.log or given.book.with_name(f"{given.book.name}-screen.jsonl")
-        office = Office(given.book.resolve(), new_state(given.book.resolve()), desk, Journal(None if given.no_desk else log))
+        office = Office(
+            given.book.resolve(), new_state(given.book.resolve()), desk, Journal(None if given.no_desk else log)
+        )
         if desk is not None:
             tasks.append(asyncio.create_task(office.watch()))
         await listen(given, office, ended)
@@ -97,8 +105,8 @@ async def listen(given: argparse.Namespace, office: Office, ended: asyncio.Event
     runner = web.AppRunner(application(office, settings), access_log=None, handle_signals=False)
     await runner.setup()
     loop = asyncio.get_running_loop()
-    web_server = runner.server
-    assert web_server is not None
+    assert runner.server is not None
+    web_server: web.Server = runner.server
     try:
         server = await loop.create_server(lambda: Guard(web_server()), "127.0.0.1", given.port, backlog=1_024)
     except OSError as error:

@@ -156,7 +156,7 @@ class Office:
             await self.look()
         except Away:
             pass
-        shown = {"error": "refused", "reply": reply, "text": answer.body.decode()}
+        shown: dict[str, Any] = {"error": "refused", "reply": reply, "text": answer.body.decode()}
         shown["words"] = refusals.words_of(self.state, command, reply)
         if reply.get("refused") in (7, 8):
             shown["entry"] = refusals.stale_entry(self.state, command)

@@ -77,9 +77,13 @@ class Sheet:
     def acts(self, since: int, until: int) -> list[tuple[int, list[int], list[Entry]]]:
         """What acts from a second up to and with another: second by second the devices whose lives turn, and entries."""
         found: dict[int, tuple[list[int], list[Entry]]] = {}
-        for bound, number in self.turns[bisect_left(self.turns, (since, -1)) : bisect_right(self.turns, (until, 1 << 40))]:
+        for bound, number in self.turns[
+            bisect_left(self.turns, (since, -1)) : bisect_right(self.turns, (until, 1 << 40))
+        ]:
             found.setdefault(bound, ([], []))[0].append(number)
-        for second, number in self.order[bisect_left(self.order, (since, 0)) : bisect_right(self.order, (until, 1 << 40))]:
+        for second, number in self.order[
+            bisect_left(self.order, (since, 0)) : bisect_right(self.order, (until, 1 << 40))
+        ]:
             found.setdefault(second, ([], []))[1].append(self.entries[number - 1])
         return [(second, *found[second]) for second in sorted(found)]
 
@@ -135,9 +139,9 @@ def with_device(sheet: Sheet, device: Device) -> Sheet:
     return Sheet(devices, sheet.entries, sheet.order, by_device)
 
 
-def runs_in(sheet: Sheet, nodes: int, period: Period, window: Window, going: dict[int, tuple[int, int]]) -> tuple[
-    dict[int, Runs], dict[int, tuple[int, int]]
-]:
+def runs_in(
+    sheet: Sheet, nodes: int, period: Period, window: Window, going: dict[int, tuple[int, int]]
+) -> tuple[dict[int, Runs], dict[int, tuple[int, int]]]:
     """The runs that end in a window, by node, and those that go on behind it: their first seconds and their cutters.
 
     `going` are those that go on at the second before the window. At the period's first second there are none: before it
@@ -375,5 +379,3 @@ def touches(runs: Runs, window: Window) -> bool:
     """Some run reaches into a window or goes on up to its first second."""
     place = bisect_left(runs, window.since, key=lambda run: run.until)
     return place < len(runs) and runs[place].since <= window.until
-
-

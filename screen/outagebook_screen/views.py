@@ -234,7 +234,7 @@ def forecast_view(state: State, planned: Plan) -> Json:
     sections = sections_of(state, planned)
     window = planned.change.window
     for row in sections:
-        row |= {"since": moment(state, int(str(row["since"]))), "until": moment(state, int(str(row["until"])))}
+        row |= {"since": moment(state, row["since"]), "until": moment(state, row["until"])}
     return {
         "number": state.number,
         "sections": sections,
@@ -257,7 +257,5 @@ def customers_view(state: State, section: str) -> Json:
     rows = []
     for number in numbers[:500]:
         _, since, until = state.customers[number]
-        rows.append(
-            {"no": number, "since": text(state, since), "until": "" if until is None else text(state, until)}
-        )
+        rows.append({"no": number, "since": text(state, since), "until": "" if until is None else text(state, until)})
     return {"section": section, "customers": rows, "found": len(numbers)}

@@ -61,8 +61,12 @@ export class Sender {
     if (this.intent) return;
     const count = ++this.count;
     const command = this.read();
-    this.shown = null;
-    this.button.disabled = true;
+    const told = JSON.stringify(command);
+    if (told !== this.told) { // else the old forecast stays until the new one is there: the book changed, not the form
+      this.shown = null;
+      this.button.disabled = true;
+    }
+    this.told = told;
     if (!command) {
       this.forecast.replaceChildren(el("p", { class: "note" }, "Fill in the fields: what it would do is shown here before it is sent."));
       return;
@@ -76,6 +80,8 @@ export class Sender {
       this.button.disabled = !known.me.may_send;
     } catch (trouble) {
       if (count !== this.count) return;
+      this.shown = null;
+      this.button.disabled = true;
       this.forecast.replaceChildren(el("p", { class: "bad" }, `As the book stands this can't be: ${trouble.message}.`));
     }
   }
@@ -138,6 +144,7 @@ export class Sender {
     this.outcome.replaceChildren(el("div", { class: "card" }, parts));
     this.forecast.replaceChildren();
     this.shown = null;
+    this.told = null;
     this.count += 1;
     this.rests = true;
     this.after(shown);

@@ -52,7 +52,9 @@ class Browser:
         self.ready()
 
     def ready(self) -> None:
-        support.until(lambda: self.driver.execute_script("return document.body.dataset.ready") == "yes", what="the page")
+        support.until(
+            lambda: self.driver.execute_script("return document.body.dataset.ready") == "yes", what="the page"
+        )
 
     def all(self, selector: str) -> list[WebElement]:
         found: list[WebElement] = self.driver.find_elements(By.CSS_SELECTOR, selector)
@@ -97,7 +99,9 @@ class Browser:
         return self.text(selector)
 
     def click(self, selector: str) -> None:
-        support.until(lambda: self.all(selector) and self.all(selector)[0].is_enabled(), what=f"{selector} to be clicked")
+        support.until(
+            lambda: self.all(selector) and self.all(selector)[0].is_enabled(), what=f"{selector} to be clicked"
+        )
         self.driver.execute_script("arguments[0].scrollIntoView({block: 'center'})", self.find(selector))
         self.find(selector).click()
 

@@ -27,7 +27,9 @@ class Case(unittest.TestCase):
         cls.one, cls.other = cls.browsers
 
     def screen(self, *words: str, desk: support.Desk | None = None, book: str = "") -> support.Screen:
-        found = support.Screen(desk.book if desk else support.fortnight(book or self._testMethodName), *words, desk=desk)
+        found = support.Screen(
+            desk.book if desk else support.fortnight(book or self._testMethodName), *words, desk=desk
+        )
         self.addCleanup(found.end)
         return found
 
@@ -163,7 +165,12 @@ class Operators(Case):
 
     def test_hours_of_the_books_zone(self) -> None:
         book = support.new_book("autumn", None, ("2025-10-20", "14", "CET-1CEST,M3.5.0,M10.5.0/3"))
-        for row in ("section,N1,S1,1,,,,", "device,N2,B1,GRID,S1,closed,,", "connect,N3,1,S1,0,,,", "cause,N4,1,TREE,,,,"):
+        for row in (
+            "section,N1,S1,1,,,,",
+            "device,N2,B1,GRID,S1,closed,,",
+            "connect,N3,1,S1,0,,,",
+            "cause,N4,1,TREE,,,,",
+        ):
             text = support.folder() / "row.csv"
             text.write_text(f"kind,ref,f1,f2,f3,f4,f5,f6\n{row}\n")
             support.run("import", "--book", book, text)
@@ -260,7 +267,9 @@ class Pages(Case):
             for route in ("/", "/sheet", "/sheet?entry=10", LATE, "/network", "/year"):
                 page.open(screen.url + route)
                 page.find("main table")
-                wide, room = page.driver.execute_script("return [document.documentElement.scrollWidth, window.innerWidth]")
+                wide, room = page.driver.execute_script(
+                    "return [document.documentElement.scrollWidth, window.innerWidth]"
+                )
                 self.assertLessEqual(wide, room, route)
                 self.assertEqual(page.complaints(), [], route)
 
@@ -274,7 +283,9 @@ class Pages(Case):
         self.assertEqual(len(self.one.all(".diagram .node.out")), 4)
         self.one.fill("Another second", "2025-03-27 15:00:00")
         self.one.wait(lambda: len(self.one.all(".diagram .node.by_tie")) == 3, "the sections on the tie")
-        link = self.one.driver.execute_script("return document.querySelector('.diagram a[aria-label^=TIE-1]').href.baseVal || ''")
+        link = self.one.driver.execute_script(
+            "return document.querySelector('.diagram a[aria-label^=TIE-1]').href.baseVal || ''"
+        )
         self.assertIn("device=TIE-1", link)
 
     def test_a_tie_joins_and_a_day_is_marked(self) -> None:
@@ -297,7 +308,9 @@ class Pages(Case):
         page.says(".outcome .equal", "equal")
         page.says("main", "2025-03-25 marked")
         page.field("File").send_keys(str(support.EXAMPLES / "corrections.csv"))
-        page.driver.execute_script("[...document.querySelectorAll('button')].find((each) => each.textContent === 'Import').click()")
+        page.driver.execute_script(
+            "[...document.querySelectorAll('button')].find((each) => each.textContent === 'Import').click()"
+        )
         page.says(".imported", "Added 3, known before 0")
 
     def test_a_login_that_may_only_look(self) -> None:
@@ -329,13 +342,19 @@ class Crowd(Case):
             except Exception as error:  # told by the test itself, in its own thread
                 failures.append(f"{name}: {error}")
 
-        threads = [threading.Thread(target=enter, args=each) for each in ((self.one, "ANNA", 1), (self.other, "BERT", 2))]
+        threads = [
+            threading.Thread(target=enter, args=each) for each in ((self.one, "ANNA", 1), (self.other, "BERT", 2))
+        ]
         for thread in threads:
             thread.start()
         chance = random.Random(3)
         for number in range(COMMANDS // 4):
             second = str(chance.randrange(1_742_770_800, 1_743_976_800))
-            fields = {"f1": chance.choice(["CB-2", "TIE-1", "LBS-11"]), "f2": chance.choice(["open", "close"]), "f3": second}
+            fields = {
+                "f1": chance.choice(["CB-2", "TIE-1", "LBS-11"]),
+                "f2": chance.choice(["open", "close"]),
+                "f3": second,
+            }
             desk.post({"kind": "switch", "ref": f"CURL-{number}", **fields, "f4": "2", "f5": "CREW-9"})
             if number == COMMANDS // 8:
                 rows = (support.EXAMPLES / "corrections.csv").read_bytes()
@@ -361,15 +380,22 @@ class Crowd(Case):
 
     def enter_one(self, page: browser.Browser, chance: random.Random, number: int) -> None:
         """Enters one switching in the form, and looks that the forecast was the reply."""
-        page.fill("Device", chance.choice(["CB-1", "CB-2", "LBS-11", "LBS-12", "LBS-21", "LBS-22", "TIE-1", "TIE-2", "INC-1"]))
+        page.fill(
+            "Device", chance.choice(["CB-1", "CB-2", "LBS-11", "LBS-12", "LBS-21", "LBS-22", "TIE-1", "TIE-2", "INC-1"])
+        )
         page.fill("Second", str(chance.randrange(1_742_770_800, 1_743_976_800)))
         page.wait(lambda: "from UTC" in page.text(".moment"), "the moment")
         time.sleep(0.35)
         page.fill("From that second", chance.choice(["open", "close"]))
         before = page.text(".outcome .reply")
-        support.until(lambda: "W moves by" in page.text(".forecast") and page.find(".send").is_enabled(), what="the forecast")
+        support.until(
+            lambda: "W moves by" in page.text(".forecast") and page.find(".send").is_enabled(), what="the forecast"
+        )
         page.click(".send")
-        support.until(lambda: page.text(".outcome .reply") not in ("", before), what="the reply")
+        try:
+            support.until(lambda: page.text(".outcome .reply") not in ("", before), what="the reply")
+        except AssertionError:
+            raise AssertionError(f"no reply: {page.text('main')}") from None
         if "The forecast is equal" not in page.text(".outcome"):
             raise AssertionError(page.text(".outcome"))
 

@@ -47,7 +47,8 @@ class Office:
 
     def command(self, number: int) -> tuple[str, list[str]]:
         kind = self.random.choices(
-            ["switch", "correct", "withdraw", "life", "device", "section", "connect", "revise"], [10, 6, 3, 4, 2, 1, 2, 2]
+            ["switch", "correct", "withdraw", "life", "device", "section", "connect", "revise"],
+            [10, 6, 3, 4, 2, 1, 2, 2],
         )[0]
         device = self.random.choice(self.known.sheet.devices).name
         action, cause = self.random.choice(["open", "close"]), str(self.random.randint(1, 8))

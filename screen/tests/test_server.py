@@ -70,7 +70,11 @@ class Commands(Case):
         screen = self.screen("refusals")
         screen.log_in("ANNA")
         wrong = [
-            ({"kind": "correct", "f1": "10", "f2": "1", "f3": "close", "f4": "1743093000", "f5": "2", "f6": "A"}, 7, "revision 2"),
+            (
+                {"kind": "correct", "f1": "10", "f2": "1", "f3": "close", "f4": "1743093000", "f5": "2", "f6": "A"},
+                7,
+                "revision 2",
+            ),
             ({**LIGHTHOUSE, "f3": "1"}, 5, "2025-03-24T00:00:00+01:00"),
             ({**LIGHTHOUSE, "f1": "NOSUCH"}, 2, "no device NOSUCH"),
             ({**LIGHTHOUSE, "f5": "<b>"}, 1, "crew"),
@@ -254,7 +258,9 @@ class Hostile(Case):
     def command(self, **headers: str | None) -> int:
         body = json.dumps({**LIGHTHOUSE, "ref": "SCR-ANNA-1"}).encode()
         told = {"Content-Type": "application/json", **headers}
-        return self.seen.call("/api/command", body, {name.replace("_", "-"): value for name, value in told.items() if value})[0]
+        return self.seen.call(
+            "/api/command", body, {name.replace("_", "-"): value for name, value in told.items() if value}
+        )[0]
 
     def test_origins_hosts_tokens_methods(self) -> None:
         self.assertEqual(self.command(X_Screen_Token="0" * 64), 403)
@@ -276,7 +282,9 @@ class Hostile(Case):
             status, _ = self.seen.call("/api/command", body, {"Content-Type": "application/json"})
             self.assertEqual(status, 422, body[:20])
         self.assertEqual(self.seen.post({"kind": "switch", "ref": "SCR-ANNA-1", "f1": "X" * 20_000})[0], 413)
-        self.assertEqual(self.seen.post({"kind": "mark", "ref": "SCR-ANNA-1", "f1": "2025-03-25", "f2": "BERT"})[0], 422)
+        self.assertEqual(
+            self.seen.post({"kind": "mark", "ref": "SCR-ANNA-1", "f1": "2025-03-25", "f2": "BERT"})[0], 422
+        )
         self.assertEqual(self.seen.number(), 102)
 
     def test_bytes_that_are_no_request(self) -> None:
@@ -284,12 +292,17 @@ class Hostile(Case):
         host = f"Host: 127.0.0.1:{self.seen.port}\r\n".encode()
         texts = [b"\r\n\r\n", b"GET\r\n\r\n", b"\x16\x03\x01\x02\x00\x01\r\n\r\n", b"GET / HTTP/9.9\r\n\r\n"]
         texts += [bytes(chance.randrange(256) for _ in range(300)) + b"\r\n\r\n" for _ in range(20)]
-        texts += [b"POST /api/command HTTP/1.1\r\n" + host + b"Transfer-Encoding: chunked\r\n\r\n5\r\nhello\r\n0\r\n\r\n"]
+        texts += [
+            b"POST /api/command HTTP/1.1\r\n" + host + b"Transfer-Encoding: chunked\r\n\r\n5\r\nhello\r\n0\r\n\r\n"
+        ]
         texts += [b"POST /api/command HTTP/1.1\r\n" + host + b"Content-Length: x\r\n\r\n"]
         texts += [b"POST /api/import HTTP/1.1\r\n" + host + b"Content-Length: 99999999\r\n\r\n"]
         texts += [b"GET / HTTP/1.1\r\n" + host + b"X: " + b"y" * 20_000 + b"\r\n\r\n"]
         texts += [b"GET / HTTP/1.1\r\n" + host + b"A: b\r\n" * 4_000 + b"\r\n"]
-        texts += [b"GET /../../etc/passwd HTTP/1.1\r\n" + host + b"\r\n", b"GET /static/..%2fscreen HTTP/1.1\r\n" + host + b"\r\n"]
+        texts += [
+            b"GET /../../etc/passwd HTTP/1.1\r\n" + host + b"\r\n",
+            b"GET /static/..%2fscreen HTTP/1.1\r\n" + host + b"\r\n",
+        ]
         for text in texts:
             reply = talk(self.seen.port, text)
             self.assertTrue(reply == b"" or reply.split(b" ")[1][:1] in (b"4", b"5"), (text[:60], reply[:60]))
@@ -352,7 +365,9 @@ class Moments(unittest.TestCase):
         zone = reader.Zone("CET-1CEST,M3.5.0,M10.5.0/3")
         both = moments.read_moment(zone, "2025-10-26 02:30:00")
         self.assertEqual([each.text for each in both], ["2025-10-26T02:30:00+02:00", "2025-10-26T02:30:00+01:00"])
-        self.assertEqual([each.second for each in moments.read_moment(zone, "2025-10-26T02:30:00+01:00")], [both[1].second])
+        self.assertEqual(
+            [each.second for each in moments.read_moment(zone, "2025-10-26T02:30:00+01:00")], [both[1].second]
+        )
         self.assertEqual(len(moments.read_moment(zone, "2025-04-05 06:10")), 1)
         for wrong in ("2025-03-30 02:30:00", "tomorrow", "2025-02-30 10:00:00", "1900-01-01 00:00:00", ""):
             with self.assertRaises(Refused, msg=wrong):
