@@ -3,7 +3,7 @@
 from __future__ import annotations
 
 import re
-from collections.abc import Sequence
+from collections.abc import Callable, Sequence
 from typing import Any
 
 from .commands import Plan, sections_of
@@ -167,7 +167,8 @@ def entry_view(state: State, entry: Entry) -> Json:
 
 def sheet_view(state: State, wanted: dict[str, str]) -> Json:
     """A page of the entries that are asked for, newest first or by second."""
-    found = [entry for entry in state.sheet.entries if is_wanted(state, entry, wanted)]
+    tests = tests_of(state, wanted)
+    found = [entry for entry in state.sheet.entries if all(test(entry) for test in tests)]
     if wanted.get("order") == "second":
         found.sort(key=lambda entry: (entry.second, entry.number))
     else:
@@ -183,21 +184,32 @@ def sheet_view(state: State, wanted: dict[str, str]) -> Json:
     }
 
 
-def is_wanted(state: State, entry: Entry, wanted: dict[str, str]) -> bool:
-    """Whether an entry is one that the fields of the search ask for; an empty field asks for nothing."""
-    device = state.sheet.devices[entry.device]
+def tests_of(state: State, wanted: dict[str, str]) -> list[Callable[[Entry], bool]]:
+    """What the fields of a search ask of an entry; an empty field asks for nothing."""
     name, crew = wanted.get("device", "").upper(), wanted.get("crew", "").upper()
-    section, day, cause = wanted.get("section", "").upper(), wanted.get("day", ""), wanted.get("cause", "")
-    ends = (state.nodes[device.a][0], state.nodes[device.b][0])
-    checks = (
-        not name or name in device.name,
-        not crew or crew in entry.crew,
-        not cause or str(entry.cause) == cause,
-        not day or text(state, entry.second)[:10] == day,
-        not section or section in ends or any(section == state.nodes[node][0] for node in cut_off_by(state, entry)),
-        wanted.get("marked", "") in ("", *marks_of(state, entry)),
-    )
-    return all(checks)
+    day, cause, marked = wanted.get("day", ""), wanted.get("cause", ""), wanted.get("marked", "")
+    tests: list[Callable[[Entry], bool]] = []
+    if name:
+        tests.append(lambda entry: name in state.sheet.devices[entry.device].name)
+    if crew:
+        tests.append(lambda entry: crew in entry.crew)
+    if cause:
+        tests.append(lambda entry: str(entry.cause) == cause)
+    if day:
+        tests.append(lambda entry: text(state, entry.second)[:10] == day)
+    if marked:
+        tests.append(lambda entry: marked in marks_of(state, entry))
+    if wanted.get("section"):
+        tests.append(of_section(state, wanted["section"].upper()))
+    return tests
+
+
+def of_section(state: State, section: str) -> Callable[[Entry], bool]:
+    """Entries of the devices at a section, and those that cut it off."""
+    node = state.node_numbers.get(section, -1)
+    beside = {device.number for device in state.sheet.devices if node in (device.a, device.b)}
+    cutters = {run.cutter for run in state.runs.get(node, [])}
+    return lambda entry: entry.device in beside or entry.number in cutters
 
 
 def marks_of(state: State, entry: Entry) -> list[str]:
@@ -208,15 +220,6 @@ def marks_of(state: State, entry: Entry) -> list[str]:
     if any(command.kind == "correct" for command in state.histories.get(entry.number, [])):
         found.append("corrected")
     return found
-
-
-def cut_off_by(state: State, entry: Entry) -> list[int]:
-    """The sections whose outage an entry began."""
-    return [
-        node
-        for node, runs in state.runs.items()
-        if state.is_section(node) and (run := state.run_at(node, entry.second)) and run.cutter == entry.number
-    ]
 
 
 def history_view(state: State, command: Command) -> Json:

@@ -19,15 +19,22 @@ CHROMIUM, DRIVER = "/usr/bin/chromium", "/usr/bin/chromedriver"
 class Browser:
     """A browser with one page; its size is that of the page's content."""
 
-    def __init__(self, width: int = 1280, height: int = 900, dark: bool = False):
+    def __init__(self, width: int = 1280, height: int = 900, dark: bool = False, words: tuple[str, ...] = ()):
         options = webdriver.ChromeOptions()
         options.binary_location = CHROMIUM
         self.profile = tempfile.TemporaryDirectory(prefix="screen-browser-")
-        for word in ("--headless=new", "--no-sandbox", "--disable-gpu", "--disable-dev-shm-usage", "--hide-scrollbars"):
+        for word in (
+            "--headless=new",
+            "--no-sandbox",
+            "--disable-gpu",
+            "--disable-dev-shm-usage",
+            "--hide-scrollbars",
+            *words,
+        ):
             options.add_argument(word)
         options.add_argument(f"--user-data-dir={self.profile.name}")
         options.set_capability("goog:loggingPrefs", {"browser": "ALL"})
-        self.driver = webdriver.Chrome(service=Service(DRIVER), options=options)
+        self.driver: Any = webdriver.Chrome(service=Service(DRIVER), options=options)
         self.resize(width, height)
         scheme = [{"name": "prefers-color-scheme", "value": "dark" if dark else "light"}]
         self.driver.execute_cdp_cmd("Emulation.setEmulatedMedia", {"features": scheme})
@@ -111,7 +118,7 @@ class Browser:
     def complaints(self) -> list[str]:
         """What the browser's console complains of since the page was opened: scripts that failed, what the policy forbids."""
         rows = [row["message"] for row in self.driver.get_log("browser") if row["level"] == "SEVERE"]
-        return [row for row in rows if "Failed to load resource: the server responded" not in row]
+        return [row for row in rows if "Failed to load resource" not in row]
 
     def picture(self, path: str, whole: bool = True) -> None:
         if whole:
