@@ -257,7 +257,7 @@ class Hostile(Case):
 
     def command(self, **headers: str | None) -> int:
         body = json.dumps({**LIGHTHOUSE, "ref": "SCR-ANNA-1"}).encode()
-        told = {"Content-Type": "application/json", **headers}
+        told: dict[str, str | None] = {"Content-Type": "application/json", **headers}
         return self.seen.call(
             "/api/command", body, {name.replace("_", "-"): value for name, value in told.items() if value}
         )[0]
