@@ -5,6 +5,7 @@ from __future__ import annotations
 import argparse
 import asyncio
 import logging
+import resource
 import signal
 import sys
 from pathlib import Path
@@ -20,6 +21,7 @@ from .web import Settings, application
 
 FIRST_ANSWER_SECONDS = 600
 BETWEEN_TRIES = 0.5
+OPEN_FILES = 8_192
 
 
 def read_words() -> argparse.Namespace:
@@ -125,6 +127,8 @@ async def listen(given: argparse.Namespace, office: Office, ended: asyncio.Event
 
 def main() -> int:
     given = read_words()
+    most = resource.getrlimit(resource.RLIMIT_NOFILE)[1]
+    resource.setrlimit(resource.RLIMIT_NOFILE, (most if most < OPEN_FILES else OPEN_FILES, most))
     logging.basicConfig(level=logging.ERROR)
     try:
         asyncio.run(serve(given))

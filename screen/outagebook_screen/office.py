@@ -14,12 +14,13 @@ from .commands import accept, plan
 from .desk import IMPORT_SECONDS, Answer, Away, Desk
 from .journal import Journal
 from .reader import Command, Differs, Moves, moves_by_second_program, read_later, read_rows
-from .state import State
+from .state import Refused, State
 
 WATCH_SECONDS = 1.0
 KEPT_COUNTS = 2_000
 WAITING_EVENTS = 64
 NAME = re.compile(r"[A-Z0-9_-]{1,16}")
+PLAIN = re.compile(r"0|[1-9][0-9]*|-")
 REFERENCE = re.compile(r"[A-Z0-9_-]{1,40}")
 
 
@@ -96,9 +97,14 @@ class Office:
 
     async def catch_up(self) -> None:
         """Takes the commands that the file has and the state has not."""
-        later = await asyncio.get_running_loop().run_in_executor(None, read_later, self.book, self.state.number)
-        for command, moves in later:
-            self.take(command, moves)
+        loop = asyncio.get_running_loop()
+        later = await loop.run_in_executor(None, read_later, self.book, self.state.number)
+        try:
+            for command, moves in later:
+                self.take(command, moves)
+        except Refused as refused:  # the state isn't the book's: it is read anew, and that is told
+            self.differs = f"command {self.state.number + 1} was taken by the desk, and not here: {refused}"
+            self.state = await loop.run_in_executor(None, new_state, self.book)
         if later:
             self.tell_commands(later[-1][0], later[-1][1], len(later))
 
@@ -121,9 +127,11 @@ class Office:
         async with self.in_step:
             if number > self.state.number + 1:
                 await self.catch_up()
-            if number == self.state.number + 1:
+            if number == self.state.number + 1 and is_canonical(command):
                 self.take(command, moves)
                 self.tell_commands(command, moves, 1)
+            elif number > self.state.number:
+                await self.catch_up()
 
     # Commands.
 
@@ -205,6 +213,14 @@ def body_of(answer: Answer) -> Any:
         return answer.json()
     except ValueError:
         return answer.body.decode(errors="replace")
+
+
+def is_canonical(command: Command) -> bool:
+    """The fields are spelled as the book keeps them: else the command is read from the file, as one of another client."""
+    places = {"switch": (2, 3), "correct": (0, 1, 3, 4), "withdraw": (0, 1), "revise": (0, 1, 2), "connect": (0, 2, 3)}
+    numbers = [command.fields[place] for place in places.get(command.kind, ())]
+    numbers += command.fields[-2:] if command.kind in ("device", "life") else []
+    return all(PLAIN.fullmatch(text) for text in numbers)
 
 
 def accepted(number: int, command: dict[str, str]) -> Command:

@@ -117,6 +117,8 @@ async def check(request: web.Request, handler: Handler) -> web.StreamResponse:
         return answer(503, {"error": "away", "words": "The desk gives no answer.", "why": str(away)})
     except BookError as error:
         return complaint(500, "book", str(error))
+    except OSError as error:
+        return complaint(500, "files", f"the screen can't write or read its files: {error.strerror}")
 
 
 def refusal_of(request: web.Request) -> web.Response | None:

@@ -105,6 +105,17 @@ class Commands(Case):
         self.assertIsNone(screen.call("/health")[1]["differs"])
         self.assertTrue(screen.call("/api/entries/28")[1]["corrected"])
 
+    def test_other_spellings_of_a_command(self) -> None:
+        """A command is kept in the book's own spelling, however a client of the screen spelled it."""
+        screen = self.screen("spellings")
+        screen.log_in("ANNA")
+        spelled = {**LIGHTHOUSE, "f3": "2025-04-06T23:52:00+02:00", "f4": "05"}
+        self.assertEqual(screen.post({**spelled, "ref": "SCR-ANNA-1"})[1]["equal"], True)
+        self.assertEqual(screen.call("/api/entries/36")[1]["second"]["second"], 1_743_976_320)
+        withdrawn = screen.post({"kind": "withdraw", "f1": "036", "f2": "1", "ref": "SCR-ANNA-2"})[1]
+        self.assertEqual((withdrawn["equal"], screen.number()), (True, 104))
+        self.assertIsNone(screen.call("/health")[1]["differs"])
+
     def test_the_log_has_login_reference_and_answer(self) -> None:
         screen = self.screen("log")
         screen.log_in("ANNA")
