@@ -20,7 +20,7 @@ class Browser:
     """A browser with one page; its size is that of the page's content."""
 
     def __init__(self, width: int = 1280, height: int = 900, dark: bool = False, words: tuple[str, ...] = ()):
-        options = webdriver.ChromeOptions()
+        options: Any = webdriver.ChromeOptions()
         options.binary_location = CHROMIUM
         self.profile = tempfile.TemporaryDirectory(prefix="screen-browser-")
         for word in (
@@ -68,7 +68,8 @@ class Browser:
         return found
 
     def find(self, selector: str) -> WebElement:
-        return support.until(lambda: self.all(selector), what=selector)[0]
+        found: WebElement = support.until(lambda: self.all(selector), what=selector)[0]
+        return found
 
     def field(self, label: str) -> WebElement:
         """The field of a label."""

@@ -11,11 +11,13 @@ which, and that the tests weren't run.
 from __future__ import annotations
 
 import argparse
+import importlib.util
 import os
 import shutil
 import subprocess
 import sys
 import unittest
+import warnings
 from pathlib import Path
 
 HERE = Path(__file__).resolve().parent
@@ -27,8 +29,6 @@ IN_SHORT = ("test_forecasts", "test_server", "test_browser.Operators", "test_bro
 
 def missing() -> list[str]:
     """What the tests want and isn't there."""
-    import importlib.util
-
     wanted = {"chromium": "/usr/bin/chromium", "chromium-driver": "/usr/bin/chromedriver"}
     found = [name for name, path in wanted.items() if not Path(path).exists()]
     found += [f"python3-{name}" for name in ("aiohttp", "selenium") if importlib.util.find_spec(name) is None]
@@ -50,7 +50,8 @@ def main() -> int:
     sys.path.insert(0, str(HERE))
     loader = unittest.defaultTestLoader
     suite = loader.loadTestsFromNames(IN_SHORT) if short else loader.discover(str(HERE))
-    result = unittest.TextTestRunner(verbosity=1, warnings="ignore").run(suite)
+    warnings.simplefilter("ignore", ResourceWarning)  # the tests kill what they start
+    result = unittest.TextTestRunner(verbosity=1).run(suite)
     words_of = (
         f"{result.testsRun} tests, {len(result.failures) + len(result.errors)} failed, {len(result.skipped)} skipped"
     )

@@ -15,7 +15,7 @@ import urllib.request
 from collections.abc import Callable
 from functools import lru_cache
 from pathlib import Path
-from typing import Any, TypeVar
+from typing import Any
 
 SCREEN = Path(__file__).resolve().parent.parent
 ROOT = SCREEN.parent
@@ -23,7 +23,6 @@ EXAMPLES = ROOT / "examples"
 PROGRAM = Path(os.environ.get("OUTAGEBOOK", ROOT / "crates/outagebook/out/outagebook"))
 sys.path.insert(0, str(SCREEN))
 FORTNIGHT = ("2025-03-24", "14", "CET-1CEST,M3.5.0,M10.5.0/3")
-T = TypeVar("T")
 
 
 @lru_cache(maxsize=None)
@@ -56,7 +55,7 @@ def fortnight(name: str) -> Path:
     return new_book(name, EXAMPLES / "fortnight.csv")
 
 
-def until(seen: Callable[[], T], seconds: float = 20, what: str = "it") -> T:
+def until(seen: Callable[[], Any], seconds: float = 20, what: str = "it") -> Any:
     """What is seen at last; a failure where it isn't seen in time."""
     end = time.monotonic() + seconds
     while True:
@@ -108,11 +107,18 @@ def call(url: str, body: bytes | None = None, headers: dict[str, str] | None = N
 class Screen:
     """A screen over a book, on a port of its own."""
 
-    def __init__(self, book: Path, *words: str, desk: Desk | None = None):
-        command = [str(SCREEN / "outagebook-screen"), "--book", str(book), "--port", "0", "--program", str(PROGRAM)]
-        command += ["--desk", desk.url] if desk else []
+    def __init__(
+        self,
+        book: Path,
+        *words: str,
+        desk: Desk | None = None,
+        command: Path = SCREEN / "outagebook-screen",
+        program: Path = PROGRAM,
+    ):
+        started = [str(command), "--book", str(book), "--port", "0", "--program", str(program)]
+        started += ["--desk", desk.url] if desk else []
         self.book = book
-        self.process = subprocess.Popen([*command, *words], stdout=subprocess.PIPE, stderr=subprocess.PIPE, text=True)
+        self.process = subprocess.Popen([*started, *words], stdout=subprocess.PIPE, stderr=subprocess.PIPE, text=True)
         assert self.process.stdout is not None and self.process.stderr is not None
         line = self.process.stdout.readline()
         if not line:

@@ -3,6 +3,7 @@ step is the one that is read anew."""
 
 import random
 import unittest
+from collections.abc import Callable
 from pathlib import Path
 
 import support
@@ -52,7 +53,7 @@ class Office:
         )[0]
         device = self.random.choice(self.known.sheet.devices).name
         action, cause = self.random.choice(["open", "close"]), str(self.random.randint(1, 8))
-        fields = {
+        makers: dict[str, Callable[[], list[str]]] = {
             "switch": lambda: [device, action, str(self.moment()), cause, "CREW-1"],
             "correct": lambda: [*self.any_entry(), action, str(self.moment()), cause, "CREW-2"],
             "withdraw": lambda: [*self.any_entry()],
@@ -70,8 +71,8 @@ class Office:
                 *self.life(),
             ],
             "revise": lambda: [str(self.random.choice(list(self.known.customers))), *self.life()],
-        }[kind]()
-        return kind, fields
+        }
+        return kind, makers[kind]()
 
     def act(self, number: int) -> None:
         kind, fields = self.command(number)

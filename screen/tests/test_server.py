@@ -186,7 +186,6 @@ class Faults(Case):
         killer.join()
         self.assertGreater(tries, sent)
         screen.end()
-        self.doCleanups = lambda: True  # type: ignore[method-assign]
         self.assertEqual(support.run("audit", "--book", screen.book), "audit ok\n")
         anew = reader.read_later(screen.book, 102)
         self.assertEqual([command.ref for command, _ in anew], [f"SCR-ANNA-{number}" for number in range(sent)])
@@ -196,7 +195,7 @@ class Faults(Case):
             screen.desk_process()
         except (OSError, IndexError):
             return False
-        return screen.call("/health")[1]["desk"] == "here"
+        return bool(screen.call("/health")[1]["desk"] == "here")
 
     def test_a_lost_reply(self) -> None:
         """The connection is cut after the desk has committed: the screen sends the command again, and it acted once."""
