@@ -50,7 +50,7 @@ async function show() {
     entry.crew,
     String(entry.revision),
     el("span", { class: "nowrap" }, entry.commands[0]?.ref || ""),
-    el("span", {}, tags(entry)),
+    tags(entry).length ? el("span", {}, tags(entry)) : "",
   ]);
   const classes = shown.rows.map((entry) => (entry.kept ? "" : "gone"));
   const turn = (by, words) => el("button", { type: "button", disabled: by < 0 ? from === 0 : from + 100 >= shown.found, click: () => { from += by; show(); } }, words);
