@@ -139,45 +139,61 @@ def with_device(sheet: Sheet, device: Device) -> Sheet:
     return Sheet(devices, sheet.entries, sheet.order, by_device)
 
 
-def runs_in(
-    sheet: Sheet, nodes: int, period: Period, window: Window, going: dict[int, tuple[int, int]]
-) -> tuple[dict[int, Runs], dict[int, tuple[int, int]]]:
-    """The runs that end in a window, by node, and those that go on behind it: their first seconds and their cutters.
+Going = dict[int, tuple[int, int]]  # by node: since when an outage goes on, and its cutter
+
+
+class Sweep:
+    """The outages of a window of seconds, found act by act.
 
     `going` are those that go on at the second before the window. At the period's first second there are none: before it
     the devices are in their normal positions, by their lives as of that second.
     """
-    first = window.since == period.first
-    closed = (
-        [device.is_closed and device.is_alive(period.first) for device in sheet.devices]
-        if first
-        else sheet.closed_at(window.since - 1)
-    )
-    supply = Supply(nodes, sheet.devices, closed)
-    switched = [device.is_closed if first else sheet.position(device, window.since) for device in sheet.devices]
-    going = dict(going)
-    ended: dict[int, Runs] = defaultdict(list)
-    acts = sheet.acts(window.since, min(window.until, period.end - 1))
-    if first and (not acts or acts[0][0] != period.first):
-        acts.insert(0, (period.first, [], []))
-    for second, turning, entries in acts:
+
+    def __init__(self, sheet: Sheet, nodes: int, period: Period, window: Window, going: Going):
+        self.sheet, self.nodes = sheet, nodes
+        self.is_first = window.since == period.first
+        self.switched = [
+            device.is_closed if self.is_first else sheet.position(device, window.since) for device in sheet.devices
+        ]
+        as_of = period.first if self.is_first else window.since - 1
+        closed = [is_closed and device.is_alive(as_of) for device, is_closed in zip(sheet.devices, self.switched)]
+        self.supply = Supply(nodes, sheet.devices, closed)
+        self.going = dict(going)
+        self.ended: dict[int, Runs] = defaultdict(list)
+        self.run(window, period)
+
+    def run(self, window: Window, period: Period) -> None:
+        acts = self.sheet.acts(window.since, min(window.until, period.end - 1))
+        if self.is_first and (not acts or acts[0][0] != period.first):
+            acts.insert(0, (period.first, [], []))
+        for place, (second, turning, entries) in enumerate(acts):
+            touched, cutters = self.act(second, turning, entries)
+            self.look(second, range(self.nodes) if self.is_first and place == 0 else touched, cutters)
+
+    def act(self, second: int, turning: list[int], entries: list[Entry]) -> tuple[set[int], dict[int, int]]:
+        """Takes the lives and then the entries of a second: the nodes that they touched, and the last entry that cut each
+        off."""
+        touched: set[int] = set()
         cutters: dict[int, int] = {}
-        touched: set[int] = set(range(nodes)) if first and second == period.first else set()
         for number in turning:
-            gained, lost = supply.set(number, switched[number] and sheet.devices[number].is_alive(second))
-            touched.update(gained, lost)
+            is_alive = self.sheet.devices[number].is_alive(second)
+            touched.update(*self.supply.set(number, self.switched[number] and is_alive))
         for entry in entries:
-            switched[entry.device] = entry.closes
-            gained, lost = supply.set(entry.device, entry.closes and sheet.devices[entry.device].is_alive(second))
+            self.switched[entry.device] = entry.closes
+            is_alive = self.sheet.devices[entry.device].is_alive(second)
+            gained, lost = self.supply.set(entry.device, entry.closes and is_alive)
             touched.update(gained, lost)
             cutters.update((node, entry.number) for node in lost)
-        for node in touched:
-            if supply.supplied[node] and node in going:
-                since, cutter = going.pop(node)
-                ended[node].append(Run(since, second, cutter))
-            elif not supply.supplied[node] and node not in going:
-                going[node] = second, cutters.get(node, NO_ENTRY)
-    return ended, going
+        return touched, cutters
+
+    def look(self, second: int, nodes: Iterable[int], cutters: dict[int, int]) -> None:
+        """Looks at a second once all of it has acted: outages end and begin."""
+        for node in nodes:
+            if self.supply.supplied[node] and node in self.going:
+                since, cutter = self.going.pop(node)
+                self.ended[node].append(Run(since, second, cutter))
+            elif not self.supply.supplied[node] and node not in self.going:
+                self.going[node] = second, cutters.get(node, NO_ENTRY)
 
 
 class State:
@@ -227,11 +243,10 @@ class State:
     # What follows from the rows.
 
     def all_runs(self) -> dict[int, Runs]:
-        window = Window(self.period.first, self.period.end)
-        ended, going = runs_in(self.sheet, len(self.nodes), self.period, window, {})
-        for node, (since, cutter) in going.items():
-            ended[node].append(Run(since, self.period.end, cutter))
-        return dict(ended)
+        found = Sweep(self.sheet, len(self.nodes), self.period, Window(self.period.first, self.period.end), {})
+        for node, (since, cutter) in found.going.items():
+            found.ended[node].append(Run(since, self.period.end, cutter))
+        return dict(found.ended)
 
     def roll(self, section: int) -> Roll:
         """The customers of a section; made anew after one joins or leaves."""
@@ -277,7 +292,8 @@ class State:
             for node, runs in self.runs.items()
             if window.since > self.period.first and (run := run_at(runs, window.since - 1)) is not None
         }
-        ended, going = runs_in(sheet, len(self.nodes), self.period, window, at_start)
+        found = Sweep(sheet, len(self.nodes), self.period, window, at_start)
+        ended, going = found.ended, found.going
         nodes = {*ended, *going, *(node for node, runs in self.runs.items() if touches(runs, window))}
         after: dict[int, Runs] = {}
         for node in nodes:
