@@ -24,7 +24,13 @@ HERE = Path(__file__).resolve().parent
 DEBIAN_PYTHON = Path("/usr/bin/python3")  # sees Debian's packages
 SHORT = {"SCREEN_KILLS": "8", "SCREEN_COMMANDS": "16", "SCREEN_SECONDS": "5"}
 WHOLE = {"SCREEN_KILLS": "100", "SCREEN_COMMANDS": "200", "SCREEN_SECONDS": "60", "SCREEN_LONG": "yes"}
-IN_SHORT = ("test_forecasts", "test_server", "test_browser.Operators", "test_browser.Breaks", "test_browser.Crowd")
+IN_SHORT = (
+    "test_forecasts",
+    "test_server",
+    "test_browser.Operators",
+    "test_browser.Breaks.test_a_reply_that_was_lost",
+    "test_browser.Breaks.test_the_screen_is_killed_while_a_command_is_in_work",
+)
 
 
 def missing() -> list[str]:
