@@ -62,9 +62,14 @@ class Operators(Case):
         self.assertEqual(self.one.complaints() + self.other.complaints(), [])
 
     def test_the_keyboard_alone(self) -> None:
+        self.enter_correct_withdraw(self.one)
+
+    def test_the_keyboard_alone_on_a_phone(self) -> None:
+        self.enter_correct_withdraw(self.other)
+
+    def enter_correct_withdraw(self, page: browser.Browser) -> None:
         """A late outage is entered, corrected and withdrawn without a mouse, from the first page on."""
         screen = self.screen()
-        page = self.one
         page.open(f"{screen.url}/")
         keys = page.driver.switch_to
         while keys.active_element.text != "Enter":
@@ -81,45 +86,45 @@ class Operators(Case):
         keys.active_element.send_keys("2025-03-27 10:00:00")
         page.says(".moment", "+01:00 from UTC")
         page.says("form", "LBS-22 is closed then")
-        self.tab_to("cause")
+        self.tab_to(page, "cause")
         keys.active_element.send_keys("5")
         page.says(".hint", "late entry")
         page.says(".forecast", "LOSES supply")
         keys.active_element.send_keys(Keys.TAB, Keys.TAB)
         page.wait(lambda: page.find(".send").is_enabled(), "the button")
-        self.tab_to("Send to the desk")
+        self.tab_to(page, "Send to the desk")
         keys.active_element.send_keys(Keys.ENTER)
         page.says(".outcome .equal", "equal")
         page.open(f"{screen.url}/sheet?entry=36")
-        self.tab_to("Position", "close")
-        self.tab_to("Send")
+        self.tab_to(page, "Position", "close")
+        self.tab_to(page, "Send")
         page.wait(lambda: page.find(".send").is_enabled(), "the button")
         keys.active_element.send_keys(Keys.ENTER)
         page.says(".outcome .equal", "equal")
         page.open(f"{screen.url}/sheet?entry=36")
         page.says("#detail", "revision 2")
-        self.tab_to("What", "Withdraw")
-        self.tab_to("Send")
+        self.tab_to(page, "What", "Withdraw")
+        self.tab_to(page, "Send")
         keys.active_element.send_keys(Keys.ENTER)
         page.says(".outcome .equal", "equal")
         page.says("tr.gone", "36")
         self.assertEqual(screen.call("/api/year")[1]["totals"]["W"], "366070")
 
-    def tab_to(self, name: str, typed: str = "") -> None:
+    def tab_to(self, page: browser.Browser, name: str, typed: str = "") -> None:
         """Goes on by the tabulator to a field by its label, or to a button by its words; types, where that is asked for."""
         script = (
             "const at = document.activeElement;"
             "return ((at.labels && at.labels[0] ? at.labels[0].textContent : '') + ' ' + at.textContent).toLowerCase();"
         )
         for _ in range(200):
-            if self.one.driver.execute_script(script).strip().startswith(name.lower()):
+            if page.driver.execute_script(script).strip().startswith(name.lower()):
                 break
-            self.one.driver.switch_to.active_element.send_keys(Keys.TAB)
+            page.driver.switch_to.active_element.send_keys(Keys.TAB)
             time.sleep(0.02)
         else:
             raise AssertionError(f"the tabulator doesn't come to {name}")
         if typed:
-            self.one.driver.switch_to.active_element.send_keys(typed)
+            page.driver.switch_to.active_element.send_keys(typed)
 
     def test_a_stale_correction(self) -> None:
         """Somebody corrects the entry first, in the moment before the page knows of it."""
