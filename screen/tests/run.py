@@ -2,7 +2,7 @@
 
     python3 screen/tests/run.py [--short]
 
-OUTAGEBOOK names the program where it isn't crates/outagebook/out/outagebook. `--short` takes less than three minutes; the
+OUTAGEBOOK names the program where it isn't crates/outagebook/out/outagebook. `--short` takes less than three minutes where the machine isn't busy; the
 whole suite kills the desk a hundred times, enters two hundred commands by two browsers at once, and makes a book of a
 year (some minutes; SCREEN_YEAR=FILE names one that was made before). Where a package is missing the last line says
 which, and that the tests weren't run.
@@ -22,12 +22,14 @@ from pathlib import Path
 
 HERE = Path(__file__).resolve().parent
 DEBIAN_PYTHON = Path("/usr/bin/python3")  # sees Debian's packages
-SHORT = {"SCREEN_KILLS": "8", "SCREEN_COMMANDS": "16", "SCREEN_SECONDS": "5"}
+SHORT = {"SCREEN_KILLS": "5"}
 WHOLE = {"SCREEN_KILLS": "100", "SCREEN_COMMANDS": "200", "SCREEN_SECONDS": "60", "SCREEN_LONG": "yes"}
 IN_SHORT = (
     "test_forecasts",
     "test_server",
-    "test_browser.Operators",
+    "test_proxy.BehindNginx.test_logins_and_who_may_send",
+    "test_browser.Operators.test_two_operators_and_a_double_click",
+    "test_browser.Operators.test_the_keyboard_alone",
     "test_browser.Breaks.test_a_reply_that_was_lost",
     "test_browser.Breaks.test_the_screen_is_killed_while_a_command_is_in_work",
 )
