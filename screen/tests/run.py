@@ -2,10 +2,10 @@
 
     python3 screen/tests/run.py [--short]
 
-OUTAGEBOOK names the program where it isn't crates/outagebook/out/outagebook. `--short` takes less than three minutes where the machine isn't busy; the
-whole suite kills the desk a hundred times, enters two hundred commands by two browsers at once, and makes a book of a
-year (some minutes; SCREEN_YEAR=FILE names one that was made before). Where a package is missing the last line says
-which, and that the tests weren't run.
+OUTAGEBOOK names the program where it isn't crates/outagebook/out/outagebook. `--short` takes less than three minutes where
+the machine isn't busy; the whole suite kills the desk a hundred times, enters two hundred commands by two browsers at
+once, and makes a book of a year (some minutes; SCREEN_YEAR=FILE names one that was made before). Where a package is
+missing the last line says which, and that the tests weren't run.
 """
 
 from __future__ import annotations
