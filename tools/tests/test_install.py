@@ -129,7 +129,7 @@ class Install(unittest.TestCase):
         tools = ["commands", "compare", "figures", "from-oms", "next-year", "report", "years"]
         self.assertEqual(
             sorted(path.name for path in (prefix / "bin").iterdir()),
-            ["outagebook", *(f"outagebook-{tool}" for tool in tools)],
+            sorted(["outagebook", "outagebook-screen", *(f"outagebook-{tool}" for tool in tools)]),
         )
         for tool in tools:
             command = [sys.executable, str(prefix / "bin" / f"outagebook-{tool}"), "--help"]
@@ -141,6 +141,7 @@ class Install(unittest.TestCase):
         self.assertEqual(subprocess.run(command, capture_output=True, check=False).returncode, 0)
         library = prefix / "lib/outagebook"
         installed = {path.relative_to(library).as_posix() for path in library.rglob("*.py")}
+        installed = {path for path in installed if not path.startswith("screen/")}
         package = {path.relative_to(support.TOOLS).as_posix() for path in support.TOOLS.glob("outagebook/**/*.py")}
         commands = {path.name for path in support.TOOLS.glob("*.py")}
         self.assertEqual(installed, package | commands)
