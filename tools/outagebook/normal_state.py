@@ -165,8 +165,8 @@ def parts_from(beside: Beside, start: str, visits: dict[str, int]) -> Iterator[s
             before = way[-1][0]
             back[before] = min(back[before], back[node])
             if back[node] >= visits[before]:
-                place = len(walked) - 1 - walked[::-1].index(came_by)
-                part = set(walked[place:])
-                del walked[place:]
+                part = {came_by}
+                while (number := walked.pop()) != came_by:
+                    part.add(number)
                 if len(part) > 1:
                     yield part
