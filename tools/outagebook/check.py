@@ -13,7 +13,7 @@ import argparse
 import json
 import sys
 from collections import defaultdict
-from collections.abc import Iterator
+from collections.abc import Iterable, Iterator
 from contextlib import ExitStack
 from dataclasses import dataclass
 
@@ -102,7 +102,8 @@ def unknown_sections(contents: Contents) -> Iterator[Finding]:
     for section, listed in astray.items():
         names = tuple(str(customer) for customer in listed)
         what = "is a bus" if section in contents.nodes else "isn't there"
-        yield Finding(Topic.NO_SECTION, names, f"{section} {what}: customers {names_text(names)}")
+        noun = "customer" if len(names) == 1 else "customers"
+        yield Finding(Topic.NO_SECTION, names, f"{section} {what}: {noun} {names_text(names)}")
 
 
 def unknown_words(contents: Contents, has_network: bool) -> Iterator[Finding]:
@@ -129,17 +130,47 @@ def outside(contents: Contents, period: Period) -> Iterator[Finding]:
         yield Finding(Topic.OUTSIDE, (), f"{before} before it, {behind} behind it", is_wrong=False)
 
 
+@dataclass(frozen=True)
+class Unserved:
+    """The services of the customers of each section, to be counted where it isn't supplied."""
+
+    period: Period
+    services: dict[str, list[Service]]
+
+    def counts(self, sections: Iterable[str], since: int, until: int) -> tuple[int, int]:
+        """How many customers of some sections are in service in some seconds, and for how many customer-seconds of them."""
+        services = (service for section in sections for service in self.services.get(section, ()))
+        lengths = [
+            min(until, until if each.until is None else each.until) - max(since, each.since) for each in services
+        ]
+        return sum(length > 0 for length in lengths), sum(length for length in lengths if length > 0)
+
+
+def unserved_of(contents: Contents, period: Period) -> Unserved:
+    services: dict[str, list[Service]] = defaultdict(list)
+    for service in contents.customers.values():
+        services[service.section].append(service)
+    return Unserved(period, services)
+
+
+def unserved_text(customers: int, seconds: int) -> str:
+    if not customers:
+        return ""
+    return f"; {customers} {'customer' if customers == 1 else 'customers'}, {seconds} customer-seconds under cause 0"
+
+
 def alone(contents: Contents) -> list[str]:
     """The nodes that no device joins."""
     joined = {end for device in contents.devices.values() for end in device.ends}
     return [name for name in contents.nodes if name not in joined]
 
 
-def alone_findings(contents: Contents) -> Iterator[Finding]:
+def alone_findings(contents: Contents, unserved: Unserved) -> Iterator[Finding]:
     for name in alone(contents):
         node = contents.nodes[name]
         kind = "bus" if node.feeder is None else "section"
-        yield Finding(Topic.ALONE, (name,), f"{kind} {name} ({node.place})")
+        counts = unserved.counts((name,), unserved.period.first, unserved.period.end)
+        yield Finding(Topic.ALONE, (name,), f"{kind} {name} ({node.place}){unserved_text(*counts)}", True, *counts)
 
 
 # Is it whole: who is reached when all devices are in their normal positions.
@@ -152,19 +183,6 @@ def tested(contents: Contents) -> TestedNetwork:
     return TestedNetwork(frozenset(nodes), tuple(devices))
 
 
-def services_by_section(contents: Contents) -> dict[str, list[Service]]:
-    services: dict[str, list[Service]] = defaultdict(list)
-    for service in contents.customers.values():
-        services[service.section].append(service)
-    return services
-
-
-def unserved(services: list[Service], since: int, until: int) -> tuple[int, int]:
-    """How many customers are in service in some seconds, and for how many customer-seconds of them."""
-    lengths = [min(until, until if each.until is None else each.until) - max(since, each.since) for each in services]
-    return sum(length > 0 for length in lengths), sum(length for length in lengths if length > 0)
-
-
 def when_text(found: During[Island] | During[Loop], period: Period) -> str:
     """In which seconds something holds."""
     if (found.since, found.until) == (period.first, period.end):
@@ -175,21 +193,19 @@ def when_text(found: During[Island] | During[Loop], period: Period) -> str:
     return f"from {texts[0]} on" if found.until == period.end else f"from {texts[0]} up to {texts[1]}"
 
 
-def island_findings(contents: Contents, network: TestedNetwork, period: Period) -> Iterator[Finding]:
+def island_findings(contents: Contents, network: TestedNetwork, unserved: Unserved) -> Iterator[Finding]:
     """What isn't reached. It is wrong where customers are in service there, or where none is known, or all the time."""
-    services = services_by_section(contents)
+    period = unserved.period
     for found in during(moments_of(network.devices, period.first, period.end), period.end, network.islands):
         names = tuple(sorted(found.found.nodes))
-        counts = [unserved(services[name], found.since, found.until) for name in names]
-        count, seconds = sum(number for number, _ in counts), sum(seconds for _, seconds in counts)
+        counts = unserved.counts(names, found.since, found.until)
         is_whole = (found.since, found.until) == (period.first, period.end)
         text = f"{names_text(names)}: {when_text(found, period)}"
         if found.found.ties:
             text += f"; through {names_text(tuple(sorted(found.found.ties)))}"
-        if count:
-            text += f"; {count} customers, {seconds} customer-seconds under cause 0"
         topic = Topic.TIES_ALONE if found.found.is_reached_by_ties else Topic.NOT_REACHED
-        yield Finding(topic, names, text, is_whole or bool(count) or not contents.customers)
+        is_wrong = is_whole or counts[0] > 0 or not contents.customers
+        yield Finding(topic, names, text + unserved_text(*counts), is_wrong, *counts)
 
 
 def loop_findings(contents: Contents, network: TestedNetwork, period: Period, is_meshed: bool) -> Iterator[Finding]:
@@ -197,9 +213,9 @@ def loop_findings(contents: Contents, network: TestedNetwork, period: Period, is
     for found in during(moments_of(network.devices, period.first, period.end), period.end, network.loops):
         names = tuple(sorted(found.found.devices))
         text = f"{names_text(names)}: {when_text(found, period)}"
-        between = [text for name in names if (text := feeders_joined(contents, name))]
+        between = tuple(joined for name in names if (joined := feeders_joined(contents, name)))
         if between:
-            text += f"; between feeders: {names_text(tuple(between))}"
+            text += f"; between feeders: {names_text(between)}"
         yield Finding(Topic.LOOP, names, text, not is_meshed)
 
 
@@ -216,8 +232,9 @@ def findings_of(contents: Contents, period: Period, is_meshed: bool) -> list[Fin
     found = contents.findings + list(unknown_words(contents, has_network)) + list(outside(contents, period))
     if has_network:
         network = tested(contents)
-        found += [*unknown_ends(contents), *unknown_sections(contents), *alone_findings(contents)]
-        found += island_findings(contents, network, period)
+        unserved = unserved_of(contents, period)
+        found += [*unknown_ends(contents), *unknown_sections(contents), *alone_findings(contents, unserved)]
+        found += island_findings(contents, network, unserved)
         found += loop_findings(contents, network, period, is_meshed)
     topics = list(Topic)
     return sorted(found, key=lambda finding: topics.index(finding.topic))
@@ -261,7 +278,14 @@ def write_json(bounds: list[Bound], findings: list[Finding]) -> None:
             {"what": each.what, "number": each.number, "limit": each.limit, "fits": each.fits} for each in bounds
         ],
         "findings": [
-            {"topic": each.topic.value, "names": each.names, "text": each.text, "wrong": each.is_wrong}
+            {
+                "topic": each.topic.value,
+                "names": each.names,
+                "text": each.text,
+                "wrong": each.is_wrong,
+                "customers": each.customers,
+                "customer_seconds": each.customer_seconds,
+            }
             for each in findings
         ],
     }

@@ -36,12 +36,15 @@ class Topic(Enum):
 
 @dataclass(frozen=True)
 class Finding:
-    """What was found: the names that it is about, and in words. One that isn't wrong is only worth a look."""
+    """What was found: the names that it is about, and in words. One that isn't wrong is only worth a look. Customers in service
+    that aren't supplied count their seconds under cause 0."""
 
     topic: Topic
     names: tuple[str, ...]
     text: str
     is_wrong: bool = True
+    customers: int = 0
+    customer_seconds: int = 0
 
 
 @dataclass(frozen=True)
