@@ -244,9 +244,11 @@ def ends_elsewhere(book: Book, tickets: Tickets, ticket: Ticket) -> Iterator[str
 
 
 def minutes_text(minutes: Fraction) -> str:
-    """Three decimals, rounded half up in their amount; a whole number without them."""
-    text = decimal_text(abs(minutes)).removesuffix(".000")
-    return f"-{text}" if minutes < 0 and text.strip("0.") else text
+    """A whole number, or three decimals, rounded half up in their amount."""
+    if minutes.denominator == 1:
+        return str(minutes)
+    text = decimal_text(abs(minutes))
+    return f"-{text}" if minutes < 0 and text != "0.000" else text
 
 
 def exact_text(number: Fraction) -> str:
