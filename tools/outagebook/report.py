@@ -19,6 +19,12 @@ from outagebook.cli import Parser, add_table_arguments, run_job
 from outagebook.compare import Checked, figures_of_table, open_book
 from outagebook.counts import SETS, decimal_text, quotient
 from outagebook.errors import BookError
+from outagebook.causes import CauseRow, cause_rows
+from outagebook.days import DayRow, day_rows, month_rows
+from outagebook.feeders import feeder_rows
+from outagebook.outages import references
+from outagebook.rates import GroupRow, Rates
+from outagebook.work import Work, second_of, works_of
 from outagebook.rows import CAUSE
 from outagebook.sweep import Interruption
 
@@ -227,13 +233,13 @@ sustained. {figures.TERMS}</p>
 class Days:
     """The days in both readings: the rows of figures.py, and a bar for each."""
 
-    rows: list[figures.DayRow]
+    rows: list[DayRow]
     posted: list[Bar] = field(default_factory=list)
     standard: list[Bar] = field(default_factory=list)
 
 
 def days_of(found: Checked) -> Days:
-    days = Days(figures.day_rows(found))
+    days = Days(day_rows(found))
     for row in days.rows:
         mark = ", marked" if row.is_marked else ""
         day = row.day.isoformat()
@@ -275,7 +281,7 @@ DAY_HEADS = [
 ]
 
 
-def day_row(row: figures.DayRow) -> TableRow:
+def day_row(row: DayRow) -> TableRow:
     cells = [
         row.day,
         number(row.posted),
@@ -304,12 +310,12 @@ def day_parts(found: Checked) -> str:
 RATES_HEADS = numbers("SAIFI", "SAIDI, min", "CAIDI, min")
 
 
-def rates_cells(rates: figures.Rates) -> list[str]:
+def rates_cells(rates: Rates) -> list[str]:
     """The cells of RATES_HEADS."""
     return [decimal(value) for value in (rates.saifi, rates.saidi, rates.caidi)]
 
 
-def group_table(key: str, rows: Iterable[figures.GroupRow]) -> str:
+def group_table(key: str, rows: Iterable[GroupRow]) -> str:
     """Months or feeders in both sets."""
     heads = [
         Column(key),
@@ -321,14 +327,14 @@ def group_table(key: str, rows: Iterable[figures.GroupRow]) -> str:
     return table(heads, [group_row(row) for row in rows])
 
 
-def group_row(row: figures.GroupRow) -> TableRow:
+def group_row(row: GroupRow) -> TableRow:
     tally = row.rates.tally
     counts = number(tally.sustained), number(tally.momentary)
     customers = decimal_text(row.rates.customers)
     return TableRow([row.name, row.set, customers, *counts, *rates_cells(row.rates), number(row.posted)])
 
 
-def group_bars(prefix: str, rows: Iterable[figures.GroupRow]) -> list[Bar]:
+def group_bars(prefix: str, rows: Iterable[GroupRow]) -> list[Bar]:
     """SAIDI of all interruptions, group by group."""
     bars = []
     for row in rows:
@@ -340,7 +346,7 @@ def group_bars(prefix: str, rows: Iterable[figures.GroupRow]) -> list[Bar]:
 
 def month_part(found: Checked) -> str:
     """SAIDI by month, and the table behind it."""
-    rows = figures.month_rows(found)
+    rows = month_rows(found)
     title = "SAIDI by month"
     picture = columns(group_bars("", rows), title, "minutes per customer")
     note = "Minutes per customer served of the month, all interruptions that begin in it."
@@ -352,7 +358,7 @@ def month_part(found: Checked) -> str:
 
 def feeder_part(found: Checked) -> str:
     """SAIDI by feeder, and the table behind it."""
-    rows = figures.feeder_rows(found)
+    rows = feeder_rows(found)
     title = "SAIDI by feeder"
     picture = bars_below(group_bars("feeder ", rows), title)
     note = "Minutes per customer served of the feeder, all interruptions of its sections."
@@ -370,7 +376,7 @@ CAUSE_HEADS = [
 ]
 
 
-def cause_row(row: figures.CauseRow) -> TableRow:
+def cause_row(row: CauseRow) -> TableRow:
     rates = row.rates
     indices = decimal_text(rates.saifi), decimal_text(rates.saidi), decimal(rates.caidi)
     counts = number(rates.tally.sustained), number(rates.tally.momentary)
@@ -379,7 +385,7 @@ def cause_row(row: figures.CauseRow) -> TableRow:
 
 def cause_part(found: Checked) -> str:
     """Causes, greatest first."""
-    rows = figures.cause_rows(found)
+    rows = cause_rows(found)
     bars = [
         Bar(f"{row.name} ({row.code})", row.posted / 3_600, f"{row.name}: {hours(row.posted)} customer-hours")
         for row in rows
@@ -427,7 +433,7 @@ def worst_row(found: Checked, each: Interruption, refs: dict[int, str]) -> Table
 
 def worst_part(found: Checked) -> str:
     """The interruptions with the most customer-seconds."""
-    refs = figures.references(found)
+    refs = references(found)
     rows = [worst_row(found, each, refs) for each in sorted(found.interruptions, key=rank)[:WORST]]
     return f"""
 <h2>Worst interruptions {COMPUTED}</h2>
@@ -451,8 +457,8 @@ def signed(value: int) -> str:
     return f"{'+' if value > 0 else ''}{number(value)}"
 
 
-def late_row(found: Checked, work: figures.Work) -> TableRow:
-    book, second = found.book, figures.second_of(work.command)
+def late_row(found: Checked, work: Work) -> TableRow:
+    book, second = found.book, second_of(work.command)
     cells = [
         work.command.number,
         work.command.ref,
@@ -467,7 +473,7 @@ def late_row(found: Checked, work: figures.Work) -> TableRow:
 
 def late_part(found: Checked) -> str:
     """What late entries, corrections and withdrawals moved."""
-    works = [work for work in figures.works_of(found) if work.is_late]
+    works = [work for work in works_of(found) if work.is_late]
     moved = sum(work.net for work in works)
     shown = sorted(works, key=lambda work: (-work.gross, work.command.number))[:WORST]
     most = f"The {WORST} that shifted most:" if len(works) > WORST else ""

@@ -13,6 +13,7 @@ from typing import Any
 from outagebook import figures
 from outagebook.compare import Checked
 from outagebook.counts import SETS
+from outagebook.forms import Figures, write_csv, write_json, write_text
 from outagebook.report import page
 from tests import support
 
@@ -20,7 +21,7 @@ Attributes = list[tuple[str, str | None]]
 Row = dict[str, Any]  # a figure's values by their columns
 
 
-def rows_of(shown: figures.Figures) -> list[Row]:
+def rows_of(shown: Figures) -> list[Row]:
     return [dict(zip(shown.columns, row)) for row in shown.rows]
 
 
@@ -143,7 +144,7 @@ class Forms(unittest.TestCase):
     def test_csv_json_and_text_say_the_same(self) -> None:
         for name, figures_of in figures.FIGURES.items():
             shown = figures_of(support.opened(support.fortnight()))
-            texts = [printed(write, shown) for write in (figures.write_csv, figures.write_json, figures.write_text)]
+            texts = [printed(write, shown) for write in (write_csv, write_json, write_text)]
             rows = list(csv.DictReader(io.StringIO(texts[0])))
             whole = json.loads(texts[1])
             self.assertEqual([{key: str(value) for key, value in row.items()} for row in whole["rows"]], rows)
@@ -158,7 +159,7 @@ class Forms(unittest.TestCase):
             self.assertEqual((done.returncode, done.stdout[: len(begin)]), (0, begin))
 
 
-def printed(write: Callable[[figures.Figures], None], shown: figures.Figures) -> str:
+def printed(write: Callable[[Figures], None], shown: Figures) -> str:
     """What a writer prints."""
     out = io.StringIO()
     with contextlib.redirect_stdout(out):
