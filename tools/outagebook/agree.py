@@ -15,7 +15,7 @@ from outagebook.cli import Parser, add_table_arguments, run_job
 from outagebook.compare import Checked, open_book
 from outagebook.counts import decimal_text
 from outagebook.errors import BookError
-from outagebook.figures import Figures, Value, write_csv, write_json, write_text
+from outagebook.forms import Figures, Value, write_csv, write_json, write_text
 from outagebook.oms.files import BadRow, Complaints, Row, identifier, read_file
 from outagebook.rows import Book, Entry
 from outagebook.tickets import Part, Ticket, Tickets, customers_of, tickets_of
@@ -169,7 +169,7 @@ def agreement_of(found: Checked, told: dict[str, Told], prefix: str = "OMS-") ->
     rows = []
     for name in dict.fromkeys([*told, *tickets.by_name]):
         row = TicketRow(name, told.get(name), tickets.by_name.get(name), ())
-        rows.append(row if row.is_equal else replace(row, why=tuple(reasons(found.book, tickets, row))))
+        rows.append(replace(row, why=tuple(reasons(found.book, tickets, row))))
     return Agreement(tuple(sorted(rows, key=TicketRow.rank)), tuple(tickets.of_none))
 
 
@@ -177,7 +177,12 @@ def agreement_of(found: Checked, told: dict[str, Told], prefix: str = "OMS-") ->
 
 
 def reasons(book: Book, tickets: Tickets, row: TicketRow) -> Iterator[str]:
-    """What an OMS may count in another way, or not at all."""
+    """What an OMS may count in another way, or not at all; nothing where both counts are equal."""
+    if row.is_equal:
+        return
+    if row.is_rounded and not row.is_untold:
+        yield "minutes that are rounded"
+        return
     if row.told is None:
         yield "the OMS's file has no such ticket"
     if row.is_untold:
@@ -321,12 +326,11 @@ def about(agreement: Agreement) -> list[str]:
     minutes = minutes_text(Fraction(agreement.seconds_found(), 60))
     of_none = minutes_text(Fraction(agreement.seconds_of_none(), 60))
     return [
-        f"The OMS: {agreement.customers_told()} customers, {exact_text(agreement.minutes_told())} customer-minutes."
-        f" The book: {agreement.customers_found()} customers, {minutes} customer-minutes; of no ticket {of_none}.",
-        f"Of {len(both)} tickets in both {equal} are equal, {rounded} but for minutes that are rounded, and"
-        f" {len(both) - equal - rounded} differ; {sum(row.found is None for row in rows)} are in the OMS alone,"
-        f" {sum(row.told is None for row in rows)} in the book alone"
-        + (f", and {untold} have no counts." if untold else "."),
+        f"Customers and customer-minutes: the OMS {agreement.customers_told()} and {exact_text(agreement.minutes_told())},"
+        f" the book {agreement.customers_found()} and {minutes}; {of_none} customer-minutes of the book are of no ticket.",
+        f"Tickets in both: {len(both)}, of which {equal} equal, {rounded} equal but for rounded minutes,"
+        f" {len(both) - equal - rounded} different. In the OMS alone: {sum(row.found is None for row in rows)},"
+        f" in the book alone: {sum(row.told is None for row in rows)}, without counts: {untold}.",
     ]
 
 

@@ -117,7 +117,7 @@ class Worked(unittest.TestCase):
         why = (
             "it ended an outage that no ticket began; ended by no ticket; momentary: 2 customers, 10 of the minutes; 4"
         )
-        self.assertEqual(self.whys("T-7,2,9\n"), {"T-7": f"{why} interruptions: some customers had more than one"})
+        self.assertEqual(self.whys("T-7,3,9\n"), {"T-7": f"{why} interruptions: some customers had more than one"})
 
     def test_by_the_same_second(self) -> None:
         """Of several entries of a second the last that brought supply back ended it; the last that cut it off is its cutter."""
@@ -162,9 +162,10 @@ class Worked(unittest.TestCase):
         self.assertEqual(
             shown.splitlines()[:2],
             [
-                "# The OMS: 6 customers, 57.5 customer-minutes. The book: 2 customers, 20 customer-minutes; of no ticket 0.",
-                "# Of 1 tickets in both 0 are equal, 0 but for minutes that are rounded, and 1 differ; 1 are in the OMS alone,"
-                " 1 in the book alone.",
+                "# Customers and customer-minutes: the OMS 6 and 57.5, the book 2 and 20; 0 customer-minutes of the book are"
+                " of no ticket.",
+                "# Tickets in both: 1, of which 0 equal, 0 equal but for rounded minutes, 1 different. In the OMS alone: 1, in"
+                " the book alone: 1, without counts: 0.",
             ],
         )
         self.assertEqual(
@@ -175,6 +176,19 @@ class Worked(unittest.TestCase):
                 "T-3": "the book has no switching of it",
             },
         )
+
+    def test_rounded_minutes(self) -> None:
+        """Half a minute a customer may be rounding, and stands behind what is more; empty counts are told as such."""
+        self.found(
+            ("OMS-T-1-1-O", "DA", "open", 1_000),
+            ("OMS-T-1-1-C", "DA", "close", 2_000),
+            ("OMS-T-2-1-O", "DD", "open", 3_000),
+            ("OMS-T-2-1-C", "DD", "close", 4_000),
+        )
+        rows = "T-1,9,154.5\nT-2,5,83.3\n"  # 9 x 1,000 and 5 x 1,000 seconds are 150 and 83.333 minutes
+        self.assertEqual(self.whys(rows), {"T-1": "minutes that are rounded", "T-2": "minutes that are rounded"})
+        rows = "T-1,9,154.6\nT-2,,\n"
+        self.assertEqual(self.whys(rows), {"T-1": "", "T-2": "the OMS's file leaves its counts empty"})
 
     def test_words_and_files_that_cannot_be_read(self) -> None:
         self.found(("OMS-T-1-1-O", "DC", "open", 100))
@@ -373,9 +387,9 @@ class Mistakes(unittest.TestCase):
         done = support.run_tool("agree", self.book_of(town()), counts, *PROGRAM)
         self.assertEqual(done.returncode, 0, done.stderr)
         self.assertRegex(
-            done.stdout, "\n# Of 80 tickets in both [0-9]+ are equal, [0-9]+ but for minutes that are rounded,"
+            done.stdout, "\n# Tickets in both: 80, of which [0-9]+ equal, [0-9]+ equal but for rounded minutes, 0"
         )
-        self.assertIn(", and 0 differ; 0 are in the OMS alone, 0 in the book alone.\n", done.stdout)
+        self.assertIn(" different. In the OMS alone: 0, in the book alone: 0, without counts: 0.\n", done.stdout)
         self.assertIn("\n# The first 10 of 80 tickets; --most 0 shows all.\n", done.stdout)
         self.assertEqual(len(done.stdout.splitlines()), 3 + 1 + 10)
 
