@@ -19,12 +19,25 @@ from dataclasses import dataclass
 
 from outagebook.cli import Parser, run_job
 from outagebook.compare import open_book
-from outagebook.contents import Contents, Finding, Switched, Topic, take_cause, take_customer, take_network, take_outage
+from outagebook.contents import (
+    BOOK,
+    Contents,
+    Finding,
+    Place,
+    Topic,
+    take_cause,
+    take_customer,
+    take_network,
+    take_outage,
+)
 from outagebook.normal_state import SOURCE, During, Island, Loop, TestedNetwork, during, moments_of
-from outagebook.oms import causes, convert, customers, network, outages
-from outagebook.oms.files import read_file
+from outagebook.oms import causes, convert, customers, network, outages, told
+from outagebook.oms.complaints import Complaint, Complaints, Notes
+from outagebook.oms.conversion import Conversion
+from outagebook.oms.convert import Run
+from outagebook.oms.files import Export, format_of
 from outagebook.oms.known import Known, Service, known_of
-from outagebook.rows import Period, period_of
+from outagebook.rows import Period
 
 WRONG = 2
 MOST_NAMES = 8  # of one finding in a text
@@ -48,29 +61,18 @@ class Bound:
         return self.number <= self.limit
 
 
-def bounds_of(contents: Contents, period: Period, prefix: str) -> list[Bound]:
+def bounds_of(contents: Contents, period: Period, entries: int) -> list[Bound]:
     """What the exports and the book hold together, each beside its limit."""
-    book = contents.known.book
     feeders = {node.feeder for node in contents.nodes.values() if node.feeder is not None}
-    entries = sum(
-        1
-        for each in contents.switched
-        if period.first <= each.second < period.end and reference_of(each, prefix) not in contents.known.refs
-    )
     return [
         Bound("days of the period", len(period.days), 366),
         Bound("nodes, GRID among them", len(contents.nodes), 1_024),
         Bound("devices", len(contents.devices), 2_048),
         Bound("customers", len(contents.customers), 100_000),
-        Bound("entries", entries + (len(book.entries) if book else 0), 50_000),
+        Bound("entries", entries, 50_000),
         Bound("causes (codes from 1 to 63)", len(contents.causes), 63),
         Bound("feeders (numbers from 1 to 255)", len(feeders), 255),
     ]
-
-
-def reference_of(each: Switched, prefix: str) -> str:
-    """The reference under which a switching comes into a book."""
-    return f"{prefix}{each.ticket}-{each.step}-{each.end}"
 
 
 # Is it whole: what names something that isn't there.
@@ -87,47 +89,41 @@ def unknown_ends(contents: Contents) -> Iterator[Finding]:
     for device in contents.devices.values():
         ends = [end for end in device.ends if end not in contents.nodes]
         if ends:
-            place = contents.places.get(("device", device.name), "the book")
+            place = contents.places.get(("device", device.name), BOOK)
             verb = "is no bus or section" if len(ends) == 1 else "are no buses or sections"
-            yield Finding(Topic.NO_NODE, (device.name,), f"{device.name} ({place}): {' and '.join(ends)} {verb}")
+            text = f"{device.name} ({place}): {' and '.join(ends)} {verb}"
+            yield Finding(Topic.NO_NODE, (device.name,), text, (place,))
 
 
 def unknown_sections(contents: Contents) -> Iterator[Finding]:
     """Customers on what is no section, by what it is."""
-    astray: dict[str, list[int]] = defaultdict(list)
+    astray: dict[str, list[str]] = defaultdict(list)
     for customer, service in contents.customers.items():
         node = contents.nodes.get(service.section)
         if node is None or node.feeder is None:
-            astray[service.section].append(customer)
+            astray[service.section].append(str(customer))
     for section, listed in astray.items():
-        names = tuple(str(customer) for customer in listed)
         what = "is a bus" if section in contents.nodes else "isn't there"
-        noun = "customer" if len(names) == 1 else "customers"
-        yield Finding(Topic.NO_SECTION, names, f"{section} {what}: {noun} {names_text(names)}")
+        noun = "customer" if len(listed) == 1 else "customers"
+        places = tuple(contents.places.get(("customer", name), BOOK) for name in listed)
+        text = f"{section} {what}: {noun} {names_text(tuple(listed))}"
+        yield Finding(Topic.NO_SECTION, tuple(listed), text, places)
 
 
-def unknown_words(contents: Contents, has_network: bool) -> Iterator[Finding]:
-    """Switchings of a device or with a cause that isn't there, by its name."""
-    devices: dict[str, dict[str, None]] = defaultdict(dict)
-    words: dict[str, dict[str, None]] = defaultdict(dict)
+def unknown_words(contents: Contents) -> Iterator[Finding]:
+    """Steps of a device or with a cause that isn't there, by its name."""
+    devices: dict[str, list[Place]] = defaultdict(list)
+    words: dict[str, list[Place]] = defaultdict(list)
     for each in contents.switched:
-        if has_network and each.device not in contents.devices:
-            devices[each.device][each.place] = None
+        if each.device not in contents.devices.keys() | contents.gone:
+            devices[each.device].append(each.place)
         if each.cause not in contents.words:
-            words[each.cause][each.place] = None
+            words[each.cause].append(each.place)
     for topic, found in ((Topic.NO_DEVICE, devices), (Topic.NO_CAUSE, words)):
         for name, places in found.items():
-            listed = list(places)
-            rest = f" and {len(listed) - MOST_ROWS} more rows" if len(listed) > MOST_ROWS else ""
-            yield Finding(topic, (name,), f"{name or 'none'}: {', '.join(listed[:MOST_ROWS])}{rest}")
-
-
-def outside(contents: Contents, period: Period) -> Iterator[Finding]:
-    """How many switchings lie outside of the period; they are no entries of its book."""
-    before = sum(each.second < period.first for each in contents.switched)
-    behind = sum(each.second >= period.end for each in contents.switched)
-    if before or behind:
-        yield Finding(Topic.OUTSIDE, (), f"{before} before it, {behind} behind it", is_wrong=False)
+            listed = ", ".join(str(place) for place in places[:MOST_ROWS])
+            rest = f" and {len(places) - MOST_ROWS} more rows" if len(places) > MOST_ROWS else ""
+            yield Finding(topic, (name,), f"{name or 'none'}: {listed}{rest}", tuple(places))
 
 
 @dataclass(frozen=True)
@@ -168,9 +164,10 @@ def alone(contents: Contents) -> list[str]:
 def alone_findings(contents: Contents, unserved: Unserved) -> Iterator[Finding]:
     for name in alone(contents):
         node = contents.nodes[name]
-        kind = "bus" if node.feeder is None else "section"
+        kind = "the source" if name == SOURCE else "bus" if node.feeder is None else "section"
         counts = unserved.counts((name,), unserved.period.first, unserved.period.end)
-        yield Finding(Topic.ALONE, (name,), f"{kind} {name} ({node.place}){unserved_text(*counts)}", True, *counts)
+        text = f"{kind} {name} ({node.place}){unserved_text(*counts)}"
+        yield Finding(Topic.ALONE, (name,), text, (), True, *counts)
 
 
 # Is it whole: who is reached when all devices are in their normal positions.
@@ -205,7 +202,7 @@ def island_findings(contents: Contents, network: TestedNetwork, unserved: Unserv
             text += f"; through {names_text(tuple(sorted(found.found.ties)))}"
         topic = Topic.TIES_ALONE if found.found.is_reached_by_ties else Topic.NOT_REACHED
         is_wrong = is_whole or counts[0] > 0 or not contents.customers
-        yield Finding(topic, names, text + unserved_text(*counts), is_wrong, *counts)
+        yield Finding(topic, names, text + unserved_text(*counts), (), is_wrong, *counts)
 
 
 def loop_findings(contents: Contents, network: TestedNetwork, period: Period, is_meshed: bool) -> Iterator[Finding]:
@@ -216,7 +213,7 @@ def loop_findings(contents: Contents, network: TestedNetwork, period: Period, is
         between = tuple(joined for name in names if (joined := feeders_joined(contents, name)))
         if between:
             text += f"; between feeders: {names_text(between)}"
-        yield Finding(Topic.LOOP, names, text, not is_meshed)
+        yield Finding(Topic.LOOP, names, text, (), not is_meshed)
 
 
 def feeders_joined(contents: Contents, device: str) -> str:
@@ -227,17 +224,38 @@ def feeders_joined(contents: Contents, device: str) -> str:
 
 
 def findings_of(contents: Contents, period: Period, is_meshed: bool) -> list[Finding]:
-    """All findings, topic by topic."""
-    has_network = bool(contents.devices) or len(contents.nodes) > 1
-    found = contents.findings + list(unknown_words(contents, has_network)) + list(outside(contents, period))
-    if has_network:
-        network = tested(contents)
-        unserved = unserved_of(contents, period)
-        found += [*unknown_ends(contents), *unknown_sections(contents), *alone_findings(contents, unserved)]
-        found += island_findings(contents, network, unserved)
-        found += loop_findings(contents, network, period, is_meshed)
-    topics = list(Topic)
-    return sorted(found, key=lambda finding: topics.index(finding.topic))
+    """What is wrong with the exports, or worth a look."""
+    network, unserved = tested(contents), unserved_of(contents, period)
+    return [
+        *contents.findings,
+        *unknown_ends(contents),
+        *unknown_sections(contents),
+        *unknown_words(contents),
+        *alone_findings(contents, unserved),
+        *island_findings(contents, network, unserved),
+        *loop_findings(contents, network, period, is_meshed),
+    ]
+
+
+# Would the rows be written.
+
+
+def refusals(contents: Contents, findings: list[Finding], complaints: list[Complaint]) -> Iterator[Finding]:
+    """Rows that the conversion refuses, where no finding tells of them: it looks at the order of switchings too. Those of a
+    device one end of which is nowhere are told with the device."""
+    places = {place for finding in findings for place in finding.places}
+    wrong = {name for finding in findings if finding.topic is Topic.NO_NODE for name in finding.names}
+    places |= {each.place for each in contents.switched if each.device in wrong}
+    for complaint in complaints:
+        place = Place(complaint.file, complaint.row)
+        if place not in places:
+            yield Finding(Topic.REFUSED, (), str(complaint), (place,))
+
+
+def conversion_findings(run: Run, contents: Contents, findings: list[Finding]) -> Iterator[Finding]:
+    """What the conversion refuses beside the findings, leaves out and changes."""
+    yield from refusals(contents, findings, run.conversion.complaints.found)
+    yield from (Finding(Topic.NOTED, (), line, is_wrong=False) for line in told.lines_of_notes(run.files))
 
 
 # Writing.
@@ -282,6 +300,7 @@ def write_json(bounds: list[Bound], findings: list[Finding]) -> None:
                 "topic": each.topic.value,
                 "names": each.names,
                 "text": each.text,
+                "rows": [{"file": place.file, "row": place.row} for place in each.places if place.row],
                 "wrong": each.is_wrong,
                 "customers": each.customers,
                 "customer_seconds": each.customer_seconds,
@@ -296,40 +315,66 @@ def write_json(bounds: list[Bound], findings: list[Finding]) -> None:
 # The command.
 
 
-def contents_of(args: argparse.Namespace, known: Known, period: Period) -> Contents:
+def contents_of(args: argparse.Namespace, conversion: Conversion) -> Contents:
     """What the exports and the book hold."""
-    contents = Contents(known, args.zone or period.zone)
-    contents.read(read_file(args.causes, causes.COLUMNS), take_cause)
-    contents.read(read_file(args.gis, network.COLUMNS), take_network)
-    contents.read(read_file(args.customers, customers.COLUMNS), take_customer)
-    contents.read(read_file(args.oms, outages.COLUMNS), take_outage)
+    contents = Contents(conversion)
+    format = format_of(args)
+    for path, columns, required, take in (
+        (args.causes, causes.COLUMNS, causes.REQUIRED, take_cause),
+        (args.gis, network.COLUMNS, network.REQUIRED, take_network),
+        (args.customers, customers.COLUMNS, customers.REQUIRED, take_customer),
+        (args.oms, outages.COLUMNS, outages.REQUIRED, take_outage),
+    ):
+        if path:
+            contents.read(Export(path, columns, required, format, Complaints(), Notes("", path)), take)
     return contents
 
 
-def period_argument(args: argparse.Namespace, known: Known) -> Period:
-    """The period of the book, or the one that the words tell."""
-    if known.book is not None:
-        return known.book.period
-    return period_of(args.first, args.days, args.zone.text)
+def entries_of(run: Run, known: Known) -> int:
+    """The entries that there would be with those of the book, also where there is no room for them."""
+    full = f"a book has at most {outages.MOST_ENTRIES} entries"
+    beyond = sum(complaint.text.startswith(full) for complaint in run.conversion.complaints.found)
+    written = sum(notes.commands.get("switch", 0) for notes in run.files)
+    return len(known.book.entries if known.book else ()) + written + beyond
+
+
+def looked_at(args: argparse.Namespace, known: Known) -> tuple[list[Bound], list[Finding]]:
+    """The bounds, and the findings topic by topic. What has no room isn't told row by row, nor what hangs on it."""
+    conversion = convert.conversion_of(args, known)
+    assert conversion.period is not None  # the words tell it, or the book
+    contents = contents_of(args, conversion)
+    findings = findings_of(contents, conversion.period, args.meshed)
+    run = Run(args, convert.conversion_of(args, known), format_of(args))
+    for _ in run.commands():
+        pass
+    bounds = bounds_of(contents, conversion.period, entries_of(run, known))
+    if all(bound.fits for bound in bounds):
+        findings += conversion_findings(run, contents, findings)
+    topics = list(Topic)
+    return bounds, sorted(findings, key=lambda finding: topics.index(finding.topic))
 
 
 def make_parser() -> Parser:
     parser = convert.make_parser()
     parser.description = "Looks whether exports of other systems fit into a book, and whether their network is whole."
-    parser.add_argument("--first", metavar="DATE", help="the period's first day, where there is no book")
+    parser.add_argument("--first", metavar="DATE", help="the period's first day, where there is no book yet")
     parser.add_argument("--days", metavar="N", type=int, help="how many days it has")
+    parser.add_argument("--overlaps", choices=["refuse", "join"], default="refuse", help="as from_oms takes it")
     parser.add_argument("--meshed", action="store_true", help="loops of closed devices are meant: they aren't wrong")
-    parser.add_argument("--json", dest="write", action="store_const", const=write_json, default=write_text)
+    parser.add_argument(
+        "--json", dest="write", action="store_const", const=write_json, default=write_text, help="as JSON"
+    )
     return parser
 
 
 def main() -> int:
     parser = make_parser()
     args = parser.parse_args()
-    if not (args.oms or args.gis or args.customers or args.causes):
-        parser.error("no file is given")
-    if not args.book and not (args.first and args.days and args.days > 0 and args.zone):
+    convert.check_words(parser, args)
+    if not args.book and not args.first:
         parser.error("the period isn't given: --first, --days and --zone, or --book")
+    if args.days is not None and args.days < 1:
+        parser.error("--days is a number from 1 on")
     wrong = False
 
     def job() -> None:
@@ -338,9 +383,7 @@ def main() -> int:
             known = Known()
             if args.book:
                 known = known_of(stack.enter_context(open_book(args.book, args.table, args.program)))
-            period = period_argument(args, known)
-            contents = contents_of(args, known, period)
-        bounds, findings = bounds_of(contents, period, args.prefix), findings_of(contents, period, args.meshed)
+            bounds, findings = looked_at(args, known)
         args.write(bounds, findings)
         wrong = any(finding.is_wrong for finding in findings) or not all(each.fits for each in bounds)
 

@@ -4,6 +4,7 @@ import json
 import random
 import unittest
 from collections.abc import Iterable, Iterator
+from datetime import datetime, timedelta
 from pathlib import Path
 
 from outagebook.normal_state import SOURCE, TestedDevice, TestedNetwork, during
@@ -38,6 +39,12 @@ def changed(rows: Iterable[str], change: tuple[str, str]) -> Iterator[str]:
     return (new if row.startswith(old) else row for row in listed)
 
 
+def text_of(export: str, rows: Iterable[str]) -> str:
+    """The text of an export: its rows with all columns."""
+    columns = HEADS[export].count(",")
+    return "".join(f"{row}{',' * (columns - row.count(','))}\n" for row in (HEADS[export], *rows))
+
+
 class Exports:
     """The sample exports, with rows that are added or changed, in files."""
 
@@ -53,8 +60,7 @@ class Exports:
         """The words that name the files."""
         words: list[object] = []
         for export, rows in self.rows.items():
-            text = "\n".join([HEADS[export], *rows]) + "\n"
-            words += [f"--{export}", written(f"checked-{export}.csv", text)]
+            words += [f"--{export}", written(f"checked-{export}.csv", text_of(export, rows))]
         return words
 
 
@@ -87,13 +93,17 @@ class Found(unittest.TestCase):
         self.assertEqual(
             found,
             [
-                ("rows that can't be read", "gis.csv row 12: the feeder '256' isn't a number from 1 to 255", True),
+                ("rows that can't be taken", "gis.csv: row 12: the feeder '256' isn't a number from 1 to 255", True),
                 (
-                    "rows that can't be read",
-                    "customers.csv row 14: the customer '0' isn't a number from 1 to 4294967295",
+                    "rows that can't be taken",
+                    "customers.csv: row 14: the customer '0' isn't a number from 1 to 4294967295",
                     True,
                 ),
-                ("rows that can't be read", "customers.csv row 15: until isn't after since", True),
+                (
+                    "rows that can't be taken",
+                    "customers.csv: row 15: until '2020-01-02' isn't after since '2020-01-02'",
+                    True,
+                ),
             ],
         )
 
@@ -107,7 +117,7 @@ class Found(unittest.TestCase):
         self.wrong(Exports(customers=["5001,DEPOT,2020-01-01"]), twice, customer)
         row = "T-2042,1,SW-81,2025-10-24 13:00:00,,2025-10-24 13:04:30,,WIND,,,"
         self.wrong(Exports(oms=[row]), twice, "ticket and step T-2042 1: oms.csv row 4 and oms.csv row 8")
-        cause = "cause 2 FIRE, causes.csv row 5: code 2 is TREE, and FIRE has code none before"
+        cause = "cause 2 FIRE, causes.csv row 5: code 2 is TREE, and FIRE has no code before"
         self.wrong(Exports(causes=["2,FIRE,FIRE"]), twice, cause)
 
     def test_several_words_of_a_cause(self) -> None:
@@ -133,11 +143,17 @@ class Found(unittest.TestCase):
         exports = Exports().change("oms", ("T-2042", "T-2042,1,SW-81,2025-10-23 13:00:00,,,,PLANED,,,"))
         self.wrong(exports, "switchings with a cause that no row has", "PLANED: oms.csv row 4")
 
-    def test_switchings_outside_of_the_period(self) -> None:
-        """They are told, and no fault by themselves."""
-        row = "T-1,1,CB-7,2025-10-19 23:00:00,,2025-10-20 00:00:00,,WIND,,,"
+    def test_what_the_conversion_leaves_out_and_refuses(self) -> None:
+        """What lies outside of the period is told, and no fault by itself; steps of a device that overlap are one."""
+        row = "T-1,1,CB-7,2025-10-19 22:00:00,,2025-10-19 23:00:00,,WIND"
         found = self.checked(Exports(oms=[row]), status=0)
-        self.assertEqual(found, [("switchings outside of the period", "1 before it, 0 behind it", False)])
+        text = "oms.csv: left out: 1 steps before the period (row 8)"
+        self.assertEqual(found, [("left out or changed when rows are written", text, False)])
+        row = "T-1,1,SW-81,2025-10-23 13:03:00,,2025-10-23 14:00:00,,WIND"
+        ((topic, text, is_wrong),) = self.checked(Exports(oms=[row]))
+        self.assertEqual((topic, is_wrong), ("rows that can't be taken", True))
+        self.assertIn("oms.csv: row 8: ticket T-1 step 1 opens SW-81", text)
+        self.checked(Exports(oms=[row]), *WORDS, "--overlaps", "join", status=0)
 
     def test_a_section_that_no_device_joins(self) -> None:
         exports = Exports(gis=["section,QUAY,9"], customers=["6001,QUAY,2025-10-21 00:00,2025-10-22 00:00"])
@@ -150,6 +166,7 @@ class Found(unittest.TestCase):
 
     def test_what_is_reached_through_ties_alone(self) -> None:
         exports = Exports().change("gis", ("device,SW-71", "device,SW-71,,OAK-STREET,ELM-STREET,open"))
+        exports.change("oms", ("T-2041,2", "T-2041,2,SW-71,2025-10-21 10:10:00,,2025-10-21 08:40:00,,TREE DOWN"))
         # 5005 to 5007 the whole time, and 5013 from the 27th on.
         seconds = 3 * SECONDS + 7 * 86_400
         text = f"ELM-STREET: the whole period; through SW-71, TIE-78; 4 customers, {seconds} customer-seconds under cause 0"
@@ -176,6 +193,7 @@ class Found(unittest.TestCase):
 
     def test_a_tie_that_is_normally_closed(self) -> None:
         exports = Exports().change("gis", ("device,TIE-78", "device,TIE-78,,ELM-STREET,DEPOT,closed"))
+        exports.change("oms", ("T-2041,3", "T-2041,3,TIE-78,2025-10-21 08:15:00,,2025-10-21 08:45:00,,TREE DOWN"))
         text = "CB-7, CB-8, SW-71, SW-81, TIE-78: the whole period; between feeders: TIE-78 (7 and 8)"
         self.wrong(exports, "loops of devices that are closed normally", text)
         self.assertEqual(
@@ -189,10 +207,10 @@ class Found(unittest.TestCase):
         self.wrong(exports, "loops of devices that are closed normally", text)
 
     def test_without_a_network(self) -> None:
-        words = [*Exports().files()[2:], *WORDS]
-        self.assertEqual(words[0], "--customers")
-        done = support.run_tool("check", *words)
-        self.assertEqual((done.returncode, done.stderr), (0, ""))
+        """Outages are looked at beside a network, as where rows are written."""
+        done = support.run_tool("check", *Exports().files()[2:], *WORDS)
+        self.assertEqual((done.returncode, done.stdout), (1, ""))
+        self.assertIn("give --gis or --book", done.stderr)
 
     def test_wrong_words(self) -> None:
         files = Exports().files()
@@ -216,7 +234,7 @@ class WithABook(unittest.TestCase):
     """Exports beside a book that has a part of them already."""
 
     def setUp(self) -> None:
-        rows = support.run_tool("from_oms", *Exports().files(), "--zone", ZONE).stdout
+        rows = support.run_tool("from_oms", *Exports().files(), *WORDS).stdout
         self.book = program_books.new_book("checked", PERIOD, written("checked-rows.csv", rows))
 
     def checked(self, exports: Exports, status: int = 2) -> dict[str, list[dict[str, object]]]:
@@ -277,40 +295,34 @@ class AsTheProgramSays(unittest.TestCase):
             (1_024, 2_049, 2, "refused 12 Full 2048"),
         ]:
             with self.subTest(nodes=nodes, devices=devices):
-                gis = written("limit.csv", "\n".join([HEADS["gis"], *self.rows(nodes, devices)]) + "\n")
+                gis = written("limit.csv", text_of("gis", self.rows(nodes, devices)))
                 done = support.run_tool("check", "--gis", gis, *WORDS)
                 self.assertEqual((done.returncode, done.stderr), (status, ""), done.stdout)
                 self.assertIn(
                     "it fits, and nothing is" if status == 0 else "it doesn't fit, and nothing is", done.stdout
                 )
-                rows = written("limit-rows.csv", support.run_tool("from_oms", "--gis", gis, "--zone", ZONE).stdout)
+                rows = written("limit-rows.csv", program_books.text_of(commands(self.rows(nodes, devices))))
                 book = program_books.new_book("limit", PERIOD)
                 done = run_program("import", "--book", book, rows)
                 self.assertEqual((done.returncode, done.stderr.partition(" row")[0]), (status, refusal))
 
     def test_the_other_limits(self) -> None:
-        """As many customers, entries, causes and days as fit, and one more of each."""
-        customers = [f"{number},DEPOT,2000-01-01" for number in range(10_001, 10_001 + 100_000 - 13)]
-        oms = [f"X-{number},1,SW-81,2025-10-22 12:00:00,,2025-10-22 12:00:01,,WIND,,," for number in range(25_000 - 6)]
-        causes = [f"{code},CAUSE-{code}," for code in range(5, 64)]
+        """All 63 causes, and one customer, one entry and one day more than there is room for."""
+        customers = [f"{number},DEPOT,2000-01-01" for number in range(10_001, 10_001 + 100_001 - 13)]
+        oms = [f"X-{number},1,SW-81,{clock(2 * number)},,{clock(2 * number + 1)},,WIND" for number in range(25_000 - 5)]
+        causes = [f"{code},CAUSE-{code}" for code in range(5, 64)]
         exports = Exports(customers=customers, oms=oms, causes=causes)
-        words = ("--first", "2025-10-20", "--days", "366", "--zone", ZONE, "--json")
-        done = support.run_tool("check", *exports.files(), *words)
-        self.assertEqual(done.returncode, 0, done.stdout[-2_000:])
-        numbers = {each["what"]: each["number"] for each in json.loads(done.stdout)["bounds"]}
-        self.assertEqual([numbers[name] for name in ("days of the period", "customers")], [366, 100_000])
-        self.assertEqual((numbers["entries"], numbers["causes (codes from 1 to 63)"]), (49_999, 63))
-        exports.rows["customers"].append("9999,DEPOT,2000-01-01")
-        exports.rows["oms"].append("Y-1,1,SW-81,2025-10-22 12:00:00,,2025-10-22 12:00:01,,WIND,,,")
         words = ("--first", "2025-10-20", "--days", "367", "--zone", ZONE, "--json")
         done = support.run_tool("check", *exports.files(), *words)
-        self.assertEqual(done.returncode, 2)
-        fits = {each["what"]: each["fits"] for each in json.loads(done.stdout)["bounds"] if not each["fits"]}
-        self.assertEqual(list(fits), ["days of the period", "customers", "entries"])
+        self.assertEqual((done.returncode, done.stderr), (2, ""))
+        whole = json.loads(done.stdout)
+        self.assertEqual(whole["findings"], [])
+        passed = {each["what"]: each["number"] for each in whole["bounds"] if not each["fits"]}
+        self.assertEqual(passed, {"days of the period": 367, "customers": 100_001, "entries": 50_001})
 
     def test_seconds_under_cause_0(self) -> None:
         """Of random networks with lives the findings' customer-seconds are all that the program counts without an outage."""
-        for seed in range(12):
+        for seed in range(6):
             draw = random.Random(seed)
             gis = [
                 *(f"bus,B{number}" for number in range(2)),
@@ -329,6 +341,18 @@ class AsTheProgramSays(unittest.TestCase):
                 rows = written("seconds.csv", support.run_tool("from_oms", *exports.files(), "--zone", ZONE).stdout)
                 table = program_books.table_of(program_books.new_book("seconds", PERIOD, rows))
                 self.assertEqual(str(found), parted(table)["cause 0 UNASSIGNED"])
+
+
+def clock(seconds: int) -> str:
+    """A time of a day without a change of clocks."""
+    return str(datetime(2025, 10, 22) + timedelta(seconds=seconds))
+
+
+def commands(rows: Iterable[str]) -> Iterator[str]:
+    """The commands of the rows of a network."""
+    for number, row in enumerate(rows):
+        kind, name, *rest = row.split(",")
+        yield f"{kind},REF-{number},{name},{','.join(field for field in rest if field)}".rstrip(",")
 
 
 def life(draw: random.Random, since: str = "") -> str:
