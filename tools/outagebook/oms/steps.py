@@ -1,12 +1,13 @@
 """Outages and steps of restoration, row by row, of an outage management system."""
 
+import difflib
 from dataclasses import dataclass
 
 from outagebook.oms.causes import Causes
 from outagebook.oms.complaints import BadRow, Notes
 from outagebook.oms.conversion import MOST_NAME, Conversion, note_small_letters
 from outagebook.oms.fields import identifier, moment_text, read_moment, read_zone, shown
-from outagebook.oms.files import Row
+from outagebook.oms.files import ALIKE, Row
 from outagebook.oms.network import Network
 from outagebook.zone import Zone
 
@@ -57,6 +58,18 @@ def act_of(is_closed: bool, leaves: bool) -> str:
     return "open" if leaves == is_closed else "close"
 
 
+def is_cancelled(row: Row, notes: Notes) -> bool:
+    """The ticket was a mistake. Other words of a status mean nothing here, but one that may be meant for it is refused."""
+    status = row["status"].lower()
+    if status in CANCELLED:
+        return True
+    if difflib.get_close_matches(status, CANCELLED, 1, ALIKE):
+        raise BadRow(f"status {shown(row['status'])} may be meant for {CANCELLED[0]}")
+    if status:
+        notes.noticed("steps with a status that isn't looked at", row)
+    return False
+
+
 @dataclass
 class StepReader:
     """What rows are read with."""
@@ -72,7 +85,7 @@ class StepReader:
         ticket = identifier(row["ticket"], MOST_NAME, "the ticket")
         step = identifier(row["step"] or "1", MOST_STEP, "the step")
         place = row.file, row.number, f"{self.prefix}{ticket}-{step}", ticket, step
-        if row["status"].lower() in CANCELLED:
+        if is_cancelled(row, notes):
             notes.left_out(CANCELLED_STEPS, row)
             return Step(*place, "", True, None, None, 0, "", None)
         device = identifier(row["device"], MOST_NAME, "the device")
