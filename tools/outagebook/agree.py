@@ -16,11 +16,15 @@ from outagebook.compare import Checked, open_book
 from outagebook.counts import decimal_text
 from outagebook.errors import BookError
 from outagebook.forms import Figures, Value, write_csv, write_json, write_text
-from outagebook.oms.files import BadRow, Complaints, Row, identifier, read_file
+from outagebook.oms.complaints import BadRow, Complaints
+from outagebook.oms.fields import identifier
+from outagebook.oms.files import Row, add_format_arguments, format_of, read_file
+from outagebook.oms.steps import CANCELLED
 from outagebook.rows import Book, Entry
 from outagebook.tickets import Part, Ticket, Tickets, customers_of, tickets_of
 
 COLUMNS = ("ticket", "customers", "customer_minutes", "status")
+REQUIRED = COLUMNS[:3]
 LONGEST_TICKET = 24
 FIRST_PAGE = 10  # rows
 MOST_SECTIONS = 4  # in a text
@@ -61,7 +65,7 @@ def read_told(rows: Iterable[Row], by_step: bool) -> dict[str, Told]:
     told: dict[str, Told] = {}
     for row in rows:
         with complaints.about(row):
-            if row["status"].lower() != "cancelled":
+            if row["status"].lower() not in CANCELLED:
                 ticket = identifier(row["ticket"], LONGEST_TICKET, "the ticket")
                 here = Told(customers_told(row["customers"]), minutes_told(row["customer_minutes"]))
                 before = told.get(ticket, Told(None, None))
@@ -158,6 +162,14 @@ class Agreement:
 
     def seconds_found(self) -> int:
         return sum(row.found.customer_seconds for row in self.rows if row.found)
+
+    def seconds_untold(self) -> int:
+        """The book's customer-seconds of tickets of which the OMS tells no customer-minutes."""
+        return sum(
+            row.found.customer_seconds
+            for row in self.rows
+            if row.found and (row.told is None or row.told.customer_minutes is None)
+        )
 
     def seconds_of_none(self) -> int:
         return sum(part.customer_seconds for part in self.of_none)
@@ -323,11 +335,14 @@ def about(agreement: Agreement) -> list[str]:
     untold = sum(row.is_untold for row in rows)
     equal = sum(row.is_equal for row in both)
     rounded = sum(row.is_rounded for row in both) - equal
-    minutes = minutes_text(Fraction(agreement.seconds_found(), 60))
-    of_none = minutes_text(Fraction(agreement.seconds_of_none(), 60))
+    found, alone, of_none = (
+        minutes_text(Fraction(seconds, 60))
+        for seconds in (agreement.seconds_found(), agreement.seconds_untold(), agreement.seconds_of_none())
+    )
     return [
         f"Customers and customer-minutes: the OMS {agreement.customers_told()} and {exact_text(agreement.minutes_told())},"
-        f" the book {agreement.customers_found()} and {minutes}; {of_none} customer-minutes of the book are of no ticket.",
+        f" the book {agreement.customers_found()} and {found}, {alone} of them where the OMS tells no minutes; of no ticket"
+        f" {of_none}.",
         f"Tickets in both: {len(both)}, of which {equal} equal, {rounded} equal but for rounded minutes,"
         f" {len(both) - equal - rounded} different. In the OMS alone: {sum(row.found is None for row in rows)},"
         f" in the book alone: {sum(row.told is None for row in rows)}, without counts: {untold}.",
@@ -363,6 +378,7 @@ def make_parser() -> Parser:
         "--by-step", action="store_true", help="each row of a ticket has the counts of a step: they are added up"
     )
     parser.add_argument("--prefix", default="OMS-", help="what the references of outages begin with (OMS-)")
+    add_format_arguments(parser)
     add_table_arguments(parser)
     return parser
 
@@ -374,7 +390,7 @@ def main() -> int:
         parser.error("--most is a number from 0 on")
 
     def job() -> None:
-        told = read_told(read_file(args.oms, COLUMNS), args.by_step)
+        told = read_told(read_file(args.oms, COLUMNS, REQUIRED, format_of(args)), args.by_step)
         with open_book(args.book, args.table, args.program) as found:
             agreement = agreement_of(found, told, args.prefix)
             args.write(figures_of(found.book, agreement, args.most if args.write is write_text else None))

@@ -4,7 +4,7 @@ import argparse
 from collections.abc import Iterable
 from dataclasses import dataclass
 
-from outagebook.oms.files import Row, read_file
+from outagebook.oms.files import Row, add_format_arguments, format_of, read_file
 from outagebook.references import Source
 
 KEYS = {
@@ -20,6 +20,7 @@ def add_export_arguments(parser: argparse.ArgumentParser) -> None:
     group = parser.add_argument_group("the exports from which the rows came, so that their rows are told")
     for export in KEYS:
         group.add_argument(f"--{export}", metavar="FILE")
+    add_format_arguments(parser)
 
 
 def name_of(export: str, row: Row) -> str:
@@ -50,6 +51,6 @@ def exported_rows(args: argparse.Namespace) -> ExportedRows:
     """The rows of the exports that are given."""
     rows: dict[str, dict[str, Row]] = {}
     for export, columns in KEYS.items():
-        for row in read_file(getattr(args, export), columns):
+        for row in read_file(getattr(args, export), columns, (), format_of(args)):
             rows.setdefault(export, {}).setdefault(name_of(export, row), row)
     return ExportedRows(rows)

@@ -162,8 +162,8 @@ class Worked(unittest.TestCase):
         self.assertEqual(
             shown.splitlines()[:2],
             [
-                "# Customers and customer-minutes: the OMS 6 and 57.5, the book 2 and 20; 0 customer-minutes of the book are"
-                " of no ticket.",
+                "# Customers and customer-minutes: the OMS 6 and 57.5, the book 2 and 20, 20 of them where the OMS tells no"
+                " minutes; of no ticket 0.",
                 "# Tickets in both: 1, of which 0 equal, 0 equal but for rounded minutes, 1 different. In the OMS alone: 1, in"
                 " the book alone: 1, without counts: 0.",
             ],
