@@ -245,7 +245,7 @@ class WithABook(unittest.TestCase):
         return whole
 
     def test_what_is_there_counts_once(self) -> None:
-        row = "T-2050,1,CB-7,2025-10-31 08:00:00,,2025-10-31 09:00:00,,WIND,,,"
+        row = "T-2050,1,CB-8,2025-10-31 08:00:00,,2025-10-31 09:00:00,,WIND"
         exports = Exports(gis=["section,QUAY,8", "device,SW-82,,DEPOT,QUAY,closed"], oms=[row])
         whole = self.checked(exports, status=0)
         self.assertEqual(whole["findings"], [])
@@ -264,7 +264,7 @@ class WithABook(unittest.TestCase):
             found,
             [
                 "node WHARF: a section of feeder 7 in gis.csv row 4, a section of feeder 8 in the book",
-                "device SW-81: NORTH-BUS to DEPOT, normally closed in gis.csv row 10, WHARF to DEPOT, normally closed in the book",
+                "device SW-81: DEPOT to NORTH-BUS, normally closed in gis.csv row 10, DEPOT to WHARF, normally closed in the book",
                 "customer 5012: on WHARF in customers.csv row 12, on DEPOT in the book",
             ],
         )
