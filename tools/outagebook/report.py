@@ -331,7 +331,7 @@ def group_row(row: GroupRow) -> TableRow:
     tally = row.rates.tally
     counts = number(tally.sustained), number(tally.momentary)
     customers = decimal_text(row.rates.customers)
-    return TableRow([row.name, row.set, customers, *counts, *rates_cells(row.rates), number(row.posted)])
+    return TableRow([row.name, row.set, customers, *counts, *rates_cells(row.rates), number(row.seconds)])
 
 
 def group_bars(prefix: str, rows: Iterable[GroupRow]) -> list[Bar]:

@@ -102,11 +102,13 @@ class Sums(unittest.TestCase):
             causes = rows_of(figures.causes(found))
             self.assertEqual(sum(row["customer_seconds"] for row in causes), total)
             self.assertEqual(sum(fraction(row["saidi"]) for row in causes), saidi)
+            unmarked = sum(each.customer_seconds for each in found.interruptions if not found.book.is_marked(each.since))
             for name in ["months", "feeders", "sections"]:
                 rows = rows_of(figures.FIGURES[name](found))
-                self.assertEqual(sum(row["customer_seconds"] for row in rows), 2 * total)
                 for which in SETS:
                     mine = [row for row in rows if row["set"] == which]
+                    seconds = sum(row["customer_seconds"] for row in mine)
+                    self.assertEqual(seconds, total if which == "all" else unmarked)
                     self.assertEqual(sum(row["sustained"] for row in mine), found.counts[which].sustained)
                     self.assertEqual(sum(row["momentary"] for row in mine), found.counts[which].momentary)
                 if name != "months":
