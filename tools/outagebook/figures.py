@@ -105,7 +105,7 @@ def add_list_arguments(parser: Parser) -> None:
     parser.add_argument(
         "--names", metavar="FILE", help="a CSV of feeder, name and substation: names beside the feeders"
     )
-    parser.add_argument("--causes", metavar="FILE", help="of cause-groups: a CSV of cause (its name or code) and group")
+    parser.add_argument("--causes", metavar="FILE", help="a CSV of cause (its name or code) and group")
     parser.add_argument(
         "--ticket",
         metavar="RULE",
