@@ -13,13 +13,14 @@ from outagebook.rates import (
     Rates,
     Tally,
     both,
+    counted,
     group_values,
     quotient_columns,
     tallies,
     tallies_of_sets,
     yes_if,
 )
-from outagebook.rows import DAY
+from outagebook.rows import DAY, Period
 
 
 @dataclass(frozen=True)
@@ -91,22 +92,42 @@ def day_values(row: DayRow) -> list[Value]:
     ]
 
 
+def months_of_days(period: Period) -> list[str]:
+    """The month of each day, as `2025-03`."""
+    return [day.strftime("%Y-%m") for day in period.days]
+
+
+def month_bounds(period: Period) -> dict[str, tuple[int, int]]:
+    """The months' parts of the period: their first second and their end."""
+    bounds: dict[str, tuple[int, int]] = {}
+    for number, month in enumerate(months_of_days(period)):
+        bounds[month] = bounds.get(month, (period.bounds[number], 0))[0], period.bounds[number + 1]
+    return bounds
+
+
+def month_seconds(found: Checked) -> dict[str, dict[str, int]]:
+    """The customer-seconds that lie in each month: the book's, and those of the unmarked interruptions."""
+    book, months = found.book, months_of_days(found.book.period)
+    seconds: dict[str, dict[str, int]] = {name: defaultdict(int) for name in SETS}
+    for number, month in enumerate(months):
+        seconds["all"][month] += book.postings[DAY, number]
+    for each in counted(found, "unmarked"):
+        for day, length in book.period.parts(each.since, each.until):
+            seconds["unmarked"][months[day]] += each.customers * length
+    return seconds
+
+
 def month_rows(found: Checked) -> list[GroupRow]:
     """The months' parts of the period."""
-    book, period = found.book, found.book.period
-    month_of_day = [day.strftime("%Y-%m") for day in period.days]
-    bounds: dict[str, tuple[int, int]] = {}
-    posted: dict[str, int] = defaultdict(int)
-    for number, month in enumerate(month_of_day):
-        bounds[month] = bounds.get(month, (period.bounds[number], 0))[0], period.bounds[number + 1]
-        posted[month] += book.postings[DAY, number]
-    sums = tallies_of_sets(found, lambda each: month_of_day[period.day_of(each.since)])
+    book, months = found.book, months_of_days(found.book.period)
+    seconds = month_seconds(found)
+    sums = tallies_of_sets(found, lambda each: months[book.period.day_of(each.since)])
     rows = []
-    for month, (first, end) in bounds.items():
+    for month, (first, end) in month_bounds(book.period).items():
         served = sum(block.seconds(first, end) for block in book.blocks)
         for name in SETS:
             rates = Rates(sums[name].get(month, Tally()), served, end - first)
-            rows.append(GroupRow(month, name, posted[month], rates))
+            rows.append(GroupRow(month, name, seconds[name][month], rates))
     return rows
 
 
@@ -115,7 +136,7 @@ def months(found: Checked) -> Figures:
     about = [
         "The month's part of the period; an interruption counts whole in the month in which it begins.",
         "Customers served are an average over that part: its S / P.",
-        "customer_seconds is the book's: each second in the month in which it lies.",
+        "customer_seconds counts each second in the month in which it lies.",
     ]
     rows = [[row.name, *group_values(row)] for row in month_rows(found)]
     return Figures("months", about, {"month": "year and month", **GROUP_COLUMNS}, rows)

@@ -3,7 +3,7 @@
 from outagebook.compare import Checked
 from outagebook.counts import SETS
 from outagebook.forms import Figures, Value
-from outagebook.rates import GROUP_COLUMNS, GroupRow, Rates, Tally, group_values, served_by, tallies, tallies_of_sets
+from outagebook.rates import GROUP_COLUMNS, GroupRow, Rates, Tally, group_values, served_by, tallies_of_sets
 from outagebook.rows import FEEDER
 
 
@@ -15,8 +15,9 @@ def feeder_rows(found: Checked) -> list[GroupRow]:
     rows = []
     for feeder in sorted({section.feeder for section in sections.values()}):
         for name in SETS:
-            rates = Rates(sums[name].get(feeder, Tally()), served.get(feeder, 0), book.period.length)
-            rows.append(GroupRow(feeder, name, book.postings[FEEDER, feeder], rates))
+            tally = sums[name].get(feeder, Tally())
+            seconds = book.postings[FEEDER, feeder] if name == "all" else tally.customer_seconds
+            rows.append(GroupRow(feeder, name, seconds, Rates(tally, served.get(feeder, 0), book.period.length)))
     return rows
 
 
@@ -33,14 +34,14 @@ def sections(found: Checked) -> Figures:
     """The same of each line section."""
     book = found.book
     served = served_by(book, lambda block: block.section)
-    whole = tallies(found.interruptions, lambda each: each.run.section)
     sums = tallies_of_sets(found, lambda each: each.run.section)
     rows: list[list[Value]] = []
     for node, section in book.sections.items():
-        posted = whole.get(node, Tally()).customer_seconds
         for name in SETS:
-            rates = Rates(sums[name].get(node, Tally()), served.get(node, 0), book.period.length)
-            rows.append([section.name, section.feeder, *group_values(GroupRow(section.name, name, posted, rates))])
+            tally = sums[name].get(node, Tally())
+            rates = Rates(tally, served.get(node, 0), book.period.length)
+            values = group_values(GroupRow(section.name, name, tally.customer_seconds, rates))
+            rows.append([section.name, section.feeder, *values])
     about = ["By the customers' section; customers served are an average over the period: their S / P."]
     columns = {"section": "the line section", "feeder": "its home feeder", **GROUP_COLUMNS}
     return Figures("sections", about, columns, rows)

@@ -1,28 +1,37 @@
 """Figures of a book, as a table to read, as CSV or as JSON.
 
-    python3 tools/figures.py BOOK interruptions|days|months|feeders|causes|sections|switchings|lives|indices
-                             [--csv | --json] [--late] [--table FILE | --program PATH]
+    python3 tools/figures.py BOOK interruptions|days|months|feeders|causes|sections|switchings|lives|indices|customers
+                             [--csv | --json] [--late] [--names FILE] [--table FILE | --program PATH]
+    python3 tools/figures.py BOOK events [--ticket RULE] ..
+    python3 tools/figures.py BOOK groups --by FILE ..
+    python3 tools/figures.py BOOK cause-groups --causes FILE ..
 
 Before it answers, the book's postings and the program's annual table are compared with what is found here (compare.py).
 Quotients are exact fractions, each with its three decimals in a column beside it. Moments are by the clock of the book's
 zone, with their offset. docs/FIGURES.md says what each figure means.
 """
 
+from argparse import Namespace
 from collections.abc import Callable
 
-from outagebook.causes import causes
+from outagebook.causes import cause_groups, causes
 from outagebook.cli import Parser, add_table_arguments, run_job
 from outagebook.compare import Checked, open_book
 from outagebook.counts import SETS, indices_of
+from outagebook.customers import customers
 from outagebook.days import days, months
+from outagebook.events import events, read_rule
 from outagebook.feeders import feeders, sections
 from outagebook.forms import Figures, Value, write_csv, write_json, write_text
+from outagebook.lists import read_cause_groups, read_names, read_section_groups, with_names
 from outagebook.outages import interruptions
 from outagebook.rates import both
+from outagebook.section_groups import groups
 from outagebook.work import lives, switchings
 
 __all__ = ["FIGURES", "TERMS", "Figures", "Value", "indices", "main", "meaning_of"]
-__all__ += ["causes", "days", "feeders", "interruptions", "lives", "months", "sections", "switchings"]
+__all__ += ["causes", "customers", "days", "events", "feeders", "groups", "interruptions", "lives", "months"]
+__all__ += ["sections", "switchings"]
 __all__ += ["write_csv", "write_json", "write_text"]
 
 INDEX_MEANINGS = {
@@ -70,34 +79,82 @@ def indices(found: Checked) -> Figures:
 
 FIGURES: dict[str, Callable[[Checked], Figures]] = {
     "interruptions": interruptions,
+    "events": events,
     "days": days,
     "months": months,
     "feeders": feeders,
     "causes": causes,
     "sections": sections,
+    "customers": customers,
     "switchings": switchings,
     "lives": lives,
     "indices": indices,
 }
 
+WITH_LISTS: dict[str, Callable[[Checked, Namespace], Figures]] = {
+    "groups": lambda found, args: groups(found, read_section_groups(args.by, found.book)),
+    "cause-groups": lambda found, args: cause_groups(found, read_cause_groups(args.causes, found.book)),
+}
+
+# Words that go with one figure alone.
+WORDS = {"late": "switchings", "ticket": "events", "by": "groups", "causes": "cause-groups"}
+
+
+def add_list_arguments(parser: Parser) -> None:
+    """The words that name a user's lists and the rule of tickets."""
+    parser.add_argument(
+        "--names", metavar="FILE", help="a CSV of feeder, name and substation: names beside the feeders"
+    )
+    parser.add_argument("--causes", metavar="FILE", help="a CSV of cause (its name or code) and group")
+    parser.add_argument(
+        "--ticket",
+        metavar="RULE",
+        type=read_rule,
+        help="of events: a regular expression that a whole reference fits, with a group (?P<ticket>..) and, where it may,"
+        " (?P<step>..); as from_oms writes them unasked",
+    )
+
+
+def figures_of(found: Checked, args: Namespace) -> Figures:
+    """The figures that the words of the command line ask for."""
+    if args.figures in WITH_LISTS:
+        shown = WITH_LISTS[args.figures](found, args)
+    elif args.late:
+        shown = switchings(found, args.late)
+    elif args.ticket:
+        shown = events(found, args.ticket)
+    else:
+        shown = FIGURES[args.figures](found)
+    return with_names(shown, read_names(args.names, found.book), found.book) if args.names else shown
+
+
+def check_words(parser: Parser, args: Namespace) -> None:
+    """Words that go with another figure, and lists that one can't do without."""
+    for word, figure in WORDS.items():
+        if getattr(args, word) and args.figures != figure:
+            parser.error(f"--{word} goes with {figure}")
+        if figure in WITH_LISTS and args.figures == figure and not getattr(args, word):
+            parser.error(f"{figure} wants --{word} FILE")
+
 
 def main() -> int:
     parser = Parser(description="Shows figures of a book, after they were compared with the program's.")
     parser.add_argument("book", help="the book's file")
-    parser.add_argument("figures", choices=FIGURES, help="which")
+    parser.add_argument("figures", choices=[*FIGURES, *WITH_LISTS], help="which")
     form = parser.add_mutually_exclusive_group()
     form.add_argument("--csv", dest="write", action="store_const", const=write_csv, default=write_text, help="as CSV")
     form.add_argument("--json", dest="write", action="store_const", const=write_json, help="as JSON")
     parser.add_argument(
         "--late", action="store_true", help="of switchings: late entries, corrections, withdrawals alone"
     )
+    add_list_arguments(parser)
+    parser.add_argument("--by", metavar="FILE", help="of groups: a CSV of section and group")
     add_table_arguments(parser)
     args = parser.parse_args()
-    if args.late and args.figures != "switchings":
-        parser.error("--late goes with switchings")
+    check_words(parser, args)
 
     def job() -> None:
         with open_book(args.book, args.table, args.program) as found:
-            args.write(switchings(found, args.late) if args.late else FIGURES[args.figures](found))
+            args.write(figures_of(found, args))
 
     return run_job(job)

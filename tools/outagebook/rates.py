@@ -122,17 +122,18 @@ def rates_values(rates: Rates) -> list[Value]:
 
 @dataclass(frozen=True)
 class GroupRow:
-    """A month, a feeder or a section in one of the two sets; `posted` are its customer-seconds, of both."""
+    """A month, a feeder or a section in one of the two sets; `seconds` are the customer-seconds of the set's interruptions:
+    of all, the book's own, as posted."""
 
     name: int | str
     set: str
-    posted: int
+    seconds: int
     rates: Rates
 
 
 GROUP_COLUMNS = {
     "set": "all interruptions, or the unmarked ones, which don't begin on a marked day",
-    "customer_seconds": "the book's customer-seconds without supply, of both sets",
+    "customer_seconds": "customer-seconds without supply: the book's, and of the unmarked set those of its interruptions",
     **quotient_columns("customers_served", "S / P: customers in service on average"),
     **RATES_COLUMNS,
 }
@@ -140,4 +141,4 @@ GROUP_COLUMNS = {
 
 def group_values(row: GroupRow) -> list[Value]:
     """The values of GROUP_COLUMNS."""
-    return [row.set, row.posted, *both(row.rates.customers), *rates_values(row.rates)]
+    return [row.set, row.seconds, *both(row.rates.customers), *rates_values(row.rates)]

@@ -1,11 +1,13 @@
 """What switchings, corrections and withdrawals moved, late ones among them, and devices that join and leave."""
 
-from dataclasses import dataclass
+from collections import defaultdict
+from collections.abc import Iterable, Iterator
+from dataclasses import dataclass, replace
 
 from outagebook.commands import Command, read_commands
 from outagebook.compare import Checked
 from outagebook.forms import Figures, Value
-from outagebook.rows import CAUSE, Book
+from outagebook.rows import CAUSE, Book, Entry
 
 
 def moved_by(found: Checked) -> dict[int, tuple[int, int]]:
@@ -20,13 +22,19 @@ def moved_by(found: Checked) -> dict[int, tuple[int, int]]:
 
 @dataclass(frozen=True)
 class Work:
-    """A switching, a correction or a withdrawal: how many seconds it lies behind what was told before, what it moved."""
+    """A switching, a correction or a withdrawal: how many seconds it lies behind what was told before, what it moved.
+
+    `own` is what the outage as a whole changed W by: at the second half of a late outage both halves, at a withdrawal
+    what it takes back too, at the first half nothing yet, else as moved. `others` are the commands that it is told with.
+    """
 
     command: Command
     entry: int
     behind: int
     net: int
     gross: int
+    own: int | None
+    others: tuple[int, ...] = ()
 
     @property
     def is_late(self) -> bool:
@@ -50,8 +58,47 @@ def works_of(found: Checked) -> list[Work]:
         behind = max(0, latest - second) if second is not None else 0
         if command.kind == "switch" and second is not None:
             latest = max(latest, second)
-        works.append(Work(command, command.entry, behind, *moved.get(command.number, (0, 0))))
-    return works
+        net, gross = moved.get(command.number, (0, 0))
+        works.append(Work(command, command.entry, behind, net, gross, net))
+    return as_wholes(found.book, works)
+
+
+def as_wholes(book: Book, works: list[Work]) -> list[Work]:
+    """The works with what their outages as wholes changed W by."""
+    of_entry: dict[int, list[Work]] = defaultdict(list)
+    for work in works:
+        of_entry[work.entry].append(work)
+    before: dict[int, list[Work]] = {}
+    first_halves = set()
+    for opening, closing in outages_of(book):
+        first, second = sorted((of_entry[opening][0], of_entry[closing][0]), key=lambda work: work.command.number)
+        if first.is_late and second.is_late:
+            before[second.command.number] = [first]
+            first_halves.add(first.command.number)
+    for work in works:
+        if work.command.kind == "withdraw":
+            before[work.command.number] = of_entry[work.entry][:-1]
+    return [with_others(work, before.get(work.command.number, []), first_halves) for work in works]
+
+
+def with_others(work: Work, others: list[Work], first_halves: set[int]) -> Work:
+    """A work as a part of its outage."""
+    if work.command.number in first_halves:
+        return replace(work, own=None)
+    own = work.net + sum(other.net for other in others)
+    return replace(work, own=own, others=tuple(other.command.number for other in others))
+
+
+def outages_of(book: Book) -> Iterator[tuple[int, int]]:
+    """Each opening that the next switching of its device closed again: the numbers of both entries, as they count now."""
+    of_device: dict[int, list[Entry]] = defaultdict(list)
+    for entry in sorted(book.entries, key=lambda entry: (entry.second, entry.number)):
+        if entry.is_kept:
+            of_device[entry.device].append(entry)
+    for entries in of_device.values():
+        for entry, following in zip(entries, entries[1:]):
+            if not entry.closes and following.closes:
+                yield entry.number, following.number
 
 
 def second_of(command: Command) -> int | None:
@@ -75,6 +122,9 @@ def switchings(found: Checked, late_alone: bool = False) -> Figures:
         "crew": "the crew that it tells",
         "moved": "by how many customer-seconds it changed W",
         "shifted": "how much it moved in all, in the dimension (cause, feeder, day) in which this is most",
+        "own": "what the outage as a whole changed W by: a late opening and its closing together, told at the second of"
+        " them; a withdrawal with what it takes back; else as moved",
+        "with": "the commands that are in it too",
     }
     works = [work for work in works_of(found) if work.is_late or not late_alone]
     if not late_alone:
@@ -87,9 +137,14 @@ def switchings(found: Checked, late_alone: bool = False) -> Figures:
     if late_alone:
         about.append(
             f"Late entries, corrections and withdrawals alone, in their order. They moved W by "
-            f"{sum(work.net for work in works)} in all."
+            f"{sum(work.net for work in works)} in all, and by {own_sum(works)} with what withdrawals took back."
         )
     return Figures("switchings", about, columns, [work_values(found.book, work) for work in works])
+
+
+def own_sum(works: Iterable[Work]) -> int:
+    """What outages as wholes changed W by."""
+    return sum(work.own for work in works if work.own is not None)
 
 
 def work_values(book: Book, work: Work) -> list[Value]:
@@ -108,6 +163,8 @@ def work_values(book: Book, work: Work) -> list[Value]:
         said[3],
         work.net,
         work.gross,
+        "" if work.own is None else work.own,
+        " ".join(map(str, work.others)),
     ]
 
 

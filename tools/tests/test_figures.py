@@ -14,7 +14,7 @@ from outagebook import figures
 from outagebook.compare import Checked
 from outagebook.counts import SETS
 from outagebook.forms import Figures, write_csv, write_json, write_text
-from outagebook.report import page
+from outagebook.report import Asked, page
 from tests import support
 
 Attributes = list[tuple[str, str | None]]
@@ -102,11 +102,15 @@ class Sums(unittest.TestCase):
             causes = rows_of(figures.causes(found))
             self.assertEqual(sum(row["customer_seconds"] for row in causes), total)
             self.assertEqual(sum(fraction(row["saidi"]) for row in causes), saidi)
+            unmarked = sum(
+                each.customer_seconds for each in found.interruptions if not found.book.is_marked(each.since)
+            )
             for name in ["months", "feeders", "sections"]:
                 rows = rows_of(figures.FIGURES[name](found))
-                self.assertEqual(sum(row["customer_seconds"] for row in rows), 2 * total)
                 for which in SETS:
                     mine = [row for row in rows if row["set"] == which]
+                    seconds = sum(row["customer_seconds"] for row in mine)
+                    self.assertEqual(seconds, total if which == "all" else unmarked)
                     self.assertEqual(sum(row["sustained"] for row in mine), found.counts[which].sustained)
                     self.assertEqual(sum(row["momentary"] for row in mine), found.counts[which].momentary)
                 if name != "months":
@@ -201,7 +205,7 @@ class Page(unittest.TestCase):
     def test_pages_are_whole_and_need_nothing(self) -> None:
         for made in support.books():
             with self.subTest(made.name):
-                text = page(support.opened(made), "The <utility> & sons")
+                text = page(support.opened(made), Asked("The <utility> & sons"))
                 tags = Tags()
                 tags.feed(text)
                 self.assertEqual(tags.open, [])
@@ -211,7 +215,7 @@ class Page(unittest.TestCase):
 
     def test_the_indices_are_word_for_word_those_of_the_program(self) -> None:
         made = support.fortnight()
-        text = page(support.opened(made), "Outage book")
+        text = page(support.opened(made))
         for line in made.table.read_text().splitlines()[-34:]:
             self.assertIn(f'<td class="code">{line[19:]}</td>', text)
 
