@@ -18,7 +18,7 @@ from outagebook.errors import BookError
 from outagebook.forms import Figures, Value, write_csv, write_json, write_text
 from outagebook.oms.complaints import BadRow, Complaints
 from outagebook.oms.fields import identifier
-from outagebook.oms.files import Row, add_format_arguments, format_of, read_file
+from outagebook.oms.files import Format, Row, add_format_arguments, format_of, read_file
 from outagebook.oms.steps import CANCELLED
 from outagebook.rows import Book, Entry
 from outagebook.tickets import Part, Ticket, Tickets, customers_of, tickets_of
@@ -74,6 +74,11 @@ def read_told(rows: Iterable[Row], by_step: bool) -> dict[str, Told]:
         listed = "\n".join(str(complaint) for complaint in complaints.found)
         raise BookError(f"rows can't be read:\n{listed}")
     return told
+
+
+def read_counts(path: str, by_step: bool = False, format: Format = Format()) -> dict[str, Told]:
+    """The counts that a file tells."""
+    return read_told(read_file(path, COLUMNS, REQUIRED, format), by_step)
 
 
 def sum_of(before: Told, here: Told) -> Told:
@@ -390,7 +395,7 @@ def main() -> int:
         parser.error("--most is a number from 0 on")
 
     def job() -> None:
-        told = read_told(read_file(args.oms, COLUMNS, REQUIRED, format_of(args)), args.by_step)
+        told = read_counts(args.oms, args.by_step, format_of(args))
         with open_book(args.book, args.table, args.program) as found:
             agreement = agreement_of(found, told, args.prefix)
             args.write(figures_of(found.book, agreement, args.most if args.write is write_text else None))

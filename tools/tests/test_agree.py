@@ -190,6 +190,24 @@ class Worked(unittest.TestCase):
         rows = "T-1,9,154.6\nT-2,,\n"
         self.assertEqual(self.whys(rows), {"T-1": "", "T-2": "the OMS's file leaves its counts empty"})
 
+    def test_a_part_of_the_report(self) -> None:
+        """The tickets of both sides, those that rounding doesn't explain set apart; only where the counts are given."""
+        self.found(("OMS-T-1-1-O", "DA", "open", 1_000), ("OMS-T-1-1-C", "DA", "close", 2_000))
+        counts = written("counts.csv", "ticket,customers,customer_minutes\nT-1,9,149.5\nT-2,5,83.3\n")
+        page = support.folder() / "agreement.html"
+        for words, is_there in (([], False), (["--oms", counts], True)):
+            done = support.run_tool("report", self.book, "-o", page, *words, *PROGRAM)
+            self.assertEqual((done.returncode, done.stderr), (0, ""))
+            self.assertEqual('<section id="agreement">' in page.read_text(encoding="utf-8"), is_there)
+        part = page.read_text(encoding="utf-8").partition('<section id="agreement">')[2].partition("</section>")[0]
+        self.assertRegex(
+            part, '<tr class="marked"><td>T-2</td><td class="number">5</td>.*the book has no switching of it'
+        )
+        self.assertRegex(
+            part, '<tr><td>T-1</td><td class="number">9</td>.*A 4, B 3, C 2</td>.*minutes that are rounded'
+        )
+        self.assertIn("the OMS 14 and 232.8, the book 9 and 150", part)
+
     def test_words_and_files_that_cannot_be_read(self) -> None:
         self.found(("OMS-T-1-1-O", "DC", "open", 100))
         head = "ticket,customers,customer_minutes\n"
@@ -206,7 +224,7 @@ class Worked(unittest.TestCase):
         self.assertIn(
             "T-1,1,2,1,2.5,",
             self.told(
-                f'{head}T-1,1,\nT-1,,"2,5"\nT-1,9,9,cancelled\n'.replace(head, head.strip() + ",status\n"), "--csv"
+                f'{head}T-1,1,,\nT-1,,"2,5",\nT-1,9,9,cancelled\n'.replace(head, head.strip() + ",status\n"), "--csv"
             ),
         )
 

@@ -1,7 +1,7 @@
 """A page of a book's period: indices, days, months, causes, feeders, worst interruptions, what late work moved.
 
     python3 tools/report.py BOOK -o year.html [--name NAME] [--names FILE] [--causes FILE] [--by FILE]
-                            [--events | --ticket RULE] [--customers] [--picture days.svg] [--date DATE]
+                            [--events | --ticket RULE] [--customers] [--oms FILE] [--picture days.svg] [--date DATE]
                             [--table FILE | --program PATH]
 
 One HTML file that needs no network and no script. Its indices are the words of the program's annual table; what is
@@ -14,6 +14,7 @@ from datetime import date
 from html import escape
 from pathlib import Path
 
+from outagebook.agree import Agreement, agreement_of, read_counts
 from outagebook.cli import Parser, add_table_arguments, run_job
 from outagebook.compare import Checked, figures_of_table, open_book
 from outagebook.counts import SETS
@@ -21,6 +22,7 @@ from outagebook.errors import BookError
 from outagebook.events import DEFAULT_RULE, Rule
 from outagebook.figures import add_list_arguments
 from outagebook.lists import Groups, Names, read_cause_groups, read_names, read_section_groups
+from outagebook.report.agreement import agreement_part
 from outagebook.report.head import heading, index_part, state_of, tiles
 from outagebook.report.pictures import cause_group_part, cause_part, day_part, feeder_part, month_part, picture
 from outagebook.report.pieces import COMPUTED, PROVED, Part
@@ -45,6 +47,7 @@ class Asked:
     section_groups: Groups | None = None
     rule: Rule | None = None
     has_customers: bool = False
+    agreement: Agreement | None = None
 
 
 def parts_of(found: Checked, table_words: dict[str, str], asked: Asked) -> list[Part]:
@@ -60,6 +63,8 @@ def parts_of(found: Checked, table_words: dict[str, str], asked: Asked) -> list[
         parts.append(event_part(found, asked.rule))
     if asked.has_customers:
         parts.append(customer_part(found, names))
+    if asked.agreement is not None:
+        parts.append(agreement_part(found, asked.agreement))
     return [*parts, worst_part(found, names), late_part(found)]
 
 
@@ -102,6 +107,7 @@ def asked_for(found: Checked, args: argparse.Namespace) -> Asked:
         section_groups=read_section_groups(args.by, book) if args.by else None,
         rule=args.ticket or (DEFAULT_RULE if args.events else None),
         has_customers=args.customers,
+        agreement=agreement_of(found, read_counts(args.oms)) if args.oms else None,
     )
 
 
@@ -134,6 +140,9 @@ def parser_of_report() -> Parser:
     parser.add_argument("--by", metavar="FILE", help="a CSV of section and group: the indices of each group too")
     parser.add_argument("--events", action="store_true", help="the events with the most customer-minutes too")
     parser.add_argument("--customers", action="store_true", help="the worst served customers too")
+    parser.add_argument(
+        "--oms", metavar="FILE", help="the OMS's own counts by ticket: the tickets that differ most too"
+    )
     add_table_arguments(parser)
     return parser
 
