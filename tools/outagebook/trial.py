@@ -13,6 +13,7 @@ import csv
 import json
 import sqlite3
 import sys
+import time
 from collections import Counter
 from collections.abc import Iterator
 from contextlib import closing
@@ -99,14 +100,33 @@ def meaning_of(refusal: Refusal) -> str:
     return MEANINGS.get(refusal.number, refusal.name).format(detail=refusal.detail)
 
 
-def act_rows(desk: Desk, text: Text) -> Iterator[tuple[int, Refusal]]:
+class Progress:
+    """A line on a terminal that tells how many rows were acted, five times a second at most; nothing anywhere else."""
+
+    def __init__(self) -> None:
+        self.is_shown = sys.stderr.isatty()
+        self.last = time.monotonic()
+
+    def at(self, done: int, count: int) -> None:
+        if self.is_shown and time.monotonic() - self.last > 0.2:
+            print(f"\r{done} of {count} rows", end="", file=sys.stderr, flush=True)
+            self.last = time.monotonic()
+
+    def end(self) -> None:
+        if self.is_shown:
+            print("\r\x1b[K", end="", file=sys.stderr, flush=True)
+
+
+def act_rows(desk: Desk, text: Text, progress: Progress | None = None) -> Iterator[tuple[int, Refusal]]:
     """Acts all rows: those that are refused, by their places in the text.
 
     Rows are sent many at once, and after a refusal those behind it. So that few of them are sent twice, a part has at most
-    twice as many rows as the one before it had acted: the rows that are sent are fewer than four times those of the text.
+    twice as many rows as the one before it had acted: the rows that are sent are at most three times those of the text.
     """
     place, size = 0, MOST_AT_ONCE
     while place < len(text.rows):
+        if progress:
+            progress.at(place, len(text.rows))
         size = fitting(text, place, size)
         said = desk.import_text(text.part(place, size))
         acted = size if said.row is None else said.row - 1
@@ -164,7 +184,9 @@ def trial_of(book: Path, text: Text, program: str, prefix: str, exports: Exporte
             header = desk.import_text(text.head)
             if header.refusal:
                 raise BookError(f"the header isn't {','.join(COLUMNS)}: {header.refusal} row 0, and no row is read")
-            refusals = dict(act_rows(desk, text))
+            progress = Progress()
+            refusals = dict(act_rows(desk, text, progress))
+            progress.end()
             after = desk.table()
         added = references_of(copy) - known
     return told_of(text, refusals, known, added, moved_figures(before, after), prefix, exports)
