@@ -357,4 +357,5 @@ HEADER: list[object] = ["kind", "ref", "f1", "f2", "f3", "f4", "f5", "f6"]
 
 
 def joined(columns: list[str], rows: Iterable[list[object]]) -> str:
-    return "".join(f"{','.join(map(str, row))}\n" for row in [columns, *rows])
+    head: list[object] = [*columns]
+    return "".join(f"{','.join(map(str, row))}\n" for row in [head, *rows])

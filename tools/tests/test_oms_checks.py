@@ -67,7 +67,7 @@ class Checks(unittest.TestCase):
                 "switch,OMS-T-9-1-C,CB-7,close,2025-10-21T11:00:00+02:00,1,CREW-A,",
             ],
         )
-        self.assertIn("changed: 2 steps that overlap: one outage was made of them (rows 1, 8)", done.err)
+        self.assertIn("changed: steps that overlap, of which one outage was made: 2 (rows 1, 8)", done.err)
 
     def test_an_opening_of_what_is_open(self) -> None:
         oms = sample("oms") + "T-9,1,CB-7,2025-10-31 09:00,,,,WIND,CREW-A,,\n"
@@ -94,7 +94,7 @@ class Checks(unittest.TestCase):
 
     def test_a_device_that_was_never_closed_is_told(self) -> None:
         self.taken("--report", self.folder / "report.txt")
-        self.assertIn("noticed: 1 steps that aren't over (row 7)", (self.folder / "report.txt").read_text())
+        self.assertIn("noticed: steps that aren't over: 1 (row 7)", (self.folder / "report.txt").read_text())
 
     def test_two_rows_of_one_step(self) -> None:
         self.refused("row 2: ticket T-2041 has two rows of step 1", oms=changed("oms", ("T-2041,2", "T-2041,1")))
@@ -184,7 +184,7 @@ class Checks(unittest.TestCase):
         customers = changed("customers", ("5001,OAK-STREET,2004-05-01", "5001,OAK-STREET,1965-05-01"))
         done = self.taken("--report", self.folder / "report.json", customers=customers)
         self.assertIn("connect,CIS-5001,5001,OAK-STREET,1970-01-01T01:00:00+01:00,,,", done.out)
-        self.assertIn("changed: 1 moments before 1970, which became 0 (row 1)", done.err)
+        self.assertIn("changed: moments before 1970, which became 0: 1 (row 1)", done.err)
         report = json.loads((self.folder / "report.json").read_text())
         self.assertEqual(
             report["files"][2]["changed"], [{"reason": "moments before 1970, which became 0", "count": 1, "rows": [1]}]
@@ -192,7 +192,7 @@ class Checks(unittest.TestCase):
         over = changed("customers", ("5001,OAK-STREET,2004-05-01,", "5001,OAK-STREET,1955-05-01,1965-05-01"))
         done = self.taken(customers=over)
         self.assertNotIn("CIS-5001", done.out)
-        self.assertIn("left out: 1 customers whose service was over before the period (row 1)", done.err)
+        self.assertIn("left out: customers whose service was over before the period: 1 (row 1)", done.err)
 
     def test_services_and_lives_that_end_before_they_begin(self) -> None:
         customers = changed("customers", ("5008,WHARF,1999-11-01,2025-10-27", "5008,WHARF,2025-10-28,2025-10-27"))
@@ -238,10 +238,10 @@ class Checks(unittest.TestCase):
         for ref in ["OMS-T-1-1", "OMS-T-3-1-C", "OMS-T-4-1"]:
             self.assertNotIn(ref, done.out)
         for note in [
-            "left out: 1 steps before the period (row 8)",
-            "changed: 1 steps that began before the period: they begin at its first second (row 9)",
-            "changed: 1 steps that were over after the period: they stay open at its end (row 10)",
-            "left out: 1 steps after the period (row 11)",
+            "left out: steps before the period: 1 (row 8)",
+            "changed: steps that began before the period, which begin at its first second: 1 (row 9)",
+            "changed: steps that were over after the period, which stay open at its end: 1 (row 10)",
+            "left out: steps after the period: 1 (row 11)",
         ]:
             self.assertIn(note, done.err)
 

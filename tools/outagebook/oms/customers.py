@@ -70,13 +70,12 @@ class Customers:
         self, customer: int, service: Service, before: Service | None, notes: Notes
     ) -> Iterator[list[str]]:
         """A new customer, or another service of one that the book has."""
-        texts = life_texts(service.since, service.until, self.conversion.zone)
         known = self.conversion.known
         if before is None:
             self.count += 1
             if self.count > MOST_CUSTOMERS:
                 raise BadRow(f"a book has at most {MOST_CUSTOMERS} customers")
-            ref = known.unused(f"CIS-{customer}")
+            ref, texts = known.unused(f"CIS-{customer}"), self.texts_of(service)
             yield self.conversion.command(notes, "connect", ref, customer, service.section, *texts)
         elif before.section != service.section:
             raise BadRow(
@@ -85,4 +84,7 @@ class Customers:
             )
         elif before != service:
             ref = known.unused(f"CIS-{customer}-{service.since}-{service.until or 0}")
-            yield self.conversion.command(notes, "revise", ref, customer, *texts)
+            yield self.conversion.command(notes, "revise", ref, customer, *self.texts_of(service))
+
+    def texts_of(self, service: Service) -> tuple[str | None, str | None]:
+        return life_texts(service.since, service.until, self.conversion.zone)

@@ -12,10 +12,10 @@ from outagebook.rows import Entry, Period
 
 Key = tuple[int, int, int, int]  # a place in the order in which commands are written
 
-BEGAN_BEFORE = "steps that began before the period: they begin at its first second"
-OVER_LATER = "steps that were over after the period: they stay open at its end"
+BEGAN_BEFORE = "steps that began before the period, which begin at its first second"
+OVER_LATER = "steps that were over after the period, which stay open at its end"
 NOT_OVER = "steps that aren't over"
-OVERLAP = "steps that overlap: one outage was made of them"
+OVERLAP = "steps that overlap, of which one outage was made"
 
 
 @dataclass(slots=True, eq=False)

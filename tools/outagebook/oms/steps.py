@@ -2,6 +2,7 @@
 
 import difflib
 from dataclasses import dataclass
+from functools import lru_cache
 
 from outagebook.oms.causes import Causes
 from outagebook.oms.complaints import BadRow, Notes
@@ -58,12 +59,18 @@ def act_of(is_closed: bool, leaves: bool) -> str:
     return "open" if leaves == is_closed else "close"
 
 
+@lru_cache(maxsize=1_000)
+def is_alike(status: str) -> bool:
+    """The word may be meant for that of a cancelled ticket."""
+    return bool(difflib.get_close_matches(status, CANCELLED, 1, ALIKE))
+
+
 def is_cancelled(row: Row, notes: Notes) -> bool:
     """The ticket was a mistake. Other words of a status mean nothing here, but one that may be meant for it is refused."""
     status = row["status"].lower()
     if status in CANCELLED:
         return True
-    if difflib.get_close_matches(status, CANCELLED, 1, ALIKE):
+    if is_alike(status):
         raise BadRow(f"status {shown(row['status'])} may be meant for {CANCELLED[0]}")
     if status:
         notes.noticed("steps with a status that isn't looked at", row)

@@ -12,7 +12,7 @@ from outagebook.oms.steps import CANCELLED_STEPS
 QUIET = {SMALL_LETTERS, CANCELLED_STEPS}  # what the page says of every run
 GROUPS = (LEFT_OUT, CHANGED, NOTICED)
 DELIMITER_NAMES = {",": "comma", ";": "semicolon", "\t": "tab"}
-MOST_RANGES = 20  # of rows in one line
+MOST_RANGES = 8  # of rows in one line
 
 
 @dataclass(frozen=True)
@@ -56,7 +56,7 @@ def lines_of_notes(files: Iterable[Notes]) -> Iterator[str]:
     for notes in files:
         for (what, reason), rows in notes.noted.items():
             if what != NOTICED and reason not in QUIET:
-                yield f"{notes.file}: {what}: {len(set(rows))} {reason} ({rows_text(rows)})"
+                yield f"{notes.file}: {what}: {reason}: {len(set(rows))} ({rows_text(rows)})"
 
 
 def text_lines(told: Told) -> Iterator[str]:
@@ -69,7 +69,7 @@ def text_lines(told: Told) -> Iterator[str]:
         for group in GROUPS:
             for (what, reason), rows in notes.noted.items():
                 if what == group:
-                    yield f"  {what}: {len(set(rows))} {reason} ({rows_text(rows)})"
+                    yield f"  {what}: {reason}: {len(set(rows))} ({rows_text(rows)})"
     if told.complaints:
         yield f"refused: {len(told.complaints)}, and nothing was written"
         yield from (f"  {complaint}" for complaint in told.complaints)
