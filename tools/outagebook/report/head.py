@@ -37,9 +37,10 @@ def heading(found: Checked, name: str, state: State) -> str:
     book, period = found.book, found.book.period
     served = quotient(book.served_seconds(), period.length)
     total = sum(amount for (dim, _), amount in book.postings.items() if dim == CAUSE)
+    date = f'on <span class="whole">{escape(state.date)}</span> ' if state.date else ""
     return f"""
 <h1>{escape(name)}: <span class="whole">{period.days[0]}</span> to <span class="whole">{period.days[-1]}</span></h1>
-<p class="soft">Written on <span class="whole">{escape(state.date)}</span> from a book of {escape(state.text)}.</p>
+<p class="soft">Written {date}from a book of {escape(state.text)}.</p>
 <p class="soft">{len(period.days)} days, zone {escape(period.zone.text)}. P is {number(period.length)} seconds, S is
 {number(book.served_seconds())} customer-seconds in service, so {decimal(served)} customers (S / P) were served on average.
 W is {number(total)} customer-seconds without supply, or {hours(total)} customer-hours.</p>"""

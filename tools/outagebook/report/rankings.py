@@ -190,13 +190,14 @@ LATE_HEADS = [
 
 def late_row(found: Checked, work: Work, by_number: dict[int, Work]) -> TableRow:
     """A piece of late work as a whole: a late outage with both its halves, a withdrawal with what it takes back."""
-    book, second = found.book, second_of(work.command)
+    book = found.book
     told = [*(by_number[number] for number in work.others), work]
+    seconds = sorted(second for each in told if (second := second_of(each.command)) is not None)
     cells = [
         "late outage" if work.others and work.command.kind == "switch" else work.kind,
         ", ".join(each.command.ref for each in told),
         book.devices[book.entries[work.entry - 1].device].name,
-        "" if second is None else book.period.zone.short_text(second),
+        " to ".join(map(book.period.zone.short_text, seconds)),
         signed(work.own or 0),
         " ".join(signed(each.net) for each in told) if work.others else "",
     ]

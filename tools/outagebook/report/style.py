@@ -80,7 +80,7 @@ footer { margin-top: 3rem; border-top: 1px solid var(--line); padding-top: .8rem
   body { max-width: none; padding: 0 1px; font-size: 10pt; } h1 { font-size: 18pt; }
   h2 { font-size: 13pt; margin-top: 14pt; break-after: avoid; } p { break-after: avoid; break-inside: avoid; }
   nav { display: none; }
-  figure, .tile, li { break-inside: avoid; } .tiles { grid-template-columns: repeat(4, 1fr); gap: .5rem; }
+  figure.columns, .tile, li { break-inside: avoid; } .tiles { grid-template-columns: repeat(4, 1fr); gap: .5rem; }
   .tile { padding: .4rem .6rem; } .wide { overflow: visible; background: none; }
   figure svg { font-size: 12px; } .columns .wide svg { min-width: 0; }
   ul.bars { font-size: 9pt; } ul.bars li { margin: .25rem 0; } ul.bars svg { height: .45rem; }
