@@ -195,7 +195,8 @@ class Worked(unittest.TestCase):
         self.found(("OMS-T-1-1-O", "DA", "open", 1_000), ("OMS-T-1-1-C", "DA", "close", 2_000))
         counts = written("counts.csv", "ticket,customers,customer_minutes\nT-1,9,149.5\nT-2,5,83.3\n")
         page = support.folder() / "agreement.html"
-        for words, is_there in (([], False), (["--oms", counts], True)):
+        listed: list[tuple[list[object], bool]] = [([], False), (["--oms", counts], True)]
+        for words, is_there in listed:
             done = support.run_tool("report", self.book, "-o", page, *words, *PROGRAM)
             self.assertEqual((done.returncode, done.stderr), (0, ""))
             self.assertEqual('<section id="agreement">' in page.read_text(encoding="utf-8"), is_there)
