@@ -11,6 +11,7 @@ from pathlib import Path
 
 from outagebook import trial
 from outagebook.exported import ExportedRows
+from outagebook.references import sources_of
 from outagebook.serving import Desk, Imported, Refusal
 from outagebook.texts import Text, text_of
 from tests import program_books, support
@@ -186,6 +187,14 @@ class Trials(unittest.TestCase):
         self.assertEqual(told[18], "")
         self.assertEqual(told[20], "device CB-1")
 
+    def test_more_refusals_than_a_connection_has_replies(self) -> None:
+        """The desk ends a connection after a thousand replies; the dry run goes on by another one."""
+        refused = [f"switch,R-{number},NONE,open,2025-03-25T10:00:00+01:00,2,CREW" for number in range(1_010)]
+        rows = written("many.csv", program_books.text_of([*refused, "bus,GIS-BUS-NORTH,NORTH"]))
+        whole = self.read(rows, status=2)
+        self.assertEqual(whole["rows"], {"added": 1, "again": 0, "refused": 1_010})
+        self.assertEqual([each["row"] for each in whole["refused"]], list(range(1, 1_011)))
+
     def test_each_row_as_csv(self) -> None:
         rows = written("spoilt.csv", program_books.text_of(SPOILT))
         listed = list(csv.DictReader(io.StringIO(self.tried(rows, "--csv", status=2))))
@@ -289,6 +298,28 @@ class Steps(unittest.TestCase):
                 self.assertEqual(desk.seen, list(range(self.ROWS)), "each row acts once, in order")
                 self.assertLessEqual(desk.sent, 3 * self.ROWS)
                 self.assertLessEqual(desk.asked, 20 + 14 * (1 + len(refused)))
+
+
+class References(unittest.TestCase):
+    """What a reference tells of where its command came from."""
+
+    def test_tickets(self) -> None:
+        for kind, ref, prefix, told in [
+            ("switch", "OMS-T-1-2-O", "OMS-", ["ticket T-1 step 2, opening", "ticket T step 1-2, opening"]),
+            ("switch", "OMS-T-2041-12345-C", "OMS-", []),
+            ("switch", "OMS-26-7-2-C", "OMS-26-", ["ticket 7 step 2, closing"]),
+            ("switch", "LATE-7-2-C", "OMS-", []),
+            ("switch", "OMS-7-2-C-R2", "OMS-", []),
+            ("correct", "OMS-7-2-C-R2", "OMS-", ["ticket 7 step 2, closing"]),
+            ("correct", "OMS-7-2-C-R2-2", "OMS-", ["ticket 7 step 2, closing"]),
+            ("withdraw", "OMS-7-2-O-W", "OMS-", ["ticket 7 step 2, opening"]),
+            ("life", "GIS-LIFE-SW-7-2", "OMS-", ["device SW-7-2", "device SW-7"]),
+            ("bus", "GIS-BUS-NORTH", "OMS-", ["bus NORTH"]),
+            ("revise", "CIS-5001-1761000000-0", "OMS-", ["customer 5001"]),
+            ("mark", "MARK-1", "OMS-", []),
+        ]:
+            with self.subTest(kind=kind, ref=ref):
+                self.assertEqual([source.text for source in sources_of(kind, ref, prefix)], told)
 
 
 class Rows(unittest.TestCase):
