@@ -67,6 +67,8 @@ footer { margin-top: 3rem; border-top: 1px solid var(--line); padding-top: .8rem
   .wide td.code { white-space: normal; } .wide td.long { min-width: 20rem; }
   .wide td:first-child, .wide th:first-child { position: sticky; left: 0; background: var(--paper);
     box-shadow: inset 0 -1px var(--line); }
+}
+@media screen and (max-width: 56rem) {
   .indices, .indices tbody, .indices td { display: block; }
   .indices thead { display: none; }
   .indices tr { display: flex; flex-direction: column; border-bottom: 1px solid var(--line); padding: .4rem 0; }
