@@ -96,6 +96,14 @@ class Checks(unittest.TestCase):
         self.taken("--report", self.folder / "report.txt")
         self.assertIn("noticed: steps that aren't over: 1 (row 7)", (self.folder / "report.txt").read_text())
 
+    def test_a_switching_outside_of_the_life_of_its_device_is_told(self) -> None:
+        """The book takes it, and counts it where a life reaches it."""
+        gis = sample("gis").replace("\n", ",\n").replace("normal,", "normal,since")
+        gis = gis.replace("DEPOT,open,", "DEPOT,open,2025-10-21 09:00")
+        self.taken("--report", self.folder / "report.txt", gis=gis)
+        reason = "noticed: steps with a switching outside of the life of their device: 1 (row 3)"
+        self.assertIn(reason, (self.folder / "report.txt").read_text())
+
     def test_two_rows_of_one_step(self) -> None:
         self.refused("row 2: ticket T-2041 has two rows of step 1", oms=changed("oms", ("T-2041,2", "T-2041,1")))
 
