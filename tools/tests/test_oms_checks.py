@@ -253,6 +253,32 @@ class Checks(unittest.TestCase):
         ]:
             self.assertIn(note, done.err)
 
+    def test_devices_that_are_gone(self) -> None:
+        """Tickets of another period's book may be of devices that this one doesn't have; those of this period may not."""
+        gis = sample("gis").replace("\n", ",\n").replace("normal,", "normal,until")
+        gis += "device,OLD-1,,WHARF,DEPOT,closed,2025-10-01\n"
+        rows = [
+            "T-1,1,OLD-1,2025-09-18 09:00,,2025-09-19 11:00,,WIND,,,",
+            "T-2,1,OLD-0,2025-09-18 09:00,,2025-09-19 11:00,,WIND,,,",
+            "T-3,1,NEW-1,2025-11-18 09:00,,,,WIND,,,",
+            "T-4,1,OLD-1,2025-10-22 09:00,,2025-10-22 11:00,,WIND,,,",
+            "T-5,1,OLD-0,2025-09-18 09:00,,,,WIND,,,",
+        ]
+        oms = sample("oms") + "".join(f"{row}\n" for row in rows)
+        self.refused(
+            "row 11: the device OLD-1 was taken down before the period",
+            "row 12: no row of the network, nor the book, has a device OLD-0",
+            gis=gis,
+            oms=oms,
+        )
+        done = self.taken(gis=gis, oms=sample("oms") + "".join(f"{row}\n" for row in rows[:3]))
+        for note in [
+            "gis.csv: left out: devices that were taken down before the period: 1 (row 12)",
+            "oms.csv: left out: steps before the period: 2 (rows 8-9)",
+            "oms.csv: left out: steps after the period: 1 (row 10)",
+        ]:
+            self.assertIn(note, done.err)
+
     def test_what_it_is_checked_against_has_to_be_given(self) -> None:
         words = exports.arguments_of(self.folder, {})
         done = exports.run(*words, "--zone", exports.ZONE)
