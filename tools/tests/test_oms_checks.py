@@ -253,6 +253,23 @@ class Checks(unittest.TestCase):
         ]:
             self.assertIn(note, done.err)
 
+    def test_two_rows_of_one_outage_on_both_sides_of_a_bound(self) -> None:
+        """An opening and its closing in two rows are one outage, also where the period holds one of them or none."""
+        row = "T-{0},1,CB-8,{1},,,,WIND,,,\nT-{0},2,CB-8,,,{2},,WIND,,,\n"
+        cases = {
+            ("2025-10-18 09:00", "2025-10-19 09:00"): [],
+            ("2025-10-19 09:00", "2025-10-20 09:00"): [
+                "1-O,CB-8,open,2025-10-20T00:00:00+02:00",
+                "2-C,CB-8,close,2025-10-20T09:00:00+02:00",
+            ],
+            ("2025-11-02 09:00", "2025-11-03 09:00"): ["1-O,CB-8,open,2025-11-02T09:00:00+01:00"],
+            ("2025-11-03 09:00", "2025-11-04 09:00"): [],
+        }
+        for moments, switchings in cases.items():
+            done = self.taken(oms=sample("oms") + row.format(9, *moments))
+            found = [line.split("T-9-")[1].rsplit(",", 3)[0] for line in done.out.splitlines() if "T-9-" in line]
+            self.assertEqual(found, switchings, done.err)
+
     def test_devices_that_are_gone(self) -> None:
         """Tickets of another period's book may be of devices that this one doesn't have; those of this period may not."""
         gis = sample("gis").replace("\n", ",\n").replace("normal,", "normal,until")
