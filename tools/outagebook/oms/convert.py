@@ -26,6 +26,7 @@ from outagebook.errors import BookError
 from outagebook.oms import causes, customers, network, outages, told
 from outagebook.oms.complaints import Notes
 from outagebook.oms.conversion import Conversion
+from outagebook.oms.fields import LATEST_MOMENT
 from outagebook.oms.files import Export, Format, Row, add_format_arguments, format_of
 from outagebook.oms.known import Known, known_of
 from outagebook.oms.steps import StepReader
@@ -167,6 +168,8 @@ def conversion_of(args: argparse.Namespace, known: Known) -> Conversion:
             period = period_of(args.first, args.days, args.zone.text)
         except (ValueError, OverflowError) as error:
             raise BookError(f"the period can't be read: {error}") from None
+        if period.first < 0 or period.end > LATEST_MOMENT:
+            raise BookError("the period doesn't lie between 1970 and 5138, where a book's seconds do")
     return Conversion(args.zone or (period.zone if period else None), period, known, tuple(args.dates))
 
 
