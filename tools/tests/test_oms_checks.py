@@ -96,6 +96,14 @@ class Checks(unittest.TestCase):
         self.taken("--report", self.folder / "report.txt")
         self.assertIn("noticed: steps that aren't over: 1 (row 7)", (self.folder / "report.txt").read_text())
 
+    def test_a_switching_outside_of_the_life_of_its_device_is_told(self) -> None:
+        """The book takes it, and counts it where a life reaches it."""
+        gis = sample("gis").replace("\n", ",\n").replace("normal,", "normal,since")
+        gis = gis.replace("DEPOT,open,", "DEPOT,open,2025-10-21 09:00")
+        self.taken("--report", self.folder / "report.txt", gis=gis)
+        reason = "noticed: steps with a switching outside of the life of their device: 1 (row 3)"
+        self.assertIn(reason, (self.folder / "report.txt").read_text())
+
     def test_two_rows_of_one_step(self) -> None:
         self.refused("row 2: ticket T-2041 has two rows of step 1", oms=changed("oms", ("T-2041,2", "T-2041,1")))
 
@@ -242,6 +250,49 @@ class Checks(unittest.TestCase):
             "changed: steps that began before the period, which begin at its first second: 1 (row 9)",
             "changed: steps that were over after the period, which stay open at its end: 1 (row 10)",
             "left out: steps after the period: 1 (row 11)",
+        ]:
+            self.assertIn(note, done.err)
+
+    def test_two_rows_of_one_outage_on_both_sides_of_a_bound(self) -> None:
+        """An opening and its closing in two rows are one outage, also where the period holds one of them or none."""
+        row = "T-{0},1,CB-8,{1},,,,WIND,,,\nT-{0},2,CB-8,,,{2},,WIND,,,\n"
+        cases = {
+            ("2025-10-18 09:00", "2025-10-19 09:00"): [],
+            ("2025-10-19 09:00", "2025-10-20 09:00"): [
+                "1-O,CB-8,open,2025-10-20T00:00:00+02:00",
+                "2-C,CB-8,close,2025-10-20T09:00:00+02:00",
+            ],
+            ("2025-11-02 09:00", "2025-11-03 09:00"): ["1-O,CB-8,open,2025-11-02T09:00:00+01:00"],
+            ("2025-11-03 09:00", "2025-11-04 09:00"): [],
+        }
+        for moments, switchings in cases.items():
+            done = self.taken(oms=sample("oms") + row.format(9, *moments))
+            found = [line.split("T-9-")[1].rsplit(",", 3)[0] for line in done.out.splitlines() if "T-9-" in line]
+            self.assertEqual(found, switchings, done.err)
+
+    def test_devices_that_are_gone(self) -> None:
+        """Tickets of another period's book may be of devices that this one doesn't have; those of this period may not."""
+        gis = sample("gis").replace("\n", ",\n").replace("normal,", "normal,until")
+        gis += "device,OLD-1,,WHARF,DEPOT,closed,2025-10-01\n"
+        rows = [
+            "T-1,1,OLD-1,2025-09-18 09:00,,2025-09-19 11:00,,WIND,,,",
+            "T-2,1,OLD-0,2025-09-18 09:00,,2025-09-19 11:00,,WIND,,,",
+            "T-3,1,NEW-1,2025-11-18 09:00,,,,WIND,,,",
+            "T-4,1,OLD-1,2025-10-22 09:00,,2025-10-22 11:00,,WIND,,,",
+            "T-5,1,OLD-0,2025-09-18 09:00,,,,WIND,,,",
+        ]
+        oms = sample("oms") + "".join(f"{row}\n" for row in rows)
+        self.refused(
+            "row 11: the device OLD-1 was taken down before the period",
+            "row 12: no row of the network, nor the book, has a device OLD-0",
+            gis=gis,
+            oms=oms,
+        )
+        done = self.taken(gis=gis, oms=sample("oms") + "".join(f"{row}\n" for row in rows[:3]))
+        for note in [
+            "gis.csv: left out: devices that were taken down before the period: 1 (row 12)",
+            "oms.csv: left out: steps before the period: 2 (rows 8-9)",
+            "oms.csv: left out: steps after the period: 1 (row 10)",
         ]:
             self.assertIn(note, done.err)
 

@@ -134,6 +134,14 @@ class Files(unittest.TestCase):
     def test_where_rows_can_not_be_written(self) -> None:
         self.refused("can't be written", "-o", self.folder / "none" / "rows.csv")
         self.refused("is no file", "-o", self.folder)
+        output = self.folder / "rows.csv"
+        self.refused("can't be written", "-o", output, "--report", self.folder / "none" / "report.txt")
+        self.assertFalse(output.exists())
+
+    def test_periods_that_are_none(self) -> None:
+        for first in ["9999-12-31", "0001-01-01", "2025-02-30", "soon"]:
+            done = exports.run(*self.words, "--first", first, "--days", "366", "--zone", exports.ZONE)
+            self.assertEqual((done.status, done.out), (1, ""))
 
     def test_progress_on_a_terminal_alone(self) -> None:
         """Standard error is a terminal: rows are counted there; else nothing is said."""

@@ -26,6 +26,7 @@ from outagebook.errors import BookError
 from outagebook.oms import causes, customers, network, outages, told
 from outagebook.oms.complaints import Notes
 from outagebook.oms.conversion import Conversion
+from outagebook.oms.fields import LATEST_MOMENT
 from outagebook.oms.files import Export, Format, Row, add_format_arguments, format_of
 from outagebook.oms.known import Known, known_of
 from outagebook.oms.steps import StepReader
@@ -35,10 +36,6 @@ from outagebook.zone import Zone
 
 MOST_DAYS = 366
 MOST_PREFIX = 8
-
-
-class Refused(BookError):
-    """Rows that can't be taken: nothing is written."""
 
 
 @dataclass
@@ -90,7 +87,7 @@ class Run:
         complaints = self.conversion.complaints.found
         if complaints:
             reported = "\n".join(map(str, complaints))
-            raise Refused(f"rows can't be read, and nothing was written:\n{reported}")
+            raise BookError(f"rows can't be read, and nothing was written:\n{reported}")
 
 
 def zone_argument(text: str) -> Zone:
@@ -167,7 +164,12 @@ def conversion_of(args: argparse.Namespace, known: Known) -> Conversion:
     """What the run knows before it reads."""
     period: Period | None = known.book.period if known.book else None
     if args.first:
-        period = period_of(args.first, args.days, args.zone.text)
+        try:
+            period = period_of(args.first, args.days, args.zone.text)
+        except (ValueError, OverflowError) as error:
+            raise BookError(f"the period can't be read: {error}") from None
+        if period.first < 0 or period.end > LATEST_MOMENT:
+            raise BookError("the period doesn't lie between 1970 and 5138, where a book's seconds do")
     return Conversion(args.zone or (period.zone if period else None), period, known, tuple(args.dates))
 
 
@@ -179,18 +181,13 @@ def write_report(path: Path, run: Run) -> None:
 def convert(args: argparse.Namespace, known: Known) -> None:
     """Writes the rows, and what there is to tell of them."""
     run = Run(args, conversion_of(args, known), format_of(args))
-    try:
-        with whole_file(args.output) if args.output else whole_output() as out:
-            write_rows(run.commands(), out)
-            run.refuse()
-    except Refused:
+    with whole_file(args.output) if args.output else whole_output() as out:
+        write_rows(run.commands(), out)
         if args.report:
             write_report(args.report, run)
-        raise
+        run.refuse()
     for line in told.lines_of_notes(run.files):
         print(f"note: {line}", file=sys.stderr)
-    if args.report:
-        write_report(args.report, run)
 
 
 def run_words(args: argparse.Namespace) -> None:

@@ -28,6 +28,7 @@ class Network:
     nodes: dict[str, int | None] = field(default_factory=dict)
     devices: dict[str, tuple[Ends, bool]] = field(default_factory=dict)  # its nodes, and whether it is closed normally
     lives: dict[str, Life] = field(default_factory=dict)  # of the book's devices
+    told_lives: dict[str, Life] = field(default_factory=dict)  # by rows
     gone: set[str] = field(default_factory=set)  # devices that were taken down before the period
     rows: dict[tuple[str, str], int] = field(default_factory=dict)  # by kind and name
     is_known: bool = False  # by rows, or by a book
@@ -47,6 +48,11 @@ class Network:
 
     def is_section(self, name: str) -> bool:
         return self.nodes.get(name) is not None
+
+    def is_alive(self, device: str, second: int) -> bool:
+        """The second lies in the device's life."""
+        since, until = self.told_lives.get(device) or self.lives.get(device) or (0, None)
+        return since <= second and (until is None or second <= until)
 
     def read(self, rows: Iterable[Row], notes: Notes) -> Iterator[list[str]]:
         """Buses and sections, then devices. Of those that the book has only other lives are written, where they are given."""
@@ -123,7 +129,9 @@ class Network:
         if len(self.devices) >= MOST_DEVICES:
             raise BadRow(f"a book has at most {MOST_DEVICES} devices")
         self.devices[name] = said
-        texts = life_texts(self.conversion.from_1970(since, row, notes), until, self.conversion.zone)
+        since = self.conversion.from_1970(since, row, notes)
+        self.told_lives[name] = since or 0, until
+        texts = life_texts(since, until, self.conversion.zone)
         ref = self.conversion.known.unused(f"GIS-DEVICE-{name}")
         return self.conversion.command(notes, "device", ref, name, *said[0], normal_text(said[1]), *texts)
 
@@ -141,6 +149,7 @@ class Network:
             raise BadRow(f"until {row['until']!r} lies before 1970, and the book has the device: give a later moment")
         since = self.conversion.from_1970(since, row, notes)
         if (since, until) != (None, None) and (since or 0, until) != self.lives[name]:
+            self.told_lives[name] = since or 0, until
             texts = life_texts(since, until, self.conversion.zone)
             ref = self.conversion.known.unused(f"GIS-LIFE-{name}")
             yield self.conversion.command(notes, "life", ref, name, *texts)

@@ -27,6 +27,7 @@ COLUMNS = (
 )
 REQUIRED = ("ticket", "device", "out", "restored", "cause")
 MOST_ENTRIES = 50_000
+OUTSIDE_LIFE = "steps with a switching outside of the life of their device"
 CARRIED = "steps that began before the period, and whose beginning the book has by another reference"
 
 Placed = tuple[tuple[int, int, int, int], list[str]]  # a command and where it stands
@@ -73,7 +74,10 @@ class Outages:
         """The switchings that the period holds."""
         told = (step for step in steps if step.leave is not None or step.back is not None)
         for stretch in stretches_of(told, self.joins, self.notes):
-            yield from events_of(stretch, period, self.notes)
+            for event in events_of(stretch, period, self.notes):
+                if event.step is not None and not self.network.is_alive(event.device, event.second):
+                    self.notes.noticed(OUTSIDE_LIFE, event.step)
+                yield event
 
     def other_entries(self, steps: list[Step], devices: set[str]) -> list[Event]:
         """The kept entries of these devices that the book has, and no step of the rows."""

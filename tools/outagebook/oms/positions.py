@@ -73,12 +73,27 @@ class Event:
 
 
 def stretches_of(steps: Iterable[Step], joins: bool, notes: Notes) -> Iterator[Stretch]:
-    """Each step by itself, or those of a device that overlap as one."""
+    """Each step by itself, a return with the leaving before it, or those of a device that overlap as one."""
     by_device: dict[str, list[Stretch]] = defaultdict(list)
     for step in steps:
         by_device[step.device].append(Stretch(step.leave, step.back, step, step))
-    for stretches in by_device.values():
+    for listed in by_device.values():
+        stretches = list(paired(listed))
         yield from joined(stretches, notes) if joins else stretches
+
+
+def paired(stretches: list[Stretch]) -> Iterator[Stretch]:
+    """Of stretches of one device those whose end another step tells, the next one of the device, as one; all others as they are."""
+    current: Stretch | None = None
+    for stretch in sorted(stretches, key=lambda stretch: (stretch.begin, stretch.first.number)):
+        if current is not None and current.back is None and stretch.leave is None:
+            current.back, current.last = stretch.back, stretch.last
+            continue
+        if current is not None:
+            yield current
+        current = stretch
+    if current is not None:
+        yield current
 
 
 def joined(stretches: list[Stretch], notes: Notes) -> Iterator[Stretch]:
@@ -104,10 +119,13 @@ def joined(stretches: list[Stretch], notes: Notes) -> Iterator[Stretch]:
 def events_of(stretch: Stretch, period: Period, notes: Notes) -> Iterator[Event]:
     """The switchings of a stretch that the book's period holds. One that runs over its beginning has left at the first second; one
     that runs over its end hasn't come back. Those outside are another book's."""
+    steps = [stretch.first] if stretch.first is stretch.last else [stretch.first, stretch.last]
     if stretch.begin < period.first and stretch.end <= period.first:
-        notes.left_out("steps before the period", stretch.first)
+        for step in steps:
+            notes.left_out("steps before the period", step)
     elif stretch.begin >= period.end:
-        notes.left_out("steps after the period", stretch.first)
+        for step in steps:
+            notes.left_out("steps after the period", step)
     else:
         yield from events_within(stretch, period, notes)
 

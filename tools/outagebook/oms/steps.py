@@ -98,14 +98,15 @@ class StepReader:
         device = identifier(row["device"], MOST_NAME, "the device")
         crew = identifier(row["crew"] or self.crew, MOST_CREW, "the crew")
         note_small_letters(row, ("ticket", "step", "device", "crew"), notes)
-        is_closed = self.normal_of(device)
         zone = read_zone(row["zone"]) if row["zone"] else self.conversion.zone
         out, restored = (self.moment(row, column, zone) for column in ("out", "restored"))
         if out is None and restored is None:
             raise BadRow("neither out nor restored is given")
         code = self.code(row)
-        if is_closed is None:
-            return Step(*place, device, True, None, None, code, crew, zone)
+        if device not in self.network.devices:
+            begin, end = self.ends_without_device(device, out, restored)
+            return Step(*place, device, True, begin, end, code, crew, zone)
+        is_closed = self.network.devices[device][1]
         leave, back = (out, restored) if is_closed else (restored, out)
         found = Step(*place, device, is_closed, leave, back, code, crew, zone)
         self.check_order(found)
@@ -122,15 +123,17 @@ class StepReader:
             raise BadRow(f"the cause {shown(row['cause'])} is in no list of causes")
         return self.causes.codes.get(row["cause"], 0)
 
-    def normal_of(self, device: str) -> bool | None:
-        """Whether a device is closed normally; None where the network couldn't be read whole, and hasn't it."""
-        if device in self.network.devices:
-            return self.network.devices[device][1]
+    def ends_without_device(self, device: str, *moments: int | None) -> tuple[int | None, int | None]:
+        """The ends of a step of a device that isn't in the network: another book's, which may have had it, or none to be looked
+        at where the network couldn't be read whole."""
+        told, period = sorted(moment for moment in moments if moment is not None), self.conversion.period
+        if period is not None and (told[0] >= period.end or (len(told) == 2 and told[0] < told[1] <= period.first)):
+            return told[0], told[-1]
         if device in self.network.gone:
             raise BadRow(f"the device {device} was taken down before the period")
         if self.network.is_whole:
             raise BadRow(f"no row of the network, nor the book, has a device {device}")
-        return None
+        return None, None
 
     def check_order(self, step: Step) -> None:
         """A device leaves its normal position before it comes back to it."""

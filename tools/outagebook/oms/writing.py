@@ -22,7 +22,7 @@ def whole_file(path: Path) -> Iterator[IO[str]]:
     except OSError as error:
         raise BookError(f"{path} can't be written: {error.strerror}") from None
     try:
-        with open(handle, "w", encoding="utf-8", newline="") as file:
+        with open(handle, "w", encoding="utf-8", errors="backslashreplace", newline="") as file:
             yield file
             file.flush()
             os.fsync(file.fileno())
