@@ -32,9 +32,10 @@ put 755 "$program" bin/outagebook
 (cd "$here/tools" && find outagebook -name '*.py') | sort | while read -r module; do
     put 644 "$here/tools/$module" "lib/outagebook/$module"
 done
-for tool in book figures report years next_year commands from_oms; do
+for tool in book figures report years next_year commands from_oms check agree trial; do
     case $tool in
         book) name=compare ;;
+        trial) name=try ;;
         *) name=$(echo "$tool" | tr _ -) ;;
     esac
     put 755 "$here/tools/$tool.py" "lib/outagebook/$tool.py"

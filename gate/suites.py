@@ -12,7 +12,7 @@ from parts import Part, Ran, run, say
 
 Counts = tuple[int, int, str]
 LONGEST = "1800"  # seconds of a suite
-MADE_BOOKS = "tools/tests/made_books.py"  # a program over the oracle's modules
+OVER_ORACLE = ("tools/tests/made_books.py", "tools/tests/taken_rows.py")  # programs over the oracle's modules
 TYPED = ("oracle", "benches", "gate", "tools", "screen")
 RAN = re.compile(r"^Ran ([0-9]+) tests? in ", re.MULTILINE)
 ENDED = re.compile(r"^(?:OK|FAILED)(?: \((.*)\))?$", re.MULTILINE)
@@ -66,7 +66,7 @@ def typed(root: Path) -> list[Suite]:
     found = []
     for folder in TYPED:
         if (root / folder).is_dir():
-            beside = [MADE_BOOKS] if folder == "oracle" and (root / MADE_BOOKS).exists() else []
+            beside = [path for path in OVER_ORACLE if folder == "oracle" and (root / path).exists()]
             found.append(Suite(f"mypy {folder}", ("mypy", folder, *beside), as_one))
     return found
 

@@ -126,7 +126,7 @@ class Install(unittest.TestCase):
         for _ in range(2):
             done = self.install(prefix, PROGRAM=program)
             self.assertEqual((done.returncode, done.stderr), (0, ""))
-        tools = ["commands", "compare", "figures", "from-oms", "next-year", "report", "years"]
+        tools = ["agree", "check", "commands", "compare", "figures", "from-oms", "next-year", "report", "try", "years"]
         self.assertEqual(
             sorted(path.name for path in (prefix / "bin").iterdir()),
             sorted(["outagebook", "outagebook-screen", *(f"outagebook-{tool}" for tool in tools)]),
