@@ -18,7 +18,7 @@ from outagebook.report.pieces import (
     table,
 )
 from outagebook.report.rankings import WORST
-from outagebook.report.style import STYLE
+from outagebook.report.style import STYLE, paper_style
 
 __all__ = [
     "COMPUTED",
@@ -34,4 +34,4 @@ __all__ = [
     "duration",
     "figure",
 ]
-__all__ += ["hours", "main", "meaning_text", "number", "numbers", "page", "picture", "table", "tiles"]
+__all__ += ["hours", "main", "meaning_text", "number", "numbers", "page", "paper_style", "picture", "table", "tiles"]
