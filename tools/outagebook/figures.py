@@ -20,7 +20,7 @@ from outagebook.compare import Checked, open_book
 from outagebook.counts import SETS, indices_of
 from outagebook.customers import customers
 from outagebook.days import days, months
-from outagebook.events import events, read_rule
+from outagebook.events import DEFAULT_RULE, events, read_rule
 from outagebook.feeders import feeders, sections
 from outagebook.forms import Figures, Value, write_csv, write_json, write_text
 from outagebook.lists import read_cause_groups, read_names, read_section_groups, with_names
@@ -91,13 +91,17 @@ FIGURES: dict[str, Callable[[Checked], Figures]] = {
     "indices": indices,
 }
 
-WITH_LISTS: dict[str, Callable[[Checked, Namespace], Figures]] = {
+# Figures that words of the command line change, and those that can't be shown without a list.
+WITH_WORDS: dict[str, Callable[[Checked, Namespace], Figures]] = {
+    "events": lambda found, args: events(found, args.ticket or DEFAULT_RULE),
+    "switchings": lambda found, args: switchings(found, args.late),
     "groups": lambda found, args: groups(found, read_section_groups(args.by, found.book)),
     "cause-groups": lambda found, args: cause_groups(found, read_cause_groups(args.causes, found.book)),
 }
 
-# Words that go with one figure alone.
+# The figure that each of these words goes with, and the word that each of these figures wants.
 WORDS = {"late": "switchings", "ticket": "events", "by": "groups", "causes": "cause-groups"}
+WANTED = {"groups": "by", "cause-groups": "causes"}
 
 
 def add_list_arguments(parser: Parser) -> None:
@@ -117,14 +121,8 @@ def add_list_arguments(parser: Parser) -> None:
 
 def figures_of(found: Checked, args: Namespace) -> Figures:
     """The figures that the words of the command line ask for."""
-    if args.figures in WITH_LISTS:
-        shown = WITH_LISTS[args.figures](found, args)
-    elif args.late:
-        shown = switchings(found, args.late)
-    elif args.ticket:
-        shown = events(found, args.ticket)
-    else:
-        shown = FIGURES[args.figures](found)
+    with_words = WITH_WORDS.get(args.figures)
+    shown = with_words(found, args) if with_words else FIGURES[args.figures](found)
     return with_names(shown, read_names(args.names, found.book), found.book) if args.names else shown
 
 
@@ -133,14 +131,15 @@ def check_words(parser: Parser, args: Namespace) -> None:
     for word, figure in WORDS.items():
         if getattr(args, word) and args.figures != figure:
             parser.error(f"--{word} goes with {figure}")
-        if figure in WITH_LISTS and args.figures == figure and not getattr(args, word):
-            parser.error(f"{figure} wants --{word} FILE")
+    wanted = WANTED.get(args.figures)
+    if wanted and not getattr(args, wanted):
+        parser.error(f"{args.figures} wants --{wanted} FILE")
 
 
 def main() -> int:
     parser = Parser(description="Shows figures of a book, after they were compared with the program's.")
     parser.add_argument("book", help="the book's file")
-    parser.add_argument("figures", choices=[*FIGURES, *WITH_LISTS], help="which")
+    parser.add_argument("figures", choices=list(dict.fromkeys([*FIGURES, *WITH_WORDS])), help="which")
     form = parser.add_mutually_exclusive_group()
     form.add_argument("--csv", dest="write", action="store_const", const=write_csv, default=write_text, help="as CSV")
     form.add_argument("--json", dest="write", action="store_const", const=write_json, help="as JSON")

@@ -17,7 +17,21 @@ from outagebook.report.pieces import (
     numbers,
     table,
 )
-from outagebook.report.style import STYLE
+from outagebook.report.rankings import WORST
+from outagebook.report.style import STYLE, paper_style
 
-__all__ = ["COMPUTED", "LONG", "PROVED", "STYLE", "Asked", "Column", "Part", "TableRow", "behind", "duration", "figure"]
-__all__ += ["hours", "main", "meaning_text", "number", "numbers", "page", "picture", "table", "tiles"]
+__all__ = [
+    "COMPUTED",
+    "LONG",
+    "PROVED",
+    "STYLE",
+    "WORST",
+    "Asked",
+    "Column",
+    "Part",
+    "TableRow",
+    "behind",
+    "duration",
+    "figure",
+]
+__all__ += ["hours", "main", "meaning_text", "number", "numbers", "page", "paper_style", "picture", "table", "tiles"]
