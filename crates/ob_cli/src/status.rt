@@ -16,7 +16,7 @@ pub enum Unfinished {
     Differs,
 }
 
-/// The status that the program ends with after a run: 0 where the job was done or help was asked for, 1
+/// The status that the program ends with after a run: 0 where the job was done, or help or the version was asked for, 1
 /// after a fault, 2 after a refusal or an audit that found a difference, and 64 where the words name no
 /// job.
 pub fn status_of_run(run: &Result<(), Unfinished>) -> u8
