@@ -1,5 +1,5 @@
 -- What an import and an export tell, and what they leave.
-use Rattle.std.specs.Prelude.{◌≡◌, ◌↔◌, ◌⊎◌, ℕ, List, ◌++◌, Option, None, IsSome, Result, Ok, Err, IfOk, IfErr, codes, option_map}
+use Rattle.std.specs.Prelude.{◌≡◌, ◌↔◌, ◌⊎◌, ℕ, List, ◌++◌, Option, None, IsSome, Result, Ok, Err, IfOk, IfErr, OnOk, codes, option_map}
 use Rattle.std.specs.Fmt.{decimal}
 use Rattle.sqlite_trees.specs.declared.store.Store.{Ghosts}
 use Rattle.sqlite.specs.Held.{state}
@@ -13,8 +13,7 @@ use Rattle.ob_stream.specs.Watching.{HasJustFailed, watched_bytes}
 use Rattle.ob_stream.specs.declared.watched.Watched.{Watched}
 use Rattle.ob_csv.specs.Rows.{rows_of}
 use Rattle.ob_book.specs.Acts.{ActState}
-use Rattle.ob_tables.specs.Schema.{book_schema}
-use Rattle.ob_store.specs.Keeping.{KeeperValue, Ties}
+use Rattle.ob_store.specs.Keeping.{IsBookAfter, KeeperValue, Ties}
 use Rattle.ob_import.specs.Gathering.{IsWithin}
 use Rattle.ob_import.specs.Reports.{HasCause, HoldsWholeRows, Imported, IsStoreFault, no_book}
 use Rattle.ob_import.specs.declared.report.ImportReport.{ImportReport}
@@ -70,7 +69,10 @@ module _ {S : Type 0} (g : Ghosts S) where
     pub reopen : (old.book ≡ None) ↔ (done ≡ Err (Fault faults.Reopen))
     pub unopened : old.book ≡ None → (new ≡ old) × (is ≡ was)
     pub output : done ≡ Err (Fault faults.Output) → HasJustFailed is
-    pub survives : old.conn.schema ≡ book_schema → Survives (state g old.conn) (state g new.conn) (λ _. ⊥)
+    pub kept : OnOk done (new.book ≡ old.book)
+    pub dropped : IfErr done (IsBookAfter old.book new.book)
+    pub clean : HasCleanDisk (state g new.conn) → HasCleanDisk (state g old.conn)
+    pub survives : Survives (state g old.conn) (state g new.conn) (λ _. ⊥)
     pub exports : HasCleanDisk (state g new.conn) → (b : ActState) → Ties g old b → IsSome old.book
         → Exports contents g old new (watched_bytes contents was) is b (moves_text b) done
 
