@@ -91,11 +91,11 @@ module _ {W : Type 0} (contents : W → Option (List ℕ)) where
   pub book_after : (sink : Lines W) (was is : Option BookState) (r : Result ℕ Stop) → IsBookAfterMoves puts sink was is r → IfErr r (IsBookAfter was is)
   book_after sink was is (Ok n) same = tt
   book_after sink was is (Err (Refused refusal)) h = absurd h
-  book_after sink was is (Err (Fault OutOfMemory)) h = elim h [ | inl took ↦ took.3 | inr store ↦ store.1 ]
-  book_after sink was is (Err (Fault Store)) h = elim h [ | inl took ↦ absurd took.2.1 | inr store ↦ store.1 ]
-  book_after sink was is (Err (Fault Reopen)) h = elim h [ | inl took ↦ took.3 | inr store ↦ store.1 ]
-  book_after sink was is (Err (Fault Input)) h = elim h [ | inl took ↦ took.3 | inr store ↦ store.1 ]
-  book_after sink was is (Err (Fault Output)) h = elim h [ | inl took ↦ took.3 | inr store ↦ store.1 ]
+  book_after sink was is (Err (Fault OutOfMemory)) h = elim h [ inl took ↦ took.3 | inr store ↦ store.1 ]
+  book_after sink was is (Err (Fault Store)) h = elim h [ inl took ↦ absurd took.2.1 | inr store ↦ store.1 ]
+  book_after sink was is (Err (Fault Reopen)) h = elim h [ inl took ↦ took.3 | inr store ↦ store.1 ]
+  book_after sink was is (Err (Fault Input)) h = elim h [ inl took ↦ took.3 | inr store ↦ store.1 ]
+  book_after sink was is (Err (Fault Output)) h = elim h [ inl took ↦ took.3 | inr store ↦ store.1 ]
 
   -- ---- the text
   all_lines : (old new : Lines W) (xs : List Numbered) → TakesAll puts old xs new → Appends (bytes_of old) (bytes_of new) (lines_of xs)
