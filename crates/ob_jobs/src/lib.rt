@@ -10,28 +10,27 @@
 #![tactic(auto)]
 
 mod audit;
-mod books;
 mod ending;
 mod export;
 mod import;
 mod init;
 mod line;
 mod lines;
+mod load;
 mod migrate;
 mod moves;
 mod opening;
+mod serve;
 mod table;
 mod tell;
 
-pub use audit::run_audit;
-pub use books::{
-    audit_book, export_from_book, import_into_book, make_book, migrate_book, print_book, serve_book,
-};
-pub use export::run_export;
-pub use import::run_import;
-pub use init::run_init;
-pub use migrate::run_migrate;
+pub use audit::{audit_book, run_audit};
+pub use export::{export_from_book, run_export};
+pub use import::{import_into_book, run_import};
+pub use init::{make_book, run_init};
+pub use migrate::{migrate_book, run_migrate};
 pub use moves::export_moves;
 pub use ob_import::{Progress, Silent, Work};
 pub use opening::{OpenInput, OpenOutput, ServeBook};
-pub use table::run_table;
+pub use serve::serve_book;
+pub use table::{print_book, run_table};

@@ -1,4 +1,4 @@
-use Rattle.ob_jobs.proofs.books.load_book.Goals as goal
+use Rattle.ob_jobs.proofs.load.load_book.Goals as goal
 
 pub returns : goal.returns
 returns g c =
