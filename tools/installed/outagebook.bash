@@ -11,7 +11,7 @@ _outagebook() {
         --first|--days|--zone|--port|--streams) COMPREPLY=(); return ;;
     esac
     case $subcommand in
-        '') options='total init import export table audit migrate serve help --help' ;;
+        '') options='total init import export table audit migrate serve help --help --version' ;;
         total) options='--help' ;;
         init) options='--book --first --days --zone --help' ;;
         import|export) options='--book --help' ;;

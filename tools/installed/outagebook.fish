@@ -2,6 +2,7 @@
 set -l jobs total init import export table audit migrate serve help
 complete -c outagebook -f
 complete -c outagebook -s h -l help -d 'Print help'
+complete -c outagebook -n "not __fish_seen_subcommand_from $jobs" -s V -l version -d 'Print the version'
 complete -c outagebook -n "not __fish_seen_subcommand_from $jobs" -a total -d 'Count the customer-seconds of a text on standard input'
 complete -c outagebook -n "not __fish_seen_subcommand_from $jobs" -a init -d 'Make the book of a period'
 complete -c outagebook -n "not __fish_seen_subcommand_from $jobs" -a import -d 'Act the commands of a CSV file on a book'

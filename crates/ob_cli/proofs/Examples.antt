@@ -23,6 +23,10 @@ total_asks_for_help : errors_of (codes "outagebook" ∷ codes "total" ∷ codes 
 unfolding defaults_fault walk_fault walked
 total_asks_for_help = refl
 
+the_version_is_asked_for : errors_of (codes "outagebook" ∷ codes "--version" ∷ []) ≡ kind.DisplayVersion ∷ []
+unfolding defaults_fault walk_fault walked
+the_version_is_asked_for = refl
+
 table_of_the_default_book : job_of (codes "outagebook" ∷ codes "table" ∷ []) ≡ Some (Table (codes "book.db"))
 unfolding defaults_fault walk_fault walked
 table_of_the_default_book = refl

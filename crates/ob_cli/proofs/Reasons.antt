@@ -22,15 +22,17 @@ none_where_refused : (k : ErrorKind) (kinds : Kinds) (job : Option Job) → IsAm
 none_where_refused k [] job among = absurd among
 none_where_refused k (x ∷ xs) job among = refl
 
-not_help_alone : (k : ErrorKind) (kinds : Kinds) → IsAmong k kinds → k ≢ kind.DisplayHelp
-    → kinds ≢ kind.DisplayHelp ∷ []
-not_help_alone k kinds among other alone = elim (subst (IsAmong k) alone among) [
-  | inl is_help ↦ other is_help
+not_alone : (k other : ErrorKind) (kinds : Kinds) → IsAmong k kinds → k ≢ other → kinds ≢ other ∷ []
+not_alone k other kinds among differ alone = elim (subst (IsAmong k) alone among) [
+  | inl same ↦ differ same
   | inr none ↦ none
 ]
 
 help_is_no_fault : kind.DisplayHelp ≢ kind.OutOfMemory
 help_is_no_fault e = cc
+
+version_is_no_fault : kind.DisplayVersion ≢ kind.OutOfMemory
+version_is_no_fault e = cc
 
 kind_reason : (words : List Text) (k : ErrorKind) (w : WrongWords)
     → (k ≡ kind.OutOfMemory) ⊎ IsAmong k (errors_of words) → IsReasonOf k w → IsReason words w
@@ -38,9 +40,16 @@ kind_reason words k (wrong.Help text) (inl no_memory) given =
     absurd (help_is_no_fault (sym given ∙ no_memory))
 kind_reason words k (wrong.Help text) (inr among) given =
     subst (λ x. IsAmong x (errors_of words)) given among
-kind_reason words k (wrong.Wrong text) (inl no_memory) given = absurd (given.1 no_memory)
-kind_reason words k (wrong.Wrong text) (inr among) given =
-    (none_where_refused k (errors_of words) _ among, not_help_alone k (errors_of words) among given.0)
+kind_reason words k (wrong.Version text) (inl no_memory) given =
+    absurd (version_is_no_fault (sym given ∙ no_memory))
+kind_reason words k (wrong.Version text) (inr among) given =
+    subst (λ x. IsAmong x (errors_of words)) given among
+kind_reason words k (wrong.Wrong text) (inl no_memory) given = absurd (given.2 no_memory)
+kind_reason words k (wrong.Wrong text) (inr among) given = (
+  none_where_refused k (errors_of words) _ among,
+  not_alone k kind.DisplayHelp (errors_of words) among given.0,
+  not_alone k kind.DisplayVersion (errors_of words) among given.1,
+)
 kind_reason words k (wrong.Fault fault) may given = given
 
 -- the reason given for an error of the program's command is a reason
@@ -75,5 +84,9 @@ not_empty k e = cc
 
 -- where it names none, the words are refused
 pub no_job_reason : (words : List Text) → errors_of words ≡ [] → job_of words ≡ None
-    → (job_of words ≡ None) × (errors_of words ≢ kind.DisplayHelp ∷ [])
-no_job_reason words none no_job = (no_job, λ help. not_empty kind.DisplayHelp (sym none ∙ help))
+    → (job_of words ≡ None) × (errors_of words ≢ kind.DisplayHelp ∷ []) × (errors_of words ≢ kind.DisplayVersion ∷ [])
+no_job_reason words none no_job = (
+  no_job,
+  λ help. not_empty kind.DisplayHelp (sym none ∙ help),
+  λ version. not_empty kind.DisplayVersion (sym none ∙ version),
+)

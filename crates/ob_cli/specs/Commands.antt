@@ -78,10 +78,11 @@ default_streams = codes "0"
 abbrev pub serve_app : App
 serve_app = with_rules (over_book (codes "serve")) (number_rule (codes "port") ∷ count_rule (codes "streams") default_streams ∷ [])
 
--- the program's own command, which needs a subcommand
+-- the program's own command, which needs a subcommand, or `--version`
 abbrev pub bare_app : App
 bare_app =
-    let a = new_app (codes "outagebook") in record a { top = record a.top { subcommand_required = true } }
+    let a = new_app (codes "outagebook") in
+    record a { top = record a.top { subcommand_required = true; has_version = true } }
 
 -- a command with these subcommands, in their order
 abbrev pub with_subcommands : App → List App → App

@@ -64,17 +64,20 @@ abbrev pub job_of : List Text → Option Job
 job_of words =
     where_matched (errors_of words) (option_and_then job_named (subcommand_of outagebook_app words))
 
--- why the words give no job: help comes only where it is asked for, a refusal only where the words
--- name no job and do not merely ask for help, and a fault is that memory was refused
+-- why the words give no job: help and the version come only where they are asked for, a refusal only where the words
+-- name no job and ask neither for help alone nor for the version alone, and a fault is that memory was refused
 abbrev pub IsReason : List Text → WrongWords → Type 0
 IsReason words (wrong.Help text) = IsAmong kind.DisplayHelp (errors_of words)
-IsReason words (wrong.Wrong text) = (job_of words ≡ None) × (errors_of words ≢ kind.DisplayHelp ∷ [])
+IsReason words (wrong.Version text) = IsAmong kind.DisplayVersion (errors_of words)
+IsReason words (wrong.Wrong text) =
+    (job_of words ≡ None) × (errors_of words ≢ kind.DisplayHelp ∷ []) × (errors_of words ≢ kind.DisplayVersion ∷ [])
 IsReason words (wrong.Fault fault) = fault ≡ OutOfMemory
 
 -- the reason that an error of this kind gives
 abbrev pub IsReasonOf : ErrorKind → WrongWords → Type 0
 IsReasonOf k (wrong.Help text) = k ≡ kind.DisplayHelp
-IsReasonOf k (wrong.Wrong text) = (k ≢ kind.DisplayHelp) × (k ≢ kind.OutOfMemory)
+IsReasonOf k (wrong.Version text) = k ≡ kind.DisplayVersion
+IsReasonOf k (wrong.Wrong text) = (k ≢ kind.DisplayHelp) × (k ≢ kind.DisplayVersion) × (k ≢ kind.OutOfMemory)
 IsReasonOf k (wrong.Fault fault) = fault ≡ OutOfMemory
 
 -- memory was refused
@@ -84,5 +87,6 @@ out_of_memory = wrong.Fault OutOfMemory
 -- the status that the program ends with
 abbrev pub status_of : WrongWords → ℕ
 status_of (wrong.Help text) = 0
+status_of (wrong.Version text) = 0
 status_of (wrong.Wrong text) = 64
 status_of (wrong.Fault fault) = 1

@@ -1,5 +1,5 @@
 -- The status that the program ends with after a run.
-use Rattle.std.specs.Prelude.{ℕ, Result, Ok, Err}
+use Rattle.std.specs.Prelude.{ℕ, None, Result, Ok, Err}
 use Rattle.ob_base.specs.declared.stop.Stop.{Stop}
 use Rattle.ob_base.specs.declared.stop.Stop.TheVariants as stops
 use Rattle.ob_cli.specs.Jobs.{status_of}
@@ -10,6 +10,10 @@ use Rattle.ob_cli.specs.declared.status.Unfinished.TheVariants as ends
 abbrev pub stop_status : Stop → ℕ
 stop_status (stops.Refused refusal) = 2
 stop_status (stops.Fault fault) = 1
+
+-- a run that was stopped at no row
+abbrev pub stopped_by : Stop → Unfinished
+stopped_by stop = ends.Stopped stop None
 
 -- 0 where the job was done, 2 where an audit found a difference, else the status of what kept it from being done
 abbrev pub run_status : {A : Type 0} → Result A Unfinished → ℕ

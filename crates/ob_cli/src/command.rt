@@ -159,10 +159,14 @@ fn serve_command<'a>(alloc: Global) -> Result<Command<'a>, AllocError>
     .arg(streams_option(alloc))
 }
 
+/// The version of the program, that of the books which it keeps, and the toolchain that it is proved with.
+const VERSION: &str = "2 (books of version 2, rattle-kit-13f)";
+
 fn bare_command<'a>(alloc: Global) -> Command<'a>
     ensures app { app_of result ≡ bare_app }
 {
     Command::new(alloc, "outagebook")
+        .version(VERSION)
         .about("Keeps the outages of a network, and prints its reliability indices")
         .subcommand_required(true)
 }

@@ -16,6 +16,8 @@ use std::alloc::{AllocError, Global};
 pub enum WrongWords {
     /// Help was asked for: this is its text. The program ends with status 0.
     Help(String),
+    /// The version was asked for: this is its text. The program ends with status 0.
+    Version(String),
     /// The words were refused, for this reason. The program ends with status 64.
     Wrong(String),
     /// Memory was refused. The program ends with status 1.
@@ -28,7 +30,7 @@ impl WrongWords {
         ensures { result ≡ status_of self.now }
     {
         match self {
-            WrongWords::Help(_) => 0,
+            WrongWords::Help(_) | WrongWords::Version(_) => 0,
             WrongWords::Wrong(_) => 64,
             WrongWords::Fault(_) => 1,
         }
@@ -54,6 +56,7 @@ fn reason_of(alloc: Global, error: &Error) -> WrongWords
     }
     match error.to_string(alloc) {
         Ok(text) if matches!(kind, ErrorKind::DisplayHelp) => WrongWords::Help(text),
+        Ok(text) if matches!(kind, ErrorKind::DisplayVersion) => WrongWords::Version(text),
         Ok(text) => WrongWords::Wrong(text),
         Err(_) => WrongWords::Fault(Fault::OutOfMemory),
     }
@@ -63,7 +66,7 @@ fn reason_of(alloc: Global, error: &Error) -> WrongWords
 ///
 /// # Errors
 ///
-/// `Help` where the words ask for it, `Wrong` where they name no job, and `Fault` where memory is
+/// `Help` and `Version` where the words ask for it, `Wrong` where they name no job, and `Fault` where memory is
 /// refused.
 pub fn read_words(alloc: Global, words: &[&str]) -> Result<Job, WrongWords>
     ensures job { IfOk result (λ j. job_of (map (λ word. word.now) words.now) ≡ Some j) }

@@ -16,7 +16,17 @@ pub enum Unfinished {
     Differs,
 }
 
-/// The status that the program ends with after a run: 0 where the job was done or help was asked for, 1
+impl From<Stop> for Unfinished {
+    ghost use Rattle.ob_cli.specs.Statuses.{stopped_by};
+
+    ghost from_gives = { λ stop end. end ≡ stopped_by stop };
+
+    fn from(stop: Stop) -> Unfinished {
+        Unfinished::Stopped(stop, None)
+    }
+}
+
+/// The status that the program ends with after a run: 0 where the job was done, or help or the version was asked for, 1
 /// after a fault, 2 after a refusal or an audit that found a difference, and 64 where the words name no
 /// job.
 pub fn status_of_run(run: &Result<(), Unfinished>) -> u8

@@ -111,6 +111,7 @@ impl Roll {
         ensures ok { OnOk result (self.new.customers ≡ with_customer customer self.old.customers) }
         ensures err { OnErr result (self.new ≡ self.old) }
         ensures room { self.old.room ≤ self.new.room + 1 }
+        ensures no_more_room { self.new.room ≤ self.old.room }
     {
         let Err(place) = place_of(&self.customers, customer.no) else {
             return Err(Refusal::NameTaken);

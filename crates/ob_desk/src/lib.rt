@@ -7,10 +7,12 @@
 
 mod laws;
 mod listen;
+mod listener;
 mod reply;
 mod stream;
 mod turn;
 
 pub use laws::replies_law;
-pub use listen::{FaultLog, run_serve};
+pub use listen::{FaultLog, Unserved, run_serve};
+pub use listener::Listener;
 pub use stream::{Served, serve_stream};

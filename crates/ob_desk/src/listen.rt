@@ -1,13 +1,14 @@
 //! The streams of a listener, one after the other.
-ghost use Rattle.std.specs.Prelude.{◌≡◌, ◌↔◌, ◌⊎◌, true, None, Err, IsSome, IfErr};
+ghost use Rattle.std.specs.Prelude.{◌≡◌, ◌↔◌, true, false, None, Err, IsSome};
 ghost use Rattle.sqlite.specs.Held.{state};
 ghost use Rattle.sqlite.specs.State.{HasCleanDisk};
 ghost use Rattle.ob_book.specs.Acts.{ActState};
 ghost use Rattle.ob_store.specs.Keeping.{Ties};
 ghost use Rattle.ob_desk.specs.Crashes.{IsLeft};
-ghost use Rattle.ob_desk.specs.Listening.{ends_desk};
+ghost use Rattle.ob_desk.specs.Listening.{LeavesKeeper, ServesStreams, desk_end, has_failed, streams_left, unserved_fault};
 ghost use Rattle.ob_desk.specs.Standing.{IsKept, fault_of};
 
+use crate::listener::Listener;
 use crate::stream::{Served, serve_stream};
 use ob_base::Fault;
 use ob_store::Keeper;
@@ -15,64 +16,86 @@ use ob_stream::Watched;
 use ob_sweep::Timeline;
 use sqlite::Alter;
 use std::alloc::Global;
-use std::net::{TcpListener, TcpStream};
+use std::net::TcpStream;
 
 /// Where the faults of single streams are told.
 pub trait FaultLog {
+    ghost use Rattle.ob_base.specs.declared.stop.Fault.{Fault as AFault};
+
+    /// What a telling makes of it.
+    ghost tells: { Self → AFault → Self → Type 0 };
+
     /// Tells the fault that ended a stream, after which the next one is taken.
-    fn tell(&mut self, fault: Fault);
+    fn tell(&mut self, fault: Fault)
+        ensures { tells self.old fault self.new };
 }
 
-/// Serves so many streams of a listener, one after the other, by the book of a keeper; 0 is as many as there can be,
-/// 2^64 - 1. A fault of a stream is told, and the next stream is taken.
+/// Why a desk ended before its last stream.
+#[derive(Clone, Copy, Debug, PartialEq, Eq)]
+pub enum Unserved {
+    /// No stream could be taken.
+    Listener,
+    /// The store has failed, in the stream in work.
+    Store,
+    /// A request needed the book, and there was none.
+    Reopen,
+}
+
+impl Unserved {
+    /// The fault that it is told as.
+    pub fn fault(self) -> Fault
+        ensures { result ≡ unserved_fault self }
+    {
+        match self {
+            Unserved::Listener => Fault::Input,
+            Unserved::Store => Fault::Store,
+            Unserved::Reopen => Fault::Reopen,
+        }
+    }
+}
+
+/// Serves the streams that are to be taken of a listener, one after the other, by the book of a keeper. A fault of a stream is
+/// told, and the next stream is taken.
 ///
 /// # Errors
 ///
-/// `Fault::Store`, and `Fault::Reopen` where a request needs the book and there is none, of the stream in work;
-/// `Fault::Input` where no stream can be taken. Nothing more is served then, and none of these is told before.
+/// `Unserved::Store`, and `Unserved::Reopen` where a request needs the book and there is none, of the stream in work;
+/// `Unserved::Listener` where no stream can be taken. Nothing more is served then, and none of these is told before.
 pub fn run_serve<S: Alter, T: Timeline, L: FaultLog>(
     alloc: Global,
-    listener: &TcpListener,
-    streams: u64,
+    listener: &mut Listener<'_>,
     keeper: &mut Keeper<S, T>,
     log: &mut L,
-) -> Result<(), Fault>
-    ensures clean { HasCleanDisk (state S.Store keeper.new.conn)
-        → HasCleanDisk (state S.Store keeper.old.conn) }
-    ensures unopened { keeper.old.book ≡ None → keeper.new ≡ keeper.old }
-    ensures dropped { IsSome keeper.old.book → (keeper.new.book ≡ None)
-        ↔ (result ≡ Err Fault.Store) }
-    ensures reopen { result ≡ Err Fault.Reopen → keeper.old.book ≡ None }
-    ensures ends { IfErr result (λ f. (f ≡ Fault.Input) ⊎ (ends_desk f ≡ true)) }
-    ensures left { HasCleanDisk (state S.Store keeper.new.conn) → (b : ActState)
-        → Ties S.Store keeper.old b → IsSome keeper.old.book
-        → IsLeft S.Store keeper.new b (fault_of result) }
+) -> Result<(), Unserved>
+    ensures keeper { LeavesKeeper S.Store keeper.old keeper.new result }
+    ensures failed { has_failed listener.old ≡ false → (has_failed listener.new ≡ true)
+        ↔ (result ≡ Err Unserved.Listener) }
+    ensures served { ServesStreams S.Store L.tells keeper.old keeper.new log.old log.new
+        (streams_left listener.old) (streams_left listener.new) result }
 {
-    let most = if streams == 0 { u64::MAX } else { streams };
-    'streams: for _ in 0..most {
-        let Ok((stream, _)) = listener.accept() else {
-            return Err(Fault::Input);
+    'serving: while listener.has_more() {
+        let Some(stream) = listener.take() else {
+            return Err(Unserved::Listener);
         };
         match serve_connection(alloc, &stream, keeper) {
             Ok(_) => {}
-            Err(fault) => {
-                if ends_desk(fault) {
-                    return Err(fault);
-                }
-                log.tell(fault);
-            }
+            Err(fault) => match desk_end(fault) {
+                Some(end) => return Err(end),
+                None => log.tell(fault),
+            },
         }
     }
     Ok(())
 }
 
-/// Whether a stream's fault ends the desk: there is no book, or none any more.
-fn ends_desk(fault: Fault) -> bool
-    ensures { result ≡ ends_desk fault }
+/// How a stream's fault ends the desk, where it does: there is no book, or none any more.
+fn desk_end(fault: Fault) -> Option<Unserved>
+    ensures { result ≡ desk_end fault }
 {
     match fault {
-        Fault::Store | Fault::Reopen => true,
-        Fault::OutOfMemory | Fault::Input | Fault::Output => false,
+        Fault::Store => Some(Unserved::Store),
+        Fault::Reopen => Some(Unserved::Reopen),
+        Fault::OutOfMemory | Fault::Input | Fault::Output => None,
     }
 }
 

@@ -2,7 +2,7 @@
 use crate::log::Log;
 use crate::streams::{Sink, Source};
 use ob_base::Fault;
-use ob_desk::{run_serve, serve_stream};
+use ob_desk::{Listener, Unserved, run_serve, serve_stream};
 use ob_requests::Request;
 use ob_routes::{ReplyText, Routes, answer};
 use ob_store::Keeper;
@@ -61,7 +61,7 @@ pub trait Desk {
         listener: &TcpListener,
         streams: u64,
         log: &mut Log,
-    ) -> Result<(), Fault>;
+    ) -> Result<(), Unserved>;
 }
 
 impl<S: Alter, T: Timeline> Desk for Keeper<S, T> {
@@ -113,8 +113,8 @@ impl<S: Alter, T: Timeline> Desk for Keeper<S, T> {
         listener: &TcpListener,
         streams: u64,
         log: &mut Log,
-    ) -> Result<(), Fault> {
-        run_serve(alloc, listener, streams, self, log)
+    ) -> Result<(), Unserved> {
+        run_serve(alloc, &mut Listener::new(listener, streams), self, log)
     }
 }
 

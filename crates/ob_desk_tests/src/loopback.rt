@@ -2,6 +2,7 @@
 use crate::desk::{Desk, Trial, over_a_book, over_a_store};
 use crate::log::Log;
 use ob_base::Fault;
+use ob_desk::Unserved;
 use std::alloc::{AllocError, Global};
 use std::io;
 use std::io::{Read, Write};
@@ -110,7 +111,7 @@ fn are_all<D: Desk>(host: &HostRuntime, desk: &mut D, listener: &TcpListener) ->
     listener.set_nonblocking(true)?;
     let served = desk.serves(host.alloc(), listener, 0, &mut log);
     Ok(
-        served == Err(Fault::Input)
+        served == Err(Unserved::Listener)
             && log.is(0, None)
             && is_told(host.alloc(), &mut first)?
             && is_told(host.alloc(), &mut second)?
@@ -127,7 +128,7 @@ fn is_without_a_book<D: Desk>(
     let mut log = Log::new();
     let _client = client(host, listener, LAST_STORM)?;
     let served = desk.serves(host.alloc(), listener, 0, &mut log);
-    Ok(served == Err(Fault::Reopen) && log.is(0, None))
+    Ok(served == Err(Unserved::Reopen) && log.is(0, None))
 }
 
 // The streams of a listener.

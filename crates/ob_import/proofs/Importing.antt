@@ -26,7 +26,7 @@ use Rattle.ob_record.specs.Reached.{ReachedCounts}
 use Rattle.ob_import.specs.Acting.{Adds, AddsRow, Holds}
 use Rattle.ob_import.specs.Imports.{AreAnswered, EndsAt, Import, ImportsBody, ImportsRows, IsRefused, Say, Says, Stops, Taken, after_header}
 use Rattle.ob_import.specs.Gathering.{IsWithin, gathered_rows, is_over}
-use Rattle.ob_import.specs.Reports.{AreRows, Breaks, HasCause, HoldsAll, HoldsAllOf, HoldsFirst, HoldsWholeRows, Imported, IsNext, Leaves, LeavesOf, Runs, import_as}
+use Rattle.ob_import.specs.Reports.{AreRows, Breaks, HasCause, HoldsAll, HoldsAllOf, HoldsFirst, HoldsWholeRows, Imported, IsNext, Leaves, LeavesOf, Runs, import_as, no_book}
 use Rattle.ob_import.specs.declared.report.ImportReport.{ImportReport}
 use Rattle.ob_import.specs.declared.report.ImportFault.{ImportFault}
 
@@ -75,6 +75,22 @@ taken_more b c rows added again added2 again2 row a t says ok few grown both =
       all = let e : added2 + again2 ≡ length (rows ++ row ∷ []) = omega (arith, t.all, one, both) in e;
       few = let e : length (rows ++ row ∷ []) ≤ 1_000_000 = omega (arith, t.all, one, few) in e;
     }
+
+-- ---- a book that there is
+
+pub not_none : {A : Type 0} (o : Option A) → IsSome o → o ≡ None → ⊥
+not_none None some e = cc
+not_none (Some a) some e = cc
+
+-- an import into it isn't answered that there is none
+pub not_bookless : (book : Option BookState) (r : Result ImportReport ImportFault) (P : Type 0) → IsSome book → IfErr r (λ e. HasCause e.fault P)
+    → (book ≡ None) ↔ (r ≡ no_book)
+not_bookless book r P some cause =
+    ((λ none. absurd (not_none book some none)), λ is. absurd (subst (λ x. IfErr x (λ e. HasCause e.fault P)) is cause))
+
+-- nor is it lost where memory is refused
+pub not_lost : (book : Option BookState) → IsSome book → (book ≡ None) ↔ (faults.OutOfMemory ≡ faults.Store)
+not_lost book some = ((λ none. absurd (not_none book some none)), λ e. cc)
 
 -- ---- known rows, and those that are left
 

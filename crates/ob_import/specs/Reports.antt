@@ -1,17 +1,21 @@
 -- What an import tells, and what then stands.
-use Rattle.std.specs.Prelude.{◌≡◌, ◌↔◌, ℕ, ⊤, Bool, true, false, List, [], ◌∷◌, Option, None, Result, Ok, Err, IfSome, IfOk, IfErr, unwrap_or}
+use Rattle.std.specs.Prelude.{◌≡◌, ◌↔◌, ◌⊎◌, ℕ, ⊤, Bool, true, false, List, [], ◌∷◌, Option, None, Result, Ok, Err, IfSome, IsSome, IfOk, IfErr, option_map, unwrap_or}
 use Rattle.std.specs.Io.KnownBytes.{Consumes}
 use Rattle.sqlite_trees.specs.declared.store.Store.{Ghosts}
 use Rattle.sqlite.specs.Held.{state}
 use Rattle.sqlite.specs.State.{HasCleanDisk}
 use Rattle.ob_base.specs.declared.stop.Fault.{Fault}
 use Rattle.ob_base.specs.declared.stop.Fault.TheVariants.{OutOfMemory, Store, Reopen, Input, Output}
-use Rattle.ob_csv.specs.Rows.{Fields}
+use Rattle.ob_csv.specs.Rows.{Fields, rows_of}
 use Rattle.ob_csv.specs.WholeRows.{whole_rows}
+use Rattle.ob_stream.specs.Streams.{Passes}
+use Rattle.ob_stream.specs.Watching.{HasJustFailed, watched_bytes}
+use Rattle.ob_stream.specs.declared.watched.Watched.{Watched}
 use Rattle.ob_book.specs.Acts.{ActState, Referenced, act}
 use Rattle.ob_store.specs.Keeping.{KeeperValue, KeepsEitherBook, Ties}
 use Rattle.ob_import.specs.Imports.{Begins, Import, ImportsBody, Says, Taken, after_header}
 use Rattle.ob_import.specs.Acting.{Holds}
+use Rattle.ob_import.specs.Gathering.{IsWithin}
 use Rattle.ob_import.specs.declared.report.ImportReport.{ImportReport}
 use Rattle.ob_import.specs.declared.report.ImportFault.{ImportFault}
 
@@ -90,6 +94,22 @@ module _ {S : Type 0} (g : Ghosts S) where
   abbrev pub HoldsWholeRows : KeeperValue S → ActState → Option (List ℕ) → Option (List ℕ) → ℕ → ℕ → Type 0
   HoldsWholeRows new b bytes left added again =
       (given : List ℕ) × Consumes bytes left given × HoldsAll new b (unwrap_or (after_header (whole_rows given)) []) added again
+
+  -- an import of what a reader gives: there is a book or it is answered that there is none; what then stands, and why a fault
+  -- came
+  pub record ImportOf {R : Type 0} (remaining : R → Option (List ℕ)) (old new : KeeperValue S) (was is : Watched R)
+      (done : Result ImportReport ImportFault) : Type 0 where
+    pub reopen : (old.book ≡ None) ↔ (done ≡ no_book)
+    pub unopened : old.book ≡ None → new ≡ old
+    pub imported : HasCleanDisk (state g new.conn) → (b : ActState) → Ties g old b → IsSome old.book
+        → Imported new b (option_map rows_of (watched_bytes remaining was)) done
+    pub clean : HasCleanDisk (state g new.conn) → HasCleanDisk (state g old.conn)
+    pub dropped : IsSome old.book → (new.book ≡ None) ↔ IsStoreFault done
+    -- the reader failed, or it gave more bytes than a text may have
+    pub cause : IsSome old.book → IfErr done (λ e. HasCause e.fault (HasJustFailed is ⊎ Passes (watched_bytes remaining was) 268435456))
+    pub broken : HasCleanDisk (state g new.conn) → (b : ActState) → Ties g old b → IsSome old.book
+        → IfErr done (λ e. e.fault ≡ Input → HoldsWholeRows new b (watched_bytes remaining was) (watched_bytes remaining is) e.added e.again)
+    pub bound : IfOk done (λ r. r.stopped ≡ None → IsWithin (watched_bytes remaining was) 268435456)
 
   -- all that an import of a book promises, of rows of which these are after the header and that are the whole text or not
   pub record Runs (body : List Fields → Option (List Fields)) (old new : KeeperValue S) (known : Option (List Fields)) (whole : Bool)

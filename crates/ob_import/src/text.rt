@@ -1,15 +1,13 @@
 //! The imports: of a text, and of what a reader gives.
-ghost use Rattle.std.specs.Prelude.{◌≡◌, ◌≢◌, ◌↔◌, ◌⊎◌, true, false, [], None, Some, Ok, Err, IsSome, IfOk, IfErr, option_map};
+ghost use Rattle.std.specs.Prelude.{◌≡◌, ◌≢◌, ◌↔◌, false, [], None, Some, Err, IsSome, IfOk, IfErr};
 ghost use Rattle.sqlite.specs.Held.{state};
 ghost use Rattle.sqlite.specs.State.{HasCleanDisk};
-ghost use Rattle.ob_stream.specs.Streams.{Passes};
-ghost use Rattle.ob_stream.specs.Watching.{HasJustFailed, watched_bytes};
 ghost use Rattle.ob_csv.specs.Rows.{rows_of};
 ghost use Rattle.ob_book.specs.Acts.{ActState};
 ghost use Rattle.ob_store.specs.Keeping.{Ties};
-ghost use Rattle.ob_import.specs.Gathering.{IsWithin, gathered_rows};
+ghost use Rattle.ob_import.specs.Gathering.{gathered_rows};
 ghost use Rattle.ob_import.specs.Imports.{ImportedAgain, ImportsMakeOneThing, after_header};
-ghost use Rattle.ob_import.specs.Reports.{HasCause, HoldsWholeRows, Imported, IsStoreFault, Runs, no_book};
+ghost use Rattle.ob_import.specs.Reports.{HasCause, ImportOf, Imported, IsStoreFault, Runs, no_book};
 
 use crate::gather::{Gathered, gather};
 use crate::report::{ImportFault, ImportReport};
@@ -68,24 +66,7 @@ pub fn import<R: Read, S: Alter, T: Timeline>(
     reader: &mut Watched<R>,
     keeper: &mut Keeper<S, T>,
 ) -> Result<ImportReport, ImportFault>
-    ensures reopen { (keeper.old.book ≡ None) ↔ (result ≡ no_book) }
-    ensures unopened { keeper.old.book ≡ None → keeper.new ≡ keeper.old }
-    ensures imported { HasCleanDisk (state S.Store keeper.new.conn) → (b : ActState)
-        → Ties S.Store keeper.old b → IsSome keeper.old.book
-        → Imported S.Store keeper.new b (option_map rows_of (watched_bytes R.remaining reader.old))
-        result }
-    ensures clean { HasCleanDisk (state S.Store keeper.new.conn)
-        → HasCleanDisk (state S.Store keeper.old.conn) }
-    ensures dropped { IsSome keeper.old.book → (keeper.new.book ≡ None) ↔ IsStoreFault result }
-    ensures cause { IsSome keeper.old.book → IfErr result (λ e. HasCause e.fault
-        (HasJustFailed reader.new ⊎ Passes (watched_bytes R.remaining reader.old) 268435456)) }
-    ensures broken { HasCleanDisk (state S.Store keeper.new.conn) → (b : ActState)
-        → Ties S.Store keeper.old b → IsSome keeper.old.book
-        → IfErr result (λ e. e.fault ≡ Fault.Input
-        → HoldsWholeRows S.Store keeper.new b (watched_bytes R.remaining reader.old)
-        (watched_bytes R.remaining reader.new) e.added e.again) }
-    ensures bound { IfOk result (λ r. r.stopped ≡ None
-        → IsWithin (watched_bytes R.remaining reader.old) 268435456) }
+    ensures { ImportOf S.Store R.remaining keeper.old keeper.new reader.old reader.new result }
 {
     import_with_progress(alloc, reader, keeper, &mut Silent)
 }
@@ -102,24 +83,7 @@ pub fn import_with_progress<R: Read, S: Alter, T: Timeline, P: Progress>(
     keeper: &mut Keeper<S, T>,
     progress: &mut P,
 ) -> Result<ImportReport, ImportFault>
-    ensures reopen { (keeper.old.book ≡ None) ↔ (result ≡ no_book) }
-    ensures unopened { keeper.old.book ≡ None → keeper.new ≡ keeper.old }
-    ensures imported { HasCleanDisk (state S.Store keeper.new.conn) → (b : ActState)
-        → Ties S.Store keeper.old b → IsSome keeper.old.book
-        → Imported S.Store keeper.new b (option_map rows_of (watched_bytes R.remaining reader.old))
-        result }
-    ensures clean { HasCleanDisk (state S.Store keeper.new.conn)
-        → HasCleanDisk (state S.Store keeper.old.conn) }
-    ensures dropped { IsSome keeper.old.book → (keeper.new.book ≡ None) ↔ IsStoreFault result }
-    ensures cause { IsSome keeper.old.book → IfErr result (λ e. HasCause e.fault
-        (HasJustFailed reader.new ⊎ Passes (watched_bytes R.remaining reader.old) 268435456)) }
-    ensures broken { HasCleanDisk (state S.Store keeper.new.conn) → (b : ActState)
-        → Ties S.Store keeper.old b → IsSome keeper.old.book
-        → IfErr result (λ e. e.fault ≡ Fault.Input
-        → HoldsWholeRows S.Store keeper.new b (watched_bytes R.remaining reader.old)
-        (watched_bytes R.remaining reader.new) e.added e.again) }
-    ensures bound { IfOk result (λ r. r.stopped ≡ None
-        → IsWithin (watched_bytes R.remaining reader.old) 268435456) }
+    ensures { ImportOf S.Store R.remaining keeper.old keeper.new reader.old reader.new result }
 {
     if keeper.book().is_none() {
         return Err(fault_without_book());

@@ -1,11 +1,11 @@
 -- How a job that takes memory for its line ends.
-use Rattle.std.proofs.Common.{inl, ℕ, List, Option, Result, Err}
+use Rattle.std.proofs.Common.{inl, inr, ℕ, List, Option, Result, Ok, Err}
 use Rattle.ob_base.specs.declared.stop.Stop.{Stop}
 use Rattle.ob_base.specs.declared.stop.Stop.TheVariants.{Refused, Fault}
 use Rattle.ob_base.specs.declared.stop.Fault.TheVariants.{OutOfMemory, Store, Reopen, Input, Output}
 use Rattle.ob_stream.specs.declared.watched.Watched.{Watched}
 use Rattle.ob_jobs.specs.After.{TellsAfter}
-use Rattle.ob_jobs.specs.Telling.{WritesNothing}
+use Rattle.ob_jobs.specs.Telling.{Told, WritesNothing}
 
 module _ {X W : Type 0} (Works : Result X Stop → Type 0) (text : X → List ℕ) (contents : W → Option (List ℕ)) (old new : Watched W) where
   -- the work stopped
@@ -16,3 +16,12 @@ module _ {X W : Type 0} (Works : Result X Stop → Type 0) (text : X → List �
   stopped_after (Fault Reopen) works nothing = (works, nothing)
   stopped_after (Fault Input) works nothing = (works, nothing)
   stopped_after (Fault Output) works nothing = inl (works, nothing)
+
+  -- the work was done, and the writer failed on its line
+  pub untold_after : (stop : Stop) (x : X) → Works (Ok x) → Told contents old new (text x) (Err stop) → TellsAfter Works text contents old new (Err stop)
+  untold_after (Refused refusal) x works told = absurd told
+  untold_after (Fault OutOfMemory) x works told = absurd told
+  untold_after (Fault Store) x works told = absurd told
+  untold_after (Fault Reopen) x works told = absurd told
+  untold_after (Fault Input) x works told = absurd told
+  untold_after (Fault Output) x works told = inr (x, works, told)

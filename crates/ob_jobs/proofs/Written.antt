@@ -1,5 +1,6 @@
 -- The lines that a sink wrote.
 use Rattle.std.proofs.Common.{◌≡◌, ◌≢◌, inl, inr, ℕ, zero, suc, List, [], ◌∷◌, ◌++◌, take, drop, Option, None, Some, Result, Ok, Err, refl, sym, ap, subst, ◌∙◌}
+use Rattle.std.specs.Prelude.{IfErr, OnOk}
 use Rattle.std.specs.Io.KnownBytes.{Appends}
 use Rattle.std.proofs.KnownBytes.{Appends-trans}
 use Rattle.std.proofs.lemmas.List.{append_assoc, append-nil}
@@ -12,10 +13,11 @@ use Rattle.ob_base.specs.declared.stop.Stop.TheVariants.{Refused, Fault}
 use Rattle.ob_stream.specs.Streams.{AppendsFront}
 use Rattle.ob_stream.specs.Watching.{HasJustFailed, watched_bytes}
 use Rattle.ob_stream.specs.declared.watched.Watched.{Watched}
+use Rattle.ob_state.specs.State.{BookState}
 use Rattle.ob_book.specs.Acts.{ActState}
 use Rattle.ob_tables.specs.Steps.{IsStoreFault}
-use Rattle.ob_store.specs.Keeping.{KeeperValue, Ties}
-use Rattle.ob_store.specs.MovingOut.{Numbered, Takes, TakesAll, FailsAmong, TakesFront, HandsOver, MovesOut, StoreFails, all_moves}
+use Rattle.ob_store.specs.Keeping.{IsBookAfter, KeeperValue, Ties}
+use Rattle.ob_store.specs.MovingOut.{IsBookAfterMoves, Numbered, Takes, TakesAll, FailsAmong, TakesFront, HandsOver, MovesOut, StoreFails, all_moves}
 use Rattle.ob_jobs.specs.declared.lines.Lines.{Lines}
 use Rattle.ob_jobs.specs.Text.{lines_of, moved_line}
 use Rattle.ob_jobs.specs.Exporting.{AppendsPart, PutsLine, Exports}
@@ -79,6 +81,21 @@ module _ {W : Type 0} (contents : W → Option (List ℕ)) where
   -- a take that tells of the output left it failed
   pub has_failed : (was is : Lines W) → HandsOver puts was is (Err (Fault Output)) → HasJustFailed is.writer.now
   has_failed was is h = elim h.3 [ inl failed ↦ failed.1.1.1 | inr store ↦ absurd (no_store_fault Output (λ e. absurd cc) (λ e. absurd cc) store.1) ]
+
+  -- ---- the book
+  -- a sink that takes amounts keeps the book, or tells of memory or of the output
+  pub book_kept : (sink : Lines W) (was is : Option BookState) (r : Result ℕ Stop) → IsBookAfterMoves puts sink was is r → OnOk r (is ≡ was)
+  book_kept sink was is (Ok n) same = same
+  book_kept sink was is (Err stop) same = tt
+
+  pub book_after : (sink : Lines W) (was is : Option BookState) (r : Result ℕ Stop) → IsBookAfterMoves puts sink was is r → IfErr r (IsBookAfter was is)
+  book_after sink was is (Ok n) same = tt
+  book_after sink was is (Err (Refused refusal)) h = absurd h
+  book_after sink was is (Err (Fault OutOfMemory)) h = elim h [ inl took ↦ took.3 | inr store ↦ store.1 ]
+  book_after sink was is (Err (Fault Store)) h = elim h [ inl took ↦ absurd took.2.1 | inr store ↦ store.1 ]
+  book_after sink was is (Err (Fault Reopen)) h = elim h [ inl took ↦ took.3 | inr store ↦ store.1 ]
+  book_after sink was is (Err (Fault Input)) h = elim h [ inl took ↦ took.3 | inr store ↦ store.1 ]
+  book_after sink was is (Err (Fault Output)) h = elim h [ inl took ↦ took.3 | inr store ↦ store.1 ]
 
   -- ---- the text
   all_lines : (old new : Lines W) (xs : List Numbered) → TakesAll puts old xs new → Appends (bytes_of old) (bytes_of new) (lines_of xs)

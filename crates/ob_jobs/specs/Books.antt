@@ -12,7 +12,7 @@ use Rattle.ob_jobs.specs.After.{TellsAfter}
 use Rattle.ob_jobs.specs.Endings.{audit_end, import_end, job_end}
 use Rattle.ob_jobs.specs.Importing.{TellsExport, TellsImport}
 use Rattle.ob_jobs.specs.Lines.{audit_line, created_line, migrate_line}
-use Rattle.ob_jobs.specs.Loads.{AuditOf, LoadsThen, OpensThen}
+use Rattle.ob_jobs.specs.Loads.{AuditOf, LoadsThen, OpensThen, TakesThen}
 use Rattle.ob_jobs.specs.Migrations.{MigrationOf}
 use Rattle.ob_jobs.specs.Tabling.{HasTable, table_text}
 use Rattle.ob_jobs.specs.Telling.{Tells}
@@ -76,8 +76,11 @@ module _ {S : Type 0} (g : Ghosts S) where
       EndsAs job_end (LoadsThen g (λ mid done. ExportsOutput opens filled contents mid new was is before after done)
       ((is ≡ was) × (after ≡ before)) old new) result
 
-  -- the book is loaded, and then served
-  abbrev pub ServesBook : {A : Type 0} → (A → KeeperValue S → Result ⊤ Stop → KeeperValue S → A → Type 0)
+  -- the book is loaded, then the port is taken, and then the book is served there
+  abbrev pub ServesBook : {A I : Type 0} → (A → Result I Stop → A → Type 0)
+      → (A → I → KeeperValue S → Result ⊤ Stop → KeeperValue S → A → Type 0)
       → KeeperValue S → KeeperValue S → A → A → Result ⊤ Unfinished → Type 0
-  ServesBook serves old new was is result =
-      EndsAs job_end (LoadsThen g (λ mid done. serves was mid done new is) (is ≡ was) old new) result
+  ServesBook takes serves old new was is result =
+      EndsAs job_end (LoadsThen g
+      (λ mid done. TakesThen takes (λ port at done. serves at port mid done new is) (new ≡ mid) was is done)
+      (is ≡ was) old new) result

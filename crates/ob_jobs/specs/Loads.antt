@@ -22,6 +22,13 @@ OpensThen {A} {I} opens fault Works Nothing was is done =
     (opens was None is × (done ≡ Err (Fault fault)) × Nothing)
     ⊎ ((opened : Watched I) × opens was (Some (watched_inner opened)) is × Works opened done)
 
+-- something was taken and then this was done with it; or it could not be taken, which is answered, and nothing was done
+abbrev pub TakesThen : {A I X : Type 0} → (A → Result I Stop → A → Type 0) → (I → A → Result X Stop → Type 0) → Type 0
+    → A → A → Result X Stop → Type 0
+TakesThen {A} {I} takes Works Nothing was is done =
+    ((stop : Stop) × takes was (Err stop) is × (done ≡ Err stop) × Nothing)
+    ⊎ ((taken : I) × (mid : A) × takes was (Ok taken) mid × Works taken mid done)
+
 module _ {S : Type 0} (g : Ghosts S) where
   -- a reading of the book that the tables hold: why there is none, and what then stands
   pub record LoadOf (old new : KeeperValue S) (done : Result ⊤ Stop) : Type 0 where

@@ -1,11 +1,14 @@
 //! The job that compares a book's tables with its commands.
 ghost use Rattle.std.specs.Prelude.{◌≡◌, IfOk, string_bytes};
 ghost use Rattle.ob_jobs.specs.After.{TellsAfter};
+ghost use Rattle.ob_jobs.specs.Books.{AuditsBook};
 ghost use Rattle.ob_jobs.specs.Lines.{audit_line};
 ghost use Rattle.ob_jobs.specs.Loads.{AuditOf};
 
+use crate::ending::end_of_audit;
 use crate::tell::tell;
-use ob_base::{Fault, Stop};
+use ob_base::Stop;
+use ob_cli::Unfinished;
 use ob_store::Keeper;
 use ob_stream::Watched;
 use ob_sweep::Timeline;
@@ -13,6 +16,17 @@ use ob_tables::Table;
 use sqlite::Alter;
 use std::alloc::{AllocError, Global};
 use std::io::Write;
+
+/// Compares the tables of a book with its commands, as [`run_audit`]. A table that differs leaves it unfinished.
+pub fn audit_book<S: Alter, T: Timeline, W: Write>(
+    alloc: Global,
+    keeper: &mut Keeper<S, T>,
+    writer: &mut Watched<W>,
+) -> Result<(), Unfinished>
+    ensures { AuditsBook S.Store W.contents keeper.old keeper.new writer.old writer.new result }
+{
+    end_of_audit(run_audit(alloc, keeper, writer))
+}
 
 /// Compares the tables with what the commands in them give, as [`Keeper::audit`], and writes `audit ok`, or `audit differs`
 /// and the name of the first table that differs, and LF. It answers that table.
@@ -28,18 +42,10 @@ pub fn run_audit<S: Alter, T: Timeline, W: Write>(
     ensures { TellsAfter (AuditOf S.Store keeper.old keeper.new) audit_line W.contents writer.old
         writer.new result }
 {
-    let found = match audit_tables(keeper) {
-        Ok(found) => found,
-        Err(stop) => return Err(stop),
-    };
-    let line = match line_of(alloc, found) {
-        Ok(line) => line,
-        Err(_) => return Err(Stop::Fault(Fault::OutOfMemory)),
-    };
-    match tell(writer, line.as_bytes()) {
-        Ok(()) => Ok(found),
-        Err(stop) => Err(stop),
-    }
+    let found = audit_tables(keeper)?;
+    let line = line_of(alloc, found)?;
+    tell(writer, line.as_bytes())?;
+    Ok(found)
 }
 
 /// The comparison.

@@ -1,16 +1,41 @@
 //! The job that writes what a book's commands moved.
 ghost use Rattle.std.specs.Prelude.{◌≡◌, IfOk, string_bytes};
+ghost use Rattle.ob_jobs.specs.Books.{ExportsFromBook};
 ghost use Rattle.ob_jobs.specs.Importing.{ExportOf, TellsExport, export_line};
 
+use crate::ending::end_of_job;
 use crate::export_moves;
+use crate::load::load_book;
+use crate::opening::OpenOutput;
 use crate::tell::tell;
 use ob_base::{Fault, Stop};
+use ob_cli::Unfinished;
+use ob_import::Progress;
 use ob_store::Keeper;
 use ob_stream::Watched;
 use ob_sweep::Timeline;
 use sqlite::Alter;
 use std::alloc::{AllocError, Global};
 use std::io::Write;
+
+/// Loads a book, then makes the output anew, and writes what the commands moved into it, as [`run_export`].
+pub fn export_from_book<O: OpenOutput, S: Alter, T: Timeline, P: Progress, W: Write>(
+    alloc: Global,
+    keeper: &mut Keeper<S, T>,
+    output: &mut O,
+    progress: &mut P,
+    writer: &mut Watched<W>,
+) -> Result<(), Unfinished>
+    ensures { ExportsFromBook S.Store O.opens O.Output.contents W.contents keeper.old keeper.new
+        output.old output.new writer.old writer.new result }
+{
+    load_book(keeper, progress)?;
+    let Some(opened) = output.open() else {
+        return Err(Unfinished::from(Stop::Fault(Fault::Output)));
+    };
+    let mut file = Watched::new(opened);
+    end_of_job(run_export(alloc, keeper, &mut file, writer))
+}
 
 /// Writes what the accepted commands moved into a file, as [`ob_jobs::export_moves`], and then `rows`, how many amounts they
 /// are, and LF.
@@ -27,18 +52,10 @@ pub fn run_export<F: Write, S: Alter, T: Timeline, W: Write>(
     ensures { TellsExport S.Store F.contents W.contents keeper.old keeper.new file.old file.new
         writer.old writer.new result }
 {
-    let rows = match export_rows(alloc, keeper, file) {
-        Ok(rows) => rows,
-        Err(stop) => return Err(stop),
-    };
-    let line = match line_of(alloc, rows) {
-        Ok(line) => line,
-        Err(_) => return Err(Stop::Fault(Fault::OutOfMemory)),
-    };
-    match tell(writer, line.as_bytes()) {
-        Ok(()) => Ok(rows),
-        Err(stop) => Err(stop),
-    }
+    let rows = export_rows(alloc, keeper, file)?;
+    let line = line_of(alloc, rows)?;
+    tell(writer, line.as_bytes())?;
+    Ok(rows)
 }
 
 /// The export.

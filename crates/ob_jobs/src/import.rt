@@ -1,9 +1,14 @@
 //! The job that acts the commands of a CSV file on a book.
 ghost use Rattle.std.specs.Prelude.{◌≡◌, IfOk, string_bytes};
-ghost use Rattle.ob_jobs.specs.Importing.{ImportOf, ImportsAs, TellsImport, import_line};
+ghost use Rattle.ob_jobs.specs.Books.{ImportsIntoBook};
+ghost use Rattle.ob_jobs.specs.Importing.{TellsImport, import_line};
 
+use crate::ending::end_of_import;
+use crate::load::load_book;
+use crate::opening::OpenInput;
 use crate::tell::tell;
 use ob_base::{Fault, Stop};
+use ob_cli::Unfinished;
 use ob_import::{ImportReport, Progress, import_with_progress};
 use ob_store::Keeper;
 use ob_stream::Watched;
@@ -11,6 +16,25 @@ use ob_sweep::Timeline;
 use sqlite::Alter;
 use std::alloc::{AllocError, Global};
 use std::io::{Read, Write};
+
+/// Loads a book, then opens the input, and imports what it gives, as [`run_import`]. A row that is refused leaves it unfinished.
+pub fn import_into_book<O: OpenInput, S: Alter, T: Timeline, P: Progress, W: Write>(
+    alloc: Global,
+    keeper: &mut Keeper<S, T>,
+    input: &mut O,
+    progress: &mut P,
+    writer: &mut Watched<W>,
+) -> Result<(), Unfinished>
+    ensures { ImportsIntoBook S.Store O.opens O.Input.remaining W.contents keeper.old keeper.new
+        input.old input.new writer.old writer.new result }
+{
+    load_book(keeper, progress)?;
+    let Some(opened) = input.open() else {
+        return Err(Unfinished::from(Stop::Fault(Fault::Input)));
+    };
+    let mut reader = Watched::new(opened);
+    end_of_import(run_import(alloc, keeper, &mut reader, progress, writer))
+}
 
 /// Acts the commands of the CSV text that a reader gives, as [`ob_import::import_with_progress`], and writes `added`, how many
 /// rows added a command, `again`, how many named one that the book had, and LF; also where a row was refused, which is answered.
@@ -29,34 +53,14 @@ pub fn run_import<R: Read, S: Alter, T: Timeline, P: Progress, W: Write>(
     ensures { TellsImport S.Store R.remaining W.contents keeper.old keeper.new reader.old reader.new
         writer.old writer.new result }
 {
-    let report = match import_rows(alloc, keeper, reader, progress) {
+    let report = match import_with_progress(alloc, reader, keeper, progress) {
         Ok(report) => report,
-        Err(stop) => return Err(stop),
+        // the counts up to a fault aren't told
+        Err(failed) => return Err(Stop::Fault(failed.fault)),
     };
-    let line = match line_of(alloc, &report) {
-        Ok(line) => line,
-        Err(_) => return Err(Stop::Fault(Fault::OutOfMemory)),
-    };
-    match tell(writer, line.as_bytes()) {
-        Ok(()) => Ok(report),
-        Err(stop) => Err(stop),
-    }
-}
-
-/// The import, whose counts up to a fault aren't told.
-fn import_rows<R: Read, S: Alter, T: Timeline, P: Progress>(
-    alloc: Global,
-    keeper: &mut Keeper<S, T>,
-    reader: &mut Watched<R>,
-    progress: &mut P,
-) -> Result<ImportReport, Stop>
-    ensures { ImportsAs (ImportOf S.Store R.remaining keeper.old keeper.new reader.old reader.new)
-        result }
-{
-    match import_with_progress(alloc, reader, keeper, progress) {
-        Ok(report) => Ok(report),
-        Err(failed) => Err(Stop::Fault(failed.fault)),
-    }
+    let line = line_of(alloc, &report)?;
+    tell(writer, line.as_bytes())?;
+    Ok(report)
 }
 
 /// The line that tells how many rows were taken.

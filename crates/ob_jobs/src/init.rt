@@ -1,16 +1,33 @@
 //! The job that makes a book.
 ghost use Rattle.std.specs.Prelude.{◌≡◌};
 ghost use Rattle.ob_store.specs.Creating.{Created};
+ghost use Rattle.ob_jobs.specs.Books.{MakesBook};
 ghost use Rattle.ob_jobs.specs.Lines.{created_line};
 ghost use Rattle.ob_jobs.specs.Telling.{Tells};
 
+use crate::ending::end_of_job;
 use crate::tell::tell;
 use ob_base::Stop;
+use ob_cli::Unfinished;
 use ob_store::Keeper;
 use ob_stream::Watched;
 use ob_sweep::Timeline;
 use sqlite::Alter;
 use std::io::Write;
+
+/// Makes the book of a period, as [`run_init`].
+pub fn make_book<S: Alter, T: Timeline, W: Write>(
+    keeper: &mut Keeper<S, T>,
+    first: &[u8],
+    days: u16,
+    zone: &[u8],
+    writer: &mut Watched<W>,
+) -> Result<(), Unfinished>
+    ensures { MakesBook S.Store W.contents keeper.old keeper.new first.now days zone.now writer.old
+        writer.new result }
+{
+    end_of_job(run_init(keeper, first, days, zone, writer))
+}
 
 /// Makes the book of a period, as [`Keeper::create`], and writes `created` and LF.
 ///

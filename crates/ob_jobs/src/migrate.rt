@@ -1,16 +1,29 @@
 //! The job that makes a book of version 1 one of version 2.
 ghost use Rattle.std.specs.Prelude.{◌≡◌};
+ghost use Rattle.ob_jobs.specs.Books.{MigratesBook};
 ghost use Rattle.ob_jobs.specs.Lines.{migrate_line};
 ghost use Rattle.ob_jobs.specs.Migrations.{MigrationOf};
 ghost use Rattle.ob_jobs.specs.Telling.{Tells};
 
+use crate::ending::end_of_job;
 use crate::tell::tell;
 use ob_base::Stop;
+use ob_cli::Unfinished;
 use ob_store::Keeper;
 use ob_stream::Watched;
 use ob_sweep::Timeline;
 use sqlite::Alter;
 use std::io::Write;
+
+/// Makes a book of version 1 one of version 2, as [`run_migrate`].
+pub fn migrate_book<S: Alter, T: Timeline, W: Write>(
+    keeper: &mut Keeper<S, T>,
+    writer: &mut Watched<W>,
+) -> Result<(), Unfinished>
+    ensures { MigratesBook S.Store W.contents keeper.old keeper.new writer.old writer.new result }
+{
+    end_of_job(run_migrate(keeper, writer))
+}
 
 /// Makes the tables of version 1 those of version 2, as [`Keeper::migrate`], and writes `migrated`, or `version 2` where they
 /// are so already, and LF. It answers whether they were of version 1. No book is loaded.
@@ -26,14 +39,9 @@ pub fn run_migrate<S: Alter, T: Timeline, W: Write>(
     ensures { Tells (MigrationOf S.Store keeper.old keeper.new) migrate_line W.contents writer.old
         writer.new result }
 {
-    let migrated = match migrate_tables(keeper) {
-        Ok(migrated) => migrated,
-        Err(stop) => return Err(stop),
-    };
-    match tell(writer, line_of(migrated)) {
-        Ok(()) => Ok(migrated),
-        Err(stop) => Err(stop),
-    }
+    let migrated = migrate_tables(keeper)?;
+    tell(writer, line_of(migrated))?;
+    Ok(migrated)
 }
 
 /// The migration.

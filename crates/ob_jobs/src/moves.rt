@@ -1,11 +1,10 @@
 //! The export of what accepted commands moved.
-ghost use Rattle.std.specs.Prelude.{◌≡◌, ◌≢◌, ◌↔◌, None, Err, IsSome};
+ghost use Rattle.std.specs.Prelude.{◌≡◌, ◌≢◌, ◌↔◌, None, Err, IsSome, IfErr, OnOk};
 ghost use Rattle.sqlite.specs.Held.{state};
 ghost use Rattle.sqlite.specs.State.{HasCleanDisk, Survives};
 ghost use Rattle.ob_stream.specs.Watching.{HasJustFailed, watched_bytes};
 ghost use Rattle.ob_book.specs.Acts.{ActState};
-ghost use Rattle.ob_tables.specs.Schema.{book_schema};
-ghost use Rattle.ob_store.specs.Keeping.{Ties};
+ghost use Rattle.ob_store.specs.Keeping.{IsBookAfter, Ties};
 ghost use Rattle.ob_store.specs.MovingOut.{all_moves};
 ghost use Rattle.ob_jobs.specs.Text.{lines_of, moves_text};
 ghost use Rattle.ob_jobs.specs.Exporting.{Exports};
@@ -29,8 +28,12 @@ fn write_lines<W: Write, S: Alter, T: Timeline>(
     requires { IsSome keeper.old.book }
     ensures opened { result ≢ Err (Stop.Fault Fault.Reopen) }
     ensures output { result ≡ Err (Stop.Fault Fault.Output) → HasJustFailed writer.new }
-    ensures survives { keeper.old.conn.schema ≡ book_schema
-        → Survives (state S.Store keeper.old.conn) (state S.Store keeper.new.conn) (λ _. ⊥) }
+    ensures kept { OnOk result (keeper.new.book ≡ keeper.old.book) }
+    ensures dropped { IfErr result (IsBookAfter keeper.old.book keeper.new.book) }
+    ensures clean { HasCleanDisk (state S.Store keeper.new.conn)
+        → HasCleanDisk (state S.Store keeper.old.conn) }
+    ensures survives { Survives (state S.Store keeper.old.conn) (state S.Store keeper.new.conn)
+        (λ _. ⊥) }
     ensures exports { HasCleanDisk (state S.Store keeper.new.conn) → (b : ActState)
         → Ties S.Store keeper.old b → Exports W.contents S.Store keeper.old keeper.new
         (watched_bytes W.contents writer.old) writer.new b (lines_of (all_moves b)) result }
@@ -41,7 +44,8 @@ fn write_lines<W: Write, S: Alter, T: Timeline>(
 
 /// Writes what the accepted commands moved: the header `cmd,dim,key,delta`, and then a line for each amount, by number,
 /// dimension and key, as `26,cause,3,-1200`. Tells how many amounts they are. `Reopen` where there is no book, and then
-/// nothing is written; `Output` where the writer fails.
+/// nothing is written; `Output` where the writer fails. After a fault of the store the keeper has no book; else it has the
+/// one that it had.
 pub fn export_moves<W: Write, S: Alter, T: Timeline>(
     alloc: Global,
     keeper: &mut Keeper<S, T>,
@@ -51,8 +55,12 @@ pub fn export_moves<W: Write, S: Alter, T: Timeline>(
     ensures unopened { keeper.old.book ≡ None → (keeper.new ≡ keeper.old)
         × (writer.new ≡ writer.old) }
     ensures output { result ≡ Err (Stop.Fault Fault.Output) → HasJustFailed writer.new }
-    ensures survives { keeper.old.conn.schema ≡ book_schema
-        → Survives (state S.Store keeper.old.conn) (state S.Store keeper.new.conn) (λ _. ⊥) }
+    ensures kept { OnOk result (keeper.new.book ≡ keeper.old.book) }
+    ensures dropped { IfErr result (IsBookAfter keeper.old.book keeper.new.book) }
+    ensures clean { HasCleanDisk (state S.Store keeper.new.conn)
+        → HasCleanDisk (state S.Store keeper.old.conn) }
+    ensures survives { Survives (state S.Store keeper.old.conn) (state S.Store keeper.new.conn)
+        (λ _. ⊥) }
     ensures exports { HasCleanDisk (state S.Store keeper.new.conn) → (b : ActState)
         → Ties S.Store keeper.old b → IsSome keeper.old.book
         → Exports W.contents S.Store keeper.old keeper.new (watched_bytes W.contents writer.old)

@@ -1,4 +1,5 @@
-//! What the program hands to a job: an input or an output that is opened only when its turn has come, and a server.
+//! What the program hands to a job: an input or an output that is opened only when its turn has come, and
+//! a server whose port is taken then.
 use ob_base::Stop;
 use ob_store::Keeper;
 use ob_sweep::Timeline;
@@ -35,16 +36,26 @@ pub trait OpenOutput {
         ensures { opens self.old result self.new };
 }
 
-/// A server of a loaded book.
+/// A server of a loaded book, whose port is yet to be taken.
 pub trait ServeBook<S: Alter, T: Timeline> {
     ghost use Rattle.std.specs.Prelude.{⊤, Result};
     ghost use Rattle.ob_base.specs.declared.stop.Stop.{Stop as AStop};
     ghost use Rattle.ob_store.specs.Keeping.{KeeperValue};
 
-    /// What serving makes of the server and of the keeper, whether it fails or not.
-    ghost serves: { Self → KeeperValue S → Result ⊤ AStop → KeeperValue S → Self → Type 0 };
+    /// The port, once it is taken.
+    type Port: Drop;
 
-    /// Takes its port, and serves the book there.
-    fn serve(&mut self, keeper: &mut Keeper<S, T>) -> Result<(), Stop>
-        ensures { serves self.old keeper.old result keeper.new self.new };
+    /// What a taking of the port makes of the server, whether it fails or not.
+    ghost takes: { Self → Result Self.Port AStop → Self → Type 0 };
+
+    /// What serving at a port makes of the server and of the keeper, whether it fails or not.
+    ghost serves: { Self → Self.Port → KeeperValue S → Result ⊤ AStop → KeeperValue S → Self → Type 0 };
+
+    /// Takes its port.
+    fn take(&mut self) -> Result<Self::Port, Stop>
+        ensures { takes self.old result self.new };
+
+    /// Serves the book at the port.
+    fn serve(&mut self, port: Self::Port, keeper: &mut Keeper<S, T>) -> Result<(), Stop>
+        ensures { serves self.old port keeper.old result keeper.new self.new };
 }

@@ -1,15 +1,32 @@
 //! The job that prints the annual table.
 ghost use Rattle.std.specs.Prelude.{◌≡◌};
+ghost use Rattle.ob_jobs.specs.Books.{PrintsBook};
 ghost use Rattle.ob_jobs.specs.Tabling.{HasTable, table_text};
 ghost use Rattle.ob_jobs.specs.Telling.{Tells};
 
+use crate::ending::end_of_job;
+use crate::load::load_book;
 use crate::tell::tell;
 use ob_base::{Fault, Stop};
+use ob_cli::Unfinished;
+use ob_import::Progress;
 use ob_store::Keeper;
 use ob_stream::Watched;
 use ob_sweep::Timeline;
 use sqlite::Alter;
 use std::io::Write;
+
+/// Loads a book and prints its annual table, as [`run_table`].
+pub fn print_book<S: Alter, T: Timeline, P: Progress, W: Write>(
+    keeper: &mut Keeper<S, T>,
+    progress: &mut P,
+    writer: &mut Watched<W>,
+) -> Result<(), Unfinished>
+    ensures { PrintsBook S.Store W.contents keeper.old keeper.new writer.old writer.new result }
+{
+    load_book(keeper, progress)?;
+    end_of_job(run_table(keeper, writer))
+}
 
 /// Writes the annual table of the keeper's book.
 ///

@@ -486,6 +486,7 @@ impl<'b> Listed for Nodes<'b> {
         let _ = self.net.nodes();
         let name = element(self.names, at);
         let feeder = self.net.feeder_of(at as u16);
+        // The column of the home feeder is 0 for GRID and for a bus, which have none.
         has_fields(
             row,
             &[

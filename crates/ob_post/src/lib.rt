@@ -1,10 +1,11 @@
 //! Customer-seconds without supply by cause, home feeder and day.
 //!
-//! Keeps the amounts of the postings. Promises that a list of moves changes exactly the amounts that
-//! it names, by what it says; that the moves between two lists of amounts are their differences, each
-//! once and in order; and that the amounts of a run are its customer-seconds, second by second and
-//! customer by customer. The definitions say which customer-seconds count under a key; the book stands
-//! above.
+//! Keeps the amounts of the postings, and, as rows, what a change takes back of them and gives. Promises that a list of moves
+//! changes exactly the amounts that it names, by what it says; that the moves between two lists of amounts are their
+//! differences, each once and in order; that the amounts of a run are its customer-seconds, second by second and customer by
+//! customer; and that the rows of a change lead from the amounts of the runs and causes before it to those after it, though
+//! only runs that differ are looked at. The definitions say which customer-seconds count under a key; the state of a book
+//! stands above.
 #![tactic(auto)]
 
 mod difference;

@@ -28,7 +28,7 @@ pub fn life_from(since: Moment, until: Option<Moment>) -> Life
 }
 
 impl State {
-    ghost use Rattle.std.specs.Prelude.{◌≡◌, ◌<◌, None};
+    ghost use Rattle.std.specs.Prelude.{◌≡◌, ◌<◌, ◌≤◌, None};
     ghost use Rattle.ob_command.specs.declared.command.Command.TheVariants.{Cause, Bus, Section, Device, Connect, Revise, Switch, Correct, Withdraw, Mark, Unmark};
     ghost use Rattle.ob_state.specs.Refusals.{refusal as refusal_to};
     ghost use Rattle.ob_state.specs.Next.{changed, next};
@@ -39,6 +39,7 @@ impl State {
         requires room { 0 < self.old.room }
         ensures state { self.new.state ≡ next self.old.state command.now }
         ensures searches { self.new.searches ≡ self.old.searches }
+        ensures no_more_room { self.new.room ≤ self.old.room }
     {
         self.change_parts(command);
         self.accepted += 1;
@@ -50,6 +51,7 @@ impl State {
         requires room { 0 < self.old.room }
         ensures state { self.new.state ≡ changed self.old.state command.now }
         ensures searches { self.new.searches ≡ self.old.searches }
+        ensures no_more_room { self.new.room ≤ self.old.room }
     {
         match *command {
             Command::Cause { code, name } => self.name_cause(code, name),
@@ -102,6 +104,7 @@ impl State {
     fn name_cause(&mut self, code: CauseCode, name: Name)
         ensures state { self.new.state ≡ changed self.old.state (Cause code name) }
         ensures searches { self.new.searches ≡ self.old.searches }
+        ensures no_more_room { self.new.room ≤ self.old.room }
     {
         self.causes.put(code.get(), name);
     }
@@ -112,6 +115,7 @@ impl State {
         requires room { 0 < self.old.room }
         ensures state { self.new.state ≡ changed self.old.state (Bus name) }
         ensures searches { self.new.searches ≡ self.old.searches }
+        ensures no_more_room { self.new.room ≤ self.old.room }
     {
         if self.net.add_bus(name).is_err() {
             unreachable!();
@@ -124,6 +128,7 @@ impl State {
         requires room { 0 < self.old.room }
         ensures state { self.new.state ≡ changed self.old.state (Section name feeder) }
         ensures searches { self.new.searches ≡ self.old.searches }
+        ensures no_more_room { self.new.room ≤ self.old.room }
     {
         if self.net.add_section(name, feeder.get()).is_err() {
             unreachable!();
@@ -138,6 +143,7 @@ impl State {
         ensures state { self.new.state ≡ changed self.old.state
             (Device name ends normal life.since life.until) }
         ensures searches { self.new.searches ≡ self.old.searches }
+        ensures no_more_room { self.new.room ≤ self.old.room }
     {
         if self
             .net
@@ -155,6 +161,7 @@ impl State {
         ensures state { self.new.state ≡ changed self.old.state
             (Command.Life device.now life.since life.until) }
         ensures searches { self.new.searches ≡ self.old.searches }
+        ensures no_more_room { self.new.room ≤ self.old.room }
     {
         let Some(device) = self.net.device_of(device) else {
             unreachable!();
@@ -171,6 +178,7 @@ impl State {
         ensures state { self.new.state ≡ changed self.old.state
             (Connect customer section.now since until) }
         ensures searches { self.new.searches ≡ self.old.searches }
+        ensures no_more_room { self.new.room ≤ self.old.room }
     {
         let Some(section) = self.section_named(section) else {
             unreachable!();
@@ -190,6 +198,7 @@ impl State {
         requires { refusal_to self.old.state (Revise customer since until) ≡ None }
         ensures state { self.new.state ≡ changed self.old.state (Revise customer since until) }
         ensures searches { self.new.searches ≡ self.old.searches }
+        ensures no_more_room { self.new.room ≤ self.old.room }
     {
         if self
             .roll
@@ -207,6 +216,7 @@ impl State {
         ensures state { self.new.state ≡ changed self.old.state
             (Switch device.now act second cause crew) }
         ensures searches { self.new.searches ≡ self.old.searches }
+        ensures no_more_room { self.new.room ≤ self.old.room }
     {
         let Some(device) = self.net.device_of(device) else {
             unreachable!();
@@ -228,6 +238,7 @@ impl State {
         ensures state { self.new.state ≡ changed self.old.state
             (Correct entry revision act second cause crew) }
         ensures searches { self.new.searches ≡ self.old.searches }
+        ensures no_more_room { self.new.room ≤ self.old.room }
     {
         if self
             .sheet
@@ -249,6 +260,7 @@ impl State {
         requires { refusal_to self.old.state (Withdraw entry revision) ≡ None }
         ensures state { self.new.state ≡ changed self.old.state (Withdraw entry revision) }
         ensures searches { self.new.searches ≡ self.old.searches }
+        ensures no_more_room { self.new.room ≤ self.old.room }
     {
         if self.sheet.withdraw(entry.get(), revision.get()).is_err() {
             unreachable!();
@@ -259,6 +271,7 @@ impl State {
         requires { refusal_to self.old.state (Mark date engineer) ≡ None }
         ensures state { self.new.state ≡ changed self.old.state (Mark date engineer) }
         ensures searches { self.new.searches ≡ self.old.searches }
+        ensures no_more_room { self.new.room ≤ self.old.room }
     {
         let Some(day) = self.period.day_index(&date.date()) else {
             unreachable!();
@@ -272,6 +285,7 @@ impl State {
         requires { refusal_to self.old.state (Unmark date engineer) ≡ None }
         ensures state { self.new.state ≡ changed self.old.state (Unmark date engineer) }
         ensures searches { self.new.searches ≡ self.old.searches }
+        ensures no_more_room { self.new.room ≤ self.old.room }
     {
         let Some(day) = self.period.day_index(&date.date()) else {
             unreachable!();

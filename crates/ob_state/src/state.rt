@@ -39,18 +39,20 @@ impl Model for State {
 }
 
 impl State {
-    ghost use Rattle.std.specs.Prelude.{◌≡◌, ◌<◌, ◌-◌, None, IfOk, IfErr, OnOk, IfSome, IsSome, length};
+    ghost use Rattle.std.specs.Prelude.{◌≡◌, ◌<◌, ◌≤◌, ◌+◌, ◌-◌, None, IfOk, IfErr, OnOk, IfSome, IsSome, length};
     ghost use Rattle.std.specs.List.{All};
     ghost use Rattle.ob_base.specs.Stop.{out_of_memory};
     ghost use Rattle.ob_base.specs.Life.{life_refusal};
     ghost use Rattle.ob_net.specs.Network.{section_of, home_feeder, with_life, without_last_node, JoinsTwo};
     ghost use Rattle.ob_state.specs.State.{empty_book, cause_name_of};
     ghost use Rattle.ob_state.specs.Effects.{with_network, without_device, without_node};
+    ghost use Rattle.ob_state.specs.Searches.{searches_of_state};
     ghost use Rattle.ob_state.specs.States.{AreRunsOf, IsSoundState};
 
     /// A new book's state.
     pub fn new(alloc: Global, period: Period) -> Result<State, Stop>
         ensures state { IfOk result (λ s. s.state ≡ empty_book period) }
+        ensures searches { IfOk result (λ s. s.searches ≡ 0) }
         ensures err { IfErr result (λ stop. stop ≡ out_of_memory) }
     {
         let marks = Marks::new(alloc, period.days())?;
@@ -151,12 +153,15 @@ impl State {
         self.causes.name(code)
     }
 
-    /// The runs of the state's sections, found from scratch; the error is that memory was refused.
+    /// The runs of the state's sections, found from scratch by no more searches of the network than one sweep takes; the
+    /// error is that memory was refused.
     pub fn build<T: Timeline>(&mut self, alloc: Global) -> Result<T, Stop>
         ensures runs { IfOk result (λ t. AreRunsOf self.old.state (T.content t)) }
         ensures err { IfErr result (λ stop. stop ≡ out_of_memory) }
         ensures state { self.new.state ≡ self.old.state }
         ensures room { self.new.room ≡ self.old.room }
+        ensures searches { self.new.searches ≤ self.old.searches
+            + searches_of_state self.old.state }
     {
         T::build(alloc, &mut self.net, &self.sheet, &self.period)
     }

@@ -87,6 +87,7 @@ fn ends_with(wrong: WrongWords, wanted: u8) -> bool {
 #[test]
 fn statuses_of_words(rt: HostRuntime) {
     assert!(rt; ends_with(WrongWords::Help(String::new(rt.alloc())), 0));
+    assert!(rt; ends_with(WrongWords::Version(String::new(rt.alloc())), 0));
     assert!(rt; ends_with(WrongWords::Wrong(String::new(rt.alloc())), 64));
     assert!(rt; ends_with(WrongWords::Fault(Fault::OutOfMemory), 1));
 }

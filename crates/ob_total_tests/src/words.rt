@@ -7,6 +7,7 @@ fn are_refused(alloc: Global, words: &[&str], told: &str) -> bool {
     match read_words(alloc, words) {
         Err(WrongWords::Wrong(text)) => text.contains(told),
         Err(WrongWords::Help(_text)) => false,
+        Err(WrongWords::Version(_text)) => false,
         Err(WrongWords::Fault(_fault)) => false,
         Ok(_job) => false,
     }
@@ -16,6 +17,18 @@ fn are_refused(alloc: Global, words: &[&str], told: &str) -> bool {
 fn show(alloc: Global, words: &[&str], told: &str) -> bool {
     match read_words(alloc, words) {
         Err(WrongWords::Help(text)) => text.contains(told),
+        Err(WrongWords::Version(_text)) => false,
+        Err(WrongWords::Wrong(_text)) => false,
+        Err(WrongWords::Fault(_fault)) => false,
+        Ok(_job) => false,
+    }
+}
+
+// Whether words ask for the version, and just this is told.
+fn tell_version(alloc: Global, words: &[&str], told: &str) -> bool {
+    match read_words(alloc, words) {
+        Err(WrongWords::Version(text)) => text.as_str() == told,
+        Err(WrongWords::Help(_text)) => false,
         Err(WrongWords::Wrong(_text)) => false,
         Err(WrongWords::Fault(_fault)) => false,
         Ok(_job) => false,
@@ -227,7 +240,8 @@ fn refuses_words(rt: HostRuntime) {
     assert!(rt; are_refused(alloc, &["outagebook", "total", "more"], usage));
     assert!(rt; are_refused(alloc, &["outagebook", "total", "--fast"], usage));
     assert!(rt; are_refused(alloc, &["outagebook", "--fast", "total"], usage));
-    assert!(rt; are_refused(alloc, &["outagebook", "--version"], usage));
+    assert!(rt; are_refused(alloc, &["outagebook", "table", "--version"], usage));
+    assert!(rt; are_refused(alloc, &["outagebook", "version"], usage));
     assert!(rt; are_refused(alloc, &["outagebook", "--book=a.db", "table"], usage));
     assert!(rt; are_refused(alloc, &["outagebook", "table", "a.db"], usage));
     assert!(rt; are_refused(alloc, &["outagebook", "audit", "--days=1"], usage));
@@ -308,4 +322,15 @@ fn shows_help(rt: HostRuntime) {
     );
     assert!(rt; show(alloc, &["outagebook", "audit", "-h"], "--book <FILE>"));
     assert!(rt; show(alloc, &["outagebook", "serve", "-h"], "--streams <K>"));
+}
+
+// What is told of the version: the program's, that of its books, and the toolchain's.
+const VERSION: &str = "outagebook 2 (books of version 2, rattle-kit-13f)\n";
+
+#[test]
+fn tells_its_version(rt: HostRuntime) {
+    let alloc = rt.alloc();
+    assert!(rt; tell_version(alloc, &["outagebook", "--version"], VERSION));
+    assert!(rt; tell_version(alloc, &["outagebook", "-V"], VERSION));
+    assert!(rt; tell_version(alloc, &["outagebook", "--version", "table"], VERSION));
 }

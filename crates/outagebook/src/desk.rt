@@ -1,7 +1,7 @@
 //! The job that serves a book over HTTP.
 use crate::tell_stop;
 use ob_base::{Fault, Stop};
-use ob_desk::{FaultLog, run_serve};
+use ob_desk::{FaultLog, Listener, run_serve};
 use ob_jobs::ServeBook;
 use ob_store::Keeper;
 use ob_sweep::Timeline;
@@ -15,6 +15,10 @@ struct Complaints<'r> {
 }
 
 impl FaultLog for Complaints<'_> {
+    ghost use Rattle.std.specs.Prelude.{⊤};
+
+    ghost tells = { λ _ _ _. ⊤ };
+
     fn tell(&mut self, fault: Fault) {
         tell_stop(self.rt, &Stop::Fault(fault), None);
     }
@@ -32,15 +36,23 @@ pub(crate) struct Server<'r> {
 impl<S: Alter, T: Timeline> ServeBook<S, T> for Server<'_> {
     ghost use Rattle.std.specs.Prelude.{⊤};
 
-    ghost serves = { λ _ _ _ _ _. ⊤ };
+    type Port = TcpListener;
 
-    fn serve(&mut self, keeper: &mut Keeper<S, T>) -> Result<(), Stop> {
+    ghost takes = { λ _ _ _. ⊤ };
+
+    ghost serves = { λ _ _ _ _ _ _. ⊤ };
+
+    fn take(&mut self) -> Result<TcpListener, Stop> {
+        listen(self.rt, self.port)
+    }
+
+    fn serve(&mut self, port: TcpListener, keeper: &mut Keeper<S, T>) -> Result<(), Stop> {
         let rt = self.rt;
-        let listener = listen(rt, self.port)?;
+        let mut listener = Listener::new(&port, self.streams);
         let mut log = Complaints { rt };
-        match run_serve(rt.alloc(), &listener, self.streams, keeper, &mut log) {
+        match run_serve(rt.alloc(), &mut listener, keeper, &mut log) {
             Ok(()) => Ok(()),
-            Err(fault) => Err(Stop::Fault(fault)),
+            Err(end) => Err(Stop::Fault(end.fault())),
         }
     }
 }

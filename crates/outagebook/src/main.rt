@@ -1,6 +1,6 @@
 //! The program `outagebook`: it reads its words and runs the job that they name.
 //!
-//! It ends with status 0 where the job was done, 1 after a fault, 2 after a refusal and 64 where the
+//! It ends with status 0 where the job was done or told its version, 1 after a fault, 2 after a refusal and 64 where the
 //! words name no job. The jobs themselves are public functions over readers and writers, and their
 //! contracts say what they do; nothing stands above this crate.
 #![tactic(auto)]
@@ -105,15 +105,15 @@ fn total<R: Input + Print + AllocGlobal>(rt: &R) -> Result<(), Unfinished> {
     }
 }
 
-/// Tells help on standard output, or on standard error why the job wasn't done. It answers the run as it
-/// was, but help that can't be printed is a fault.
+/// Tells help or the version on standard output, or on standard error why the job wasn't done. It answers
+/// the run as it was, but a text asked for that can't be printed is a fault.
 fn tell_end<R: Print + Eprint + AllocGlobal>(
     rt: &R,
     run: Result<(), Unfinished>,
 ) -> Result<(), Unfinished> {
     match &run {
         Ok(()) => {}
-        Err(Unfinished::Words(WrongWords::Help(text))) => {
+        Err(Unfinished::Words(WrongWords::Help(text) | WrongWords::Version(text))) => {
             if print!(rt; "{text}").is_err() {
                 tell_stop(rt, &Stop::Fault(Fault::Output), None);
                 return Err(faulty(Fault::Output));

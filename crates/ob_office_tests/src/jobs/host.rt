@@ -115,6 +115,10 @@ impl OpenOutput for Output {
     }
 }
 
+/// A port that was taken.
+#[derive(Drop)]
+pub struct Port;
+
 /// A server whose port is free or not.
 #[derive(Drop)]
 pub struct Server {
@@ -125,17 +129,25 @@ pub struct Server {
 impl<S: Alter, T: Timeline> ServeBook<S, T> for Server {
     ghost use Rattle.std.specs.Prelude.{⊤};
 
-    ghost serves = { λ _ _ _ _ _. ⊤ };
+    type Port = Port;
 
-    fn serve(&mut self, keeper: &mut Keeper<S, T>) -> Result<(), Stop> {
+    ghost takes = { λ _ _ _. ⊤ };
+
+    ghost serves = { λ _ _ _ _ _ _. ⊤ };
+
+    fn take(&mut self) -> Result<Port, Stop> {
         self.tried = true;
-        if keeper.book().is_none() {
-            return Err(Stop::Fault(Fault::Reopen));
-        }
         if self.free {
-            Ok(())
+            Ok(Port)
         } else {
             Err(Stop::Fault(Fault::Input))
         }
+    }
+
+    fn serve(&mut self, _port: Port, keeper: &mut Keeper<S, T>) -> Result<(), Stop> {
+        if keeper.book().is_none() {
+            return Err(Stop::Fault(Fault::Reopen));
+        }
+        Ok(())
     }
 }

@@ -23,6 +23,14 @@ const BOOK: &[Step] = &[
     BAD_PERIOD,
     Step::Do(Ask::Make(1), 0, None, "created\n"),
     Step::Do(Ask::Make(1), 2, BAD_BOOK, ""),
+    // without commands each job is done too
+    Step::Begin(
+        Ask::Print,
+        "OUTAGE BOOK 2024-01-01 days 1 zone UTC0\nP 86400 S 0 W 0\n",
+    ),
+    Step::Do(Ask::Export(Some(4_000)), 0, None, "rows 0\n"),
+    Step::Do(Ask::Serve(true), 0, None, ""),
+    Step::Do(Ask::Audit, 0, None, "audit ok\n"),
     REOPENED,
     Step::Lack,
     Step::Do(Ask::Import(None), 1, INPUT, ""),

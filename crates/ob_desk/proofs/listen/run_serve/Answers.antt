@@ -1,33 +1,60 @@
-use Rattle.std.proofs.Common.{None, Some, inr, sym, ◌∙◌}
-use Rattle.ob_desk.proofs.ListenLemmas.{kept-on, left-more, left-on}
-use Rattle.ob_desk.proofs.StandLemmas.{kept-then}
-use Rattle.ob_desk.proofs.listen.run_serve.Goals.{in-Ok-serve_connection, in-Err+else-ends_desk}
+use Rattle.std.proofs.Common.{None, Some, Err, refl, sym, ◌∙◌}
+use Rattle.ob_desk.specs.Listening.{streams_left}
+use Rattle.ob_desk.proofs.ListenLemmas.{ended, goes, kept-on, leaves-ended, leaves-on, left-more, left-on, starts, streamed, streamed-on}
+use Rattle.ob_desk.proofs.StandLemmas.{kept-none, kept-then}
+use Rattle.ob_desk.proofs.listen.run_serve.Goals.{in-Ok, in-Err+in-None}
 use Rattle.ob_desk.proofs.listen.run_serve.Goals as goal
 
-pub returns-then-ends_desk-clause-left : goal.returns-then-ends_desk-clause-left
-returns-then-ends_desk-clause-left g c =
-    left-more g.S.Store c.args.keeper.now c.streams.keeper c.serve_connection.new.keeper (Some c.in-Err.fault) c.streams.invariant.kept c.in-Err.ensures.kept c.streams.invariant.left c.in-Err.ensures.left
+pub returns-in_default-clause-keeper : goal.returns-in_default-clause-keeper
+returns-in_default-clause-keeper g c =
+    leaves-on g.S.Store c.args.keeper.now c.serving.keeper _ refl c.serving.invariant.kept c.serving.invariant.left
 
-pub returns-then-ends_desk-clause-ends : goal.returns-then-ends_desk-clause-ends
-returns-then-ends_desk-clause-ends g c = inr (sym c.ends_desk.ensures ∙ c.if-ends_desk.true)
+pub returns-clause-keeper : goal.returns-clause-keeper
+returns-clause-keeper g c =
+    leaves-on g.S.Store c.args.keeper.now c.serving.keeper _ refl c.serving.invariant.kept c.serving.invariant.left
 
-pub streams-preserved : goal.streams-preserved
-streams-preserved g c =
-    let was = c.args.keeper.now in
-    let at = c.streams.keeper in
+pub returns-in-Some-desk_end-clause-keeper : goal.returns-in-Some-desk_end-clause-keeper
+returns-in-Some-desk_end-clause-keeper g c =
+    let at = c.serving.keeper in
     let new = c.serve_connection.new.keeper in
-    let so-far = c.streams.invariant in
+    let one = c.in-Err.ensures in
+    leaves-ended g.S.Store c.args.keeper.now at new c.in-Err.fault c.in-Some-desk_end.end (sym c.desk_end.ensures ∙ c.in-Some-desk_end.is)
+    c.serving.invariant.kept c.serving.invariant.left (streamed g.S.Store at new c.in-Err.fault one.kept one.reopen one.left)
+
+pub returns-in-Some-desk_end-clause-served : goal.returns-in-Some-desk_end-clause-served
+returns-in-Some-desk_end-clause-served g c =
+    let at = c.serving.keeper in
+    let new = c.serve_connection.new.keeper in
+    let one = c.in-Err.ensures in
+    ended g.S.Store g.L.FaultLog.tells c.args.keeper.now at new c.args.log.now c.serving.log (streams_left c.args.listener.now) (streams_left c.serving.listener) (streams_left c.take.new.self)
+    c.in-Err.fault c.in-Some-desk_end.end (sym c.desk_end.ensures ∙ c.in-Some-desk_end.is) c.in-Some.ensures.0 c.serving.invariant.served
+    (streamed g.S.Store at new c.in-Err.fault one.kept one.reopen one.left)
+
+pub serving-preserved : goal.serving-preserved
+serving-preserved g c =
+    let was = c.args.keeper.now in
+    let at = c.serving.keeper in
+    let new = c.serve_connection.new.keeper in
+    let so-far = c.serving.invariant in
+    let more = goes g.S.Store g.L.FaultLog.tells was at new c.args.log.now c.serving.log in
     elim c.match-serve_connection.branch [
-      | in-Ok-serve_connection w ↦
-          let one = w.in-Ok-serve_connection.ensures in record {
+      | in-Ok w ↦
+          let one = w.in-Ok.ensures in record {
             kept = kept-then g.S.Store was at new None so-far.kept one.kept;
             left = left-more g.S.Store was at new None so-far.kept one.kept so-far.left one.left;
+            served = rw w.log-is (more c.serving.log (streams_left c.args.listener.now) (streams_left c.serving.listener) (streams_left c.take.new.self) None c.in-Some.ensures.0 so-far.served
+                (streamed-on g.S.Store at new one.kept one.left, refl));
+            well = λ fresh. c.in-Some.ensures.1;
           }
-      | in-Err+else-ends_desk w ↦
+      | in-Err+in-None w ↦
           let one = w.in-Err.ensures in
-          let on = sym w.ends_desk.ensures ∙ w.if-ends_desk.false in
-          let kept = kept-on g.S.Store at new w.in-Err.fault on one.kept in record {
+          let fault = w.in-Err.fault in
+          let on = sym w.desk_end.ensures ∙ w.in-None.is in
+          let kept = kept-on g.S.Store at new fault on one.kept in record {
             kept = kept-then g.S.Store was at new None so-far.kept kept;
-            left = left-more g.S.Store was at new None so-far.kept kept so-far.left (λ disk b ties some. left-on g.S.Store new b w.in-Err.fault on (one.left disk b ties some));
+            left = left-more g.S.Store was at new None so-far.kept kept so-far.left (λ disk b ties some. left-on g.S.Store new b fault on (one.left disk b ties some));
+            served = rw w.log-is (more w.tell.new.self (streams_left c.args.listener.now) (streams_left c.serving.listener) (streams_left c.take.new.self) (Some fault) c.in-Some.ensures.0 so-far.served
+                (streamed g.S.Store at new fault one.kept one.reopen one.left, on, w.tell.ensures));
+            well = λ fresh. c.in-Some.ensures.1;
           }
     ]

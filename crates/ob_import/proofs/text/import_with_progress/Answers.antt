@@ -1,38 +1,59 @@
-use Rattle.std.specs.Prelude.{◌≡◌, ◌⊎◌, false, option_map}
+use Rattle.std.proofs.Common.{None, refl, rules}
+use Rattle.std.specs.Prelude.{◌≡◌, ◌⊎◌, false, option_map, IsSome}
 use Rattle.ob_stream.specs.Streams.{Passes}
 use Rattle.ob_stream.specs.Watching.{HasJustFailed, watched_bytes}
 use Rattle.ob_csv.specs.Rows.{rows_of}
-use Rattle.ob_import.proofs.Importing.{bound_by, broken_gathered, cause_by, imported_gathered, leaves_nothing}
+use Rattle.ob_import.proofs.Importing.{bound_by, broken_gathered, cause_by, imported_gathered, leaves_nothing, not_bookless, not_lost, not_none}
 use Rattle.ob_import.proofs.text.import_with_progress.Goals as goal
 
-pub returns-in-Ok-clause-imported : goal.returns-in-Ok-clause-imported
-returns-in-Ok-clause-imported g c clean b ties is =
+pub returns-in-Ok : goal.returns-in-Ok
+returns-in-Ok g c =
     let bytes = watched_bytes g.R.Read.remaining in
     let it = c.in-Ok.gathered in
     let runs = c.import_gathered.ensures.runs in
-    imported_gathered g.S.Store c.import_gathered.new.keeper b (bytes c.args.reader.now) (bytes c.gather.new.reader) it.bytes.items it.whole c.import_gathered.result
-    c.whole_rows_law.ensures c.in-Ok.ensures.consumed (λ whole. (c.in-Ok.ensures.whole whole).0) runs.ended c.import_gathered.ensures.some (runs.left clean b ties)
+    let some : IsSome c.args.keeper.now.book = search rules in
+    record {
+      reopen = not_bookless c.args.keeper.now.book c.import_gathered.result (it.whole ≡ false) some runs.cause;
+      unopened = λ none. absurd (not_none c.args.keeper.now.book some none);
+      imported = λ clean b ties is.
+          imported_gathered g.S.Store c.import_gathered.new.keeper b (bytes c.args.reader.now) (bytes c.gather.new.reader) it.bytes.items it.whole c.import_gathered.result
+          c.whole_rows_law.ensures c.in-Ok.ensures.consumed (λ whole. (c.in-Ok.ensures.whole whole).0) runs.ended c.import_gathered.ensures.some (runs.left clean b ties);
+      clean = runs.clean;
+      dropped = λ is. runs.dropped;
+      cause = λ is.
+          cause_by c.import_gathered.result (it.whole ≡ false) (HasJustFailed c.gather.new.reader ⊎ Passes (bytes c.args.reader.now) 268435456) c.in-Ok.ensures.cut runs.cause;
+      broken = λ clean b ties is.
+          broken_gathered g.S.Store c.import_gathered.new.keeper b (bytes c.args.reader.now) (bytes c.gather.new.reader) it.bytes.items it.whole c.import_gathered.result
+          c.in-Ok.ensures.consumed runs.cause (runs.all clean b ties);
+      bound = bound_by c.import_gathered.result (bytes c.args.reader.now) (bytes c.gather.new.reader) it.bytes.items it.whole 268435456 c.in-Ok.ensures.consumed c.in-Ok.ensures.whole runs.ended;
+    }
 
-pub returns-in-Ok-clause-broken : goal.returns-in-Ok-clause-broken
-returns-in-Ok-clause-broken g c clean b ties is =
-    let bytes = watched_bytes g.R.Read.remaining in
-    let it = c.in-Ok.gathered in
-    let runs = c.import_gathered.ensures.runs in
-    broken_gathered g.S.Store c.import_gathered.new.keeper b (bytes c.args.reader.now) (bytes c.gather.new.reader) it.bytes.items it.whole c.import_gathered.result
-    c.in-Ok.ensures.consumed runs.cause (runs.all clean b ties)
+pub returns-in-Err : goal.returns-in-Err
+returns-in-Err g c =
+    let k = c.args.keeper.now in
+    let some : IsSome k.book = search rules in
+    record {
+      reopen = not_bookless k.book _ (Unit {0}) some tt;
+      unopened = λ none. absurd (not_none k.book some none);
+      imported = λ clean b ties is. leaves_nothing g.S.Store k (option_map rows_of (watched_bytes g.R.Read.remaining c.args.reader.now)) b is ties;
+      clean = λ clean. clean;
+      dropped = λ is. not_lost k.book some;
+      cause = λ is. tt;
+      broken = λ clean b ties is e. cc;
+      bound = tt;
+    }
 
-pub returns-in-Err-clause-imported : goal.returns-in-Err-clause-imported
-returns-in-Err-clause-imported g c clean b ties is =
-    leaves_nothing g.S.Store c.args.keeper.now (option_map rows_of (watched_bytes g.R.Read.remaining c.args.reader.now)) b is ties
-
-pub returns-in-Ok-clause-cause : goal.returns-in-Ok-clause-cause
-returns-in-Ok-clause-cause g c is =
-    cause_by c.import_gathered.result (c.in-Ok.gathered.whole ≡ false) (HasJustFailed c.gather.new.reader ⊎ Passes (watched_bytes g.R.Read.remaining c.args.reader.now) 268435456)
-    c.in-Ok.ensures.cut c.import_gathered.ensures.runs.cause
-
-pub returns-in-Ok-clause-bound : goal.returns-in-Ok-clause-bound
-returns-in-Ok-clause-bound g c =
-    let bytes = watched_bytes g.R.Read.remaining in
-    let it = c.in-Ok.gathered in
-    bound_by c.import_gathered.result (bytes c.args.reader.now) (bytes c.gather.new.reader) it.bytes.items it.whole 268435456 c.in-Ok.ensures.consumed c.in-Ok.ensures.whole
-    c.import_gathered.ensures.runs.ended
+pub returns-then-is_none : goal.returns-then-is_none
+returns-then-is_none g c =
+    let k = c.args.keeper.now in
+    let none : k.book ≡ None = search rules in
+    record {
+      reopen = ((λ _. c.fault_without_book.ensures), λ _. none);
+      unopened = λ _. refl;
+      imported = λ clean b ties is. absurd (not_none k.book is none);
+      clean = λ clean. clean;
+      dropped = λ is. absurd (not_none k.book is none);
+      cause = λ is. absurd (not_none k.book is none);
+      broken = λ clean b ties is. absurd (not_none k.book is none);
+      bound = tt;
+    }

@@ -1,6 +1,7 @@
 use Rattle.std.proofs.Common.{Err, refl, sym, subst}
 use Rattle.ob_base.specs.declared.stop.Stop.TheVariants.{Fault}
 use Rattle.ob_stream.specs.Watching.{watched_bytes}
+use Rattle.ob_store.specs.Keeping.{IsBookAfter}
 use Rattle.ob_store.specs.MovingOut.{all_moves}
 use Rattle.ob_jobs.specs.Text.{header, lines_of, moves_text}
 use Rattle.ob_jobs.specs.Exporting.{Exports}
@@ -21,3 +22,8 @@ returns-in-Err-clause-exports g c clean b ties some =
     let told = c.in-Err.ensures.fault in
     subst (λ f. Exports g.W.Write.contents g.S.Store k k was is b (moves_text b) (Err (Fault f))) (sym told.0)
     (front_part was (watched_bytes g.W.Write.contents is) header (lines_of (all_moves b)) c.in-Err.ensures.front, told.1, ties, refl)
+
+pub returns-in-Err-clause-dropped : goal.returns-in-Err-clause-dropped
+returns-in-Err-clause-dropped g c =
+    let book = c.args.keeper.now.book in
+    subst (λ f. IsBookAfter book book (Fault f)) (sym c.in-Err.ensures.fault.0) refl

@@ -1,4 +1,0 @@
-use Rattle.ob_jobs.proofs.books.migrate_book.Goals as goal
-
-pub returns : goal.returns
-returns g c = (c.run_migrate.result, c.end_of_job.ensures, c.run_migrate.ensures)
