@@ -212,6 +212,7 @@ pub fn read_commands<S: Alter>(
         → (rows : List Columns) → Shows (state S.Store conn.old).now.trees ATable.Command rows
         → IsCommands version found rows) }
 {
+    // A `?` converts the stop on its way, and the clauses say which it is.
     let statement = match prepare(conn, select_of(Table::Command)) {
         Ok(statement) => statement,
         Err(stop) => return Err(stop),

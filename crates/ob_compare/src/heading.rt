@@ -100,6 +100,7 @@ pub fn read_heading<S: Alter>(
         → (rows : List Columns) → Shows (state S.Store conn.old).now.trees ATable.Meta rows
         → IsHeading found rows) }
 {
+    // A `?` converts the stop on its way, and the clauses say which it is.
     match list_all(conn, select_of(Table::Meta)) {
         Ok(rows) => heading_in(alloc, &rows),
         Err(stop) => Err(stop),

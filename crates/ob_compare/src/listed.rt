@@ -162,6 +162,7 @@ pub fn holds<S: Alter, L: Listed>(conn: &mut Connection<S>, listed: &L) -> Resul
     ensures { (v : Version) → Has v L.table
         → Compares S.Store v L.table (standing (L.places listed.now)) conn.old conn.new result }
 {
+    // A `?` converts the stop on its way, and the clauses say which it is.
     let statement = match prepare(conn, select_of(listed.table())) {
         Ok(statement) => statement,
         Err(stop) => return Err(stop),

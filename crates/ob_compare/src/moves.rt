@@ -280,6 +280,7 @@ pub fn holds_moves<S: Alter, T: Timeline, P: Progress>(
     ensures noted { result ≡ Ok true → noted.old.items ≡ ends_of book.old.state.network
         → noted.new.items ≡ ends_of book.new.state.network }
 {
+    // A `?` converts the stop on its way, and the clauses say which it is.
     let statement = match prepare(conn, select_of(Table::Moved)) {
         Ok(statement) => statement,
         Err(stop) => return Err(stop),

@@ -74,6 +74,7 @@ pub(crate) fn list_all<S: Alter>(conn: &mut Connection<S>, sql: &str) -> Result<
         → Lists l (state S.Store conn.old).now rows.items
         × IsUnchanged (state S.Store conn.old) (state S.Store conn.new)) }
 {
+    // A `?` converts the stop on its way, and the clauses say which it is.
     let statement = match prepare(conn, sql) {
         Ok(statement) => statement,
         Err(stop) => return Err(stop),

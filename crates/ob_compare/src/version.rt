@@ -49,6 +49,7 @@ pub fn has_version<S: Alter>(conn: &mut Connection<S>, version: u32) -> Result<b
         → IfOk result (λ is. IsOfBook conn.old.schema
         → IsTrue is ↔ HasVersion version (state S.Store conn.old).now.trees) }
 {
+    // A `?` converts the stop on its way, and the clauses say which it is.
     match list_all(conn, select_of(Table::Meta)) {
         Ok(rows) => Ok(is_version(&rows, version)),
         Err(stop) => Err(stop),

@@ -37,7 +37,7 @@ fn holds_period<S: Alter>(
         conn.new result }
 {
     let days = period.days();
-    // A `?` would hide from the clauses which stop is handed on.
+    // A `?` converts the stop on its way, and the clauses say which it is.
     match period.date_text(0) {
         Ok(first_day) => holds_heading(
             conn,
