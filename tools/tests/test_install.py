@@ -24,8 +24,8 @@ def text_of(name: str) -> str:
 
 
 def options_in(text: str) -> set[str]:
-    """The long options of a text, but for --help."""
-    return set(re.findall(r"--[a-z]+", text)) - {"--help"}
+    """The long options of a text, but for --help and --version."""
+    return set(re.findall(r"--[a-z]+", text)) - {"--help", "--version"}
 
 
 def of_program() -> Options:
@@ -69,7 +69,7 @@ class Words(unittest.TestCase):
         for words, options in re.findall(r"^ +([a-z|]+)\) options='([^']*)'", text_of("outagebook.bash"), re.M):
             found.update({word: options_in(options) for word in words.split("|")})
         self.assertEqual(found, wanted())
-        self.assertEqual(self.completed("''"), sorted([*wanted(), "--help"]))
+        self.assertEqual(self.completed("''"), sorted([*wanted(), "--help", "--version"]))
         self.assertEqual(self.completed("ex"), ["export"])
         self.assertEqual(self.completed("init", "--z"), ["--zone"])
         self.assertEqual(self.completed("serve", "--port", "80", "--"), ["--book", "--help", "--port", "--streams"])
