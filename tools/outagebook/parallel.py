@@ -59,12 +59,29 @@ def told(work: Work[Result], path: str, table: Optional[str], program: str) -> T
         return "error", None, str(error)
 
 
+def failure(path: str, kind: str, text: str) -> Exception:
+    """What was wrong with a book, with its path where the text hasn't it."""
+    told_path = text if path in text else f"{path}: {text}"
+    return DiffersIn(path, text) if kind == "differs" else BookError(told_path)
+
+
+def one_after_another(work: Work[Result], path: str, table: Optional[str], program: str) -> Result:
+    """A book's result in this process."""
+    kind, result, text = told(work, path, table, program)
+    if result is None:
+        raise failure(path, kind, text)
+    return result
+
+
 def over_books(
     work: Work[Result], paths: Sequence[str], tables: Sequence[Optional[str]], program: str, processes: Optional[int]
 ) -> List[Result]:
     """The results of all books in their order. The first that fails ends the work, and its path is told."""
+    count = processes_for(paths, processes)
+    if count == 1:
+        return [one_after_another(work, path, table, program) for path, table in zip(paths, tables)]
     results: Dict[int, Result] = {}
-    with ProcessPoolExecutor(processes_for(paths, processes)) as pool:
+    with ProcessPoolExecutor(count) as pool:
         going: Dict["Future[Tuple[str, Optional[Result], str]]", int] = {
             pool.submit(told, work, path, table, program): place
             for place, (path, table) in enumerate(zip(paths, tables))
@@ -77,7 +94,7 @@ def over_books(
                 kind, result, text = future.result()
                 if result is None:
                     pool.shutdown(wait=True, cancel_futures=True)
-                    raise DiffersIn(paths[place], text) if kind == "differs" else BookError(f"{paths[place]}: {text}")
+                    raise failure(paths[place], kind, text)
                 results[place] = result
                 tell_progress(len(results), len(paths), paths[place])
     return [results[place] for place in range(len(paths))]

@@ -158,8 +158,6 @@ def read_districts(
     paths: Sequence[str], tables: Sequence[Optional[str]], program: str, processes: Optional[int] = None
 ) -> List[District]:
     """The parts of many books, in the order given."""
-    if len(paths) == 1:
-        return [read_district(paths[0], tables[0], program)]
     return over_books(read_district, paths, tables, program, processes)
 
 
@@ -398,10 +396,10 @@ def main() -> int:
     def job() -> None:
         sums = add_up(read_districts(given.books, tables, given.program, given.processes), given.own_numbers)
         if given.output:
-            from outagebook.sums_page import page
+            from outagebook.many_pages import sums_page
             from outagebook.report import write
 
-            write(given.output, page(sums, given.name))
+            write(given.output, sums_page(sums, given.name))
         else:
             given.write(sums)
 

@@ -20,7 +20,7 @@ from contextlib import closing
 from dataclasses import dataclass
 from functools import partial
 from pathlib import Path
-from typing import TYPE_CHECKING, Any, Callable, Dict, Iterable, Iterator, List, Optional, Sequence, Tuple
+from typing import TYPE_CHECKING, Any, Callable, Dict, Iterable, Iterator, List, Optional, Sequence, Tuple, TypeAlias
 
 from outagebook.cli import Words, run_job
 from outagebook.compare import Checked, figures_of_table, open_book
@@ -37,7 +37,7 @@ if TYPE_CHECKING:
 VERSION = 1
 TABLES = Path(__file__).with_name("warehouse.sql")
 
-Connection = "psycopg.Connection[Tuple[Any, ...]]"
+Connection: TypeAlias = "psycopg.Connection[Tuple[Any, ...]]"
 Rows = Iterable[Tuple[object, ...]]
 Steps = Dict[int, int]  # by how many the customers in service change at a second
 
@@ -56,9 +56,9 @@ def connected(dsn: str) -> Connection:
 
 def in_database(dsn: str, work: Callable[[Connection], None]) -> None:
     """Some work in one transaction: whole, or not at all."""
-    import psycopg
-
     with connected(dsn) as connection:
+        import psycopg
+
         try:
             work(connection)
             connection.commit()
@@ -397,9 +397,10 @@ def compare_book(path: str, table: Optional[str], program: str, dsn: str) -> str
 
 def create(dsn: str, reader: Optional[str]) -> None:
     """Makes the tables and views, and lets a role read them."""
-    from psycopg import sql
 
     def work(connection: Connection) -> None:
+        from psycopg import sql
+
         connection.execute(TABLES.read_bytes())
         if reader is None:
             return

@@ -270,22 +270,48 @@ LEFT JOIN (
 CROSS JOIN LATERAL outagebook.indices(
     coalesce(t.sustained, 0), coalesce(t.sustained_seconds, 0), d.served_seconds, d.seconds) AS i;
 
--- The days from one to another: those of each period that lie between them, of all districts added up.
-CREATE FUNCTION outagebook.between(since date, until date) RETURNS TABLE (
-    first_day date, days integer, zone text, districts bigint, "set" text, seconds bigint, customer_seconds numeric,
+-- Months of all districts: an interruption counts whole in the month in which it begins.
+CREATE VIEW outagebook.months AS
+SELECT p.first_day, p.days, p.zone, d.month, k."set", d.districts, d.customer_seconds,
+    outagebook.fraction(d.served_seconds, d.seconds) AS customers_served,
+    outagebook.decimals(d.served_seconds, d.seconds) AS customers_served_3,
+    coalesce(t.sustained, 0) AS sustained, coalesce(t.momentary, 0) AS momentary,
+    coalesce(t.sustained_seconds, 0) AS sustained_seconds, i.*
+FROM (
+    SELECT e.period_id, e.month, count(*) AS districts, min(e.seconds) AS seconds,
+        sum(e.served_seconds) AS served_seconds, sum(e.customer_seconds) AS customer_seconds
+    FROM (
+        SELECT period_id, district, date_trunc('month', day)::date AS month, sum(seconds) AS seconds,
+            sum(served_seconds) AS served_seconds, sum(customer_seconds) AS customer_seconds
+        FROM outagebook.day GROUP BY 1, 2, 3
+    ) AS e GROUP BY e.period_id, e.month
+) AS d
+JOIN outagebook.period AS p USING (period_id)
+CROSS JOIN (VALUES ('all'), ('unmarked')) AS k ("set")
+LEFT JOIN (
+    SELECT period_id, date_trunc('month', day)::date AS month, "set", sum(sustained) AS sustained,
+        sum(momentary) AS momentary, sum(sustained_seconds) AS sustained_seconds
+    FROM outagebook.counted GROUP BY 1, 2, 3
+) AS t ON t.period_id = d.period_id AND t.month = d.month AND t."set" = k."set"
+CROSS JOIN LATERAL outagebook.indices(
+    coalesce(t.sustained, 0), coalesce(t.sustained_seconds, 0), d.served_seconds, d.seconds) AS i;
+
+-- The days from one to another: those of each period that lie between them, a row a period, all districts added up.
+CREATE FUNCTION outagebook.between(from_day date, to_day date) RETURNS TABLE (
+    first_day date, days integer, zone text, since date, until date, "set" text, districts bigint, seconds bigint, customer_seconds numeric,
     customers_served text, customers_served_3 numeric, sustained numeric, momentary numeric, sustained_seconds numeric,
     saifi text, saifi_3 numeric, saidi text, saidi_3 numeric, caidi text, caidi_3 numeric
 ) LANGUAGE sql STABLE AS $$
-    SELECT d.first_day, d.days, p.zone, d.districts, k."set", d.seconds, d.customer_seconds,
+    SELECT p.first_day, p.days, p.zone, d.since, d.until, k."set", d.districts, d.seconds, d.customer_seconds,
         outagebook.fraction(d.served_seconds, d.seconds), outagebook.decimals(d.served_seconds, d.seconds),
         coalesce(t.sustained, 0), coalesce(t.momentary, 0), coalesce(t.sustained_seconds, 0), i.*
     FROM (
-        SELECT e.period_id, min(e.first_day) AS first_day, max(e.days)::integer AS days, count(*) AS districts,
+        SELECT e.period_id, min(e.since) AS since, max(e.until) AS until, count(*) AS districts,
             min(e.seconds) AS seconds, sum(e.served_seconds) AS served_seconds, sum(e.customer_seconds) AS customer_seconds
         FROM (
-            SELECT period_id, district, min(day) AS first_day, count(*) AS days, sum(seconds) AS seconds,
+            SELECT period_id, district, min(day) AS since, max(day) AS until, sum(seconds) AS seconds,
                 sum(served_seconds) AS served_seconds, sum(customer_seconds) AS customer_seconds
-            FROM outagebook.day WHERE day BETWEEN since AND until GROUP BY period_id, district
+            FROM outagebook.day WHERE day BETWEEN from_day AND to_day GROUP BY period_id, district
         ) AS e GROUP BY e.period_id
     ) AS d
     JOIN outagebook.period AS p USING (period_id)
@@ -293,21 +319,11 @@ CREATE FUNCTION outagebook.between(since date, until date) RETURNS TABLE (
     LEFT JOIN (
         SELECT c.period_id, c."set", sum(c.sustained) AS sustained, sum(c.momentary) AS momentary,
             sum(c.sustained_seconds) AS sustained_seconds
-        FROM outagebook.counted AS c WHERE c.day BETWEEN since AND until GROUP BY c.period_id, c."set"
+        FROM outagebook.counted AS c WHERE c.day BETWEEN from_day AND to_day GROUP BY c.period_id, c."set"
     ) AS t ON t.period_id = d.period_id AND t."set" = k."set"
     CROSS JOIN LATERAL outagebook.indices(
         coalesce(t.sustained, 0), coalesce(t.sustained_seconds, 0), d.served_seconds, d.seconds) AS i
 $$;
-
-CREATE VIEW outagebook.months AS
-SELECT m.month, b.*
-FROM (
-    SELECT DISTINCT p.first_day AS period_first, p.zone AS period_zone, date_trunc('month', d.day)::date AS month,
-        min(d.day) OVER w AS since, max(d.day) OVER w AS until
-    FROM outagebook.day AS d JOIN outagebook.period AS p USING (period_id)
-    WINDOW w AS (PARTITION BY d.period_id, date_trunc('month', d.day))
-) AS m
-CROSS JOIN LATERAL outagebook.between(m.since, m.until) AS b;
 
 -- Causes by their names, of all districts: their parts of the company's SAIFI and SAIDI add up to it.
 CREATE VIEW outagebook.causes AS

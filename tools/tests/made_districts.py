@@ -1,12 +1,14 @@
 """Makes books of whole networks and of their parts, for the tests of sums and cuts, by the plain model.
 
     python3 tools/tests/made_districts.py FOLDER --seeds FIRST LAST [--ties]
+    python3 tools/tests/made_districts.py FOLDER --texts FILE
 
 Of each seed a random text of commands is acted (make_commands.py), and its network is cut in two: the nodes that devices
 join, GRID aside, stay together, so that no tie joins the parts. With --ties only those that normally closed devices join
 stay together; an open device between the parts is in both of them a device from GRID, and whatever is said of it is said
-to both. FOLDER gets SEED-whole, SEED-a and SEED-b as .db, .csv and .table.txt, with SEED-ties.csv; the names of the seeds
-and their periods are printed.
+to both, and ties are added and switched, so that some are closed. FOLDER gets SEED-whole, SEED-a and SEED-b as .db, .csv and .table.txt, with SEED-ties.csv; the names of the seeds
+and their periods are printed. With --texts FOLDER gets the books of texts instead: lines of FILE are a text, the first day
+of its period, its days and its zone, by spaces; a book has its text's name.
 """
 
 from __future__ import annotations
@@ -133,10 +135,24 @@ def rows_of(commands: List[Tuple[str, str]]) -> Iterator[List[str]]:
         yield [kind, ref, *fields, *[""] * (6 - len(fields))]
 
 
+def add_ties(whole: Any, rng: random.Random) -> None:
+    """Some open devices between any two nodes, each closed and opened a few times."""
+    nodes = [node for node in whole.feeders if node != "GRID"]
+    period, code = whole.period, max(whole.causes)
+    for number in range(1, rng.randint(1, 4) if len(nodes) > 1 and code else 0):
+        tie = f"TIE-{number}"
+        whole.act(["device", f"NEW-{tie}", tie, *rng.sample(nodes, 2), "open", "", ""])
+        for turn in range(rng.randint(0, 4)):
+            second = rng.randrange(period.first, period.end)
+            whole.act(["switch", f"{tie}-{turn}", tie, "open" if turn % 2 else "close", str(second), str(code), "K9", ""])
+
+
 def make(folder: Path, seed: int, with_ties: bool) -> None:
     period = period_of(seed)
     whole = Book(Period(*period), keeps_moves=False)
     whole.import_text(text_of(seed))
+    if with_ties:
+        add_ties(whole, random.Random(f"ties {seed}"))
     cut = Cut(whole, random.Random(f"cut {seed}"), with_ties)
     write(whole, list(rows_of(whole.commands)), folder / f"{seed}-whole")
     for part in PARTS:
@@ -150,14 +166,28 @@ def make(folder: Path, seed: int, with_ties: bool) -> None:
     print(seed, *period)
 
 
+def make_of_text(folder: Path, line: str) -> None:
+    """The book of a text; a row that is refused is an error."""
+    text, first, days, zone = line.split()
+    book = Book(Period(first, int(days), zone), keeps_moves=False)
+    _, _, refusal = book.import_text(Path(text).read_bytes())
+    if refusal:
+        sys.exit(f"{text}: {refusal}")
+    write(book, list(rows_of(book.commands)), folder / Path(text).stem)
+
+
 def main() -> None:
     words = argparse.ArgumentParser(description="Makes books of whole networks and of their parts.")
     words.add_argument("folder", type=Path)
-    words.add_argument("--seeds", type=int, nargs=2, required=True, metavar=("FIRST", "LAST"))
+    which = words.add_mutually_exclusive_group(required=True)
+    which.add_argument("--seeds", type=int, nargs=2, metavar=("FIRST", "LAST"), help="random networks and their parts")
+    which.add_argument("--texts", type=Path, metavar="FILE", help="the books of texts")
     words.add_argument("--ties", action="store_true", help="cut ties too")
     given = words.parse_args()
     given.folder.mkdir(parents=True, exist_ok=True)
-    for seed in range(given.seeds[0], given.seeds[1] + 1):
+    for line in given.texts.read_text().splitlines() if given.texts else ():
+        make_of_text(given.folder, line)
+    for seed in range(given.seeds[0], given.seeds[1] + 1) if given.seeds else ():
         make(given.folder, seed, given.ties)
 
 
