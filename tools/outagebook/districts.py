@@ -12,28 +12,28 @@ while its ends were without supply, and what that cost, exactly. `desks` asks ea
 many commands it has; `compare` compares each book with its program's table, and keeps what it found for `desks`.
 """
 
-from __future__ import annotations
-
 import csv
 import json
 import sys
 from collections import Counter, defaultdict
+from collections.abc import Callable, Iterable, Iterator, Sequence
 from concurrent.futures import ThreadPoolExecutor
 from contextlib import ExitStack
 from dataclasses import dataclass, field
 from datetime import datetime, timezone
+from fractions import Fraction
 from pathlib import Path
-from typing import Any, Callable, Dict, FrozenSet, Iterable, Iterator, List, Optional, Sequence, Set, Tuple
+from typing import Any
 from urllib.error import HTTPError, URLError
 from urllib.request import urlopen
 
-from outagebook.cli import Words, run_job
+from outagebook.cli import Parser, run_job
 from outagebook.compare import Checked, open_book
-from outagebook.counts import Counts, counts_of, quotient_text
+from outagebook.counts import SETS, Counts, amounts_of, counts_of, indices_of, quotient_text
 from outagebook.errors import BookError, Differs
-from outagebook.rows import CAUSE, GRID, SETS, Book, Device, Entry
+from outagebook.rows import CAUSE, GRID, Book, Device, Entry
 from outagebook.sums import PeriodKey, add_up, district_of, name_of, tables_given
-from outagebook.sweep import Run, Supply, amounts_of, bounds_of_lives, interruptions_of
+from outagebook.sweep import Run, Supply, bounds_of_lives, interruptions_of
 
 MOST_NODES, MOST_DEVICES, MOST_CUSTOMERS, MOST_FEEDERS = 1_024, 2_048, 100_000, 255
 ROOM = 20  # per cent of each bound that a cut leaves free
@@ -41,7 +41,7 @@ GRID_NAME = "GRID"
 TIE_COLUMNS = ("tie", "district", "node", "other_district", "other_node")
 MOST_COMMANDS = 1_000_000
 
-Row = Dict[str, str]
+Row = dict[str, str]
 
 
 # Exports.
@@ -52,8 +52,8 @@ class Table:
     """The rows of an export, with the columns as they came."""
 
     path: str
-    columns: Tuple[str, ...]
-    rows: Tuple[Row, ...]
+    columns: tuple[str, ...]
+    rows: tuple[Row, ...]
 
 
 def read_table(path: str, needed: Sequence[str]) -> Table:
@@ -95,11 +95,11 @@ class Link:
     """A device of an export: the nodes at its ends, and whether it is normally closed."""
 
     name: str
-    ends: Tuple[str, str]
+    ends: tuple[str, str]
     is_closed: bool
 
     @property
-    def nodes(self) -> List[str]:
+    def nodes(self) -> list[str]:
         return [node for node in self.ends if node != GRID_NAME]
 
 
@@ -107,22 +107,22 @@ class Link:
 class Network:
     """The nodes of an export in its order, the feeders of its sections, its devices, and the customers of sections."""
 
-    nodes: List[str] = field(default_factory=list)
-    feeder: Dict[str, str] = field(default_factory=dict)
-    links: List[Link] = field(default_factory=list)
+    nodes: list[str] = field(default_factory=list)
+    feeder: dict[str, str] = field(default_factory=dict)
+    links: list[Link] = field(default_factory=list)
     customers: "Counter[str]" = field(default_factory=Counter)
 
 
-def read_network(gis: Table, customers: Optional[Table]) -> Network:
+def read_network(gis: Table, customers: Table | None) -> Network:
     """The network of the exports; rows that can't be read are all told."""
     network, bad = Network(), []
-    devices: List[Tuple[int, Row]] = []
-    names: Set[str] = set()
+    devices: list[tuple[int, Row]] = []
+    names: set[tuple[bool, str]] = set()
     for place, row in enumerate(gis.rows, 1):
         kind, name = row["type"].strip().lower(), label(row["name"])
         if kind not in ("bus", "section", "device"):
             bad.append(f"{gis.path}: row {place}: type {row['type']!r} is no bus, section or device")
-        elif not name or name == GRID_NAME or (kind == "device", name) in names:
+        elif not name or (kind != "device" and name == GRID_NAME) or (kind == "device", name) in names:
             bad.append(f"{gis.path}: row {place}: the name {row['name']!r} is empty, GRID, or comes twice")
         elif kind == "device":
             devices.append((place, row))
@@ -130,7 +130,7 @@ def read_network(gis: Table, customers: Optional[Table]) -> Network:
             network.nodes.append(name)
             if kind == "section":
                 network.feeder[name] = row["feeder"].strip()
-        names.add((kind == "device", name))  # type: ignore[arg-type]
+        names.add((kind == "device", name))
     known = {GRID_NAME, *network.nodes}
     for place, row in devices:
         ends = label(row["from"]), label(row["to"])
@@ -164,7 +164,7 @@ class Size:
     customers: int
     feeders: int
 
-    def passes(self, per_cent: int) -> List[str]:
+    def passes(self, per_cent: int) -> list[str]:
         """The bounds, of which so many per cent may be used, that it passes."""
         bounds = {
             "nodes": (self.nodes, MOST_NODES),
@@ -182,9 +182,9 @@ class Size:
 class Area:
     """Nodes that normally closed devices join: they can't be cut apart."""
 
-    nodes: Tuple[str, ...]
-    devices: FrozenSet[str]  # all that have an end here
-    feeders: FrozenSet[str]
+    nodes: tuple[str, ...]
+    devices: frozenset[str]  # all that have an end here
+    feeders: frozenset[str]
     customers: int
 
     @property
@@ -201,16 +201,16 @@ def size_of(areas: Sequence[Area]) -> Size:
     )
 
 
-def joined_nodes(network: Network) -> List[List[str]]:
+def joined_nodes(network: Network) -> list[list[str]]:
     """The nodes that normally closed devices join, in the order of the export."""
-    beside: Dict[str, List[str]] = {node: [] for node in network.nodes}
+    beside: dict[str, list[str]] = {node: [] for node in network.nodes}
     for link in network.links:
         if link.is_closed and len(link.nodes) == 2:
             a, b = link.ends
             beside[a].append(b)
             beside[b].append(a)
-    groups: List[List[str]] = []
-    seen: Set[str] = set()
+    groups: list[list[str]] = []
+    seen: set[str] = set()
     for node in network.nodes:
         if node in seen:
             continue
@@ -225,10 +225,10 @@ def joined_nodes(network: Network) -> List[List[str]]:
     return groups
 
 
-def areas_of(network: Network) -> List[Area]:
+def areas_of(network: Network) -> list[Area]:
     """The areas of a network; the node that GRID feeds comes first in each."""
-    devices: Dict[str, Set[str]] = defaultdict(set)
-    fed: Set[str] = set()
+    devices: dict[str, set[str]] = defaultdict(set)
+    fed: set[str] = set()
     for link in network.links:
         for node in link.nodes:
             devices[node].add(link.name)
@@ -249,24 +249,24 @@ def areas_of(network: Network) -> List[Area]:
 class Cut:
     """The areas of each district by its name, and what is to be said of them."""
 
-    districts: Dict[str, List[Area]] = field(default_factory=dict)
-    said: List[str] = field(default_factory=list)
+    districts: dict[str, list[Area]] = field(default_factory=dict)
+    said: list[str] = field(default_factory=list)
 
-    def district_of(self) -> Dict[str, str]:
+    def district_of(self) -> dict[str, str]:
         """The district of each node."""
-        return {
-            node: name for name, areas in self.districts.items() for area in areas for node in area.nodes
-        }
+        return {node: name for name, areas in self.districts.items() for area in areas for node in area.nodes}
 
 
-def keep_old(areas: Sequence[Area], old: Dict[str, str], cut: Cut) -> List[Area]:
+def keep_old(areas: Sequence[Area], old: dict[str, str], cut: Cut) -> list[Area]:
     """Puts the areas that an earlier cut knows into their districts: the others."""
     others = []
     for area in areas:
         names = {old[node]: node for node in area.nodes if node in old}
         if len(names) > 1:
             told = ", ".join(f"{node} in {name}" for name, node in sorted(names.items()))
-            raise BookError(f"{area.name} lies in several districts of the earlier cut ({told}): normally closed devices join them now")
+            raise BookError(
+                f"{area.name} lies in several districts of the earlier cut ({told}): normally closed devices join them now"
+            )
         if names:
             cut.districts.setdefault(next(iter(names)), []).append(area)
         else:
@@ -281,7 +281,7 @@ def refuse_large(areas: Sequence[Area]) -> None:
         raise BookError("\n".join(["a book doesn't hold what normally closed devices join here:", *large]))
 
 
-def cut_areas(network: Network, areas: Sequence[Area], old: Dict[str, str], room: int) -> Cut:
+def cut_areas(network: Network, areas: Sequence[Area], old: dict[str, str], room: int) -> Cut:
     """Gathers areas into districts: to each the area with most ties to it that fits, else the next of the export."""
     refuse_large(areas)
     cut = Cut()
@@ -301,14 +301,16 @@ def cut_areas(network: Network, areas: Sequence[Area], old: Dict[str, str], room
             fill(cut.districts[name], waiting, ties, room)
     for name, kept in cut.districts.items():
         if size_of(kept).passes(100 - room):
-            cut.said.append(f"{name} has less than {room} per cent of room: {', '.join(size_of(kept).passes(100 - room))}")
+            cut.said.append(
+                f"{name} has less than {room} per cent of room: {', '.join(size_of(kept).passes(100 - room))}"
+            )
     return cut
 
 
-def ties_between(network: Network, areas: Sequence[Area]) -> Dict[Tuple[str, str], int]:
+def ties_between(network: Network, areas: Sequence[Area]) -> dict[tuple[str, str], int]:
     """How many devices join two areas, by the first nodes of both."""
     first = {node: area.nodes[0] for area in areas for node in area.nodes}
-    found: Dict[Tuple[str, str], int] = Counter()
+    found: dict[tuple[str, str], int] = Counter()
     for link in network.links:
         if len(link.nodes) == 2:
             a, b = (first[node] for node in link.ends)
@@ -317,7 +319,7 @@ def ties_between(network: Network, areas: Sequence[Area]) -> Dict[Tuple[str, str
     return found
 
 
-def fill(district: List[Area], waiting: List[Area], ties: Dict[Tuple[str, str], int], room: int) -> None:
+def fill(district: list[Area], waiting: list[Area], ties: dict[tuple[str, str], int], room: int) -> None:
     """Takes areas that wait into a district while they fit."""
     while True:
         fitting = [area for area in waiting if not size_of([*district, area]).passes(100 - room)]
@@ -331,9 +333,9 @@ def fill(district: List[Area], waiting: List[Area], ties: Dict[Tuple[str, str], 
 # Writing the exports of the districts.
 
 
-def numbers_of_feeders(cut: Cut) -> Dict[Tuple[str, str], int]:
+def numbers_of_feeders(cut: Cut) -> dict[tuple[str, str], int]:
     """The number of each district's feeders in its book: the export's own where all are numbers that a book takes."""
-    numbers: Dict[Tuple[str, str], int] = {}
+    numbers: dict[tuple[str, str], int] = {}
     for name, areas in cut.districts.items():
         feeders = list(dict.fromkeys(feeder for area in areas for feeder in sorted(area.feeders)))
         if all(feeder.isdigit() and 1 <= int(feeder) <= MOST_FEEDERS for feeder in feeders):
@@ -343,7 +345,9 @@ def numbers_of_feeders(cut: Cut) -> Dict[Tuple[str, str], int]:
     return numbers
 
 
-def gis_rows(gis: Table, district: Dict[str, str], name: str, numbers: Dict[Tuple[str, str], int]) -> Iterator[List[str]]:
+def gis_rows(
+    gis: Table, district: dict[str, str], name: str, numbers: dict[tuple[str, str], int]
+) -> Iterator[list[str]]:
     """The rows of a district's network: its nodes, and the devices that have an end in it."""
     for row in gis.rows:
         told = dict(row)
@@ -362,7 +366,7 @@ def gis_rows(gis: Table, district: Dict[str, str], name: str, numbers: Dict[Tupl
         yield [told[column] for column in gis.columns]
 
 
-def tie_rows(network: Network, district: Dict[str, str]) -> Iterator[List[str]]:
+def tie_rows(network: Network, district: dict[str, str]) -> Iterator[list[str]]:
     """The devices between two districts."""
     for link in network.links:
         places = [district.get(node, "") for node in link.ends]
@@ -370,9 +374,9 @@ def tie_rows(network: Network, district: Dict[str, str]) -> Iterator[List[str]]:
             yield [link.name, places[0], link.ends[0], places[1], link.ends[1]]
 
 
-def oms_rows(oms: Table, devices: Dict[str, List[str]]) -> Dict[str, List[List[str]]]:
+def oms_rows(oms: Table, devices: dict[str, list[str]]) -> dict[str, list[list[str]]]:
     """The outages of each district: those of a tie go to both of its districts."""
-    found: Dict[str, List[List[str]]] = defaultdict(list)
+    found: dict[str, list[list[str]]] = defaultdict(list)
     bad = []
     for place, row in enumerate(oms.rows, 1):
         names = devices.get(label(row["device"]))
@@ -390,17 +394,15 @@ class Exports:
     """A utility's exports."""
 
     gis: Table
-    customers: Optional[Table]
-    oms: Optional[Table]
+    customers: Table | None
+    oms: Table | None
 
 
 def write_cut(exports: Exports, network: Network, cut: Cut, folder: Path) -> None:
     """The exports of each district, with the lists of districts, feeders and ties."""
     district = cut.district_of()
     numbers = numbers_of_feeders(cut)
-    devices = {
-        link.name: sorted({district[node] for node in link.nodes}) for link in network.links
-    }
+    devices = {link.name: sorted({district[node] for node in link.nodes}) for link in network.links}
     outages = oms_rows(exports.oms, devices) if exports.oms else {}
     for name in cut.districts:
         gis = exports.gis
@@ -420,15 +422,19 @@ def write_cut(exports: Exports, network: Network, cut: Cut, folder: Path) -> Non
     write_table(folder / "ties.csv", TIE_COLUMNS, tie_rows(network, district))
 
 
-def cut(given: Any) -> None:
+def cut(args: Any) -> None:
     """The job `cut`: tells each district's size and the ties that were cut."""
-    gis = read_table(given.gis, ("type", "name", "feeder", "from", "to", "normal"))
-    customers = read_table(given.customers, ("customer", "section")) if given.customers else None
-    oms = read_table(given.oms, ("device",)) if given.oms else None
-    old = {label(row["node"]): row["district"] for row in read_table(given.earlier, ("node", "district")).rows} if given.earlier else {}
+    gis = read_table(args.gis, ("type", "name", "feeder", "from", "to", "normal"))
+    customers = read_table(args.customers, ("customer", "section")) if args.customers else None
+    oms = read_table(args.oms, ("device",)) if args.oms else None
+    old = (
+        {label(row["node"]): row["district"] for row in read_table(args.earlier, ("node", "district")).rows}
+        if args.earlier
+        else {}
+    )
     network = read_network(gis, customers)
-    made = cut_areas(network, areas_of(network), old, given.room)
-    write_cut(Exports(gis, customers, oms), network, made, Path(given.output))
+    made = cut_areas(network, areas_of(network), old, args.room)
+    write_cut(Exports(gis, customers, oms), network, made, Path(args.output))
     ties = Counter(name for row in tie_rows(network, made.district_of()) for name in (row[1], row[3]))
     for name, areas in made.districts.items():
         print(f"{name}: {size_of(areas)}, {ties[name]} ties to others")
@@ -444,9 +450,9 @@ class Tie:
     """A tie between two districts, with its number among each district's devices and the node at each end."""
 
     name: str
-    districts: Tuple[str, str]
-    devices: Tuple[int, int]
-    nodes: Tuple[int, int]
+    districts: tuple[str, str]
+    devices: tuple[int, int]
+    nodes: tuple[int, int]
 
 
 @dataclass
@@ -454,7 +460,7 @@ class TieTimes:
     """The intervals in which a tie was closed while its ends were without supply, and the seconds it was closed."""
 
     closed: int = 0
-    without: List[Tuple[int, int]] = field(default_factory=list)
+    without: list[tuple[int, int]] = field(default_factory=list)
 
     @property
     def seconds(self) -> int:
@@ -469,7 +475,7 @@ class TieTimes:
         self.without.append((since, until))
 
 
-def read_ties(path: str, books: Dict[str, Book]) -> List[Tie]:
+def read_ties(path: str, books: dict[str, Book]) -> list[Tie]:
     """The ties of a cut, as the books have them: the same device in both, from GRID, with the same life and switchings."""
     ties = []
     for place, row in enumerate(read_table(path, TIE_COLUMNS).rows, 1):
@@ -477,7 +483,9 @@ def read_ties(path: str, books: Dict[str, Book]) -> List[Tie]:
         strange = [name for name in places if name not in books]
         if strange:
             raise BookError(f"{path}: row {place}: {row['tie']} joins {strange[0]}, whose book isn't given")
-        ends = [end_of(books[name], name, row["tie"], node) for name, node in zip(places, (row["node"], row["other_node"]))]
+        ends = [
+            end_of(books[name], name, row["tie"], node) for name, node in zip(places, (row["node"], row["other_node"]))
+        ]
         first, second = ends[0][0], ends[1][0]
         if (first.is_closed, first.since, first.until) != (second.is_closed, second.since, second.until):
             raise BookError(f"{row['tie']} has another normal position or life in {places[0]} than in {places[1]}")
@@ -492,7 +500,7 @@ def read_ties(path: str, books: Dict[str, Book]) -> List[Tie]:
     return ties
 
 
-def end_of(book: Book, district: str, tie: str, node: str) -> Tuple[Device, int]:
+def end_of(book: Book, district: str, tie: str, node: str) -> tuple[Device, int]:
     """A tie's device in a book, and its node there."""
     for device in book.devices:
         if device.name == tie:
@@ -503,7 +511,7 @@ def end_of(book: Book, district: str, tie: str, node: str) -> Tuple[Device, int]
     raise BookError(f"the book of {district} has no device {tie}")
 
 
-def switchings(book: Book, device: Device) -> List[Tuple[int, str]]:
+def switchings(book: Book, device: Device) -> list[tuple[int, str]]:
     """What was kept of a device's switchings, by their seconds."""
     kept = (each for each in book.entries if each.is_kept and each.device == device.number)
     ordered = sorted(kept, key=lambda each: (each.second, each.number))
@@ -511,8 +519,8 @@ def switchings(book: Book, device: Device) -> List[Tuple[int, str]]:
 
 
 def first_that_differs(
-    here: List[Tuple[int, str]], there: List[Tuple[int, str]], names: Tuple[str, str]
-) -> Tuple[Tuple[int, str], str]:
+    here: list[tuple[int, str]], there: list[tuple[int, str]], names: tuple[str, str]
+) -> tuple[tuple[int, str], str]:
     """The first switching that one of two books has alone, and which."""
     for one, other in zip(here, there):
         if one != other:
@@ -523,7 +531,7 @@ def first_that_differs(
 class DistrictSupply(Supply):
     """A district's own supply: its ties' positions are known, and nothing comes over them."""
 
-    def __init__(self, book: Book, ties: FrozenSet[int]):
+    def __init__(self, book: Book, ties: frozenset[int]):
         self.ties = ties
         super().__init__(book)
 
@@ -535,7 +543,7 @@ class DistrictSupply(Supply):
         self.is_closed[device.number] = is_closed
         return True
 
-    def reached_from(self, found: Set[int], reached: Set[int]) -> Set[int]:
+    def reached_from(self, found: set[int], reached: set[int]) -> set[int]:
         """All that some nodes lead to, with what was reached before."""
         reached = set(reached)
         while found:
@@ -547,15 +555,15 @@ class DistrictSupply(Supply):
 class Utility:
     """The districts of a utility with the ties between them, second by second: who is supplied as no cut had been made."""
 
-    def __init__(self, books: Dict[str, Book], ties: Sequence[Tie]):
+    def __init__(self, books: dict[str, Book], ties: Sequence[Tie]):
         self.books, self.ties = books, ties
-        numbers: Dict[str, Set[int]] = defaultdict(set)
+        numbers: dict[str, set[int]] = defaultdict(set)
         for tie in ties:
             for name, device in zip(tie.districts, tie.devices):
                 numbers[name].add(device)
         self.supplies = {name: DistrictSupply(book, frozenset(numbers[name])) for name, book in books.items()}
         self.own = {name: supply.supplied() for name, supply in self.supplies.items()}
-        self.supplied: Dict[str, Set[int]] = {}
+        self.supplied: dict[str, set[int]] = {}
         self.find_supplied()
 
     def is_closed(self, tie: Tie) -> bool:
@@ -584,32 +592,32 @@ class Utility:
 class TrueSweep:
     """The runs of all districts' sections as the uncut network has them, and the times of the ties."""
 
-    def __init__(self, books: Dict[str, Book], ties: Sequence[Tie]):
+    def __init__(self, books: dict[str, Book], ties: Sequence[Tie]):
         self.utility = Utility(books, ties)
         self.books = books
         self.sections = {name: set(book.sections) for name, book in books.items()}
         self.lives = {name: bounds_of_lives(book.devices) for name, book in books.items()}
-        self.entries: Dict[int, List[Tuple[str, Entry]]] = defaultdict(list)
+        self.entries: dict[int, list[tuple[str, Entry]]] = defaultdict(list)
         for name, book in books.items():
             for entry in book.entries:
                 if entry.is_kept:
                     self.entries[entry.second].append((name, entry))
-        self.going: Dict[str, Dict[int, Tuple[int, Optional[Entry]]]] = {name: {} for name in books}
-        self.runs: Dict[str, List[Run]] = {name: [] for name in books}
+        self.going: dict[str, dict[int, tuple[int, Entry | None]]] = {name: {} for name in books}
+        self.runs: dict[str, list[Run]] = {name: [] for name in books}
         self.times = {tie.name: TieTimes() for tie in ties}
 
-    def moments(self) -> List[int]:
+    def moments(self) -> list[int]:
         period = next(iter(self.books.values())).period
         moments = {period.first, *self.entries}.union(*self.lives.values())
         return sorted(moment for moment in moments if period.first <= moment < period.end)
 
-    def act(self, moment: int) -> Dict[str, Dict[int, Entry]]:
+    def act(self, moment: int) -> dict[str, dict[int, Entry]]:
         """Lives, then the entries of a second, district by district: the entries that cut sections off."""
         utility = self.utility
         for name, lives in self.lives.items():
             if moment in lives and utility.supplies[name].come_to(moment):
                 utility.changed(name)
-        cutters: Dict[str, Dict[int, Entry]] = defaultdict(dict)
+        cutters: dict[str, dict[int, Entry]] = defaultdict(dict)
         for name, entry in self.entries.get(moment, ()):
             if utility.supplies[name].switch(entry, moment):
                 before = utility.supplied
@@ -619,7 +627,7 @@ class TrueSweep:
                         cutters[other].update((node, entry) for node in before[other] - supplied)
         return cutters
 
-    def look(self, moment: int, cutters: Dict[str, Dict[int, Entry]]) -> None:
+    def look(self, moment: int, cutters: dict[str, dict[int, Entry]]) -> None:
         """Begins and ends runs as a second has it."""
         for name, supplied in self.utility.supplied.items():
             going = self.going[name]
@@ -649,7 +657,7 @@ class Cost:
 
     district: str
     customer_seconds: int
-    counts: Dict[str, Counts]
+    counts: dict[str, Counts]
 
     @property
     def is_none(self) -> bool:
@@ -682,14 +690,14 @@ def cost_of(name: str, found: Checked, runs: Sequence[Run]) -> Cost:
 class CheckedCut:
     """The times of all ties, what the cut cost each district, and the sums' SAIDI with and without it."""
 
-    ties: List[Tie]
-    times: Dict[str, TieTimes]
-    costs: List[Cost]
-    saidi: Dict[str, Tuple[str, str]]
+    ties: list[Tie]
+    times: dict[str, TieTimes]
+    costs: list[Cost]
+    saidi: dict[str, tuple[str, str]]
     zone_text: Callable[[int], str]
 
 
-def check_cut(ties_path: str, books: Dict[str, Checked]) -> CheckedCut:
+def check_cut(ties_path: str, books: dict[str, Checked]) -> CheckedCut:
     """What the cut of books that belong together cost."""
     sums = add_up([district_of(name, found) for name, found in books.items()], own_numbers=True)
     plain = {name: found.book for name, found in books.items()}
@@ -707,9 +715,7 @@ def check_cut(ties_path: str, books: Dict[str, Checked]) -> CheckedCut:
     return CheckedCut(ties, swept.times, costs, saidi, zone.text_of)
 
 
-def saidi_of(counts: Counts, served_seconds: int, length: int) -> Any:
-    from outagebook.counts import indices_of
-
+def saidi_of(counts: Counts, served_seconds: int, length: int) -> Fraction | None:
     return indices_of(counts, served_seconds, length)["SAIDI"]
 
 
@@ -735,16 +741,16 @@ def write_check(checked: CheckedCut) -> None:
         print("the cut cost nothing")
 
 
-def check(words: Words, given: Any) -> None:
+def check(parser: Parser, args: Any) -> None:
     """The job `check`."""
-    tables = tables_given(words, given.books, given.table)
+    tables = tables_given(parser, args.books, args.table)
     with ExitStack() as stack:
-        books: Dict[str, Checked] = {}
-        for path, table in zip(given.books, tables):
+        books: dict[str, Checked] = {}
+        for path, table in zip(args.books, tables):
             if name_of(path) in books:
                 raise BookError(f"{name_of(path)} is given twice")
-            books[name_of(path)] = stack.enter_context(open_book(path, table, given.program))
-        write_check(check_cut(given.ties, books))
+            books[name_of(path)] = stack.enter_context(open_book(path, table, args.program))
+        write_check(check_cut(args.ties, books))
 
 
 # Desks.
@@ -759,7 +765,7 @@ class Desk:
     book: str
 
 
-def read_desks(path: str) -> List[Desk]:
+def read_desks(path: str) -> list[Desk]:
     rows = read_table(path, ("district", "url")).rows
     desks = [Desk(row["district"].strip(), row["url"].strip().rstrip("/"), row.get("book", "").strip()) for row in rows]
     for place, desk in enumerate(desks, 1):
@@ -796,7 +802,7 @@ def commands_of(desk: Desk, wait: float) -> int:
     return least
 
 
-def state_of(desk: Desk, wait: float) -> Tuple[str, str]:
+def state_of(desk: Desk, wait: float) -> tuple[str, str]:
     """Whether a desk is up, and its number of commands."""
     try:
         return "up", str(commands_of(desk, wait))
@@ -804,21 +810,21 @@ def state_of(desk: Desk, wait: float) -> Tuple[str, str]:
         return f"down: {error}", ""
 
 
-def last_compared(path: Path) -> Dict[str, Row]:
+def last_compared(path: Path) -> dict[str, Row]:
     """What was kept last of each district's comparison."""
     return {row["district"]: row for row in read_table(str(path), ("district",)).rows} if path.exists() else {}
 
 
-def compared_path(given: Any) -> Path:
-    return Path(given.compared) if given.compared else Path(given.desks).with_name("compared.csv")
+def compared_path(args: Any) -> Path:
+    return Path(args.compared) if args.compared else Path(args.desks).with_name("compared.csv")
 
 
-def tell_desks(given: Any) -> None:
+def tell_desks(args: Any) -> None:
     """The job `desks`: a row for each."""
-    desks = read_desks(given.desks)
-    compared = last_compared(compared_path(given))
+    desks = read_desks(args.desks)
+    compared = last_compared(compared_path(args))
     with ThreadPoolExecutor(max(1, min(16, len(desks)))) as pool:
-        states = list(pool.map(lambda desk: state_of(desk, given.wait), desks))
+        states = list(pool.map(lambda desk: state_of(desk, args.wait), desks))
     writer = csv.writer(sys.stdout, lineterminator="\n")
     writer.writerow(["district", "state", "commands", "compared", "compared_commands", "result"])
     for desk, (state, commands) in zip(desks, states):
@@ -827,7 +833,7 @@ def tell_desks(given: Any) -> None:
         writer.writerow([desk.district, state, commands, *row])
 
 
-def compare_desk(desk: Desk, program: str) -> Tuple[str, str]:
+def compare_desk(desk: Desk, program: str) -> tuple[str, str]:
     """The number of commands of a desk's book as of its last commit, and whether its figures are the program's."""
     try:
         with open_book(desk.book, None, program) as found:
@@ -839,16 +845,16 @@ def compare_desk(desk: Desk, program: str) -> Tuple[str, str]:
         return "", f"error: {error}"
 
 
-def compare_desks(given: Any) -> None:
+def compare_desks(args: Any) -> None:
     """The job `compare`: each book with its program's table, kept in a file for `desks`."""
-    desks = read_desks(given.desks)
-    path = compared_path(given)
+    desks = read_desks(args.desks)
+    path = compared_path(args)
     compared = last_compared(path)
     results = []
     for desk in desks:
         if not desk.book:
-            raise BookError(f"{given.desks} has no book of {desk.district}")
-        commands, result = compare_desk(desk, given.program)
+            raise BookError(f"{args.desks} has no book of {desk.district}")
+        commands, result = compare_desk(desk, args.program)
         moment = datetime.now(timezone.utc).isoformat(timespec="seconds")
         compared[desk.district] = {
             "district": desk.district, "moment": moment, "commands": commands, "result": result
@@ -863,21 +869,23 @@ def compare_desks(given: Any) -> None:
         raise BookError("not every book could be compared")
 
 
-def words_of() -> Tuple[Words, Any]:
-    words = Words(description="Cuts a utility into districts, checks the cut, and looks at the districts' desks.")
-    jobs = words.add_subparsers(metavar="JOB", required=True, parser_class=Words)
+def arguments() -> tuple[Parser, Any]:
+    parser = Parser(description="Cuts a utility into districts, checks the cut, and looks at the districts' desks.")
+    jobs = parser.add_subparsers(metavar="JOB", required=True, parser_class=Parser)
 
-    def job(name: str, text: str) -> Words:
-        parser: Words = jobs.add_parser(name, help=text, description=text)
-        parser.set_defaults(job=name)
-        return parser
+    def job(name: str, text: str) -> Parser:
+        one: Parser = jobs.add_parser(name, help=text, description=text)
+        one.set_defaults(job=name)
+        return one
 
     cutting = job("cut", "makes the exports of each district of those of a utility")
     cutting.add_argument("gis", metavar="GIS", help="buses, sections and devices")
     cutting.add_argument("customers", metavar="CUSTOMERS", nargs="?", help="customers and their services")
     cutting.add_argument("--oms", metavar="OMS", help="outages and restoration steps")
     cutting.add_argument("-o", "--output", metavar="FOLDER", required=True, help="where a folder for each is made")
-    cutting.add_argument("--room", type=int, default=ROOM, metavar="N", help=f"per cent of a book to leave free ({ROOM})")
+    cutting.add_argument(
+        "--room", type=int, default=ROOM, metavar="N", help=f"per cent of a book to leave free ({ROOM})"
+    )
     cutting.add_argument("--as", dest="earlier", metavar="FILE", help="districts.csv of an earlier cut, which stays")
     checking = job("check", "tells what the ties cost that were cut")
     checking.add_argument("ties", metavar="TIES", help="ties.csv of the cut")
@@ -888,23 +896,23 @@ def words_of() -> Tuple[Words, Any]:
     asking.add_argument("--wait", type=float, default=10, metavar="SECONDS", help="how long an answer may take (10)")
     comparing = job("compare", "compares each desk's book with its program's table")
     comparing.add_argument("--program", metavar="PATH", default="outagebook", help="what prints the tables")
-    for parser in (asking, comparing):
-        parser.add_argument("desks", metavar="DESKS", help="the desks: a CSV of district, url and book")
-        parser.add_argument("--compared", metavar="FILE", help="what was compared last (compared.csv beside DESKS)")
-    return words, words.parse_args()
+    for one in (asking, comparing):
+        one.add_argument("desks", metavar="DESKS", help="the desks: a CSV of district, url and book")
+        one.add_argument("--compared", metavar="FILE", help="what was compared last (compared.csv beside DESKS)")
+    return parser, parser.parse_args()
 
 
 def main() -> int:
-    words, given = words_of()
-    if given.job == "cut" and not 0 <= given.room <= 90:
-        words.error("--room is 0 to 90")
-    jobs: Dict[str, Callable[[], None]] = {
-        "cut": lambda: cut(given),
-        "check": lambda: check(words, given),
-        "desks": lambda: tell_desks(given),
-        "compare": lambda: compare_desks(given),
+    parser, args = arguments()
+    if args.job == "cut" and not 0 <= args.room <= 90:
+        parser.error("--room is 0 to 90")
+    jobs: dict[str, Callable[[], None]] = {
+        "cut": lambda: cut(args),
+        "check": lambda: check(parser, args),
+        "desks": lambda: tell_desks(args),
+        "compare": lambda: compare_desks(args),
     }
-    return run_job(jobs[given.job])
+    return run_job(jobs[args.job])
 
 
 if __name__ == "__main__":

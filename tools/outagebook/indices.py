@@ -5,27 +5,25 @@ same line between sustained and momentary interruptions. Each is an exact quotie
 to divide by.
 """
 
-from __future__ import annotations
-
 import csv
 import re
 import sqlite3
 from collections import defaultdict
+from collections.abc import Iterable, Iterator, Mapping, Sequence
 from dataclasses import dataclass, field
 from fractions import Fraction
-from typing import Dict, Iterable, Iterator, List, Mapping, Optional, Sequence, Tuple
 
 from outagebook.compare import Checked
-from outagebook.counts import LONGEST_MOMENTARY, Counts, quotient
+from outagebook.counts import SETS, Counts, quotient
 from outagebook.errors import BookError
-from outagebook.rows import SETS, Book
-from outagebook.sweep import Run
+from outagebook.rows import Book
+from outagebook.sweep import LONGEST_MOMENTARY, Run
 
 HOUR = 3_600
 HOURS = (Fraction(4), Fraction(8), Fraction(12), Fraction(24))  # of CELID, where none are asked for
 MOST_CEMSMI = 10
 
-Spans = Dict[int, List[Tuple[int, int]]]
+Spans = dict[int, list[tuple[int, int]]]
 
 
 @dataclass
@@ -33,9 +31,9 @@ class FurtherCounts:
     """Customers with at least 1 to 10 interruptions of either kind; with a sustained one of so many hours; with so many
     hours of sustained ones in all."""
 
-    with_any: List[int] = field(default_factory=lambda: [0] * MOST_CEMSMI)
-    single: Dict[Fraction, int] = field(default_factory=dict)
-    total: Dict[Fraction, int] = field(default_factory=dict)
+    with_any: list[int] = field(default_factory=lambda: [0] * MOST_CEMSMI)
+    single: dict[Fraction, int] = field(default_factory=dict)
+    total: dict[Fraction, int] = field(default_factory=dict)
 
     def __add__(self, other: "FurtherCounts") -> "FurtherCounts":
         """The counts of both, whose customers are distinct."""
@@ -55,7 +53,7 @@ def spans_of(runs: Iterable[Run]) -> Spans:
 
 
 def lengths_within(
-    book: Book, spans: Iterable[Tuple[int, int]], since: int, until: int, unmarked: bool
+    book: Book, spans: Iterable[tuple[int, int]], since: int, until: int, unmarked: bool
 ) -> Iterator[int]:
     """The seconds of each interruption of a service, without those that begin on a marked day where they don't count."""
     for begin, end in spans:
@@ -93,7 +91,7 @@ def read_hours(text: str) -> Fraction:
 
 def further_indices(
     counts: Counts, further: FurtherCounts, served_seconds: int, length: int
-) -> Dict[str, Optional[Fraction]]:
+) -> dict[str, Fraction | None]:
     """The indices by name. `length` is P, `served_seconds` S; CTAIDI is in minutes."""
     indices = {
         "MAIFI": quotient(counts.momentary * length, served_seconds),
@@ -115,7 +113,7 @@ MEANINGS = {
 }  # fmt: skip
 
 
-def meaning_of(index: str) -> Tuple[str, str]:
+def meaning_of(index: str) -> tuple[str, str]:
     """The unit and the quotient of an index."""
     name, _, rest = index.partition("-")
     if name == "CEMSMI":
@@ -148,11 +146,11 @@ class Load:
 class Loads:
     """The connected loads of a book, and what is to be said of the file that they come from."""
 
-    loads: List[Load]
+    loads: list[Load]
     about: str
 
 
-def read_kva(path: str) -> Tuple[str, Dict[str, Fraction]]:
+def read_kva(path: str) -> tuple[str, dict[str, Fraction]]:
     """The kVA of a file by section or by customer, with which of the two its column is."""
     try:
         with open(path, newline="", encoding="utf-8-sig") as file:
@@ -160,7 +158,7 @@ def read_kva(path: str) -> Tuple[str, Dict[str, Fraction]]:
             names = [name for name in ("section", "customer") if name in (rows.fieldnames or ())]
             if len(names) != 1 or "kva" not in (rows.fieldnames or ()):
                 raise BookError(f"{path} has to have the column kva, and either section or customer")
-            found: Dict[str, Fraction] = {}
+            found: dict[str, Fraction] = {}
             for place, row in enumerate(rows, 1):
                 key, text = (row[names[0]] or "").strip().upper(), (row["kva"] or "").strip()
                 if not key:
@@ -191,7 +189,11 @@ def loads_of(path: str, book: Book, database: sqlite3.Connection) -> Loads:
         ).fetchall()
         known = {str(number): number for number, in database.execute("SELECT id FROM customer")}
         names = {str(number) for number, *_ in served}
-        loads = [Load(*rest, kva[str(number)]) for number, *rest in served if str(number) in kva]
+        loads = [
+            Load(section, since, until, kva[str(number)])
+            for number, section, since, until in served
+            if str(number) in kva
+        ]
     missing = sorted(names - kva.keys(), key=lambda name: (len(name), name))
     if missing:
         raise BookError(f"{path} hasn't the {kind} {missing[0]}, and {len(missing)} of the book's in all")
@@ -200,7 +202,7 @@ def loads_of(path: str, book: Book, database: sqlite3.Connection) -> Loads:
     return Loads(loads, about + (f"; {others} of its rows are of no {kind} of this book." if others else "."))
 
 
-def load_indices(book: Book, runs: Iterable[Run], loads: Sequence[Load], unmarked: bool) -> Dict[str, Optional[Fraction]]:
+def load_indices(book: Book, runs: Iterable[Run], loads: Sequence[Load], unmarked: bool) -> dict[str, Fraction | None]:
     """ASIFI, and ASIDI in minutes, over the kVA connected: its average over the period."""
     spans = spans_of(runs)
     connected, interrupted, interrupted_seconds = Fraction(0), Fraction(0), Fraction(0)
@@ -218,10 +220,10 @@ def load_indices(book: Book, runs: Iterable[Run], loads: Sequence[Load], unmarke
 
 
 def computed(
-    found: Checked, hours: Sequence[Fraction], loads: Optional[Loads]
-) -> Mapping[str, Dict[str, Optional[Fraction]]]:
+    found: Checked, hours: Sequence[Fraction], loads: Loads | None
+) -> Mapping[str, dict[str, Fraction | None]]:
     """The further indices of a compared book, of both sets."""
-    indices: Dict[str, Dict[str, Optional[Fraction]]] = {}
+    indices: dict[str, dict[str, Fraction | None]] = {}
     for name in SETS:
         further = further_counts(found.book, found.runs, name == "unmarked", hours)
         served, length = found.book.served_seconds(), found.book.period.length

@@ -9,24 +9,22 @@ the daily SAIDI of the five periods before it, alpha their mean and beta their s
 an engineer does that, and --rows writes what may be imported.
 """
 
-from __future__ import annotations
-
 import csv
 import json
 import math
 import statistics
 import sys
 from collections import defaultdict
+from collections.abc import Iterator, Sequence
 from dataclasses import dataclass
 from datetime import date, timedelta
 from fractions import Fraction
 from pathlib import Path
-from typing import Dict, Iterator, List, Optional, Sequence, Tuple
 
-from outagebook.cli import Words, run_job
+from outagebook.cli import Parser, run_job
 from outagebook.counts import decimal_text, fraction_text
 from outagebook.errors import BookError
-from outagebook.sums import District, PeriodKey, Sums, add_book_words, add_up, read_districts, tables_given
+from outagebook.sums import District, PeriodKey, Sums, add_book_arguments, add_up, read_districts, tables_given
 
 MOST_YEARS = 5
 FACTOR = 2.5
@@ -51,13 +49,13 @@ class Day:
 class Threshold:
     """The threshold by the days of the years before."""
 
-    periods: Tuple[PeriodKey, ...]
-    left_out: Tuple[PeriodKey, ...]  # periods before the five
-    days: Tuple[Day, ...]  # with a daily SAIDI above 0
+    periods: tuple[PeriodKey, ...]
+    left_out: tuple[PeriodKey, ...]  # periods before the five
+    days: tuple[Day, ...]  # with a daily SAIDI above 0
     empty_days: int  # without a sustained interruption that began on them
 
     @property
-    def logarithms(self) -> List[float]:
+    def logarithms(self) -> list[float]:
         return [day.logarithm for day in self.days]
 
     @property
@@ -89,7 +87,7 @@ class MajorDay:
     """A day of the year in question whose daily SAIDI is above the threshold."""
 
     day: Day
-    marked_in: Tuple[str, ...]
+    marked_in: tuple[str, ...]
 
 
 @dataclass(frozen=True)
@@ -98,16 +96,16 @@ class Answer:
 
     year: Sums
     threshold: Threshold
-    above: Tuple[MajorDay, ...]
-    marked_below: Tuple[date, ...]  # days that are marked and not above the threshold
+    above: tuple[MajorDay, ...]
+    marked_below: tuple[date, ...]  # days that are marked and not above the threshold
 
 
 # Periods.
 
 
-def by_period(districts: Sequence[District]) -> Dict[PeriodKey, List[District]]:
+def by_period(districts: Sequence[District]) -> dict[PeriodKey, list[District]]:
     """The books of each period, in the order of the periods, which don't overlap."""
-    found: Dict[PeriodKey, List[District]] = defaultdict(list)
+    found: dict[PeriodKey, list[District]] = defaultdict(list)
     for each in districts:
         found[each.period].append(each)
     periods = sorted(found)
@@ -132,7 +130,7 @@ def gaps(years: Sequence[Sums]) -> Iterator[str]:
                 yield f"{', '.join(sorted(there - here))}: in the last books, not in those from {each.period.first}."
 
 
-def days_of(sums: Sums) -> Tuple[List[Day], int]:
+def days_of(sums: Sums) -> tuple[list[Day], int]:
     """The days with a daily SAIDI above 0, and how many have none."""
     days, empty = [], 0
     for number, saidi in enumerate(sums.daily_saidi()):
@@ -146,7 +144,7 @@ def days_of(sums: Sums) -> Tuple[List[Day], int]:
 def threshold_of(years: Sequence[Sums]) -> Threshold:
     """The threshold by the last five of some periods."""
     used = years[-MOST_YEARS:]
-    days: List[Day] = []
+    days: list[Day] = []
     empty = 0
     for each in used:
         more, without = days_of(each)
@@ -161,7 +159,7 @@ def answer_of(years: Sequence[Sums]) -> Answer:
     if len(years) < 2:
         raise BookError("a threshold wants books of an earlier period: there are those of one period alone")
     year, threshold = years[-1], threshold_of(years[:-1])
-    above: List[MajorDay] = []
+    above: list[MajorDay] = []
     if threshold.is_defined:
         for day in days_of(year)[0]:
             if abs(day.logarithm - threshold.logarithm) < NEAR:
@@ -177,7 +175,7 @@ def answer_of(years: Sequence[Sums]) -> Answer:
     return Answer(year, threshold, tuple(above), below)
 
 
-def read_years(districts: Sequence[District], own_numbers: bool) -> List[Sums]:
+def read_years(districts: Sequence[District], own_numbers: bool) -> list[Sums]:
     """The books of each period added up, in the order of the periods."""
     return [add_up(each, own_numbers) for each in by_period(districts).values()]
 
@@ -210,7 +208,7 @@ def about(years: Sequence[Sums], answer: Answer) -> Iterator[str]:
         yield f"Marked and not above the threshold: {', '.join(map(str, answer.marked_below))}."
 
 
-def facts(answer: Answer) -> Dict[str, str]:
+def facts(answer: Answer) -> dict[str, str]:
     """The numbers of the threshold by name; they are floating ones, to nine decimals."""
     threshold = answer.threshold
     if not threshold.is_defined:
@@ -225,7 +223,7 @@ def facts(answer: Answer) -> Dict[str, str]:
 COLUMNS = ("day", "daily_saidi", "daily_saidi_3", "marked_in")
 
 
-def rows_above(answer: Answer) -> Iterator[List[str]]:
+def rows_above(answer: Answer) -> Iterator[list[str]]:
     for each in answer.above:
         saidi = each.day.saidi
         yield [str(each.day.date), fraction_text(saidi), decimal_text(saidi), " ".join(each.marked_in)]
@@ -261,7 +259,7 @@ def write_json(years: Sequence[Sums], answer: Answer) -> None:
     print()
 
 
-def mark_rows(answer: Answer, district: str, engineer: str) -> List[List[str]]:
+def mark_rows(answer: Answer, district: str, engineer: str) -> list[list[str]]:
     """The rows that mark the days above the threshold in a district's book, without those that it has marked."""
     rows = [["kind", "ref", *(f"f{number}" for number in range(1, 7))]]
     for each in answer.above:
@@ -282,33 +280,33 @@ def write_rows(answer: Answer, folder: str, engineer: str) -> None:
 
 
 def main() -> int:
-    words = Words(description="Finds the days of a year above the threshold of the years before it.")
-    add_book_words(words)
-    form = words.add_mutually_exclusive_group()
+    parser = Parser(description="Finds the days of a year above the threshold of the years before it.")
+    add_book_arguments(parser)
+    form = parser.add_mutually_exclusive_group()
     form.add_argument("--csv", dest="write", action="store_const", const=write_csv, default=write_text, help="as CSV")
     form.add_argument("--json", dest="write", action="store_const", const=write_json, help="as JSON")
-    words.add_argument("--rows", metavar="ENGINEER", help="write rows that mark the days, in an engineer's name")
-    words.add_argument("-o", "--output", metavar="FOLDER", help="where --rows writes a file for each district")
-    words.add_argument("--page", metavar="FILE", help="write a page with the histogram too")
-    words.add_argument("--name", default="Major event days", help="what the page's heading begins with")
-    given = words.parse_args()
-    tables = tables_given(words, given.books, given.table)
-    if (given.rows is None) != (given.output is None):
-        words.error("--rows ENGINEER and -o FOLDER are given together")
-    if given.rows is not None and not is_engineer(given.rows):
-        words.error("an engineer is 1 to 16 of A-Z, 0-9, - and _")
+    parser.add_argument("--rows", metavar="ENGINEER", help="write rows that mark the days, in an engineer's name")
+    parser.add_argument("-o", "--output", metavar="FOLDER", help="where --rows writes a file for each district")
+    parser.add_argument("--page", metavar="FILE", help="write a page with the histogram too")
+    parser.add_argument("--name", default="Major event days", help="what the page's heading begins with")
+    args = parser.parse_args()
+    tables = tables_given(parser, args.books, args.table)
+    if (args.rows is None) != (args.output is None):
+        parser.error("--rows ENGINEER and -o FOLDER are given together")
+    if args.rows is not None and not is_engineer(args.rows):
+        parser.error("an engineer is 1 to 16 of A-Z, 0-9, - and _")
 
     def job() -> None:
-        years = read_years(read_districts(given.books, tables, given.program, given.processes), given.own_numbers)
+        years = read_years(read_districts(args.books, tables, args.program, args.processes), args.own_numbers)
         answer = answer_of(years)
-        if given.rows:
-            write_rows(answer, given.output, given.rows)
-        if given.page:
+        if args.rows:
+            write_rows(answer, args.output, args.rows)
+        if args.page:
             from outagebook.many_pages import major_days_page
             from outagebook.report import write
 
-            write(given.page, major_days_page(years, answer, given.name))
-        given.write(years, answer)
+            write(args.page, major_days_page(years, answer, args.name))
+        args.write(years, answer)
 
     return run_job(job)
 

@@ -1,16 +1,14 @@
 """Pages of many books: the sums of all districts, and the days of a year against the threshold of the years before it."""
 
-from __future__ import annotations
-
 import math
+from collections.abc import Sequence
 from html import escape
-from typing import Dict, List, Optional, Sequence
 
 from outagebook import charts, figures, report
-from outagebook.counts import decimal_text, quotient, quotient_text
+from outagebook.counts import SETS, decimal_text, quotient, quotient_text
 from outagebook.major_days import Answer, Threshold, facts
 from outagebook.major_days import about as about_major_days
-from outagebook.rows import SETS
+from outagebook.report import Column, TableRow
 from outagebook.sums import DISTRICT_COLUMNS, Sums, about, district_rows
 
 BINS = 40  # of a histogram, at most
@@ -52,9 +50,9 @@ customers (S / P) were served on average. W is {report.number(sums.total)} custo
 <div class="soft">{said}</div>"""
 
 
-def figures_of_sums(sums: Sums) -> Dict[str, str]:
+def figures_of_sums(sums: Sums) -> dict[str, str]:
     """The lines of the indices, as the annual table has them."""
-    words: Dict[str, str] = {}
+    words: dict[str, str] = {}
     for name in SETS:
         for index, value in sums.indices(name).items():
             words[f"{index} {name}"] = quotient_text(value)
@@ -71,13 +69,16 @@ def index_part(sums: Sums) -> str:
     """Both sets of the fifteen quotients."""
     words = figures_of_sums(sums)
     names = [which[: -len(" all")] for which in words if which.endswith(" all")]
-    rows = [[name, words[f"{name} all"], words[f"{name} unmarked"], report.meaning_text(name)] for name in names]
+    heads = [Column("index"), Column("all", "code"), Column("unmarked", "code"), Column("unit and quotient", "long")]
+    rows = [
+        TableRow([name, words[f"{name} all"], words[f"{name} unmarked"], report.meaning_text(name)]) for name in names
+    ]
     return f"""
 <h2>Indices of all districts {report.COMPUTED}</h2>
 <p>Exact fractions in lowest terms and their three decimals. <i>Unmarked</i> leaves out each interruption that begins on a
 day that its own book marks. By IEEE Std 1366-2012; an interruption of more than 300 seconds is sustained.
-{figures.WORDS}</p>
-{report.table(["index", "=all", "=unmarked", "~unit and quotient"], rows)}"""
+{figures.TERMS}</p>
+{report.table(heads, rows)}"""
 
 
 def district_part(sums: Sums) -> str:
@@ -86,32 +87,37 @@ def district_part(sums: Sums) -> str:
     bars = []
     for row in rows[:-1]:
         saidi = str(row["saidi_3"])
-        bars.append(charts.Bar(str(row["district"]), float(saidi or 0), f"{row['district']}: {saidi or 'undefined'} min"))
+        bars.append(
+            charts.Bar(str(row["district"]), float(saidi or 0), f"{row['district']}: {saidi or 'undefined'} min")
+        )
     shown = {
         "district": "district",
-        "#commands": "commands",
-        "#customers served": "customers_served_3",
-        "#customer-seconds": "customer_seconds",
-        "#share of W": "share_3",
-        "#marked days": "marked_days",
-        "#sustained": "sustained",
-        "#momentary": "momentary",
-        "#SAIFI": "saifi_3",
-        "#SAIDI, min": "saidi_3",
-        "#CAIDI, min": "caidi_3",
+        "commands": "commands",
+        "customers served": "customers_served_3",
+        "customer-seconds": "customer_seconds",
+        "share of W": "share_3",
+        "marked days": "marked_days",
+        "sustained": "sustained",
+        "momentary": "momentary",
+        "SAIFI": "saifi_3",
+        "SAIDI, min": "saidi_3",
+        "CAIDI, min": "caidi_3",
     }
-    cells = [[row[column] if row[column] != "" else "undefined" for column in shown.values()] for row in rows]
+    cells = [TableRow([row[column] if row[column] != "" else "undefined" for column in shown.values()]) for row in rows]
+    heads = [Column("district"), *report.numbers(*list(shown)[1:])]
     picture = charts.bars_below(bars, "SAIDI by district")
     note = "Minutes per customer served of the district, all interruptions of its sections."
     return f"""
 <h2>Districts {report.COMPUTED}</h2>
 {report.figure(picture, note, "below")}
-{report.behind("The figures of this picture", report.table(list(shown), cells), len(cells))}"""
+{report.behind("The figures of this picture", report.table(heads, cells), len(cells))}"""
 
 
 def day_part(sums: Sums) -> str:
     """Days in both readings, with those that some book marks set apart."""
-    posted, standard, cells, marked = [], [], [], []
+    posted: list[charts.Bar] = []
+    standard: list[charts.Bar] = []
+    cells: list[TableRow] = []
     for number, (amount, daily) in enumerate(zip(sums.days, sums.daily_saidi())):
         day, names = str(sums.period.day(number)), sums.marked_in.get(number, ())
         mark = f", marked in {len(names)} of {len(sums.districts)}" if names else ""
@@ -122,9 +128,8 @@ def day_part(sums: Sums) -> str:
         title = f"{day}{mark}: {decimals} minutes per customer"
         standard.append(charts.Bar(label, float(daily or 0), title, bool(names)))
         if amount or names:
-            cells.append([day, report.number(amount), decimals, ", ".join(names)])
-            marked.append(bool(names))
-    heads = ["day", "#customer-seconds in it", "#daily SAIDI, min", "~marked in"]
+            cells.append(TableRow([day, report.number(amount), decimals, ", ".join(names)], bool(names)))
+    heads = [Column("day"), *report.numbers("customer-seconds in it", "daily SAIDI, min"), Column("marked in", "long")]
     return f"""
 <h2>Days</h2>
 {charts.legend(["a day", "a day that a book marks"])}
@@ -134,7 +139,7 @@ def day_part(sums: Sums) -> str:
 {report.figure(charts.columns(standard, "Daily SAIDI, day by day", "minutes per customer"),
                "Daily SAIDI: a sustained interruption whole on the day on which it begins, per customer served.", "columns",
                report.COMPUTED)}
-{report.behind(f"The {len(cells)} days with interruptions or a mark", report.table(heads, cells, marked), len(cells))}"""
+{report.behind(f"The {len(cells)} days with interruptions or a mark", report.table(heads, cells), len(cells))}"""
 
 
 def cause_part(sums: Sums) -> str:
@@ -145,10 +150,12 @@ def cause_part(sums: Sums) -> str:
         for cause in causes
     ]
     cells = [
-        [cause.code_text, cause.name, report.number(cause.amount), decimal_text(quotient(cause.amount, sums.total))]
+        TableRow(
+            [cause.code_text, cause.name, report.number(cause.amount), decimal_text(quotient(cause.amount, sums.total))]
+        )
         for cause in causes
     ]
-    heads = ["cause", "name", "#customer-seconds", "#share of W"]
+    heads = [Column("cause"), Column("name"), *report.numbers("customer-seconds", "share of W")]
     return f"""
 <h2>Causes, greatest first {report.COMPUTED}</h2>
 {report.figure(charts.bars_below(bars, "Customer-hours without supply by cause"),
@@ -175,17 +182,19 @@ decides. {report.COMPUTED}</p><ul>{said}</ul>""",
 
 
 def threshold_part(answer: Answer) -> str:
-    values = [[which, value] for which, value in facts(answer).items()]
+    values = [TableRow([which, value]) for which, value in facts(answer).items()]
     rows = [
-        [each.day.date, decimal_text(each.day.saidi), ", ".join(each.marked_in) or "nowhere"] for each in answer.above
+        TableRow([each.day.date, decimal_text(each.day.saidi), ", ".join(each.marked_in) or "nowhere"])
+        for each in answer.above
     ]
+    heads = [Column("day"), *report.numbers("daily SAIDI, min"), Column("marked in", "long")]
     return f"""
 <h2>The threshold</h2>
-{report.table(["", "=value"], values)}
+{report.table([Column(""), Column("value", "code")], values)}
 <p>T_MED = exp(alpha + 2.5 beta), in minutes; alpha is the mean and beta the standard deviation of the logarithms of the
 {len(answer.threshold.days)} daily SAIDI of the periods before.</p>
 <h2>Days above it</h2>
-{report.table(["day", "#daily SAIDI, min", "~marked in"], rows)}"""
+{report.table(heads, rows)}"""
 
 
 def histogram_part(threshold: Threshold) -> str:
@@ -201,7 +210,7 @@ def histogram_part(threshold: Threshold) -> str:
 {report.figure(charts.columns(bars, "Days by the logarithm of their daily SAIDI", "days"), note, "columns")}"""
 
 
-def histogram(logarithms: Sequence[float], threshold: Optional[float]) -> List[charts.Bar]:
+def histogram(logarithms: Sequence[float], threshold: float | None) -> list[charts.Bar]:
     """Columns of equal width, one of whose bounds is the threshold, so that no column lies on both sides of it."""
     if not logarithms:
         return []

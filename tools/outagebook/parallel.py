@@ -1,17 +1,16 @@
 """Work on many books: a process for each, as many at once as processors and memory allow, with progress."""
 
-from __future__ import annotations
-
 import os
 import sys
+from collections.abc import Callable, Sequence
 from concurrent.futures import FIRST_COMPLETED, Future, ProcessPoolExecutor, wait
 from pathlib import Path
-from typing import Callable, Dict, List, Optional, Sequence, Tuple, TypeVar
+from typing import TypeVar
 
 from outagebook.errors import BookError, Differs
 
 Result = TypeVar("Result")
-Work = Callable[[str, Optional[str], str], Result]
+Work = Callable[[str, str | None, str], Result]
 
 LEAST_MEMORY = 100_000_000  # bytes that a book takes beside what grows with its file
 MEMORY_PER_BYTE = 6  # bytes of memory for each byte of a book's file and log, while it is swept
@@ -41,7 +40,7 @@ def memory_of(path: str) -> int:
     return LEAST_MEMORY + MEMORY_PER_BYTE * sum(file.stat().st_size for file in files if file.exists())
 
 
-def processes_for(paths: Sequence[str], asked: Optional[int]) -> int:
+def processes_for(paths: Sequence[str], asked: int | None) -> int:
     """How many books are worked on at once: as many as were asked for, else one a processor while memory holds them."""
     if asked is not None:
         return max(1, min(asked, len(paths)))
@@ -49,7 +48,7 @@ def processes_for(paths: Sequence[str], asked: Optional[int]) -> int:
     return max(1, min(len(os.sched_getaffinity(0)), len(paths), free_memory() // most))
 
 
-def told(work: Work[Result], path: str, table: Optional[str], program: str) -> Tuple[str, Optional[Result], str]:
+def told(work: Work[Result], path: str, table: str | None, program: str) -> tuple[str, Result | None, str]:
     """A book's result, or what was wrong with it, in a form that passes between processes."""
     try:
         return "", work(path, table, program), ""
@@ -65,7 +64,7 @@ def failure(path: str, kind: str, text: str) -> Exception:
     return DiffersIn(path, text) if kind == "differs" else BookError(told_path)
 
 
-def one_after_another(work: Work[Result], path: str, table: Optional[str], program: str) -> Result:
+def one_after_another(work: Work[Result], path: str, table: str | None, program: str) -> Result:
     """A book's result in this process."""
     kind, result, text = told(work, path, table, program)
     if result is None:
@@ -74,15 +73,15 @@ def one_after_another(work: Work[Result], path: str, table: Optional[str], progr
 
 
 def over_books(
-    work: Work[Result], paths: Sequence[str], tables: Sequence[Optional[str]], program: str, processes: Optional[int]
-) -> List[Result]:
+    work: Work[Result], paths: Sequence[str], tables: Sequence[str | None], program: str, processes: int | None
+) -> list[Result]:
     """The results of all books in their order. The first that fails ends the work, and its path is told."""
     count = processes_for(paths, processes)
     if count == 1:
         return [one_after_another(work, path, table, program) for path, table in zip(paths, tables)]
-    results: Dict[int, Result] = {}
+    results: dict[int, Result] = {}
     with ProcessPoolExecutor(count) as pool:
-        going: Dict["Future[Tuple[str, Optional[Result], str]]", int] = {
+        going: dict["Future[tuple[str, Result | None, str]]", int] = {
             pool.submit(told, work, path, table, program): place
             for place, (path, table) in enumerate(zip(paths, tables))
         }

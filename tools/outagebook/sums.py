@@ -8,27 +8,25 @@ customers are added up, and each index is its quotient of the sums: nothing is r
 are refused with the reason: another period, a district that is given twice, a customer's number that two books have.
 """
 
-from __future__ import annotations
-
 import csv
 import json
 import sys
 from array import array
 from collections import Counter, defaultdict
+from collections.abc import Iterator, Sequence
 from dataclasses import dataclass, field
 from datetime import date, timedelta
 from fractions import Fraction
 from heapq import merge
 from itertools import pairwise, repeat
 from pathlib import Path
-from typing import Dict, Iterator, List, Optional, Sequence, Set, Tuple
 
-from outagebook.cli import Words, run_job
+from outagebook.cli import Parser, run_job
 from outagebook.compare import Checked, open_book
-from outagebook.counts import Counts, decimal_text, fraction_text, indices_of, quotient, quotient_text
+from outagebook.counts import SETS, Counts, decimal_text, fraction_text, indices_of, quotient, quotient_text
 from outagebook.errors import BookError
 from outagebook.parallel import over_books
-from outagebook.rows import CAUSE, DAY, FEEDER, SETS
+from outagebook.rows import CAUSE, DAY, FEEDER
 
 
 @dataclass(frozen=True, order=True)
@@ -59,12 +57,12 @@ class District:
     length: int  # P, in seconds
     commands: int
     served_seconds: int  # S
-    causes: Dict[int, Tuple[str, int]]  # a code's name and customer-seconds
-    feeders: Dict[int, int]
-    days: Tuple[int, ...]  # customer-seconds that fall on each day
-    begun: Tuple[int, ...]  # customer-seconds of the sustained interruptions that begin on each day, whole
-    marks: Dict[int, str]
-    counts: Dict[str, Counts]
+    causes: dict[int, tuple[str, int]]  # a code's name and customer-seconds
+    feeders: dict[int, int]
+    days: tuple[int, ...]  # customer-seconds that fall on each day
+    begun: tuple[int, ...]  # customer-seconds of the sustained interruptions that begin on each day, whole
+    marks: dict[int, str]
+    counts: dict[str, Counts]
     customers: "array[int]" = field(repr=False)  # their numbers, rising
 
     @property
@@ -78,7 +76,7 @@ class CauseSum:
     """A cause of all districts, by its name, with the codes that the books have for it."""
 
     name: str
-    codes: Set[int] = field(default_factory=set)
+    codes: set[int] = field(default_factory=set)
     amount: int = 0
 
     @property
@@ -90,25 +88,25 @@ class CauseSum:
 class Sums:
     """The districts of one period, added up."""
 
-    districts: Tuple[District, ...]
+    districts: tuple[District, ...]
     period: PeriodKey
     length: int
     served_seconds: int
-    causes: Tuple[CauseSum, ...]
-    days: Tuple[int, ...]
-    begun: Tuple[int, ...]
-    marked_in: Dict[int, Tuple[str, ...]]  # the districts that mark a day
-    counts: Dict[str, Counts]
+    causes: tuple[CauseSum, ...]
+    days: tuple[int, ...]
+    begun: tuple[int, ...]
+    marked_in: dict[int, tuple[str, ...]]  # the districts that mark a day
+    counts: dict[str, Counts]
 
     @property
     def total(self) -> int:
         return sum(self.days)
 
-    def indices(self, name: str) -> Dict[str, Optional[Fraction]]:
+    def indices(self, name: str) -> dict[str, Fraction | None]:
         """The fifteen quotients of one of the two sets."""
         return indices_of(self.counts[name], self.served_seconds, self.length)
 
-    def daily_saidi(self) -> List[Optional[Fraction]]:
+    def daily_saidi(self) -> list[Fraction | None]:
         """Of each day the standard's: minutes of the sustained interruptions that begin on it, per customer served."""
         return [quotient(seconds * self.length, 60 * self.served_seconds) for seconds in self.begun]
 
@@ -148,16 +146,16 @@ def district_of(path: str, found: Checked) -> District:
     )
 
 
-def read_district(path: str, table: Optional[str], program: str) -> District:
+def read_district(path: str, table: str | None, program: str) -> District:
     """The part of the book in a file, compared first."""
     with open_book(path, table, program) as found:
         return district_of(path, found)
 
 
 def read_districts(
-    paths: Sequence[str], tables: Sequence[Optional[str]], program: str, processes: Optional[int] = None
-) -> List[District]:
-    """The parts of many books, in the order given."""
+    paths: Sequence[str], tables: Sequence[str | None], program: str, processes: int | None = None
+) -> list[District]:
+    """The parts of many books, in the order args."""
     return over_books(read_district, paths, tables, program, processes)
 
 
@@ -200,9 +198,9 @@ def add_counts(counts: Sequence[Counts]) -> Counts:
     )
 
 
-def add_causes(districts: Sequence[District]) -> Tuple[CauseSum, ...]:
+def add_causes(districts: Sequence[District]) -> tuple[CauseSum, ...]:
     """Causes by their names, in the order of their codes; those with several codes at the end."""
-    found: Dict[str, CauseSum] = {}
+    found: dict[str, CauseSum] = {}
     for each in districts:
         for code, (name, amount) in each.causes.items():
             cause = found.setdefault(name, CauseSum(name))
@@ -216,7 +214,7 @@ def add_up(districts: Sequence[District], own_numbers: bool = False) -> Sums:
     if not districts:
         raise BookError("there is no book to add up")
     refuse_strangers(districts, own_numbers)
-    marked: Dict[int, List[str]] = defaultdict(list)
+    marked: dict[int, list[str]] = defaultdict(list)
     for each in districts:
         for day in each.marks:
             marked[day].append(each.name)
@@ -289,17 +287,17 @@ DISTRICT_COLUMNS = (
 )  # fmt: skip
 
 
-def district_rows(sums: Sums) -> Iterator[List[object]]:
+def district_rows(sums: Sums) -> Iterator[list[object]]:
     """A row for each district, over its own customers served, and one for all."""
     for each in sums.districts:
         yield district_row(each.name, each.commands, add_up([each], own_numbers=True), sums.total)
     yield district_row("all", sum(each.commands for each in sums.districts), sums, sums.total)
 
 
-def district_row(name: str, commands: int, sums: Sums, total: int) -> List[object]:
+def district_row(name: str, commands: int, sums: Sums, total: int) -> list[object]:
     indices, counts = sums.indices("all"), sums.counts["all"]
     served = quotient(sums.served_seconds, sums.length)
-    row: List[object] = [name, commands, fraction_text(served), decimal_text(served), sums.total]
+    row: list[object] = [name, commands, fraction_text(served), decimal_text(served), sums.total]
     row += [decimal_text(quotient(sums.total, total)), len(sums.marked_in), counts.sustained, counts.momentary]
     for index in ("SAIFI", "SAIDI", "CAIDI"):
         row += [fraction_text(indices[index]), decimal_text(indices[index])]
@@ -317,6 +315,12 @@ def write_districts(sums: Sums) -> None:
     writer = csv.writer(sys.stdout, lineterminator="\n")
     writer.writerow(DISTRICT_COLUMNS)
     writer.writerows(district_rows(sums))
+
+
+def index_texts(sums: Sums, name: str) -> dict[str, str | int]:
+    """The quotients and the two counts of a set."""
+    texts: dict[str, str | int] = {index: fraction_text(value) for index, value in sums.indices(name).items()}
+    return texts | {"SUSTAINED": sums.counts[name].sustained, "MOMENTARY": sums.counts[name].momentary}
 
 
 def write_json(sums: Sums) -> None:
@@ -344,63 +348,58 @@ def write_json(sums: Sums) -> None:
             }
             for number, (amount, daily) in enumerate(zip(sums.days, sums.daily_saidi()))
         ],
-        "indices": {
-            name: {
-                **{index: fraction_text(value) for index, value in sums.indices(name).items()},
-                "SUSTAINED": sums.counts[name].sustained,
-                "MOMENTARY": sums.counts[name].momentary,
-            }
-            for name in SETS
-        },
+        "indices": {name: index_texts(sums, name) for name in SETS},
         "districts": [dict(zip(DISTRICT_COLUMNS, row)) for row in district_rows(sums)],
     }
     json.dump(whole, sys.stdout, indent=1)
     print()
 
 
-def add_book_words(words: Words) -> None:
+def add_book_arguments(parser: Parser) -> None:
     """The words of tools that read many books."""
-    words.add_argument("books", nargs="+", metavar="BOOK", help="the books' files; a file's name is its district's")
-    words.add_argument(
+    parser.add_argument("books", nargs="+", metavar="BOOK", help="the books' files; a file's name is its district's")
+    parser.add_argument(
         "--own-numbers", action="store_true", help="each district has customers' numbers of its own: none is compared"
     )
-    words.add_argument("--processes", type=int, metavar="N", help="how many books are read at once")
-    words.add_argument(
+    parser.add_argument("--processes", type=int, metavar="N", help="how many books are read at once")
+    parser.add_argument(
         "--table", action="append", metavar="FILE", default=[], help="a book's annual table, once for each book"
     )
-    words.add_argument("--program", metavar="PATH", default="outagebook", help="the program that prints the tables")
+    parser.add_argument("--program", metavar="PATH", default="outagebook", help="the program that prints the tables")
 
 
-def tables_given(words: Words, books: Sequence[str], tables: Sequence[str]) -> List[Optional[str]]:
+def tables_given(parser: Parser, books: Sequence[str], tables: Sequence[str]) -> list[str | None]:
     """The tables of the books, None for each where the program prints them."""
     if tables and len(tables) != len(books):
-        words.error("--table is given once for each book, in their order, or not at all")
+        parser.error("--table is given once for each book, in their order, or not at all")
     return list(tables) or [None] * len(books)
 
 
 def main() -> int:
-    words = Words(description="Adds up the books of one period, each compared with its program's table first.")
-    add_book_words(words)
-    form = words.add_mutually_exclusive_group()
-    form.add_argument("--json", dest="write", action="store_const", const=write_json, default=write_table, help="as JSON")
+    parser = Parser(description="Adds up the books of one period, each compared with its program's table first.")
+    add_book_arguments(parser)
+    form = parser.add_mutually_exclusive_group()
+    form.add_argument(
+        "--json", dest="write", action="store_const", const=write_json, default=write_table, help="as JSON"
+    )
     form.add_argument(
         "--districts", dest="write", action="store_const", const=write_districts, help="a CSV row for each district"
     )
     form.add_argument("-o", "--output", metavar="FILE", help="write a page of all books in place of the table")
-    words.add_argument("--name", default="All districts", help="what the page's heading begins with")
-    given = words.parse_args()
-    tables = tables_given(words, given.books, given.table)
-    if given.processes is not None and given.processes < 1:
-        words.error("--processes is 1 or more")
+    parser.add_argument("--name", default="All districts", help="what the page's heading begins with")
+    args = parser.parse_args()
+    tables = tables_given(parser, args.books, args.table)
+    if args.processes is not None and args.processes < 1:
+        parser.error("--processes is 1 or more")
 
     def job() -> None:
-        sums = add_up(read_districts(given.books, tables, given.program, given.processes), given.own_numbers)
-        if given.output:
+        sums = add_up(read_districts(args.books, tables, args.program, args.processes), args.own_numbers)
+        if args.output:
             from outagebook.many_pages import sums_page
             from outagebook.report import write
 
-            write(given.output, sums_page(sums, given.name))
+            write(args.output, sums_page(sums, args.name))
         else:
-            given.write(sums)
+            args.write(sums)
 
     return run_job(job)

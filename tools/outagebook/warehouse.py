@@ -10,25 +10,24 @@ warehouse has is left as it is. DSN are libpq's words (host, dbname, user); with
 so on) counts.
 """
 
-from __future__ import annotations
-
 import hashlib
 import sqlite3
 import sys
 from collections import defaultdict
+from collections.abc import Callable, Iterable, Iterator, Sequence
 from contextlib import closing
 from dataclasses import dataclass
 from functools import partial
 from pathlib import Path
-from typing import TYPE_CHECKING, Any, Callable, Dict, Iterable, Iterator, List, Optional, Sequence, Tuple, TypeAlias
+from typing import TYPE_CHECKING, Any, TypeAlias
 
-from outagebook.cli import Words, run_job
+from outagebook.cli import Parser, run_job
 from outagebook.compare import Checked, figures_of_table, open_book
 from outagebook.copies import copy_of
-from outagebook.counts import fraction_text, quotient
+from outagebook.counts import SETS
 from outagebook.errors import BookError, Differs
 from outagebook.parallel import over_books
-from outagebook.rows import CAUSE, DAY, FEEDER, SETS, Book
+from outagebook.rows import CAUSE, DAY, FEEDER, Book
 from outagebook.sums import PeriodKey, name_of, tables_given
 
 if TYPE_CHECKING:
@@ -37,9 +36,9 @@ if TYPE_CHECKING:
 VERSION = 1
 TABLES = Path(__file__).with_name("warehouse.sql")
 
-Connection: TypeAlias = "psycopg.Connection[Tuple[Any, ...]]"
-Rows = Iterable[Tuple[object, ...]]
-Steps = Dict[int, int]  # by how many the customers in service change at a second
+Connection: TypeAlias = "psycopg.Connection[tuple[Any, ...]]"
+Rows = Iterable[tuple[object, ...]]
+Steps = dict[int, int]  # by how many the customers in service change at a second
 
 
 def connected(dsn: str) -> Connection:
@@ -73,7 +72,9 @@ def check_version(connection: Connection) -> None:
         raise BookError("there is no warehouse in this database: outagebook-warehouse create makes one")
     versions = connection.execute("SELECT version FROM outagebook.version").fetchall()
     if versions != [(VERSION,)]:
-        raise BookError(f"the warehouse's tables have the version {versions}, not {VERSION}: load all books into a new one")
+        raise BookError(
+            f"the warehouse's tables have the version {versions}, not {VERSION}: load all books into a new one"
+        )
 
 
 # What a book has in the warehouse.
@@ -115,7 +116,7 @@ def add_step(steps: Steps, since: int, until: int, customers: int) -> None:
     steps[until] -= customers
 
 
-def served_between(steps: Steps, bounds: Sequence[int]) -> List[int]:
+def served_between(steps: Steps, bounds: Sequence[int]) -> list[int]:
     """The customer-seconds in service between each two bounds."""
     moments = sorted(steps)
     served, customers, place = [], 0, 0
@@ -130,9 +131,9 @@ def served_between(steps: Steps, bounds: Sequence[int]) -> List[int]:
     return served
 
 
-def month_bounds(book: Book) -> Dict[str, Tuple[int, int]]:
+def month_bounds(book: Book) -> dict[str, tuple[int, int]]:
     """The seconds of each month's part of the period, by its first day."""
-    bounds: Dict[str, Tuple[int, int]] = {}
+    bounds: dict[str, tuple[int, int]] = {}
     for number, day in enumerate(book.period.days):
         month = day.replace(day=1).isoformat()
         bounds[month] = bounds.get(month, (book.period.bounds[number], 0))[0], book.period.bounds[number + 1]
@@ -156,7 +157,7 @@ def day_rows(book: Book) -> Rows:
 
 
 def served_day_rows(book: Book) -> Rows:
-    by_feeder: Dict[int, Steps] = {each.feeder: defaultdict(int) for each in book.sections.values()}
+    by_feeder: dict[int, Steps] = {each.feeder: defaultdict(int) for each in book.sections.values()}
     for block in book.blocks:
         add_step(by_feeder[book.sections[block.section].feeder], block.since, block.until, block.customers)
     for feeder, steps in sorted(by_feeder.items()):
@@ -165,7 +166,7 @@ def served_day_rows(book: Book) -> Rows:
 
 
 def served_month_rows(book: Book) -> Rows:
-    by_section: Dict[int, Steps] = {section: defaultdict(int) for section in book.sections}
+    by_section: dict[int, Steps] = {section: defaultdict(int) for section in book.sections}
     for block in book.blocks:
         add_step(by_section[block.section], block.since, block.until, block.customers)
     months = month_bounds(book)
@@ -192,7 +193,7 @@ def interruption_rows(found: Checked) -> Rows:
         )
 
 
-def rows_of(found: Checked) -> Iterator[Tuple[str, Rows]]:
+def rows_of(found: Checked) -> Iterator[tuple[str, Rows]]:
     """The rows of each table behind the period and the district, with the names of their columns."""
     book = found.book
     yield 'counts (period_id, district, "set", sustained, sustained_seconds, momentary, with_some)', counts_rows(found)
@@ -222,7 +223,7 @@ def rows_of(found: Checked) -> Iterator[Tuple[str, Rows]]:
 
 def period_id_of(dsn: str, period: PeriodKey, seconds: int) -> int:
     """The number of a period; one that is new gets it in a transaction of its own, so that loads needn't wait for it."""
-    numbers: List[int] = []
+    numbers: list[int] = []
 
     def work(connection: Connection) -> None:
         check_version(connection)
@@ -262,9 +263,7 @@ def lock_book(connection: Connection, key: BookKey) -> None:
 
 def write_book(connection: Connection, period_id: int, key: BookKey, found: Checked) -> None:
     """All rows of a book, in place of those that the warehouse had."""
-    connection.execute(
-        "DELETE FROM outagebook.book WHERE (period_id, district) = (%s, %s)", (period_id, key.district)
-    )
+    connection.execute("DELETE FROM outagebook.book WHERE (period_id, district) = (%s, %s)", (period_id, key.district))
     total = sum(found.book.postings[CAUSE, code] for code in found.book.causes)
     connection.execute(
         "INSERT INTO outagebook.book (period_id, district, commands, digest, served_seconds, customer_seconds)"
@@ -278,7 +277,7 @@ def write_book(connection: Connection, period_id: int, key: BookKey, found: Chec
                     copy.write_row((period_id, key.district, *row))
 
 
-def load_book(path: str, table: Optional[str], program: str, dsn: str) -> str:
+def load_book(path: str, table: str | None, program: str, dsn: str) -> str:
     """Loads a book where the warehouse hasn't its commands: what was done, in words."""
     key = key_of(path)
     with connected(dsn) as connection:
@@ -288,7 +287,7 @@ def load_book(path: str, table: Optional[str], program: str, dsn: str) -> str:
     with open_book(path, table, program) as found:
         key = key_in(found.database, key.district)
         period_id = period_id_of(dsn, key.period, found.book.period.length)
-        said: List[str] = []
+        said: list[str] = []
 
         def work(connection: Connection) -> None:
             lock_book(connection, key)
@@ -309,10 +308,10 @@ def load_book(path: str, table: Optional[str], program: str, dsn: str) -> str:
 INDEX_COLUMNS = {"SAIFI": "saifi", "SAIDI": "saidi", "CAIDI": "caidi", "CAIFI": "caifi", "ASAI": "asai"}
 
 
-def said_by_views(connection: Connection, key: BookKey) -> Dict[str, str]:
+def said_by_views(connection: Connection, key: BookKey) -> dict[str, str]:
     """What the views say of a book, by the lines of its annual table."""
     words = (key.period.first, key.period.days, key.period.zone, key.district)
-    figures: Dict[str, str] = {}
+    figures: dict[str, str] = {}
     rows = connection.execute(
         'SELECT "set", sustained, momentary, saifi, saifi_3, saidi, saidi_3, caidi, caidi_3, caifi, caifi_3, asai, asai_3,'
         " cemi, cemi_3 FROM outagebook.district WHERE (first_day, days, zone, district) = (%s, %s, %s, %s)",
@@ -331,7 +330,7 @@ def index_text(fraction: str, decimals: object) -> str:
     return fraction if decimals is None else f"{fraction} {decimals}"
 
 
-def sums_of_rows(connection: Connection, key: BookKey) -> Dict[str, str]:
+def sums_of_rows(connection: Connection, key: BookKey) -> dict[str, str]:
     """Sums of a book's rows by other ways than its counts."""
     rows = connection.execute(
         """
@@ -376,12 +375,10 @@ def compare_views(connection: Connection, key: BookKey, found: Checked) -> None:
     for said, program in ((said_by_views(connection, key), table), (sums_of_rows(connection, key), wanted)):
         for which in {**said, **program}:
             if said.get(which) != program.get(which):
-                raise Differs(
-                    f"{which} in the warehouse", said.get(which, "nothing"), program.get(which, "nothing")
-                )
+                raise Differs(f"{which} in the warehouse", said.get(which, "nothing"), program.get(which, "nothing"))
 
 
-def compare_book(path: str, table: Optional[str], program: str, dsn: str) -> str:
+def compare_book(path: str, table: str | None, program: str, dsn: str) -> str:
     """Compares a book with what the warehouse has of it, without loading: in words."""
     with open_book(path, table, program) as found, connected(dsn) as connection:
         check_version(connection)
@@ -395,7 +392,7 @@ def compare_book(path: str, table: Optional[str], program: str, dsn: str) -> str
 # The other jobs.
 
 
-def create(dsn: str, reader: Optional[str]) -> None:
+def create(dsn: str, reader: str | None) -> None:
     """Makes the tables and views, and lets a role read them."""
 
     def work(connection: Connection) -> None:
@@ -447,48 +444,47 @@ def drop(dsn: str, district: str, first: str) -> None:
     print(f"dropped {district} from {first}")
 
 
-def each_book(work: Callable[..., str], words: Words, given: Any) -> None:
+def each_book(work: Callable[..., str], parser: Parser, args: Any) -> None:
     """Loads or compares books, side by side; what was done to each is printed in their order."""
-    tables = tables_given(words, given.books, given.table)
-    for line in over_books(partial(work, dsn=given.dsn), given.books, tables, given.program, given.processes):
+    tables = tables_given(parser, args.books, args.table)
+    for line in over_books(partial(work, dsn=args.dsn), args.books, tables, args.program, args.processes):
         print(line)
 
 
-def words_of() -> Tuple[Words, Any]:
-    words = Words(description="Copies compared books into PostgreSQL, for reading.")
-    words.set_defaults(job=None)
-    jobs = words.add_subparsers(metavar="JOB", required=True, parser_class=Words)
+def arguments() -> tuple[Parser, Any]:
+    parser = Parser(description="Copies compared books into PostgreSQL, for reading.")
+    jobs = parser.add_subparsers(metavar="JOB", required=True, parser_class=Parser)
 
-    def job(name: str, help_text: str) -> Words:
-        parser: Words = jobs.add_parser(name, help=help_text, description=help_text)
+    def job(name: str, help_text: str) -> Parser:
+        one: Parser = jobs.add_parser(name, help=help_text, description=help_text)
         parser.add_argument("--dsn", default="", help="where the database is, in libpq's words")
         parser.set_defaults(job=name)
         return parser
 
     job("create", "makes the tables and views").add_argument("--reader", metavar="ROLE", help="a role that only reads")
     for name, text in (("load", "loads books that changed"), ("compare", "compares books with the warehouse")):
-        parser = job(name, text)
-        parser.add_argument("books", nargs="+", metavar="BOOK", help="the books' files; a file's name is its district's")
-        parser.add_argument("--processes", type=int, metavar="N", help="how many books are read at once")
-        parser.add_argument("--table", action="append", metavar="FILE", default=[], help="the books' annual tables")
-        parser.add_argument("--program", metavar="PATH", default="outagebook", help="what prints the tables")
+        one = job(name, text)
+        one.add_argument("books", nargs="+", metavar="BOOK", help="the books' files; a file's name is its district's")
+        one.add_argument("--processes", type=int, metavar="N", help="how many books are read at once")
+        one.add_argument("--table", action="append", metavar="FILE", default=[], help="the books' annual tables")
+        one.add_argument("--program", metavar="PATH", default="outagebook", help="what prints the tables")
     job("list", "lists the books")
     dropping = job("drop", "takes a district's book out")
     dropping.add_argument("district", help="the district")
     dropping.add_argument("--first", required=True, metavar="DAY", help="the first day of the book's period")
-    return words, words.parse_args()
+    return parser, parser.parse_args()
 
 
 def main() -> int:
-    words, given = words_of()
-    jobs: Dict[str, Callable[[], None]] = {
-        "create": lambda: create(given.dsn, given.reader),
-        "load": lambda: each_book(load_book, words, given),
-        "compare": lambda: each_book(compare_book, words, given),
-        "list": lambda: list_books(given.dsn),
-        "drop": lambda: drop(given.dsn, given.district, given.first),
+    parser, args = arguments()
+    jobs: dict[str, Callable[[], None]] = {
+        "create": lambda: create(args.dsn, args.reader),
+        "load": lambda: each_book(load_book, parser, args),
+        "compare": lambda: each_book(compare_book, parser, args),
+        "list": lambda: list_books(args.dsn),
+        "drop": lambda: drop(args.dsn, args.district, args.first),
     }
-    return run_job(jobs[given.job])
+    return run_job(jobs[args.job])
 
 
 if __name__ == "__main__":

@@ -11,16 +11,15 @@ and their periods are printed. With --texts FOLDER gets the books of texts inste
 of its period, its days and its zone, by spaces; a book has its text's name.
 """
 
-from __future__ import annotations
-
 import argparse
 import csv
 import random
 import sqlite3
 import sys
+from collections.abc import Iterator
 from contextlib import closing
 from pathlib import Path
-from typing import Any, Dict, Iterator, List, Tuple
+from typing import Any
 
 ROOT = Path(__file__).resolve().parent.parent.parent
 sys.path[:0] = [str(ROOT / "oracle"), str(ROOT / "benches")]
@@ -31,13 +30,13 @@ from plain_office import TABLES  # noqa: E402
 from state import Period  # noqa: E402
 
 PARTS = ("a", "b")
-Device = Tuple[str, str, str]  # its name and its ends
+Device = tuple[str, str, str]  # its name and its ends
 
 
 class Groups:
     """Nodes that belong together."""
 
-    def __init__(self, nodes: List[str]) -> None:
+    def __init__(self, nodes: list[str]) -> None:
         self.group = {node: {node} for node in nodes}
 
     def join(self, a: str, b: str) -> None:
@@ -56,7 +55,7 @@ class Cut:
         for device in whole.devices.values():
             if "GRID" not in device.ends and not (with_ties and device.normal == "open"):
                 groups.join(*device.ends)
-        self.part: Dict[str, str] = {}
+        self.part: dict[str, str] = {}
         for node in nodes:
             if node not in self.part:
                 part = rng.choice(PARTS)
@@ -64,20 +63,20 @@ class Cut:
         self.ends = {device.name: device.ends for device in whole.devices.values()}
         self.customers = {number: section for number, (section, _, _) in whole.customers.items()}
 
-    def parts_of(self, device: str) -> List[str]:
+    def parts_of(self, device: str) -> list[str]:
         return sorted({self.part[node] for node in self.ends[device] if node != "GRID"})
 
-    def ties(self) -> Iterator[List[str]]:
+    def ties(self) -> Iterator[list[str]]:
         """The rows of the list of ties, as a cut writes them."""
         for name, (a, b) in self.ends.items():
             if len(self.parts_of(name)) == 2:
                 yield [name, self.part[a], a, self.part[b], b]
 
 
-def said_to(cut: Cut, part: str, commands: List[Tuple[str, str]]) -> Iterator[List[str]]:
+def said_to(cut: Cut, part: str, commands: list[tuple[str, str]]) -> Iterator[list[str]]:
     """The rows of a part: those of all commands that concern it, with entries by their numbers in it."""
-    devices: List[str] = []  # of the whole's entries
-    number_of: Dict[int, int] = {}
+    devices: list[str] = []  # of the whole's entries
+    number_of: dict[int, int] = {}
     for ref, body in commands:
         kind, *fields = body.split(" ")
         if kind in ("bus", "section"):
@@ -104,7 +103,7 @@ def said_to(cut: Cut, part: str, commands: List[Tuple[str, str]]) -> Iterator[Li
         yield [kind, ref, *fields, *[""] * (6 - len(fields))]
 
 
-def book_of(period: Tuple[str, int, str], rows: List[List[str]]) -> Any:
+def book_of(period: tuple[str, int, str], rows: list[list[str]]) -> Any:
     """The model's book of some rows, none of which is refused."""
     book = Book(Period(*period), keeps_moves=False)
     for row in rows:
@@ -112,7 +111,7 @@ def book_of(period: Tuple[str, int, str], rows: List[List[str]]) -> Any:
     return book
 
 
-def write(book: Any, rows: List[List[str]], path: Path) -> None:
+def write(book: Any, rows: list[list[str]], path: Path) -> None:
     """A book's file, its rows and its annual table."""
     with closing(sqlite3.connect(f"{path}.db")) as database:
         database.execute("PRAGMA journal_mode = wal")
@@ -128,7 +127,7 @@ def write(book: Any, rows: List[List[str]], path: Path) -> None:
     Path(f"{path}.table.txt").write_text(lines, encoding="ascii")
 
 
-def rows_of(commands: List[Tuple[str, str]]) -> Iterator[List[str]]:
+def rows_of(commands: list[tuple[str, str]]) -> Iterator[list[str]]:
     for ref, body in commands:
         kind, *fields = body.split(" ")
         fields = ["" if field == "-" else field for field in fields]
@@ -144,7 +143,9 @@ def add_ties(whole: Any, rng: random.Random) -> None:
         whole.act(["device", f"NEW-{tie}", tie, *rng.sample(nodes, 2), "open", "", ""])
         for turn in range(rng.randint(0, 4)):
             second = rng.randrange(period.first, period.end)
-            whole.act(["switch", f"{tie}-{turn}", tie, "open" if turn % 2 else "close", str(second), str(code), "K9", ""])
+            whole.act(
+                ["switch", f"{tie}-{turn}", tie, "open" if turn % 2 else "close", str(second), str(code), "K9", ""]
+            )
 
 
 def make(folder: Path, seed: int, with_ties: bool) -> None:

@@ -3,18 +3,16 @@
 OUTAGEBOOK_LONG=1 takes 200 networks in place of 60.
 """
 
-from __future__ import annotations
-
 import atexit
 import os
 import shutil
 import subprocess
 import sys
 import tempfile
+from collections.abc import Iterable, Sequence
 from contextlib import ExitStack
 from functools import lru_cache
 from pathlib import Path
-from typing import Dict, Iterable, List, Sequence, Tuple
 
 TESTS = Path(__file__).resolve().parent
 TOOLS = TESTS.parent
@@ -57,13 +55,13 @@ def table_of(book: Path) -> Path:
     return book.with_name(f"{book.stem}.table.txt")
 
 
-def parts_of(where: Path, seed: int) -> List[Path]:
+def parts_of(where: Path, seed: int) -> list[Path]:
     return [where / f"{seed}-{part}.db" for part in ("a", "b")]
 
 
-def figures_of(lines: Iterable[str]) -> Dict[str, str]:
+def figures_of(lines: Iterable[str]) -> dict[str, str]:
     """What an annual table says; a feeder's lines, which a sum has for each district, are added up."""
-    feeders: Dict[str, int] = {}
+    feeders: dict[str, int] = {}
     others = []
     for line in lines:
         words = line.split()
@@ -74,7 +72,7 @@ def figures_of(lines: Iterable[str]) -> Dict[str, str]:
     return {**figures_of_table(others), **{f"feeder {feeder}": str(amount) for feeder, amount in feeders.items()}}
 
 
-def books_of(name: str, texts: Dict[str, Sequence[str]], period: Tuple[str, int, str] = FORTNIGHT) -> Dict[str, Path]:
+def books_of(name: str, texts: dict[str, Sequence[str]], period: tuple[str, int, str] = FORTNIGHT) -> dict[str, Path]:
     """The books of some texts, by their names: each is rows without the header."""
     where = folder() / name
     where.mkdir(parents=True)
@@ -103,13 +101,13 @@ def run(tool: str, *words: object, **environment: str) -> "subprocess.CompletedP
     return subprocess.run(command, capture_output=True, text=True, check=False, env={**os.environ, **environment})
 
 
-def with_tables(books: Iterable[Path]) -> List[str]:
+def with_tables(books: Iterable[Path]) -> list[str]:
     """The words that name some made books, and their tables."""
     listed = list(books)
     return [*map(str, listed), *(word for book in listed for word in ("--table", str(table_of(book))))]
 
 
-def district_rows(prefix: str, customer: int, feeder: int = 1, code: int = 3) -> List[str]:
+def district_rows(prefix: str, customer: int, feeder: int = 1, code: int = 3) -> list[str]:
     """A small district: a bus, two sections with a device each, three customers, a sustained and a momentary outage."""
     p = prefix
     return [

@@ -6,23 +6,21 @@ The server listens on a socket in its folder and nowhere else. PostgreSQL doesn'
 of Debian's package runs it.
 """
 
-from __future__ import annotations
-
 import os
 import shutil
 import subprocess
 import sys
 import tempfile
 import time
+from collections.abc import Iterator
 from contextlib import contextmanager
 from pathlib import Path
-from typing import Dict, Iterator, List, Optional
 
 PLACES = sorted(Path("/usr/lib/postgresql").glob("*/bin"), key=lambda place: int(place.parent.name))
 STARTS_IN = 60  # seconds
 
 
-def missing() -> Optional[str]:
+def missing() -> str | None:
     """Why there can be no server, where there can't."""
     if not PLACES:
         return "Debian's package postgresql isn't installed"
@@ -33,12 +31,12 @@ def missing() -> Optional[str]:
     return None
 
 
-def as_postgres(words: List[str]) -> List[str]:
+def as_postgres(words: list[str]) -> list[str]:
     return ["runuser", "-u", "postgres", "--", *words] if os.geteuid() == 0 else words
 
 
 @contextmanager
-def server() -> Iterator[Dict[str, str]]:
+def server() -> Iterator[dict[str, str]]:
     """A new server, ended with the block: what libpq's environment has to say to reach it."""
     folder = Path(tempfile.mkdtemp(prefix="outagebook-pg-"))
     try:

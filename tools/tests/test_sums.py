@@ -1,13 +1,10 @@
 """Books added up: the sums of the parts of a network are the whole's, line by line; books that don't belong together."""
 
-from __future__ import annotations
-
 import json
 import unittest
 from functools import lru_cache
 from html.parser import HTMLParser
 from pathlib import Path
-from typing import Dict, List
 
 import many_books
 from many_books import books_of, cut_networks, district_rows, figures_of, parts_of, run, table_of, with_tables
@@ -21,7 +18,7 @@ def district_in(book: Path) -> District:
     return read_district(str(book), str(table_of(book)), "")
 
 
-def sums_of(books: List[Path], own_numbers: bool = False) -> Sums:
+def sums_of(books: list[Path], own_numbers: bool = False) -> Sums:
     """The sums of made books."""
     return add_up([district_in(book) for book in books], own_numbers)
 
@@ -63,7 +60,7 @@ class PartsOfANetwork(unittest.TestCase):
 
 
 class BooksThatDontBelongTogether(unittest.TestCase):
-    books: Dict[str, Path] = {}
+    books: dict[str, Path] = {}
 
     @classmethod
     def setUpClass(cls) -> None:
@@ -81,7 +78,7 @@ class BooksThatDontBelongTogether(unittest.TestCase):
         cls.books |= books_of("elsewhen", {"later": []}, ("2025-04-07", 14, many_books.FORTNIGHT[2]))
         cls.books |= books_of("elsewhere", {"utc": []}, ("2025-03-24", 14, "UTC0"))
 
-    def of(self, *names: str) -> List[Path]:
+    def of(self, *names: str) -> list[Path]:
         return [self.books[name] for name in names]
 
     def test_other_periods_and_zones(self) -> None:
@@ -153,7 +150,7 @@ class Nested(HTMLParser):
 
     def __init__(self) -> None:
         super().__init__()
-        self.open: List[str] = []
+        self.open: list[str] = []
 
     def handle_starttag(self, tag: str, attrs: object) -> None:
         if tag not in ("meta", "line", "rect", "path", "br"):

@@ -1,7 +1,5 @@
 """The warehouse in a real PostgreSQL: what its views say is what the tools say; loads that are cut off, or meet."""
 
-from __future__ import annotations
-
 import signal
 import subprocess
 import sys
@@ -12,7 +10,7 @@ from contextlib import ExitStack
 from datetime import date, timedelta
 from fractions import Fraction
 from pathlib import Path
-from typing import Any, Dict, List, Optional, Tuple
+from typing import Any
 
 import many_books
 import own_postgres
@@ -24,7 +22,7 @@ from outagebook.sums import PeriodKey, Sums, add_up, district_of
 
 SEEDS = range(1, 13)  # whose parts are loaded; other seeds have the same periods, so districts add up
 server = ExitStack()
-environment: Dict[str, str] = {}
+environment: dict[str, str] = {}
 
 
 def setUpModule() -> None:
@@ -38,41 +36,41 @@ def tearDownModule() -> None:
     server.close()
 
 
-def database(name: str) -> Dict[str, str]:
+def database(name: str) -> dict[str, str]:
     """A new database of the server."""
     execute(environment, f"CREATE DATABASE {name}", autocommit=True)
     return {**environment, "PGDATABASE": name}
 
 
-def connect(where: Dict[str, str], autocommit: bool = False) -> Any:
+def connect(where: dict[str, str], autocommit: bool = False) -> Any:
     import psycopg
 
     words = {"host": where["PGHOST"], "user": where["PGUSER"], "dbname": where["PGDATABASE"]}
     return psycopg.connect(**words, autocommit=autocommit)  # type: ignore[arg-type]
 
 
-def execute(where: Dict[str, str], statement: str, autocommit: bool = False) -> List[Tuple[Any, ...]]:
+def execute(where: dict[str, str], statement: str, autocommit: bool = False) -> list[tuple[Any, ...]]:
     """The rows of a statement in a connection of its own."""
     with connect(where, autocommit) as connection:
         cursor = connection.execute(statement)
         return cursor.fetchall() if cursor.description else []
 
 
-def rows_by_name(where: Dict[str, str], statement: str) -> List[Dict[str, Any]]:
+def rows_by_name(where: dict[str, str], statement: str) -> list[dict[str, Any]]:
     with connect(where) as connection:
         cursor = connection.execute(statement)
         names = [column.name for column in cursor.description]
         return [dict(zip(names, row)) for row in cursor]
 
 
-def warehouse(where: Dict[str, str], *words: object) -> "subprocess.CompletedProcess[str]":
+def warehouse(where: dict[str, str], *words: object) -> "subprocess.CompletedProcess[str]":
     return run("warehouse", *words, **where)
 
 
 class Views(unittest.TestCase):
     """What every view says is what the tools say of the same books."""
 
-    where: Dict[str, str] = {}
+    where: dict[str, str] = {}
 
     @classmethod
     def setUpClass(cls) -> None:
@@ -83,26 +81,26 @@ class Views(unittest.TestCase):
         if [each.returncode for each in done] != [0, 0]:
             raise AssertionError(done)
 
-    def view(self, name: str, **conditions: object) -> List[Dict[str, Any]]:
+    def view(self, name: str, **conditions: object) -> list[dict[str, Any]]:
         """The rows of a view, with words that a fraction and its decimals make together."""
         where = " AND ".join([f"{column} = '{value}'" for column, value in conditions.items()] or ["true"])
         return rows_by_name(self.where, f"SELECT * FROM outagebook.{name} WHERE {where}")
 
-    def by_period(self) -> Dict[PeriodKey, Sums]:
-        found: Dict[PeriodKey, List[Any]] = defaultdict(list)
+    def by_period(self) -> dict[PeriodKey, Sums]:
+        found: dict[PeriodKey, list[Any]] = defaultdict(list)
         for book in self.books:
             district = district_of(str(book), opened(book))
             found[district.period].append(district)
         return {period: add_up(districts, own_numbers=True) for period, districts in found.items()}
 
-    def assert_indices(self, row: Dict[str, Any], shown: Dict[str, Any]) -> None:
+    def assert_indices(self, row: dict[str, Any], shown: dict[str, Any]) -> None:
         """SAIFI, SAIDI and CAIDI with their decimals, and the counts, are those of a row of figures."""
         for name in ("sustained", "momentary", "saifi", "saifi_3", "saidi", "saidi_3", "caidi", "caidi_3"):
             value = "" if row[name] is None else str(row[name])
             self.assertEqual(value, str(shown[name]), (name, row, shown))
         self.assertEqual(row["sustained_seconds"], shown["sustained_customer_seconds"])
 
-    def shown(self, book: Path, name: str) -> List[Dict[str, Any]]:
+    def shown(self, book: Path, name: str) -> list[dict[str, Any]]:
         found = figures.FIGURES[name](opened(book))
         return [dict(zip(found.columns, row)) for row in found.rows]
 
@@ -114,7 +112,9 @@ class Views(unittest.TestCase):
             for each in sums.districts:
                 districts += 1
                 one = add_up([each])
-                wholes += [(self.view("district", **when, district=each.name, set=name), one, name) for name in one.counts]
+                wholes += [
+                    (self.view("district", **when, district=each.name, set=name), one, name) for name in one.counts
+                ]
             for rows, expected, name in wholes:
                 (row,) = rows
                 for index, value in expected.indices(name).items():
@@ -148,7 +148,9 @@ class Views(unittest.TestCase):
         for period, sums in self.by_period().items():
             when = {"first_day": period.first, "days": period.days, "zone": period.zone}
             causes = {row["cause"]: row for row in self.view("causes", **when, set="all")}
-            self.assertEqual({c.name: c.amount for c in sums.causes}, {n: r["customer_seconds"] for n, r in causes.items()})
+            self.assertEqual(
+                {c.name: c.amount for c in sums.causes}, {n: r["customer_seconds"] for n, r in causes.items()}
+            )
             if sums.served_seconds:
                 saidi = sum(Fraction(row["saidi"]) for row in causes.values())
                 self.assertEqual(saidi, sums.indices("all")["SAIDI"])
@@ -164,7 +166,7 @@ class Views(unittest.TestCase):
                 self.assertEqual(whole["saifi"], fraction_text(sums.indices(name)["SAIFI"]))
             self.assert_ranges(period, sums)
 
-    def between(self, period: PeriodKey, since: date, until: date, name: str) -> Dict[str, Any]:
+    def between(self, period: PeriodKey, since: date, until: date, name: str) -> dict[str, Any]:
         rows = rows_by_name(self.where, f"SELECT * FROM outagebook.between('{since}', '{until}')")
         key = period.first, period.days, period.zone, since, until, name
         names = ("first_day", "days", "zone", "since", "until", "set")
@@ -202,7 +204,16 @@ class Fractions(unittest.TestCase):
     def test_fractions_are_in_lowest_terms_and_exact(self) -> None:
         where = database("fractions")
         warehouse(where, "create")
-        cases = [(0, 0), (0, 7), (6, 4), (10**30, 3 * 10**29), (2**70, 2**68 * 3), (1, 2_000), (1, 2_001), (7, 1)]
+        cases = [
+            (0, 0),
+            (0, 7),
+            (6, 4),
+            (10**30, 3 * 10**29),
+            (2**70, 2**68 * 3),
+            (1, 2_000),
+            (1, 2_001),
+            (7, 1),
+        ]
         for numerator, denominator in cases:
             ((fraction, decimals),) = execute(
                 where,
@@ -216,8 +227,8 @@ class Fractions(unittest.TestCase):
 class Loading(unittest.TestCase):
     """Loads of a book that changes, that is cut off, that meets another."""
 
-    books: Dict[str, Path] = {}
-    where: Dict[str, str] = {}
+    books: dict[str, Path] = {}
+    where: dict[str, str] = {}
 
     @classmethod
     def setUpClass(cls) -> None:
@@ -235,7 +246,7 @@ class Loading(unittest.TestCase):
         self.assertEqual((done.returncode, done.stderr), (0, ""))
         return done.stdout
 
-    def sizes(self) -> Dict[str, int]:
+    def sizes(self) -> dict[str, int]:
         """How many rows each table has."""
         names = ["book", "counts", "cause", "feeder", "section", "day", "served_day", "served_month", "interruption"]
         return {name: execute(self.where, f"SELECT count(*) FROM outagebook.{name}")[0][0] for name in names}
@@ -249,14 +260,17 @@ class Loading(unittest.TestCase):
         self.assertEqual(self.load(self.later), "north: loaded, 16 commands, 3 interruptions\n")
         self.assertEqual(self.sizes(), sizes)
         self.assertEqual(
-            execute(self.where, 'SELECT "set", sustained FROM outagebook.company ORDER BY 1'), [("all", 4), ("unmarked", 0)]
+            execute(self.where, 'SELECT "set", sustained FROM outagebook.company ORDER BY 1'),
+            [("all", 4), ("unmarked", 0)],
         )
         behind = warehouse(self.where, "compare", *with_tables([self.books["north"]]))
         self.assertEqual(behind.returncode, 1)
         self.assertIn("load it", behind.stderr)
         self.load(self.books["south"])
         listed = warehouse(self.where, "list").stdout.splitlines()
-        self.assertEqual([line.split()[5:] for line in listed], [["north", "16", "commands"], ["south", "14", "commands"]])
+        self.assertEqual(
+            [line.split()[5:] for line in listed], [["north", "16", "commands"], ["south", "14", "commands"]]
+        )
         self.assertEqual(warehouse(self.where, "drop", "north", "--first", "2025-03-24").returncode, 0)
         self.assertEqual(self.sizes(), sizes)
         again = warehouse(self.where, "drop", "north", "--first", "2025-03-24")
@@ -272,7 +286,9 @@ class Loading(unittest.TestCase):
 
     def test_a_table_that_differs_loads_nothing(self) -> None:
         wrong = many_books.folder() / "warehouse-wrong.txt"
-        wrong.write_text(table_of(self.books["north"]).read_text().replace("SUSTAINED all      3", "SUSTAINED all      4"))
+        wrong.write_text(
+            table_of(self.books["north"]).read_text().replace("SUSTAINED all      3", "SUSTAINED all      4")
+        )
         done = warehouse(self.where, "load", self.books["north"], "--table", wrong)
         self.assertEqual((done.returncode, done.stdout), (2, ""))
         self.assertEqual(self.sizes()["book"], 0)
@@ -294,7 +310,11 @@ class Loading(unittest.TestCase):
         """A load that goes on beside the test."""
         command = [sys.executable, str(TOOLS / "warehouse.py"), "load", *with_tables(books), "--processes", "1"]
         return subprocess.Popen(
-            command, stdout=subprocess.PIPE, stderr=subprocess.PIPE, text=True, env={**many_books.os.environ, **self.where}
+            command,
+            stdout=subprocess.PIPE,
+            stderr=subprocess.PIPE,
+            text=True,
+            env={**many_books.os.environ, **self.where},
         )
 
     def wait_until_blocked(self, count: int = 1) -> None:
@@ -312,7 +332,9 @@ class Loading(unittest.TestCase):
         for is_first in (True, False):
             before = self.sizes()
             with connect(self.where) as holder:
-                holder.execute("LOCK TABLE outagebook.served_month IN ACCESS EXCLUSIVE MODE")  # the load gets as far as this
+                holder.execute(
+                    "LOCK TABLE outagebook.served_month IN ACCESS EXCLUSIVE MODE"
+                )  # the load gets as far as this
                 child = self.begin(self.books["north"] if is_first else self.later)
                 self.wait_until_blocked()
                 child.send_signal(signal.SIGKILL)
@@ -360,7 +382,11 @@ class Roles(unittest.TestCase):
             connection.execute("SET ROLE clerk")
             connection.execute("SELECT * FROM outagebook.company")
             connection.execute("SELECT * FROM outagebook.between('2025-01-01', '2025-12-31')")
-            for statement in ("DELETE FROM outagebook.book", "INSERT INTO outagebook.version VALUES (2)", "CREATE TABLE outagebook.x ()"):
+            for statement in (
+                "DELETE FROM outagebook.book",
+                "INSERT INTO outagebook.version VALUES (2)",
+                "CREATE TABLE outagebook.x ()",
+            ):
                 with self.assertRaises(psycopg.errors.InsufficientPrivilege), connection.transaction():
                     connection.execute(statement)
 
