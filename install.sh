@@ -29,8 +29,8 @@ put() { # MODE FILE PLACE
 }
 
 put 755 "$program" bin/outagebook
-for module in clock tool charts; do
-    put 644 "$here/tools/$module.py" "lib/outagebook/$module.py"
+(cd "$here/tools" && find outagebook -name '*.py') | sort | while read -r module; do
+    put 644 "$here/tools/$module" "lib/outagebook/$module"
 done
 for tool in book figures report years next_year commands from_oms; do
     case $tool in

@@ -4,34 +4,28 @@ definitions, second by second and customer by customer."""
 import random
 import unittest
 from collections import Counter
+from collections.abc import Iterable, Iterator, Sequence
 from datetime import date
 
-from book import (
-    CAUSE,
-    DAY,
-    FEEDER,
-    Block,
-    Book,
-    Device,
-    Entry,
-    Period,
-    Section,
-    amounts_of,
-    counts_of,
-    interruptions_of,
-    sweep,
-)
-from clock import Zone
+from outagebook.counts import amounts_of, counts_of
+from outagebook.rows import CAUSE, DAY, FEEDER, Block, Book, Device, Entry, Period, Section
+from outagebook.sweep import Run, interruptions_of, sweep
+from outagebook.zone import Zone
 
 FIRST, END = 1_000, 1_060
 PERIOD = Period(Zone("UTC0"), (date(1970, 1, 1), date(1970, 1, 2)), (FIRST, FIRST + 30, END))
 BOOKS = 500
 
+Wanted = tuple[int, int, int, Entry | None]  # of a run: section, since, until, cutter
 
-def drawn(seed):
+
+def drawn(seed: int) -> Book:
     """A book from a seed."""
     rng = random.Random(f"lives {seed}")
-    second = lambda: rng.choice([FIRST, FIRST + 1, END - 1, rng.randrange(FIRST, END), rng.randrange(FIRST, END)])
+
+    def second() -> int:
+        return rng.choice([FIRST, FIRST + 1, END - 1, rng.randrange(FIRST, END), rng.randrange(FIRST, END)])
+
     nodes = rng.randint(2, 6)
     devices = []
     for number in range(rng.randint(1, 8)):
@@ -56,7 +50,7 @@ def drawn(seed):
         for number in range(1, rng.randint(1, 14))
     )
     sections = {node: Section(node, f"S{node}", rng.randint(1, 2)) for node in range(1, nodes) if rng.random() < 0.8}
-    services = Counter()
+    services: Counter[tuple[int, int, int]] = Counter()
     for node in sections:
         for _ in range(rng.randint(0, 3)):
             since = rng.choice([FIRST, FIRST, second()])
@@ -76,7 +70,7 @@ def drawn(seed):
     )
 
 
-def supplied(book, entries, moment):
+def supplied(book: Book, entries: Iterable[Entry], moment: int) -> set[int]:
     """The nodes that a walk of closed devices joins to GRID under some entries at a moment."""
     closed = []
     for device in book.devices:
@@ -90,11 +84,11 @@ def supplied(book, entries, moment):
     return reached
 
 
-def upto(book, second):
+def upto(book: Book, second: int) -> list[Entry]:
     return [entry for entry in book.entries if entry.is_kept and entry.second <= second]
 
 
-def cutter(book, section, begin):
+def cutter(book: Book, section: int, begin: int) -> Entry | None:
     """The last entry of a run's first second before which the section is supplied and after which it isn't."""
     taken, found = upto(book, begin - 1), None
     for entry in sorted(upto(book, begin), key=lambda entry: entry.number):
@@ -106,7 +100,7 @@ def cutter(book, section, begin):
     return found
 
 
-def runs_of(book):
+def runs_of(book: Book) -> Iterator[Wanted]:
     """The runs of all sections by their definition: section, since, until, cutter."""
     at = {second: supplied(book, upto(book, second), second) for second in range(FIRST, END)}
     for section in book.sections:
@@ -118,8 +112,8 @@ def runs_of(book):
 
 
 class Lives(unittest.TestCase):
-    def test_the_sweep_is_the_definition(self):
-        kinds = Counter()
+    def test_the_sweep_is_the_definition(self) -> None:
+        kinds: Counter[str] = Counter()
         for seed in range(BOOKS):
             book = drawn(seed)
             wanted = sorted(runs_of(book), key=lambda run: (run[1], run[0]))
@@ -133,9 +127,9 @@ class Lives(unittest.TestCase):
             )
         self.assertGreater(min(kinds["cut"], kinds["by a life"], kinds["from the first second"]), 30, kinds)
 
-    def check_amounts(self, book, wanted, runs):
+    def check_amounts(self, book: Book, wanted: Sequence[Wanted], runs: Sequence[Run]) -> None:
         """One for each second and each customer in service without supply."""
-        amounts = Counter()
+        amounts: Counter[tuple[int, int]] = Counter()
         for section, since, until, entry in wanted:
             for second in range(since, until):
                 customers = sum(
@@ -151,7 +145,7 @@ class Lives(unittest.TestCase):
             {key: amount for key, amount in found.items() if amount}, {k: a for k, a in amounts.items() if a}
         )
 
-    def check_counts(self, book, wanted, runs):
+    def check_counts(self, book: Book, wanted: Sequence[Wanted], runs: Sequence[Run]) -> None:
         """All interruptions here are momentary: their number, and that of those that don't begin on the marked day."""
         number = unmarked = 0
         for block in book.blocks:
@@ -162,7 +156,3 @@ class Lives(unittest.TestCase):
                     unmarked += block.customers if not (book.marks and begin >= FIRST + 30) else 0
         counts = [counts_of(book, runs, name) for name in (False, True)]
         self.assertEqual([(each.momentary, each.sustained) for each in counts], [(number, 0), (unmarked, 0)])
-
-
-if __name__ == "__main__":
-    unittest.main()

@@ -5,30 +5,36 @@ import csv
 import io
 import json
 import unittest
+from collections.abc import Callable, Iterator
 from fractions import Fraction
 from html.parser import HTMLParser
+from typing import Any
 
-import figures
-import support
-from book import SETS
-from report import page
+from outagebook import figures
+from outagebook.compare import Checked
+from outagebook.counts import SETS
+from outagebook.report import page
+from tests import support
+
+Attributes = list[tuple[str, str | None]]
+Row = dict[str, Any]  # a figure's values by their columns
 
 
-def rows_of(shown):
+def rows_of(shown: figures.Figures) -> list[Row]:
     return [dict(zip(shown.columns, row)) for row in shown.rows]
 
 
-def fraction(text):
+def fraction(text: str) -> Fraction:
     return Fraction(0) if text == "undefined" else Fraction(text)
 
 
 class Fortnight(unittest.TestCase):
     """What docs/TUTORIAL.md says of the sample fortnight."""
 
-    def rows(self, name):
+    def rows(self, name: str) -> list[Row]:
         return rows_of(figures.FIGURES[name](support.opened(support.fortnight())))
 
-    def test_the_tree(self):
+    def test_the_tree(self) -> None:
         tree = [row for row in self.rows("interruptions") if row["cause_name"] == "TREE"]
         self.assertEqual(
             [(row["section"], row["seconds"], row["customers"]) for row in tree],
@@ -38,11 +44,11 @@ class Fortnight(unittest.TestCase):
         self.assertEqual({row["device"] for row in tree}, {"CB-1"})
         self.assertEqual(tree[0]["since"], "2025-03-27T14:22:10+01:00")
 
-    def test_what_is_momentary(self):
+    def test_what_is_momentary(self) -> None:
         momentary = [row for row in self.rows("interruptions") if row["class"] == "momentary"]
         self.assertEqual(sum(row["customers"] for row in momentary), 16)
 
-    def test_days_in_both_readings(self):
+    def test_days_in_both_readings(self) -> None:
         days = {row["day"]: row for row in self.rows("days")}
         # The quarry's outage began on the 29th at 23:30 and went on for 31,500 seconds: half an hour of it is that day's.
         self.assertEqual(days["2025-03-29"]["customer_seconds"], 3_600)
@@ -51,7 +57,7 @@ class Fortnight(unittest.TestCase):
         self.assertEqual(days["2025-03-30"]["seconds"], 82_800)
         self.assertEqual((days["2025-03-30"]["marked"], days["2025-03-30"]["engineer"]), ("yes", "ENG-4"))
 
-    def test_late_work(self):
+    def test_late_work(self) -> None:
         late = rows_of(figures.switchings(support.opened(support.fortnight()), late_alone=True))
         self.assertEqual(
             [(row["reference"], row["kind"]) for row in late],
@@ -63,13 +69,13 @@ class Fortnight(unittest.TestCase):
             ],
         )
 
-    def test_lives(self):
+    def test_lives(self) -> None:
         found = [tuple(row.values())[1:] for row in self.rows("lives")]
         joins, leaves = "2025-04-02T15:00:00+02:00", "2025-04-05T10:30:00+02:00"
         wanted = [("NET-21", "device", "TIE-2", joins, "", 0, 0), ("NET-22", "life", "FUSE-13", "", leaves, 0, 0)]
         self.assertEqual(found, wanted)
 
-    def test_indices_are_the_words_of_the_table(self):
+    def test_indices_are_the_words_of_the_table(self) -> None:
         lines = support.fortnight().table.read_text().splitlines()[-34:]
         found = [
             f"{row['index']:<10}{row['set']:<9}{row['value']} {row['decimal']}".rstrip() for row in self.rows("indices")
@@ -80,12 +86,12 @@ class Fortnight(unittest.TestCase):
 class Sums(unittest.TestCase):
     """Parts add up to the whole, over all made books."""
 
-    def each(self):
+    def each(self) -> Iterator[Checked]:
         for made in support.books():
             with self.subTest(made.name):
                 yield support.opened(made)
 
-    def test_days_months_causes_feeders_sections(self):
+    def test_days_months_causes_feeders_sections(self) -> None:
         for found in self.each():
             counts, served, length = found.counts["all"], found.book.served_seconds(), found.book.period.length
             saidi = fraction(figures_value(found, "SAIDI"))
@@ -114,7 +120,7 @@ class Sums(unittest.TestCase):
                 counts.sustained + counts.momentary,
             )
 
-    def test_what_each_command_moved_adds_up(self):
+    def test_what_each_command_moved_adds_up(self) -> None:
         for found in self.each():
             moved = found.database.execute("SELECT ifnull(sum(delta), 0) FROM moved WHERE dim = 1").fetchone()[0]
             total = sum(each.customer_seconds for each in found.interruptions)
@@ -125,33 +131,34 @@ class Sums(unittest.TestCase):
             self.assertEqual(sum(row["moved"] for row in works), found.database.execute(kinds).fetchone()[0])
             lives = "SELECT ifnull(sum(delta), 0) FROM moved JOIN cmd ON cmd.id = moved.cmd WHERE dim = 1 AND (body LIKE 'life %'"
             lives += " OR (body LIKE 'device %' AND body NOT LIKE 'device % 0 -'))"
-            told = rows_of(figures.lives(found))
-            self.assertEqual(sum(row["moved"] for row in told), found.database.execute(lives).fetchone()[0])
+            shown = rows_of(figures.lives(found))
+            self.assertEqual(sum(row["moved"] for row in shown), found.database.execute(lives).fetchone()[0])
 
 
-def figures_value(found, index):
-    return next(row["value"] for row in rows_of(figures.indices(found)) if row["index"] == index)
+def figures_value(found: Checked, index: str) -> str:
+    return next(str(row["value"]) for row in rows_of(figures.indices(found)) if row["index"] == index)
 
 
 class Forms(unittest.TestCase):
-    def test_csv_json_and_text_say_the_same(self):
+    def test_csv_json_and_text_say_the_same(self) -> None:
         for name, figures_of in figures.FIGURES.items():
             shown = figures_of(support.opened(support.fortnight()))
-            texts = [written(write, shown) for write in (figures.write_csv, figures.write_json, figures.write_text)]
+            texts = [printed(write, shown) for write in (figures.write_csv, figures.write_json, figures.write_text)]
             rows = list(csv.DictReader(io.StringIO(texts[0])))
             whole = json.loads(texts[1])
             self.assertEqual([{key: str(value) for key, value in row.items()} for row in whole["rows"]], rows)
             self.assertEqual(list(whole["columns"]), list(rows[0]))
             self.assertEqual(len(texts[2].splitlines()), len(whole["about"]) + 1 + len(rows))
 
-    def test_the_words_choose_the_form(self):
+    def test_the_words_choose_the_form(self) -> None:
         made = support.fortnight()
-        for form, begin in [(["--csv"], "index,set,"), (["--json"], "{"), ([], "# ")]:
+        forms: list[tuple[list[str], str]] = [(["--csv"], "index,set,"), (["--json"], "{"), ([], "# ")]
+        for form, begin in forms:
             done = support.run_tool("figures", made.book, "indices", *form, table=made)
             self.assertEqual((done.returncode, done.stdout[: len(begin)]), (0, begin))
 
 
-def written(write, shown):
+def printed(write: Callable[[figures.Figures], None], shown: figures.Figures) -> str:
     """What a writer prints."""
     out = io.StringIO()
     with contextlib.redirect_stdout(out):
@@ -164,13 +171,13 @@ class Tags(HTMLParser):
 
     VOID = {"meta", "rect", "line", "path", "br"}
 
-    def __init__(self):
+    def __init__(self) -> None:
         super().__init__()
-        self.open = []
-        self.seen = {}
-        self.text = []
+        self.open: list[str] = []
+        self.seen: dict[str, int] = {}
+        self.text: list[str] = []
 
-    def handle_starttag(self, tag, attrs):
+    def handle_starttag(self, tag: str, attrs: Attributes) -> None:
         self.seen[tag] = self.seen.get(tag, 0) + 1
         if tag not in self.VOID:
             self.open.append(tag)
@@ -178,19 +185,19 @@ class Tags(HTMLParser):
             if name in ("src", "href") or (value and "url(" in value):
                 raise AssertionError(f"{tag} {name}={value} leads outside")
 
-    def handle_startendtag(self, tag, attrs):
+    def handle_startendtag(self, tag: str, attrs: Attributes) -> None:
         self.seen[tag] = self.seen.get(tag, 0) + 1
 
-    def handle_endtag(self, tag):
+    def handle_endtag(self, tag: str) -> None:
         if self.open.pop() != tag:
             raise AssertionError(f"{tag} closes another")
 
-    def handle_data(self, data):
+    def handle_data(self, data: str) -> None:
         self.text.append(data)
 
 
 class Page(unittest.TestCase):
-    def test_pages_are_whole_and_need_nothing(self):
+    def test_pages_are_whole_and_need_nothing(self) -> None:
         for made in support.books():
             with self.subTest(made.name):
                 text = page(support.opened(made), "The <utility> & sons")
@@ -201,13 +208,13 @@ class Page(unittest.TestCase):
                 self.assertNotRegex(text, "https?:|@import|url\\(")
                 self.assertIn("The <utility> & sons", "".join(tags.text))
 
-    def test_the_indices_are_word_for_word_those_of_the_program(self):
+    def test_the_indices_are_word_for_word_those_of_the_program(self) -> None:
         made = support.fortnight()
         text = page(support.opened(made), "Outage book")
         for line in made.table.read_text().splitlines()[-34:]:
             self.assertIn(f'<td class="code">{line[19:]}</td>', text)
 
-    def test_a_page_is_written_by_the_program_or_not_at_all(self):
+    def test_a_page_is_written_by_the_program_or_not_at_all(self) -> None:
         made, out = support.fortnight(), support.folder() / "page.html"
         self.assertEqual(support.run_tool("report", made.book, "-o", out, table=made).returncode, 0)
         self.assertTrue(out.read_text(encoding="utf-8").startswith("<!DOCTYPE html>"))
@@ -217,7 +224,3 @@ class Page(unittest.TestCase):
         self.assertFalse(out.exists())
         done = support.run_tool("report", made.book, "-o", support.folder() / "nowhere/page.html", table=made)
         self.assertEqual(done.returncode, 1)
-
-
-if __name__ == "__main__":
-    unittest.main()

@@ -1,6 +1,4 @@
-"""For the tools' tests: books made by benches/model.py, in a folder that goes away when the tests end."""
-
-from __future__ import annotations
+"""For the tests: books made by the oracle's model, in a folder that goes away when the tests end."""
 
 import atexit
 import contextlib
@@ -10,18 +8,28 @@ import sqlite3
 import subprocess
 import sys
 import tempfile
+import unittest
+from collections.abc import Iterable, Iterator
 from dataclasses import dataclass
 from functools import lru_cache
 from pathlib import Path
-from typing import Iterable, Iterator, List, Optional, Tuple
 
-from book import Checked, open_book
+from outagebook.compare import Checked, open_book
 
-TOOLS = Path(__file__).resolve().parent
+TESTS = Path(__file__).resolve().parent
+TOOLS = TESTS.parent
 ROOT = TOOLS.parent
 EXAMPLES = ROOT / "examples"
 PROGRAM = Path(os.environ.get("OUTAGEBOOK", ROOT / "crates/outagebook/out/outagebook"))
 SEEDS = 60
+
+
+def has_program() -> bool:
+    """There is a built program, or one is named: where that isn't there, a test that wants it fails."""
+    return "OUTAGEBOOK" in os.environ or PROGRAM.exists()
+
+
+needs_program = unittest.skipUnless(has_program(), "the program isn't built, and OUTAGEBOOK names none")
 
 
 @dataclass(frozen=True)
@@ -32,7 +40,7 @@ class Made:
     book: Path
     text: Path
     table: Path
-    period: Tuple[str, str, str]
+    period: tuple[str, str, str]
 
 
 @lru_cache(maxsize=None)
@@ -42,17 +50,16 @@ def folder() -> Path:
     return path
 
 
-def made(where: Path, *words: str) -> List[Made]:
+def made(where: Path, *arguments: str) -> list[Made]:
     """What made_books.py makes in a folder."""
     where.mkdir(parents=True)
-    command = [sys.executable, str(TOOLS / "made_books.py"), str(where), *words]
+    command = [sys.executable, str(TESTS / "made_books.py"), str(where), *arguments]
     lines = subprocess.run(command, check=True, capture_output=True, text=True).stdout.splitlines()
     books = []
     for line in lines:
-        name, *period = line.split()
-        books.append(
-            Made(name, where / f"{name}.db", where / f"{name}.csv", where / f"{name}.table.txt", tuple(period))
-        )
+        name, first, days, zone = line.split()
+        book, text, table = (where / f"{name}.{suffix}" for suffix in ("db", "csv", "table.txt"))
+        books.append(Made(name, book, text, table, (first, days, zone)))
     return books
 
 
@@ -85,7 +92,7 @@ def edge_rows() -> Iterator[str]:
 
 
 @lru_cache(maxsize=None)
-def books() -> Tuple[Made, ...]:
+def books() -> tuple[Made, ...]:
     """The sample fortnight, the corrected one, sixty random books, and one of what these seldom have."""
     edges = folder() / "edges.csv"
     edges.write_text("".join(f"{row}\n" for row in edge_rows()))
@@ -104,7 +111,7 @@ def fortnight() -> Made:
     return books()[0]
 
 
-def made_of(name: str, texts: Iterable[Tuple[Path, Tuple[str, str, str]]]) -> List[Made]:
+def made_of(name: str, texts: Iterable[tuple[Path, tuple[str, str, str]]]) -> list[Made]:
     """The books of some texts."""
     listed = folder() / f"{name}.list"
     listed.write_text("".join(f"{text} {' '.join(period)}\n" for text, period in texts))
@@ -131,9 +138,16 @@ def edges() -> Made:
     return books()[-1]
 
 
-def run_tool(tool: str, *words: object, table: Optional[Made] = None) -> subprocess.CompletedProcess:
+def run_tool(tool: str, *arguments: object, table: Made | None = None) -> subprocess.CompletedProcess[str]:
     """Runs a tool as a program; with the table of a made book."""
-    command = [sys.executable, str(TOOLS / f"{tool}.py"), *map(str, words)]
+    command = [sys.executable, str(TOOLS / f"{tool}.py"), *map(str, arguments)]
     if table is not None:
         command += ["--table", str(table.table)]
     return subprocess.run(command, capture_output=True, text=True, check=False)
+
+
+def written(name: str, text: str) -> Path:
+    """A text in a file of the tests' folder."""
+    path = folder() / name
+    path.write_text(text)
+    return path

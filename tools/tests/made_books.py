@@ -1,64 +1,70 @@
-"""Makes the book files of the tools' tests: of each text the eleven tables and the annual table by benches/model.py.
+"""Makes the book files of the tests: of each text the eleven tables and the annual table by the oracle's model.
 
-    python3 tools/made_books.py FOLDER [--seeds N | --list FILE]
+    python3 tools/tests/made_books.py FOLDER [--seeds N | --list FILE]
 
 The model acts commands and finds everything anew each time; the tools share nothing with it, so their tests compare two
 programs. FOLDER gets NAME.csv, NAME.db and NAME.table.txt of the sample fortnight, of the corrected one and of N random
 books, and prints the name, the period's first day, its days and the zone of each. It is a program of its own because
-the modules of benches/ have names that these here have too.
+the oracle's modules have names that the tools' commands have too.
 """
 
 import argparse
 import sqlite3
 import sys
+from collections.abc import Iterator
 from contextlib import closing
+from importlib import import_module
 from pathlib import Path
+from typing import Any
 
-sys.path[0] = str(Path(__file__).resolve().parent.parent / "benches")
+ROOT = Path(__file__).resolve().parents[2]
+HAS_ORACLE = (ROOT / "oracle").is_dir()
+Listed = tuple[str, list[str], bytes]
 
-from compare import texts  # noqa: E402
-from model import Book  # noqa: E402
-from plain_office import TABLES  # noqa: E402
-from state import Period  # noqa: E402
+# The oracle's modules import one another by their names.
+sys.path[0] = str(ROOT / ("oracle" if HAS_ORACLE else "benches"))
+compare, model, state, tables = (
+    import_module(name) for name in ("compare", "model", "state", "tables" if HAS_ORACLE else "plain_office")
+)
 
 
-def write_book(book, path):
+def write_book(book: Any, path: Path) -> None:
     """A book's rows in a new file with a write-ahead log, as the program leaves it."""
     path.unlink(missing_ok=True)
     with closing(sqlite3.connect(str(path))) as database:
         database.execute("PRAGMA journal_mode = wal")
         database.execute("PRAGMA synchronous = off")
-        database.executescript(TABLES)
+        database.executescript(tables.TABLES)
         for table, rows in book.tables().items():
             for row in rows:
                 database.execute(f"INSERT INTO {table} VALUES ({', '.join('?' * len(row))})", row)
         database.commit()
 
 
-def listed(path):
+def listed(path: Path) -> Iterator[Listed]:
     """The name, the period and the bytes of each text of a list."""
     for line in path.read_text().splitlines():
         text, *period = line.split()
         yield Path(text).stem, period, Path(text).read_bytes()
 
 
-def main():
-    words = argparse.ArgumentParser(description="Makes the book files of the tools' tests.")
-    words.add_argument("folder", type=Path)
-    words.add_argument("--seeds", type=int, default=60)
-    words.add_argument(
+def main() -> None:
+    parser = argparse.ArgumentParser(description="Makes the book files of the tests.")
+    parser.add_argument("folder", type=Path)
+    parser.add_argument("--seeds", type=int, default=60)
+    parser.add_argument(
         "--list", type=Path, help="texts in place of these: lines of FILE, FIRST, DAYS and ZONE, by spaces"
     )
-    words = words.parse_args()
-    for name, period, data in listed(words.list) if words.list else texts(words.seeds):
+    args = parser.parse_args()
+    for name, period, data in listed(args.list) if args.list else compare.texts(args.seeds):
         first, days, zone = period
-        book = Book(Period(first, int(days), zone))
+        book = model.Book(state.Period(first, int(days), zone))
         book.import_text(data)
         name = name.replace(" ", "-").replace(",", "")
-        (words.folder / f"{name}.csv").write_bytes(data)
-        write_book(book, words.folder / f"{name}.db")
+        (args.folder / f"{name}.csv").write_bytes(data)
+        write_book(book, args.folder / f"{name}.db")
         lines = "".join(f"{line}\n" for line in book.table_lines())
-        (words.folder / f"{name}.table.txt").write_text(lines, encoding="ascii")
+        (args.folder / f"{name}.table.txt").write_text(lines, encoding="ascii")
         print(name, *period)
 
 

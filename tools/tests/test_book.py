@@ -7,16 +7,23 @@ import sqlite3
 import subprocess
 import threading
 import unittest
+from collections.abc import Iterable
+from pathlib import Path
 
-import book as tool
-import support
-from book import Block, Book, Device, Entry, Section, amounts_of, copy_of, interruptions_of, open_book, sweep
-from tool import BookError, Differs
+from outagebook.compare import open_book
+from outagebook.copies import copy_of
+from outagebook.counts import amounts_of
+from outagebook.errors import BookError, Differs
+from outagebook.rows import Block, Book, Device, Entry, Postings, Section, period_of
+from outagebook.sweep import interruptions_of, sweep
+from tests import support
 
 T = 1_704_067_200  # midnight of 1 January 2024 in UTC
+Switching = tuple[str, str, int, int]  # device, open or close, seconds behind T, cause
+Life = tuple[str, int, int | None]
 
 
-def changed(name, statement):
+def changed(name: str, statement: str) -> Path:
     """A copy of the fortnight's book with a row changed."""
     copy = support.folder() / f"{name}.db"
     shutil.copyfile(support.fortnight().book, copy)
@@ -27,13 +34,13 @@ def changed(name, statement):
     return copy
 
 
-def worked(entries, lives=None):
+def worked(entries: Iterable[Switching], lives: Iterable[Life] = ()) -> Book:
     """A day's book: two customers on S1 and three on S2 of feeder 1, five on S3 of feeder 2."""
-    period = tool.period_of("2024-01-01", 1, "UTC0")
+    period = period_of("2024-01-01", 1, "UTC0")
     ends = [("I1", 0, 1, True), ("B1", 1, 2, True), ("W1", 2, 3, True), ("B2", 1, 4, True), ("T1", 3, 4, False)]
     devices = [Device(n, name, a, b, is_closed) for n, (name, a, b, is_closed) in enumerate(ends)]
     numbers = {device.name: device.number for device in devices}
-    for name, since, until in lives or []:
+    for name, since, until in lives:
         old = devices[numbers[name]] if name in numbers else Device(len(devices), name, 1, 2, True)
         device = Device(old.number, name, old.a, old.b, old.is_closed, since, until)
         devices[old.number : old.number + 1] = [device]
@@ -55,7 +62,7 @@ def worked(entries, lives=None):
     )
 
 
-def amounts(book):
+def amounts(book: Book) -> Postings:
     """The amounts of a book that aren't 0, by dimension and key."""
     return {key: amount for key, amount in amounts_of(book, interruptions_of(book, sweep(book))).items() if amount}
 
@@ -64,18 +71,18 @@ OUTAGE = [("B1", "open", 3_600, 3), ("W1", "open", 4_200, 3), ("T1", "close", 4_
 
 
 class MadeBooks(unittest.TestCase):
-    def test_all_are_equal_to_the_model(self):
+    def test_all_are_equal_to_the_model(self) -> None:
         for made in support.books():
             with self.subTest(made.name):
                 self.assertGreater(len(support.opened(made).table), 36)
 
-    @unittest.skipUnless(support.PROGRAM.exists(), "the program isn't built")
-    def test_all_are_equal_to_the_program(self):
+    @support.needs_program
+    def test_all_are_equal_to_the_program(self) -> None:
         for made in support.books():
             path = support.folder() / f"program-{made.name}.db"
             first, days, zone = made.period
-            words = ["--first", first, "--days", days, "--zone", zone]
-            subprocess.run([support.PROGRAM, "init", "--book", path, *words], check=True, capture_output=True)
+            period = ["--first", first, "--days", days, "--zone", zone]
+            subprocess.run([support.PROGRAM, "init", "--book", path, *period], check=True, capture_output=True)
             subprocess.run([support.PROGRAM, "import", "--book", path, made.text], check=False, capture_output=True)
             with self.subTest(made.name), open_book(str(path), program=str(support.PROGRAM)) as found:
                 self.assertEqual("\n".join(found.table) + "\n", made.table.read_text())
@@ -84,10 +91,10 @@ class MadeBooks(unittest.TestCase):
 class Worked(unittest.TestCase):
     """Outages of which every figure is known."""
 
-    def test_an_outage_and_a_tie(self):
+    def test_an_outage_and_a_tie(self) -> None:
         self.assertEqual(amounts(worked(OUTAGE)), {(1, 3): 9_000, (2, 1): 9_000, (3, 0): 9_000})
 
-    def test_two_openings_at_once(self):
+    def test_two_openings_at_once(self) -> None:
         said = [
             ("B1", "open", 3_600, 3),
             ("B2", "open", 3_600, 4),
@@ -98,11 +105,11 @@ class Worked(unittest.TestCase):
             amounts(worked(said)), {(1, 3): 3_000, (1, 4): 3_000, (2, 1): 3_000, (2, 2): 3_000, (3, 0): 6_000}
         )
 
-    def test_what_opens_and_closes_in_one_second(self):
+    def test_what_opens_and_closes_in_one_second(self) -> None:
         self.assertEqual(amounts(worked([("B2", "open", 3_600, 3), ("B2", "close", 3_600, 3)])), {})
         self.assertEqual(amounts(worked([("B2", "close", 3_600, 3), ("B2", "open", 3_600, 3)]))[1, 3], 414_000)
 
-    def test_a_run_keeps_its_cutter(self):
+    def test_a_run_keeps_its_cutter(self) -> None:
         said = [
             ("B2", "open", 3_600, 3),
             ("B2", "close", 4_000, 3),
@@ -111,16 +118,16 @@ class Worked(unittest.TestCase):
         ]
         self.assertEqual(amounts(worked(said))[1, 3], 7_000)
 
-    def test_the_end_of_a_life_cuts_without_a_cause(self):
+    def test_the_end_of_a_life_cuts_without_a_cause(self) -> None:
         found = amounts(worked(OUTAGE, [("T1", 0, T + 6_000)]))
         # S2 and S3 hang on the tie from 4,200 on: S2 is cut off by its end until the period's, since W1 stays open.
         self.assertEqual(found, {(1, 0): 241_200, (1, 3): 9_000, (2, 1): 250_200, (3, 0): 250_200})
 
-    def test_a_device_that_comes_to_life_supplies(self):
+    def test_a_device_that_comes_to_life_supplies(self) -> None:
         found = amounts(worked(OUTAGE, [("X1", T + 5_000, None)]))
         self.assertEqual(found, {(1, 3): 4_600, (2, 1): 4_600, (3, 0): 4_600})
 
-    def test_an_entry_after_the_end_of_a_life_moves_nothing(self):
+    def test_an_entry_after_the_end_of_a_life_moves_nothing(self) -> None:
         life = [("B2", 0, T + 3_600)]
         self.assertEqual(amounts(worked([], life)), {(1, 0): 414_000, (2, 2): 414_000, (3, 0): 414_000})
         self.assertEqual(amounts(worked([("B2", "open", 3_600, 4)], life))[1, 0], 414_000)
@@ -130,7 +137,7 @@ class Worked(unittest.TestCase):
 
 
 class Lives(unittest.TestCase):
-    def test_tables_of_version_2_are_read(self):
+    def test_tables_of_version_2_are_read(self) -> None:
         """In the fortnight TIE-2 joins and FUSE-13 leaves; if they had another life, other figures would follow."""
         made = support.fortnight()
         book = support.opened(made).book
@@ -147,14 +154,14 @@ class Lives(unittest.TestCase):
                 with open_book(str(changed(f"life-{number}", change)), str(made.table)):
                     pass
 
-    def test_tables_of_version_1_are_read(self):
+    def test_tables_of_version_1_are_read(self) -> None:
         """A book from before devices had lives has the figures of the same one in which all lives are whole."""
         made = support.edges()
         with open_book(str(support.as_version_1(made)), str(made.table)) as found:
             self.assertEqual(found.book.version, 1)
             self.assertEqual({(device.since, device.until) for device in found.book.devices}, {(0, None)})
 
-    def test_a_life_for_each_device(self):
+    def test_a_life_for_each_device(self) -> None:
         path = changed("no-life", "DELETE FROM life WHERE device = 3")
         with self.assertRaises(BookError):
             with open_book(str(path), str(support.fortnight().table)):
@@ -164,25 +171,25 @@ class Lives(unittest.TestCase):
 class Changed(unittest.TestCase):
     """What differs is told with both values, and nothing is answered."""
 
-    def told(self, path, table=None):
+    def reported(self, path: Path, table: Path | None = None) -> str:
         done = support.run_tool("figures", path, "days", "--table", table or support.fortnight().table)
         self.assertEqual((done.returncode, done.stdout), (2, ""))
         return done.stderr
 
-    def test_a_posting(self):
+    def test_a_posting(self) -> None:
         path = changed("posting", "UPDATE posting SET amount = amount + 1 WHERE dim = 2 AND k = 1")
         self.assertEqual(
-            self.told(path),
+            self.reported(path),
             "differs: customer-seconds of feeder 1: found here 222130, in the book or its table 222131\n",
         )
 
-    def test_a_posting_that_is_missing(self):
+    def test_a_posting_that_is_missing(self) -> None:
         self.assertIn(
             "of cause 63: found here 0, in the book or its table None",
-            self.told(changed("missing", "DELETE FROM posting WHERE dim = 1 AND k = 63")),
+            self.reported(changed("missing", "DELETE FROM posting WHERE dim = 1 AND k = 63")),
         )
 
-    def test_rows_of_each_kind(self):
+    def test_rows_of_each_kind(self) -> None:
         changes = [
             "UPDATE entry SET second = second + 1 WHERE id = 7",
             "UPDATE entry SET pos = 1 - pos WHERE id = 9",
@@ -205,7 +212,7 @@ class Changed(unittest.TestCase):
                 with open_book(str(changed(f"change-{number}", change)), str(support.fortnight().table)):
                     pass
 
-    def test_each_line_of_the_table(self):
+    def test_each_line_of_the_table(self) -> None:
         lines = support.fortnight().table.read_text().splitlines()
         path = support.folder() / "line.txt"
         book = str(support.fortnight().book)
@@ -220,19 +227,19 @@ class Changed(unittest.TestCase):
                 with open_book(book, str(path)):
                     pass
 
-    def test_of_the_table_is_told_which(self):
+    def test_of_the_table_is_told_which(self) -> None:
         path = support.folder() / "saidi.txt"
         text = support.fortnight().table.read_text()
         path.write_text(text.replace("3089035/20986 147.195", "3089036/20986 147.195"))
         self.assertEqual(
-            self.told(support.fortnight().book, path),
+            self.reported(support.fortnight().book, path),
             "differs: SAIDI unmarked: found here "
             "3089035/20986 147.195, in the book or its table 3089036/20986 147.195\n",
         )
 
 
 class NoBooks(unittest.TestCase):
-    def test_they_are_told_in_plain_words(self):
+    def test_they_are_told_in_plain_words(self) -> None:
         here = support.folder()
         (here / "text.db").write_text("kind,ref\n")
         (here / "empty.db").write_bytes(b"")
@@ -246,12 +253,12 @@ class NoBooks(unittest.TestCase):
             self.assertEqual((done.returncode, done.stdout), (1, ""), name)
             self.assertTrue(done.stderr.startswith("error: "), done.stderr)
 
-    def test_a_program_that_isnt_there(self):
+    def test_a_program_that_isnt_there(self) -> None:
         done = support.run_tool("book", support.fortnight().book, "--program", "/nowhere/outagebook")
         self.assertEqual((done.returncode, done.stdout), (1, ""))
         self.assertIn("--table", done.stderr)
 
-    def test_wrong_words(self):
+    def test_wrong_words(self) -> None:
         self.assertEqual(support.run_tool("book").returncode, 64)
         self.assertEqual(support.run_tool("figures", "book.db", "weeks").returncode, 64)
 
@@ -259,7 +266,7 @@ class NoBooks(unittest.TestCase):
 class AtWork(unittest.TestCase):
     """A book that somebody else writes."""
 
-    def test_one_that_is_locked(self):
+    def test_one_that_is_locked(self) -> None:
         path = changed("locked", "DELETE FROM mark WHERE day = 0")
         with contextlib.closing(sqlite3.connect(str(path), isolation_level=None)) as writer:
             writer.execute("PRAGMA locking_mode = exclusive")
@@ -273,7 +280,7 @@ class AtWork(unittest.TestCase):
                 with open_book(str(path), str(support.fortnight().table)):
                     pass
 
-    def test_copies_are_of_one_commit(self):
+    def test_copies_are_of_one_commit(self) -> None:
         """Each commit moves an amount between rows of many pages; no copy shows a part of one."""
         path = support.folder() / "busy.db"
         with contextlib.closing(sqlite3.connect(str(path))) as database:
@@ -296,7 +303,7 @@ class AtWork(unittest.TestCase):
             writer.join()
 
 
-def write_until(path, enough):
+def write_until(path: Path, enough: threading.Event) -> None:
     """Commits one after another, with the log emptied now and then."""
     rng = random.Random(1)
     with contextlib.closing(sqlite3.connect(str(path), isolation_level=None)) as database:
@@ -311,7 +318,3 @@ def write_until(path, enough):
                 database.execute("UPDATE amount SET value = value + 1 WHERE id = ?", (b,))
             database.execute("COMMIT")
             enough.wait(0.001)
-
-
-if __name__ == "__main__":
-    unittest.main()

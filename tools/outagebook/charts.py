@@ -1,10 +1,8 @@
 """Inline SVG of bars: columns side by side, and bars below each other. Each bar has a title that says its figure."""
 
-from __future__ import annotations
-
+from collections.abc import Sequence
 from dataclasses import dataclass
 from html import escape
-from typing import List, Sequence
 
 WIDTH, HEIGHT = 760, 230
 LEFT, RIGHT, TOP, BOTTOM = 52, 8, 22, 26
@@ -106,12 +104,12 @@ def svg_begin(width: int, height: int, caption: str) -> str:
     )
 
 
-def legend(words: List[str]) -> str:
+def legend(meanings: list[str]) -> str:
     """What the two colours of columns mean."""
     classes = ["bar", "apart"]
     marks = [
         f'<span><svg class="key" viewBox="0 0 12 12" aria-hidden="true"><rect class="{classes[place]}" width="12"'
-        f' height="12"/></svg> {escape(word)}</span>'
-        for place, word in enumerate(words)
+        f' height="12"/></svg> {escape(meaning)}</span>'
+        for place, meaning in enumerate(meanings)
     ]
     return f'<p class="legend">{" ".join(marks)}</p>'

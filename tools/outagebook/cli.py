@@ -1,30 +1,20 @@
-"""What the tools have in common: their errors and their command lines.
+"""What the tools' command lines have in common.
 
 Wrong words end with status 64, what can't be read with 1, a figure that differs from the program's with 2.
 """
 
-from __future__ import annotations
-
 import argparse
 import os
 import sys
-from typing import Callable, NoReturn
+from collections.abc import Callable
+from typing import NoReturn
+
+from outagebook.errors import BookError, Differs
 
 WRONG_WORDS = 64
 
 
-class BookError(Exception):
-    """A book, a table, a text or a program that can't be read: what, in plain words."""
-
-
-class Differs(Exception):
-    """A figure that was found here isn't the program's."""
-
-    def __init__(self, which: str, here: object, there: object):
-        super().__init__(f"{which}: found here {here}, in the book or its table {there}")
-
-
-class Words(argparse.ArgumentParser):
+class Parser(argparse.ArgumentParser):
     """A parser whose complaints end with 64, as the program's do."""
 
     def error(self, message: str) -> NoReturn:
@@ -32,10 +22,10 @@ class Words(argparse.ArgumentParser):
         self.exit(WRONG_WORDS, f"{self.prog}: {message}\n")
 
 
-def add_table_words(words: argparse.ArgumentParser) -> None:
+def add_table_arguments(parser: argparse.ArgumentParser) -> None:
     """The words that say where the program's own annual table comes from."""
-    words.add_argument("--table", metavar="FILE", help="the program's annual table of this book, read from a file")
-    words.add_argument(
+    parser.add_argument("--table", metavar="FILE", help="the program's annual table of this book, read from a file")
+    parser.add_argument(
         "--program",
         metavar="PATH",
         default="outagebook",

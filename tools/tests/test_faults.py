@@ -1,14 +1,18 @@
-"""Faults planted one at a time in book.py: its own comparison catches each, over the made books."""
+"""Faults planted one at a time in the package's files: its own comparison catches each, over the made books."""
 
+import itertools
+import shutil
 import sqlite3
 import sys
-import types
 import unittest
-from contextlib import closing
+from collections.abc import Iterator
+from contextlib import closing, contextmanager
+from importlib import import_module
+from pathlib import Path
 
-import support
-from tool import Differs
+from tests import support
 
+FILES = ["rows.py", "sweep.py", "counts.py", "compare.py"]
 FAULTS = {
     "a sustained interruption of 300 seconds": ("if length > LONGEST_MOMENTARY]", "if length >= LONGEST_MOMENTARY]"),
     "a run that ends a second late": ("going[section][0], moment, going", "going[section][0], moment + 1, going"),
@@ -48,35 +52,58 @@ FAULTS = {
 }
 
 
-def planted(old, new):
-    """The module with a text of it replaced, which stands there once."""
-    source = (support.TOOLS / "book.py").read_text()
-    if source.count(old) != 1:
-        raise ValueError(f"{old!r} stands {source.count(old)} times in book.py")
-    module = sys.modules["planted_book"] = types.ModuleType("planted_book")
-    exec(compile(source.replace(old, new), "planted_book", "exec"), module.__dict__)  # the edit is ours
-    return module
+def is_of_package(name: str) -> bool:
+    return name.split(".")[0] == "outagebook"
 
 
-def catching(module):
-    """The made books over which a module's comparison finds that something differs."""
+def planted_package(folder: Path, old: str, new: str) -> None:
+    """A copy of the package with a text replaced, which stands in it once."""
+    shutil.copytree(support.TOOLS / "outagebook", folder / "outagebook", ignore=shutil.ignore_patterns("__pycache__"))
+    files = {folder / "outagebook" / name for name in FILES}
+    texts = {file: file.read_text() for file in files}
+    count = sum(text.count(old) for text in texts.values())
+    if count != 1:
+        raise ValueError(f"{old!r} stands {count} times in {', '.join(FILES)}")
+    for file, text in texts.items():
+        file.write_text(text.replace(old, new))
+
+
+@contextmanager
+def imported_from(folder: Path) -> Iterator[None]:
+    """The package is that of a folder, and afterwards the one that it was before."""
+    own = {name: sys.modules.pop(name) for name in list(sys.modules) if is_of_package(name)}
+    sys.path.insert(0, str(folder))
+    try:
+        yield
+    finally:
+        sys.path.remove(str(folder))
+        for name in list(filter(is_of_package, sys.modules)):
+            del sys.modules[name]
+        sys.modules.update(own)
+
+
+number = itertools.count()
+
+
+def catching(old: str, new: str) -> Iterator[str]:
+    """The made books over which the package, with a text replaced, finds that something differs."""
+    folder = support.folder() / f"planted-{next(number)}"
+    planted_package(folder, old, new)
+    with imported_from(folder):
+        compare, rows, errors = (import_module(f"outagebook.{name}") for name in ("compare", "rows", "errors"))
     for made in support.books():
         with closing(sqlite3.connect(f"file:{made.book}?mode=ro", uri=True)) as database:
             try:
-                module.checked(module.read_book(database), made.table.read_text().splitlines(), database)
-            except Differs:
+                compare.checked(rows.read_book(database), made.table.read_text().splitlines(), database)
+            except errors.Differs:
                 yield made.name
 
 
 class Faults(unittest.TestCase):
-    def test_each_is_caught(self):
+    def test_each_is_caught(self) -> None:
         for name, (old, new) in FAULTS.items():
             with self.subTest(name):
-                self.assertIsNotNone(next(catching(planted(old, new)), None))
+                self.assertIsNotNone(next(catching(old, new), None))
 
-    def test_none_is_found_where_none_is_planted(self):
-        self.assertEqual(list(catching(planted("LONGEST_MOMENTARY = 300", "LONGEST_MOMENTARY = 300"))), [])
-
-
-if __name__ == "__main__":
-    unittest.main()
+    def test_none_is_found_where_none_is_planted(self) -> None:
+        self.assertEqual(list(catching("LONGEST_MOMENTARY = 300", "LONGEST_MOMENTARY = 300")), [])
