@@ -455,11 +455,11 @@ def arguments() -> tuple[Parser, Any]:
     parser = Parser(description="Copies compared books into PostgreSQL, for reading.")
     jobs = parser.add_subparsers(metavar="JOB", required=True, parser_class=Parser)
 
-    def job(name: str, help_text: str) -> Parser:
-        one: Parser = jobs.add_parser(name, help=help_text, description=help_text)
-        parser.add_argument("--dsn", default="", help="where the database is, in libpq's words")
-        parser.set_defaults(job=name)
-        return parser
+    def job(name: str, text: str) -> Parser:
+        one: Parser = jobs.add_parser(name, help=text, description=text)
+        one.add_argument("--dsn", default="", help="where the database is, in libpq's words")
+        one.set_defaults(job=name)
+        return one
 
     job("create", "makes the tables and views").add_argument("--reader", metavar="ROLE", help="a role that only reads")
     for name, text in (("load", "loads books that changed"), ("compare", "compares books with the warehouse")):

@@ -14,17 +14,9 @@ from contextlib import ExitStack
 from functools import lru_cache
 from pathlib import Path
 
-TESTS = Path(__file__).resolve().parent
-TOOLS = TESTS.parent
-ROOT = TOOLS.parent
-EXAMPLES = ROOT / "examples"
-if str(TOOLS) not in sys.path:
-    sys.path.insert(0, str(TOOLS))
+from outagebook.compare import Checked, figures_of_table, open_book
+from tests.support import TESTS, TOOLS
 
-from outagebook.compare import Checked, figures_of_table, open_book  # noqa: E402
-
-PROGRAM = Path(os.environ.get("OUTAGEBOOK", ROOT / "crates/outagebook/out/outagebook"))
-NO_PROGRAM = "the program isn't built"
 IS_LONG = bool(os.environ.get("OUTAGEBOOK_LONG"))
 SEEDS = range(1, 201 if IS_LONG else 61)
 FORTNIGHT = ("2025-03-24", 14, "CET-1CEST,M3.5.0,M10.5.0/3")
@@ -43,7 +35,7 @@ def make(*words: object) -> None:
 
 
 @lru_cache(maxsize=None)
-def cut_networks(with_ties: bool) -> Path:
+def cut_networks(with_ties: bool = False) -> Path:
     """The folder of the seeds' whole networks and their two parts."""
     path = folder() / ("ties" if with_ties else "parts")
     make(path, "--seeds", SEEDS[0], SEEDS[-1], *(["--ties"] if with_ties else []))

@@ -6,11 +6,11 @@ from functools import lru_cache
 from html.parser import HTMLParser
 from pathlib import Path
 
-import many_books
-from many_books import books_of, cut_networks, district_rows, figures_of, parts_of, run, table_of, with_tables
 
 from outagebook.errors import BookError
 from outagebook.sums import District, Sums, add_up, read_district, read_districts, table_lines
+from tests import many_books
+from tests.many_books import books_of, district_rows, figures_of, parts_of, run, table_of, with_tables
 
 
 @lru_cache(maxsize=None)
@@ -25,7 +25,7 @@ def sums_of(books: list[Path], own_numbers: bool = False) -> Sums:
 
 class PartsOfANetwork(unittest.TestCase):
     def test_each_line_is_the_whole_books(self) -> None:
-        where = cut_networks(with_ties=False)
+        where = many_books.cut_networks()
         for seed in many_books.SEEDS:
             with self.subTest(seed=seed):
                 whole = table_of(where / f"{seed}-whole.db").read_text().splitlines()
@@ -33,7 +33,7 @@ class PartsOfANetwork(unittest.TestCase):
 
     def test_the_networks_have_what_may_go_wrong(self) -> None:
         """Both parts have customers without supply, devices with lives and marks, in many of the networks."""
-        where = cut_networks(with_ties=False)
+        where = many_books.cut_networks()
         with_both, with_lives, with_marks = 0, 0, 0
         for seed in many_books.SEEDS:
             districts = [district_in(book) for book in parts_of(where, seed)]
@@ -41,10 +41,10 @@ class PartsOfANetwork(unittest.TestCase):
             with_marks += bool(districts[0].marks)
             text = (where / f"{seed}-whole.csv").read_text()
             with_lives += "\nlife," in text
-        self.assertGreater(min(with_both, with_lives, with_marks), len(many_books.SEEDS) // 5)
+        self.assertGreater(min(with_both, with_lives, with_marks), len(many_books.SEEDS) // 8)
 
     def test_the_daily_saidi_adds_up_to_saidi(self) -> None:
-        where = cut_networks(with_ties=False)
+        where = many_books.cut_networks()
         for seed in many_books.SEEDS:
             sums = sums_of(parts_of(where, seed))
             saidi = sums.indices("all")["SAIDI"]
@@ -52,7 +52,7 @@ class PartsOfANetwork(unittest.TestCase):
                 self.assertEqual(sum(daily for daily in sums.daily_saidi() if daily is not None), saidi)
 
     def test_in_many_processes_it_is_the_same(self) -> None:
-        where = cut_networks(with_ties=False)
+        where = many_books.cut_networks()
         books = [*parts_of(where, 1)]
         tables = [str(table_of(book)) for book in books]
         alone = [district_in(book) for book in books]
@@ -123,8 +123,8 @@ class BooksThatDontBelongTogether(unittest.TestCase):
         self.assertIn("nowhere.db", done.stderr)
 
     def test_wrong_words(self) -> None:
-        for words in (["--table", "one", "a.db", "b.db"], [], ["a.db", "--processes", "0"]):
-            self.assertEqual(run("sum", *words).returncode, 64, words)
+        for words in ("--table one a.db b.db", "", "a.db --processes 0"):
+            self.assertEqual(run("sum", *words.split()).returncode, 64, words)
 
     def test_json_says_what_the_table_says(self) -> None:
         books = self.of("north", "other-names")

@@ -1,5 +1,6 @@
 """The warehouse in a real PostgreSQL: what its views say is what the tools say; loads that are cut off, or meet."""
 
+import os
 import signal
 import subprocess
 import sys
@@ -12,13 +13,13 @@ from fractions import Fraction
 from pathlib import Path
 from typing import Any
 
-import many_books
-import own_postgres
-from many_books import TOOLS, books_of, cut_networks, district_rows, opened, parts_of, run, table_of, with_tables
 
 from outagebook import figures
-from outagebook.counts import fraction_text, quotient
+from outagebook.counts import decimal_text, fraction_text, quotient
 from outagebook.sums import PeriodKey, Sums, add_up, district_of
+from tests import many_books, own_postgres
+from tests.many_books import books_of, district_rows, opened, parts_of, run, table_of, with_tables
+from tests.support import TOOLS
 
 SEEDS = range(1, 13)  # whose parts are loaded; other seeds have the same periods, so districts add up
 server = ExitStack()
@@ -71,11 +72,12 @@ class Views(unittest.TestCase):
     """What every view says is what the tools say of the same books."""
 
     where: dict[str, str] = {}
+    books: list[Path] = []
 
     @classmethod
     def setUpClass(cls) -> None:
         cls.where = database("views")
-        books = [book for seed in SEEDS for book in parts_of(cut_networks(False), seed)]
+        books = [book for seed in SEEDS for book in parts_of(many_books.cut_networks(), seed)]
         cls.books = books
         done = [warehouse(cls.where, "create"), warehouse(cls.where, "load", *with_tables(books))]
         if [each.returncode for each in done] != [0, 0]:
@@ -221,13 +223,14 @@ class Fractions(unittest.TestCase):
             )
             value = quotient(numerator, denominator)
             self.assertEqual(fraction, fraction_text(value))
-            self.assertEqual("" if decimals is None else str(decimals), figures.decimal_text(value))
+            self.assertEqual("" if decimals is None else str(decimals), decimal_text(value))
 
 
 class Loading(unittest.TestCase):
     """Loads of a book that changes, that is cut off, that meets another."""
 
     books: dict[str, Path] = {}
+    later = Path()
     where: dict[str, str] = {}
 
     @classmethod
@@ -314,7 +317,7 @@ class Loading(unittest.TestCase):
             stdout=subprocess.PIPE,
             stderr=subprocess.PIPE,
             text=True,
-            env={**many_books.os.environ, **self.where},
+            env={**os.environ, **self.where},
         )
 
     def wait_until_blocked(self, count: int = 1) -> None:
