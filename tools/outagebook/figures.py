@@ -1,7 +1,7 @@
 """Figures of a book, as a table to read, as CSV or as JSON.
 
     python3 tools/figures.py BOOK interruptions|days|months|feeders|causes|sections|switchings|lives|indices
-                             [--csv | --json] [--late] [--table FILE | --program PATH]
+                             [--csv | --json] [--late] [--hours H ..] [--kva FILE] [--table FILE | --program PATH]
 
 Before it answers, the book's postings and the program's annual table are compared with what is found here (compare.py).
 Quotients are exact fractions, each with its three decimals in a column beside it. Moments are by the clock of the book's
@@ -12,12 +12,13 @@ import csv
 import json
 import sys
 from collections import defaultdict
-from collections.abc import Callable, Hashable, Iterable, Iterator
+from collections.abc import Callable, Hashable, Iterable, Iterator, Sequence
 from dataclasses import dataclass
 from datetime import date
 from fractions import Fraction
 from typing import TypeVar
 
+from outagebook import indices as further
 from outagebook.cli import Parser, add_table_arguments, run_job
 from outagebook.commands import Command, read_commands
 from outagebook.compare import Checked, open_book
@@ -563,8 +564,8 @@ def lives(found: Checked) -> Figures:
     return Figures("lives", about, columns, rows)
 
 
-def indices(found: Checked) -> Figures:
-    """Both sets of indices and counts, with units and definitions."""
+def indices(found: Checked, hours: Sequence[Fraction] = further.HOURS, loads: further.Loads | None = None) -> Figures:
+    """Both sets of indices and counts, with units and definitions: the program's, and further ones of the standard."""
     columns = {
         "index": "its name",
         "set": "all interruptions, or the unmarked ones, which don't begin on a marked day",
@@ -572,15 +573,22 @@ def indices(found: Checked) -> Figures:
         "decimal": "three decimals, rounded half up",
         "unit": "its unit",
         "definition": "its quotient",
+        "from": "program: equal to the annual table; computed here: no program prints it",
     }
     rows: list[list[Value]] = []
+    more = further.computed(found, hours, loads)
     for name in SETS:
         counts = found.counts[name]
         values = indices_of(counts, found.book.served_seconds(), found.book.period.length)
-        rows += [[index, name, *both(value), *meaning_of(index)] for index, value in values.items()]
-        rows.append(["SUSTAINED", name, counts.sustained, "", *meaning_of("SUSTAINED")])
-        rows.append(["MOMENTARY", name, counts.momentary, "", *meaning_of("MOMENTARY")])
-    return Figures("indices", ["Equal to the program's annual table, figure by figure.", TERMS], columns, rows)
+        rows += [[index, name, *both(value), *meaning_of(index), "program"] for index, value in values.items()]
+        rows.append(["SUSTAINED", name, counts.sustained, "", *meaning_of("SUSTAINED"), "program"])
+        rows.append(["MOMENTARY", name, counts.momentary, "", *meaning_of("MOMENTARY"), "program"])
+        rows += [
+            [index, name, *both(value), *further.meaning_of(index), "computed here"]
+            for index, value in more[name].items()
+        ]
+    about = ["Those from the program are equal to its annual table, figure by figure.", TERMS, further.TERMS]
+    return Figures("indices", about + ([loads.about] if loads else []), columns, rows)
 
 
 FIGURES: dict[str, Callable[[Checked], Figures]] = {
@@ -636,13 +644,25 @@ def main() -> int:
     parser.add_argument(
         "--late", action="store_true", help="of switchings: late entries, corrections, withdrawals alone"
     )
+    parser.add_argument("--hours", nargs="+", type=further.read_hours, metavar="H", help="of indices: those of CELID")
+    parser.add_argument(
+        "--kva", metavar="FILE", help="of indices: connected kVA by section or customer, for ASIFI, ASIDI"
+    )
     add_table_arguments(parser)
     args = parser.parse_args()
     if args.late and args.figures != "switchings":
         parser.error("--late goes with switchings")
+    if (args.hours or args.kva) and args.figures != "indices":
+        parser.error("--hours and --kva go with indices")
 
     def job() -> None:
         with open_book(args.book, args.table, args.program) as found:
-            args.write(switchings(found, args.late) if args.late else FIGURES[args.figures](found))
+            if args.late:
+                args.write(switchings(found, args.late))
+            elif args.figures == "indices":
+                loads = further.loads_of(args.kva, found.book, found.database) if args.kva else None
+                args.write(indices(found, args.hours or further.HOURS, loads))
+            else:
+                args.write(FIGURES[args.figures](found))
 
     return run_job(job)

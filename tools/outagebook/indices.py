@@ -23,6 +23,11 @@ HOUR = 3_600
 HOURS = (Fraction(4), Fraction(8), Fraction(12), Fraction(24))  # of CELID, where none are asked for
 MOST_CEMSMI = 10
 
+TERMS = (
+    "MI are customers' momentary interruptions, each counted by itself; CNS_t customers with a sustained interruption of t"
+    " hours or more, CNT_t with t hours or more of sustained ones in all; CNM_n with n or more of either kind."
+)
+
 Spans = dict[int, list[tuple[int, int]]]
 
 
@@ -118,7 +123,7 @@ def meaning_of(index: str) -> tuple[str, str]:
     name, _, rest = index.partition("-")
     if name == "CEMSMI":
         unit = f"customers with {rest} or more interruptions of either kind, per customer served"
-        return unit, f"CNT_{rest} x P / S"
+        return unit, f"CNM_{rest} x P / S"
     if name == "CELID":
         kind, _, hours = rest.partition("-")
         if kind == "S":

@@ -1,7 +1,7 @@
 """Many books of one period added up: the annual table of a utility whose districts have a book each.
 
-    outagebook-sum BOOK.. [--json | --districts | -o FILE [--name NAME]] [--own-numbers] [--processes N]
-                   [--table FILE .. | --program PATH]
+    outagebook-sum BOOK.. [--json | --districts | --further | -o FILE [--name NAME]] [--own-numbers]
+                   [--hours H ..] [--processes N] [--table FILE .. | --program PATH]
 
 Each book is compared with its program's table first. Then seconds in service, customer-seconds, interruptions and
 customers are added up, and each index is its quotient of the sums: nothing is rounded. Books that don't belong together
@@ -17,14 +17,17 @@ from collections.abc import Iterator, Sequence
 from dataclasses import dataclass, field
 from datetime import date, timedelta
 from fractions import Fraction
+from functools import partial, reduce
 from heapq import merge
 from itertools import pairwise, repeat
+from operator import add
 from pathlib import Path
 
 from outagebook.cli import Parser, run_job
 from outagebook.compare import Checked, open_book
 from outagebook.counts import SETS, Counts, decimal_text, fraction_text, indices_of, quotient, quotient_text
 from outagebook.errors import BookError
+from outagebook.indices import HOURS, FurtherCounts, further_counts, further_indices, read_hours
 from outagebook.parallel import over_books
 from outagebook.rows import CAUSE, DAY, FEEDER
 
@@ -63,6 +66,7 @@ class District:
     begun: tuple[int, ...]  # customer-seconds of the sustained interruptions that begin on each day, whole
     marks: dict[int, str]
     counts: dict[str, Counts]
+    further: dict[str, FurtherCounts]
     customers: "array[int]" = field(repr=False)  # their numbers, rising
 
     @property
@@ -97,6 +101,7 @@ class Sums:
     begun: tuple[int, ...]
     marked_in: dict[int, tuple[str, ...]]  # the districts that mark a day
     counts: dict[str, Counts]
+    further: dict[str, FurtherCounts]
 
     @property
     def total(self) -> int:
@@ -105,6 +110,10 @@ class Sums:
     def indices(self, name: str) -> dict[str, Fraction | None]:
         """The fifteen quotients of one of the two sets."""
         return indices_of(self.counts[name], self.served_seconds, self.length)
+
+    def further_indices(self, name: str) -> dict[str, Fraction | None]:
+        """MAIFI, CTAIDI, CELID and CEMSMI of one of the two sets."""
+        return further_indices(self.counts[name], self.further[name], self.served_seconds, self.length)
 
     def daily_saidi(self) -> list[Fraction | None]:
         """Of each day the standard's: minutes of the sustained interruptions that begin on it, per customer served."""
@@ -119,8 +128,8 @@ def name_of(path: str) -> str:
     return Path(path).stem
 
 
-def district_of(path: str, found: Checked) -> District:
-    """What a compared book adds."""
+def district_of(path: str, found: Checked, hours: Sequence[Fraction] = HOURS) -> District:
+    """What a compared book adds; `hours` are those of CELID."""
     book = found.book
     begun = [0] * len(book.period.days)
     for each in found.interruptions:
@@ -142,6 +151,7 @@ def district_of(path: str, found: Checked) -> District:
         begun=tuple(begun),
         marks=dict(book.marks),
         counts=found.counts,
+        further={name: further_counts(book, found.runs, name == "unmarked", hours) for name in SETS},
         customers=array("I", (number for number, in found.database.execute("SELECT id FROM customer ORDER BY id"))),
     )
 
@@ -153,10 +163,14 @@ def read_district(path: str, table: str | None, program: str) -> District:
 
 
 def read_districts(
-    paths: Sequence[str], tables: Sequence[str | None], program: str, processes: int | None = None
+    paths: Sequence[str],
+    tables: Sequence[str | None],
+    program: str,
+    processes: int | None = None,
+    hours: Sequence[Fraction] = HOURS,
 ) -> list[District]:
-    """The parts of many books, in the order args."""
-    return over_books(read_district, paths, tables, program, processes)
+    """The parts of many books, in the order given."""
+    return over_books(partial(read_district, hours=hours), paths, tables, program, processes)
 
 
 # Adding up.
@@ -228,6 +242,7 @@ def add_up(districts: Sequence[District], own_numbers: bool = False) -> Sums:
         begun=tuple(map(sum, zip(*(each.begun for each in districts)))),
         marked_in={day: tuple(names) for day, names in sorted(marked.items())},
         counts={name: add_counts([each.counts[name] for each in districts]) for name in SETS},
+        further={name: reduce(add, (each.further[name] for each in districts)) for name in SETS},
     )
 
 
@@ -260,6 +275,13 @@ def mark_text(sums: Sums, day: int) -> str:
     if count == len(sums.districts):
         return " marked"
     return f" marked in {count} of {len(sums.districts)}" if count else ""
+
+
+def further_lines(sums: Sums) -> Iterator[str]:
+    """The indices that no program's table has, in the same form."""
+    for name in SETS:
+        for index, value in sums.further_indices(name).items():
+            yield f"{index:<10} {name:<9}{quotient_text(value)}"
 
 
 def table_lines(sums: Sums) -> Iterator[str]:
@@ -311,6 +333,12 @@ def write_table(sums: Sums) -> None:
         print(line)
 
 
+def write_further(sums: Sums) -> None:
+    print("# Computed here, in no program's table: MAIFI, CTAIDI, CELID and CEMSMI, over the same customers served.")
+    for line in further_lines(sums):
+        print(line)
+
+
 def write_districts(sums: Sums) -> None:
     writer = csv.writer(sys.stdout, lineterminator="\n")
     writer.writerow(DISTRICT_COLUMNS)
@@ -349,6 +377,9 @@ def write_json(sums: Sums) -> None:
             for number, (amount, daily) in enumerate(zip(sums.days, sums.daily_saidi()))
         ],
         "indices": {name: index_texts(sums, name) for name in SETS},
+        "further": {
+            name: {index: fraction_text(value) for index, value in sums.further_indices(name).items()} for name in SETS
+        },
         "districts": [dict(zip(DISTRICT_COLUMNS, row)) for row in district_rows(sums)],
     }
     json.dump(whole, sys.stdout, indent=1)
@@ -385,7 +416,11 @@ def main() -> int:
     form.add_argument(
         "--districts", dest="write", action="store_const", const=write_districts, help="a CSV row for each district"
     )
+    form.add_argument(
+        "--further", dest="write", action="store_const", const=write_further, help="MAIFI, CTAIDI, CELID and CEMSMI"
+    )
     form.add_argument("-o", "--output", metavar="FILE", help="write a page of all books in place of the table")
+    parser.add_argument("--hours", nargs="+", type=read_hours, metavar="H", default=HOURS, help="those of CELID")
     parser.add_argument("--name", default="All districts", help="what the page's heading begins with")
     args = parser.parse_args()
     tables = tables_given(parser, args.books, args.table)
@@ -393,7 +428,7 @@ def main() -> int:
         parser.error("--processes is 1 or more")
 
     def job() -> None:
-        sums = add_up(read_districts(args.books, tables, args.program, args.processes), args.own_numbers)
+        sums = add_up(read_districts(args.books, tables, args.program, args.processes, args.hours), args.own_numbers)
         if args.output:
             from outagebook.many_pages import sums_page
             from outagebook.report import write

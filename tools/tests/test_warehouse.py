@@ -46,15 +46,16 @@ def database(name: str) -> dict[str, str]:
 def connect(where: dict[str, str], autocommit: bool = False) -> Any:
     import psycopg
 
-    words = {"host": where["PGHOST"], "user": where["PGUSER"], "dbname": where["PGDATABASE"]}
-    return psycopg.connect(**words, autocommit=autocommit)  # type: ignore[arg-type]
+    return psycopg.connect(
+        host=where["PGHOST"], user=where["PGUSER"], dbname=where["PGDATABASE"], autocommit=autocommit
+    )
 
 
 def execute(where: dict[str, str], statement: str, autocommit: bool = False) -> list[tuple[Any, ...]]:
     """The rows of a statement in a connection of its own."""
     with connect(where, autocommit) as connection:
         cursor = connection.execute(statement)
-        return cursor.fetchall() if cursor.description else []
+        return list(cursor) if cursor.description else []
 
 
 def rows_by_name(where: dict[str, str], statement: str) -> list[dict[str, Any]]:
