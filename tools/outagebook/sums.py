@@ -156,10 +156,10 @@ def district_of(path: str, found: Checked, hours: Sequence[Fraction] = HOURS) ->
     )
 
 
-def read_district(path: str, table: str | None, program: str) -> District:
+def read_district(path: str, table: str | None, program: str, hours: Sequence[Fraction] = HOURS) -> District:
     """The part of the book in a file, compared first."""
     with open_book(path, table, program) as found:
-        return district_of(path, found)
+        return district_of(path, found, hours)
 
 
 def read_districts(
