@@ -375,6 +375,24 @@ class Loading(unittest.TestCase):
         self.assertEqual(self.sizes()["book"], 2)
 
 
+class Partitions(unittest.TestCase):
+    def test_a_warehouse_whose_interruptions_are_partitioned_by_period(self) -> None:
+        """The tables of docs/WAREHOUSE.md, "Growing": views and loads don't notice."""
+        where = database("partitions")
+        text = (TOOLS / "outagebook" / "warehouse.sql").read_text()
+        head, mark, rest = text.partition("CREATE TABLE outagebook.interruption (")
+        body, _, tail = rest.partition("\n);\n")
+        parted = f"{head}{mark}{body}\n) PARTITION BY LIST (period_id);\n"
+        parted += "CREATE TABLE outagebook.interruption_1 PARTITION OF outagebook.interruption FOR VALUES IN (1);\n"
+        execute(where, parted + tail)
+        book = books_of("partitioned", {"north": district_rows("N", 1)})["north"]
+        self.assertEqual(warehouse(where, "load", *with_tables([book])).stderr, "")
+        self.assertEqual(execute(where, "SELECT count(*) FROM outagebook.interruption_1"), [(3,)])
+        self.assertEqual(warehouse(where, "compare", *with_tables([book])).returncode, 0)
+        self.assertEqual(warehouse(where, "drop", "north", "--first", "2025-03-24").returncode, 0)
+        self.assertEqual(execute(where, "SELECT count(*) FROM outagebook.interruption"), [(0,)])
+
+
 class Roles(unittest.TestCase):
     def test_a_reader_only_reads(self) -> None:
         import psycopg
