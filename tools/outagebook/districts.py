@@ -126,6 +126,8 @@ def read_network(gis: Table, customers: Table | None) -> Network:
             bad.append(f"{gis.path}: row {place}: the name {row['name']!r} is empty, GRID, or comes twice")
         elif kind == "device":
             devices.append((place, row))
+        elif kind == "section" and not row["feeder"].strip():
+            bad.append(f"{gis.path}: row {place}: the section {row['name']!r} has no feeder")
         else:
             network.nodes.append(name)
             if kind == "section":

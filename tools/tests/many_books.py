@@ -6,11 +6,12 @@ OUTAGEBOOK_LONG=1 takes 200 networks in place of 60.
 import atexit
 import os
 import shutil
+import sqlite3
 import subprocess
 import sys
 import tempfile
 from collections.abc import Iterable, Sequence
-from contextlib import ExitStack
+from dataclasses import replace
 from functools import lru_cache
 from pathlib import Path
 
@@ -81,10 +82,11 @@ def books_of(name: str, texts: dict[str, Sequence[str]], period: tuple[str, int,
 
 @lru_cache(maxsize=None)
 def opened(book: Path) -> Checked:
-    """A made book, compared with the model's table and kept open until the tests end."""
-    stack = ExitStack()
-    atexit.register(stack.close)
-    return stack.enter_context(open_book(str(book), str(table_of(book))))
+    """A made book, compared with the model's table; its database is in memory, so that hundreds take no open file."""
+    with open_book(str(book), str(table_of(book))) as found:
+        database = sqlite3.connect(":memory:")
+        found.database.backup(database)
+    return replace(found, database=database)
 
 
 def run(tool: str, *words: object, **environment: str) -> "subprocess.CompletedProcess[str]":
