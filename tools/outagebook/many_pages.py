@@ -6,10 +6,10 @@ from html import escape
 
 from outagebook import charts, figures, report
 from outagebook.counts import SETS, decimal_text, quotient, quotient_text
-from outagebook.major_days import Answer, Threshold, facts
+from outagebook.major_days import Answer, Threshold, answer_of, facts, read_years
 from outagebook.major_days import about as about_major_days
 from outagebook.report import Column, TableRow
-from outagebook.sums import DISTRICT_COLUMNS, Sums, about, district_rows
+from outagebook.sums import DISTRICT_COLUMNS, District, Sums, about, district_rows
 
 BINS = 40  # of a histogram, at most
 ADDED = (
@@ -33,7 +33,8 @@ def page_of(title: str, body: Sequence[str]) -> str:
 def sums_page(sums: Sums, name: str) -> str:
     """The page of all districts of a period."""
     title = f"{name} {sums.period.first} to {sums.period.last}"
-    parts = [heading(sums, name), tiles(sums), index_part(sums), district_part(sums), day_part(sums), cause_part(sums)]
+    parts = [heading(sums, name), tiles(sums), index_part(sums), district_part(sums), day_part(sums)]
+    parts += [cause_part(sums), feeder_part(sums)]
     parts.append(f"\n<footer><p>{report.COMPUTED} {escape(ADDED)}</p></footer>")
     return page_of(title, parts)
 
@@ -163,22 +164,46 @@ def cause_part(sums: Sums) -> str:
 {report.behind("The figures of this picture", report.table(heads, cells), len(cells))}"""
 
 
+def feeder_part(sums: Sums) -> str:
+    """The feeders with the most customer-seconds, each with its district."""
+    feeders = [(amount, each.name, feeder) for each in sums.districts for feeder, amount in each.feeders.items()]
+    worst = sorted(feeders, key=lambda one: (-one[0], one[1:]))[: report.WORST]
+    heads = [Column("district"), *report.numbers("feeder", "customer-seconds", "share of W")]
+    rows = [
+        TableRow([name, feeder, report.number(amount), decimal_text(quotient(amount, sums.total))])
+        for amount, name, feeder in worst
+    ]
+    return f"""
+<h2>Feeders {report.COMPUTED}</h2>
+<p>The {len(rows)} of {len(feeders)} with the most customer-seconds without supply.</p>
+{report.table(heads, rows)}"""
+
+
 # Major event days.
 
 
 def major_days_page(years: Sequence[Sums], answer: Answer, name: str) -> str:
     """The page of a year's days against the threshold of the years before it."""
     period = answer.year.period
+    title = f"""
+<h1>{escape(name)}: <span class="whole">{period.first}</span> to <span class="whole">{period.last}</span></h1>"""
+    return page_of(f"{name} {period.first} to {period.last}", [title, answer_part(years, answer)])
+
+
+def major_days_part(districts: Sequence[District]) -> str:
+    """The same of a book and of those before it, as a part of the book's report."""
+    years = read_years(districts, own_numbers=False)
+    return answer_part(years, answer_of(years))
+
+
+def answer_part(years: Sequence[Sums], answer: Answer) -> str:
     said = "".join(f"<li>{escape(line)}</li>" for line in about_major_days(years, answer))
-    parts = [
-        f"""
-<h1>{escape(name)}: <span class="whole">{period.first}</span> to <span class="whole">{period.last}</span></h1>
-<p class="soft">The threshold T_MED by IEEE Std 1366-2012, clause 3.5, and the days above it. It marks nothing: an engineer
-decides. {report.COMPUTED}</p><ul>{said}</ul>""",
-        threshold_part(answer),
-        histogram_part(answer.threshold),
-    ]
-    return page_of(f"{name} {period.first} to {period.last}", parts)
+    return f"""
+<h2>Major event days {report.COMPUTED}</h2>
+<p>The threshold T_MED by IEEE Std 1366-2012, clause 3.5, and the days above it. It marks nothing: an engineer decides.</p>
+<ul class="soft">{said}</ul>
+{threshold_part(answer)}
+{histogram_part(answer.threshold)}"""
 
 
 def threshold_part(answer: Answer) -> str:
@@ -189,11 +214,10 @@ def threshold_part(answer: Answer) -> str:
     ]
     heads = [Column("day"), *report.numbers("daily SAIDI, min"), Column("marked in", "long")]
     return f"""
-<h2>The threshold</h2>
 {report.table([Column(""), Column("value", "code")], values)}
 <p>T_MED = exp(alpha + 2.5 beta), in minutes; alpha is the mean and beta the standard deviation of the logarithms of the
 {len(answer.threshold.days)} daily SAIDI of the periods before.</p>
-<h2>Days above it</h2>
+<h3>Days above it</h3>
 {report.table(heads, rows)}"""
 
 
@@ -205,7 +229,7 @@ def histogram_part(threshold: Threshold) -> str:
         " threshold."
     )
     return f"""
-<h2>Daily SAIDI of the periods before</h2>
+<h3>Daily SAIDI of the periods before</h3>
 {charts.legend(["days", "days above the threshold"])}
 {report.figure(charts.columns(bars, "Days by the logarithm of their daily SAIDI", "days"), note, "columns")}"""
 

@@ -1,6 +1,6 @@
 """A page of a book's period: indices, days, months, causes, feeders, worst interruptions, what late work moved.
 
-    python3 tools/report.py BOOK -o year.html [--picture days.svg] [--name NAME] [--table FILE | --program PATH]
+    python3 tools/report.py BOOK -o year.html [--picture days.svg] [--name NAME] [--earlier BOOK ..] [--table FILE | --program PATH]
 
 One HTML file that needs no network and no script. Its indices are the words of the program's annual table; what is
 computed here says so, and was compared with the book's postings and that table first (compare.py).
@@ -486,8 +486,8 @@ the book's network, entries and customers; before it wrote anything, its custome
 counts and all fifteen quotients of both sets were equal to the program's. Moments are by the clock of the book's zone.</p></footer>"""
 
 
-def page(found: Checked, name: str) -> str:
-    """The whole page."""
+def page(found: Checked, name: str, major_days: str = "") -> str:
+    """The whole page; `major_days` is its part on the threshold of major event days, where there are earlier books."""
     lines = figures_of_table(found.table)
     table_words = {which: value for which, value in lines.items() if which.split()[-1] in SETS}
     parts = [
@@ -495,6 +495,7 @@ def page(found: Checked, name: str) -> str:
         tiles(table_words),
         indices(table_words),
         day_parts(found),
+        major_days,
         month_part(found),
         cause_part(found),
         feeder_part(found),
@@ -508,6 +509,14 @@ def page(found: Checked, name: str) -> str:
         '<meta name="viewport" content="width=device-width, initial-scale=1">'
         f"<title>{escape(title)}</title><style>{STYLE}</style></head>\n<body>{''.join(parts)}\n</body></html>\n"
     )
+
+
+def major_days_part(path: str, found: Checked, earlier: Sequence[str], program: str) -> str:
+    """The days of a book above the threshold of those before it, with the histogram."""
+    from outagebook import many_pages, sums  # they stand on this module's pieces
+
+    districts = sums.read_districts(earlier, [None] * len(earlier), program)
+    return many_pages.major_days_part([*districts, sums.district_of(path, found)])
 
 
 def write(path: str, text: str) -> None:
@@ -525,12 +534,16 @@ def main() -> int:
         "--picture", metavar="FILE", help="write the picture of the days too, as an SVG file of its own"
     )
     parser.add_argument("--name", default="Outage book", help="what the heading begins with, as the utility's name")
+    parser.add_argument(
+        "--earlier", metavar="BOOK", nargs="+", help="books of the years before: the part on major event days"
+    )
     add_table_arguments(parser)
     args = parser.parse_args()
 
     def job() -> None:
         with open_book(args.book, args.table, args.program) as found:
-            texts = {args.output: page(found, args.name)}
+            major_days = major_days_part(args.book, found, args.earlier, args.program) if args.earlier else ""
+            texts = {args.output: page(found, args.name, major_days)}
             if args.picture:
                 texts[args.picture] = picture(found)
         for path, text in texts.items():

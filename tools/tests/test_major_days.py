@@ -3,6 +3,7 @@
 import csv
 import json
 import math
+import subprocess
 import unittest
 from array import array
 from collections import defaultdict
@@ -18,7 +19,7 @@ from outagebook.many_pages import histogram, major_days_page
 from outagebook.sums import District, PeriodKey, Sums
 from tests import many_books
 from tests.many_books import books_of, district_rows, run, with_tables
-from tests.support import TESTS
+from tests.support import PROGRAM, TESTS, needs_program
 
 DATA = TESTS / "data"
 FIRST = date(2020, 1, 1)
@@ -228,6 +229,28 @@ class Books(unittest.TestCase):
         done = run("major_days", *with_tables([earlier, again]), "--rows", "ENG-1", "-o", rows)
         self.assertIn("2025-04-08  4380/1 4380.000  marked in north", done.stdout)
         self.assertEqual((rows / "north.csv").read_text(), "kind,ref,f1,f2,f3,f4,f5,f6\n")
+
+    @needs_program
+    def test_the_histogram_in_a_books_report(self) -> None:
+        """The report of a year with the books before it, tables by the program."""
+        paths = []
+        for name, first, rows in (
+            ("report-earlier", "2025-03-24", district_rows("N", 1)),
+            ("report-later", "2025-04-07", [row for row in district_rows("N", 1) if not row.startswith("switch")]),
+        ):
+            book, file = many_books.folder() / f"{name}.db", many_books.folder() / f"{name}.csv"
+            file.write_text("\n".join(["kind,ref,f1,f2,f3,f4,f5,f6", *rows]))
+            words = ["init", "--book", book, "--first", first, "--days", "14", "--zone", many_books.FORTNIGHT[2]]
+            subprocess.run([PROGRAM, *words], check=True, capture_output=True)
+            subprocess.run([PROGRAM, "import", "--book", book, file], check=True, capture_output=True)
+            paths.append(book)
+        page = many_books.folder() / "report.html"
+        done = run("report", paths[1], "-o", page, "--earlier", paths[0], "--program", PROGRAM)
+        self.assertEqual((done.returncode, done.stdout, done.stderr), (0, "", ""))
+        text = page.read_text()
+        self.assertIn("Major event days", text)
+        self.assertIn("there is no threshold", text)
+        self.assertIn("Days by the logarithm of their daily SAIDI", text)
 
     def test_wrong_words(self) -> None:
         for arguments in ("", "a.db --rows ENG", "a.db -o x", "a.db --rows eng -o x", "a.db b.db --table x"):
