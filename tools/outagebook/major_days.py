@@ -194,8 +194,8 @@ def about(years: Sequence[Sums], answer: Answer) -> Iterator[str]:
         yield f"The days from {period.first} to {period.last} are more than {MOST_YEARS} periods back, and left out."
     if len(threshold.periods) < MOST_YEARS:
         yield (
-            f"There are books of {len(threshold.periods)} earlier periods, not of {MOST_YEARS}: all their days are used,"
-            " as the standard says."
+            f"There are books of {len(threshold.periods)} of the {MOST_YEARS} periods before: all their days are used, as"
+            " the standard says."
         )
     yield from gaps(years)
     yield (

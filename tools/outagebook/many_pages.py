@@ -9,7 +9,7 @@ from outagebook.counts import SETS, decimal_text, quotient, quotient_text
 from outagebook.major_days import Answer, Threshold, answer_of, facts, read_years
 from outagebook.major_days import about as about_major_days
 from outagebook.report import Column, TableRow
-from outagebook.sums import DISTRICT_COLUMNS, District, Sums, about, district_rows
+from outagebook.sums import DISTRICT_COLUMNS, District, Sums, about, district_rows, marks_that_differ
 
 BINS = 40  # of a histogram, at most
 ADDED = (
@@ -41,14 +41,25 @@ def sums_page(sums: Sums, name: str) -> str:
 
 def heading(sums: Sums, name: str) -> str:
     served = decimal_text(quotient(sums.served_seconds, sums.length)) or "undefined"
-    said = "".join(f"<p>{escape(line)}</p>" for line in about(sums))
     return f"""
 <h1>{escape(name)}: <span class="whole">{sums.period.first}</span> to <span class="whole">{sums.period.last}</span></h1>
 <p class="soft">{sums.period.days} days, zone {escape(sums.period.zone)}, {len(sums.districts)} districts. P is
 {report.number(sums.length)} seconds, S is {report.number(sums.served_seconds)} customer-seconds in service, so {served}
 customers (S / P) were served on average. W is {report.number(sums.total)} customer-seconds without supply, or
 {report.hours(sums.total)} customer-hours.</p>
-<div class="soft">{said}</div>"""
+{said_part(sums)}"""
+
+
+def said_part(sums: Sums) -> str:
+    """What is to be said of the sums; days that not all books mark are a list of their own."""
+    marks = list(marks_that_differ(sums))
+    said = "".join(f'<p class="soft">{escape(line)}</p>' for line in about(sums) if line not in marks)
+    if not marks:
+        return said
+    days = "".join(f"<li>{escape(line)}</li>" for line in marks)
+    return said + report.behind(
+        f"{len(marks)} days that not all books mark", f'<ul class="soft">{days}</ul>', len(marks)
+    )
 
 
 def figures_of_sums(sums: Sums) -> dict[str, str]:

@@ -125,7 +125,7 @@ class Periods(unittest.TestCase):
 
     def test_fewer_than_five_and_gaps_are_told(self) -> None:
         said = self.said(self.year(0), self.year(1, skip=1))
-        self.assertIn("books of 1 earlier periods, not of 5", said)
+        self.assertIn("books of 1 of the 5 periods before", said)
         self.assertIn("No book has the days between 2020-01-10 and 2020-01-12", said)
         self.assertIn("6 days have a daily SAIDI above 0; 4 have none", said)
 
@@ -240,9 +240,11 @@ class Books(unittest.TestCase):
         ):
             book, file = many_books.folder() / f"{name}.db", many_books.folder() / f"{name}.csv"
             file.write_text("\n".join(["kind,ref,f1,f2,f3,f4,f5,f6", *rows]))
-            words = ["init", "--book", book, "--first", first, "--days", "14", "--zone", many_books.FORTNIGHT[2]]
-            subprocess.run([PROGRAM, *words], check=True, capture_output=True)
-            subprocess.run([PROGRAM, "import", "--book", book, file], check=True, capture_output=True)
+            for words in (
+                ["init", "--book", book, "--first", first, "--days", "14", "--zone", many_books.FORTNIGHT[2]],
+                ["import", "--book", book, file],
+            ):
+                subprocess.run([str(PROGRAM), *map(str, words)], check=True, capture_output=True)
             paths.append(book)
         page = many_books.folder() / "report.html"
         done = run("report", paths[1], "-o", page, "--earlier", paths[0], "--program", PROGRAM)
