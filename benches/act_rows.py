@@ -17,20 +17,22 @@ import subprocess
 import sys
 import tempfile
 import time
+from collections.abc import Callable
 from contextlib import closing
 from pathlib import Path
 from statistics import median
 
-from compare import PROGRAM
+from places import PROGRAM
 from plain_office import Office
 from state import Period
 
 FIRST = 1_704_067_200
 BATCH = 500
 BREAKERS = 100
+Seconds = tuple[float, float]  # by the clock, and of the processor
 
 
-def first_rows():
+def first_rows() -> list[list[str]]:
     """A cause, and sections behind one breaker each."""
     rows = [["cause", "C1", "1", "STORM", "", "", "", ""]]
     for breaker in range(BREAKERS):
@@ -40,12 +42,12 @@ def first_rows():
     return rows
 
 
-def switching(turn):
+def switching(turn: int) -> tuple[int, bool]:
     """The breaker of a switching, and whether it closes: each breaker in turn is opened and closed."""
     return turn // 2 % BREAKERS, turn % 2 == 1
 
 
-def act(run, number, turn, places):
+def act(run: Callable[..., sqlite3.Cursor], number: int, turn: int, places: list[tuple[int, int]]) -> None:
     """The statements of a command that enters a switching; a place is a dimension and a key."""
     ref = f"OUT-{turn}"
     if run("SELECT id, body FROM cmd WHERE ref = ?", (ref,)).fetchone():
@@ -64,7 +66,7 @@ def act(run, number, turn, places):
     run("COMMIT")
 
 
-def measure(path, acts, moved):
+def measure(path: Path, acts: int, moved: int) -> list[Seconds]:
     """The seconds of an act by the clock and of the processor, batch by batch."""
     office = Office(path, Period("2024-01-01", 366, "UTC0"), "wal", "full")
     before = first_rows()
@@ -82,7 +84,7 @@ def measure(path, acts, moved):
     return seconds
 
 
-def csv_text(acts):
+def csv_text(acts: int) -> str:
     """Switchings of the breakers, a second after the other: each moves a cause, a feeder and the one day."""
     rows = [["kind", "ref", *(f"f{i}" for i in range(1, 7))], *first_rows()]
     for breaker in range(BREAKERS):
@@ -94,7 +96,7 @@ def csv_text(acts):
     return "".join(",".join(row) + "\n" for row in rows)
 
 
-def run_import(program, folder, acts):
+def run_import(program: str | Path, folder: str | None, acts: int) -> Seconds:
     """The seconds of an import of so many switchings into a new book, by the clock and of the processor."""
     with tempfile.TemporaryDirectory(dir=folder) as place:
         text, book = (Path(place) / name for name in ["acts.csv", "acts.db"])
@@ -112,20 +114,22 @@ def run_import(program, folder, acts):
     return clock, usage.ru_utime + usage.ru_stime
 
 
-def act_of_program(program, folder, acts):
+def act_of_program(program: str | Path, folder: str | None, acts: int) -> Seconds:
     """The seconds of an act, a long import less a short one."""
     long, short = run_import(program, folder, acts), run_import(program, folder, acts // 10)
-    return tuple((a - b) / (acts - acts // 10) for a, b in zip(long, short))
+    clock, processor = ((a - b) / (acts - acts // 10) for a, b in zip(long, short))
+    return clock, processor
 
 
-def act_of_python(folder, acts, moved):
+def act_of_python(folder: str | None, acts: int, moved: int) -> Seconds:
     """The seconds of an act by Python's sqlite3, the median of its batches, by the clock and of the processor."""
     with tempfile.TemporaryDirectory(dir=folder) as place:
         seconds = measure(Path(place) / "book.db", acts, moved)
-    return tuple(median(times) for times in zip(*seconds))
+    clock, processor = (median(times) for times in zip(*seconds))
+    return clock, processor
 
 
-def compare(name, folder, words):
+def compare(name: str, folder: str | None, words: argparse.Namespace) -> None:
     """Both by turns, and what each takes; the ratios are those of a turn."""
     turns = []
     for _ in range(words.rounds):
@@ -133,22 +137,24 @@ def compare(name, folder, words):
         turns.append((plain, act_of_program(words.program, folder, words.acts)))
     figures = []
     for which in [0, 1]:
-        plain, program = ([turn[of][which] for turn in turns] for of in [0, 1])
-        ratios = sorted(b / a for a, b in zip(plain, program))
-        figures += [f"{median(program) * 1e6:.0f}", f"{median(plain) * 1e6:.0f}"]
+        python, of_program = ([turn[of][which] for turn in turns] for of in [0, 1])
+        ratios = sorted(b / a for a, b in zip(python, of_program))
+        figures += [f"{median(of_program) * 1e6:.0f}", f"{median(python) * 1e6:.0f}"]
         figures.append(f"{median(ratios):.2f} ({ratios[0]:.2f} to {ratios[-1]:.2f})")
     print(f"| {name} | {' | '.join(figures)} |", flush=True)
 
 
-def main():
-    words = argparse.ArgumentParser(description="Times the rows of one command by Python's sqlite3 and by the program.")
-    words.add_argument("--acts", type=int, default=10_000, help="how many acts, in batches of 500; at most 50,000")
-    words.add_argument("--moved", type=int, default=3, help="how many amounts an act of Python's moves, 1 to 368")
-    words.add_argument("--rounds", type=int, default=5, help="how often each is timed")
-    words.add_argument("--folder", help="where the books in files are made (that of temporary files)")
-    words.add_argument("--memory", default="/dev/shm", help="a folder of a file system in memory")
-    words.add_argument("--program", default=PROGRAM, help="the program (that of crates/outagebook)")
-    words = words.parse_args()
+def main() -> None:
+    parser = argparse.ArgumentParser(
+        description="Times the rows of one command by Python's sqlite3 and by the program."
+    )
+    parser.add_argument("--acts", type=int, default=10_000, help="how many acts, in batches of 500; at most 50,000")
+    parser.add_argument("--moved", type=int, default=3, help="how many amounts an act of Python's moves, 1 to 368")
+    parser.add_argument("--rounds", type=int, default=5, help="how often each is timed")
+    parser.add_argument("--folder", help="where the books in files are made (that of temporary files)")
+    parser.add_argument("--memory", default="/dev/shm", help="a folder of a file system in memory")
+    parser.add_argument("--program", default=PROGRAM, help="the program (that of crates/outagebook)")
+    words = parser.parse_args()
     print("| An act, us | by the clock | Python's | ratio | processor | Python's | ratio |")
     print("|---|---|---|---|---|---|---|")
     compare("file system in memory", words.memory, words)

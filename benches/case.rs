@@ -1,10 +1,20 @@
 //! A network and a year of switchings, and what the proved library takes of them.
+//!
+//! A program uses some of this alone.
+#![allow(dead_code)]
 
 use crate::breadth_first::Lists;
+use crate::calls::{Network, Sheet};
 use crate::numbers::Numbers;
 
 /// The seconds of 366 days.
 pub const YEAR: usize = 366 * 86_400;
+/// Nodes and devices of a large network, and the feeders that leave GRID.
+const NODES: usize = 1_000;
+pub const DEVICES: usize = 1_500;
+const FEEDERS: usize = 20;
+/// Small cases that are compared beside a large one.
+const SMALL_CASES: usize = 300;
 /// The end of a life that has none.
 pub const NO_END: u32 = u32::MAX;
 
@@ -62,6 +72,13 @@ impl Case {
         }
     }
 
+    /// A large network and so many switchings, each undone within four hours.
+    pub fn of_year(entries: usize, numbers: &mut Numbers) -> Case {
+        let mut case = Case::network(NODES, DEVICES, FEEDERS, numbers);
+        case.switch(entries, 4 * 3_600, numbers);
+        case
+    }
+
     /// Enters so many switchings: a device leaves its normal position, and goes back after `longest`
     /// seconds at most. They are entered in the order of their seconds, but one in twenty is late.
     pub fn switch(&mut self, entries: usize, longest: usize, numbers: &mut Numbers) {
@@ -83,20 +100,29 @@ impl Case {
         self.sheet = entered.iter().map(|entry| entry.1).collect();
     }
 
-    /// The device of each switching.
-    pub fn devices(&self) -> Vec<u16> {
-        self.sheet.iter().map(|entry| entry.device).collect()
-    }
-
-    /// 1 for each switching that closes its device.
-    pub fn closes(&self) -> Vec<u8> {
-        let closes = self.sheet.iter().map(|entry| u8::from(entry.closes));
-        closes.collect()
-    }
-
-    /// The second of each switching.
-    pub fn seconds(&self) -> Vec<u32> {
-        self.sheet.iter().map(|entry| entry.second).collect()
+    /// Has a call take the network and the sheet in lists.
+    pub fn call<T>(&self, call: impl FnOnce(Network, Sheet) -> T) -> T {
+        let devices: Vec<u16> = self.sheet.iter().map(|entry| entry.device).collect();
+        let closes: Vec<u8> = self
+            .sheet
+            .iter()
+            .map(|entry| u8::from(entry.closes))
+            .collect();
+        let seconds: Vec<u32> = self.sheet.iter().map(|entry| entry.second).collect();
+        let network = Network {
+            nodes: self.nodes as u16,
+            from: &self.from,
+            to: &self.to,
+            closed: &self.closed,
+        };
+        call(
+            network,
+            Sheet {
+                devices: &devices,
+                closes: &closes,
+                seconds: &seconds,
+            },
+        )
     }
 
     /// Devices that are always there.
@@ -136,6 +162,17 @@ impl Case {
     }
 }
 
+/// The seconds without supply under these lives, counted with no runs: from stretch to stretch, as many for each section that
+/// isn't reached.
+pub fn seconds_without_supply(case: &Case, lives: &[Life]) -> u64 {
+    let mut sum = 0;
+    case.stretches(lives, |since, until, reached| {
+        let dark = reached.iter().filter(|&&is| !is).count() as u64;
+        sum += dark * u64::from(until - since);
+    });
+    sum
+}
+
 /// The seconds of the year at which a device is switched or its life begins or ends, rising, and the year's end.
 fn cuts(sheet: &[Switching], lives: &[Life]) -> Vec<u32> {
     let mut cuts: Vec<u32> = sheet.iter().map(|switching| switching.second).collect();
@@ -157,8 +194,8 @@ fn switching(device: usize, closes: bool, second: usize) -> Switching {
 
 /// Small networks whose switchings lie close together, so that several share a second, in the first
 /// and the last minute of the year.
-pub fn small_cases(cases: usize, numbers: &mut Numbers) -> Vec<Case> {
-    (0..cases)
+pub fn small_cases(numbers: &mut Numbers) -> Vec<Case> {
+    (0..SMALL_CASES)
         .map(|number| {
             let nodes = 2 + numbers.below(8);
             let mut case = Case::network(nodes, nodes + 2, 1 + numbers.below(3), numbers);

@@ -9,48 +9,17 @@
 //! to. It ends with status 1 where the plain count differs.
 
 mod breadth_first;
+mod calls;
 mod case;
 mod measure;
 mod numbers;
 
 use case::{Case, YEAR, small_cases};
-use measure::{peak, timed};
+use measure::{ended, median, peak, timed, words};
 use numbers::Numbers;
 use std::hint::black_box;
 use std::process::ExitCode;
 
-unsafe extern "C" {
-    fn bench_counts(
-        nodes: u16,
-        from: *const u16,
-        from_len: usize,
-        to: *const u16,
-        to_len: usize,
-        closed: *const u8,
-        closed_len: usize,
-        devices: *const u16,
-        devices_len: usize,
-        closes: *const u8,
-        closes_len: usize,
-        seconds: *const u32,
-        seconds_len: usize,
-        sections: *const u16,
-        sections_len: usize,
-        begins: *const u32,
-        begins_len: usize,
-        ends: *const u32,
-        ends_len: usize,
-        marked: *const u16,
-        marked_len: usize,
-        rounds: u32,
-    ) -> u64;
-}
-
-const NODES: usize = 1_000;
-const DEVICES: usize = 1_500;
-/// Feeders that leave GRID.
-const FEEDERS: usize = 20;
-const SMALL_CASES: usize = 300;
 /// Marked days, the first and the last one among them.
 const MARKED: [u16; 6] = [0, 77, 78, 200, 301, 365];
 /// A second after the year, at which a service ends that outlasts it.
@@ -106,33 +75,17 @@ impl Roll {
 
 /// What the proved library's counts and indices come to, added up over the rounds.
 fn proved(case: &Case, roll: &Roll, rounds: u32) -> u64 {
-    let (devices, closes, seconds) = (case.devices(), case.closes(), case.seconds());
-    unsafe {
-        bench_counts(
-            case.nodes as u16,
-            case.from.as_ptr(),
-            case.from.len(),
-            case.to.as_ptr(),
-            case.to.len(),
-            case.closed.as_ptr(),
-            case.closed.len(),
-            devices.as_ptr(),
-            devices.len(),
-            closes.as_ptr(),
-            closes.len(),
-            seconds.as_ptr(),
-            seconds.len(),
-            roll.sections.as_ptr(),
-            roll.sections.len(),
-            roll.begins.as_ptr(),
-            roll.begins.len(),
-            roll.ends.as_ptr(),
-            roll.ends.len(),
-            MARKED.as_ptr(),
-            MARKED.len(),
-            rounds,
-        )
-    }
+    let Roll {
+        sections,
+        begins,
+        ends,
+    } = roll;
+    let roll = calls::Roll {
+        sections,
+        begins,
+        ends,
+    };
+    case.call(|network, sheet| calls::counts(network, sheet, roll, &MARKED, rounds))
 }
 
 /// Counts of interruptions over a roll.
@@ -234,15 +187,9 @@ fn runs(dark: &Dark) -> usize {
     dark.iter().map(of).sum()
 }
 
-fn median(mut seconds: Vec<f64>) -> f64 {
-    seconds.sort_by(f64::total_cmp);
-    seconds[seconds.len() / 2]
-}
-
 /// Measures one size and prints its line. It answers whether the plain count agrees.
 fn measure(entries: usize, customers: usize, calls: usize, numbers: &mut Numbers) -> bool {
-    let mut case = Case::network(NODES, DEVICES, FEEDERS, numbers);
-    case.switch(entries, 4 * 3_600, numbers);
+    let case = Case::of_year(entries, numbers);
     let roll = Roll::new(&case, customers, 0, YEAR, numbers);
     let call = |rounds| {
         black_box(proved(black_box(&case), &roll, rounds));
@@ -276,23 +223,18 @@ fn agrees(case: &Case, numbers: &mut Numbers) -> bool {
 }
 
 fn main() -> ExitCode {
-    let words: Vec<usize> = std::env::args()
-        .skip(1)
-        .map_while(|word| word.parse().ok())
-        .collect();
-    let &[entries, customers, calls] = words.as_slice() else {
-        eprintln!("the words are the numbers of entries, of customers and of timed calls");
+    let Some([entries, customers, calls]) =
+        words("the numbers of entries, of customers and of timed calls")
+    else {
         return ExitCode::FAILURE;
     };
-    let mut numbers = Numbers::new(0x9E37_79B9_7F4A_7C15);
+    let mut numbers = Numbers::begin();
     let is_right = measure(entries, customers, calls, &mut numbers);
-    let small = small_cases(SMALL_CASES, &mut numbers);
-    if is_right && small.iter().all(|case| agrees(case, &mut numbers)) {
-        ExitCode::SUCCESS
-    } else {
-        eprintln!(
+    let small = small_cases(&mut numbers);
+    ended(
+        is_right && small.iter().all(|case| agrees(case, &mut numbers)),
+        &format!(
             "{entries} entries, {customers} customers: the figures differ from the plain count"
-        );
-        ExitCode::FAILURE
-    }
+        ),
+    )
 }

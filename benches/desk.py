@@ -18,13 +18,13 @@ import socket
 import subprocess
 import sys
 import time
+from collections.abc import Sequence
 from pathlib import Path
 from statistics import median
 
-from compare import PROGRAM
 from import_year import clear
+from places import BENCHES, DATA, PROGRAM
 
-BENCHES = Path(__file__).resolve().parent
 FIRST = 1_704_067_200
 PERIOD = ["--first", "2024-01-01", "--days", "1", "--zone", "UTC0"]
 AT_ONCE = 20  # divides the 1,000 requests of a stream
@@ -34,8 +34,10 @@ CLOSE = re.compile(rb"\r\nconnection: *close", re.IGNORECASE)
 
 BREAKERS = 100
 
+Reply = tuple[bytes, bytes]  # the status line and the body
 
-def book_text():
+
+def book_text() -> str:
     """A cause, a bus, and sections behind one breaker each, with a customer each."""
     rows = ["kind,ref,f1,f2,f3,f4,f5,f6", "cause,N1,3,STORM,,,,", "bus,N2,BUS-A,,,,,"]
     numbers = range(1, BREAKERS + 1)
@@ -49,77 +51,82 @@ def book_text():
 class Client:
     """One connection that is kept, and made anew where the server ends it."""
 
-    def __init__(self, port):
+    def __init__(self, port: int) -> None:
         self.port = port
-        self.socket = None
+        self.socket: socket.socket | None = None
         self.data = b""
 
-    def connect(self):
-        self.socket = socket.create_connection(("127.0.0.1", self.port))
-        self.socket.setsockopt(socket.IPPROTO_TCP, socket.TCP_NODELAY, 1)
+    def connected(self) -> socket.socket:
+        """The connection, made anew where there is none."""
+        if self.socket is None:
+            self.socket = socket.create_connection(("127.0.0.1", self.port))
+            self.socket.setsockopt(socket.IPPROTO_TCP, socket.TCP_NODELAY, 1)
+        return self.socket
 
-    def receive(self):
-        data = self.socket.recv(65_536)
+    def receive(self) -> None:
+        data = self.connected().recv(65_536)
         if not data:
             raise EOFError("the server hung up inside a reply")
         self.data += data
 
-    def reply(self):
+    def reply(self) -> Reply:
         """The status line and the body of the next reply."""
         while HEAD_END not in self.data:
             self.receive()
         head, _, self.data = self.data.partition(HEAD_END)
-        length = int(LENGTH.search(head)[1])
+        told = LENGTH.search(head)
+        length = int(told[1]) if told else 0
         while len(self.data) < length:
             self.receive()
         body, self.data = self.data[:length], self.data[length:]
         if CLOSE.search(head):
-            self.socket.close()
+            self.connected().close()
             self.socket = None
         return head.partition(b"\r\n")[0], body
 
-    def ask(self, requests):
+    def ask(self, requests: list[bytes]) -> list[Reply]:
         """The replies to requests that are sent at once. A server may end the connection after the last of them alone."""
-        if self.socket is None:
-            self.connect()
-        self.socket.sendall(b"".join(requests))
+        self.connected().sendall(b"".join(requests))
         return [self.reply() for _ in requests]
 
 
 class Server:
     """A server in a process of its own."""
 
-    def __init__(self, words):
+    def __init__(self, words: Sequence[object]) -> None:
         self.process = subprocess.Popen(list(map(str, words)), stdout=subprocess.PIPE, text=True)
-        line = self.process.stdout.readline()
+        assert self.process.stdout is not None
+        self.told = self.process.stdout
+        line = self.told.readline()
         if not line.startswith("listening 127.0.0.1:"):
             sys.exit(f"{words[0]}: {line}")
         self.client = Client(int(line.rpartition(":")[2]))
-        self.seconds = []
+        self.seconds: list[float] = []
 
-    def ask_all(self, groups):
+    def ask_all(self, groups: list[list[bytes]]) -> list[Reply]:
         """The replies to groups of requests; the seconds that they took are kept."""
         begin = time.perf_counter()
         replies = [self.client.ask(requests) for requests in groups]
         self.seconds.append(time.perf_counter() - begin)
         return [reply for group in replies for reply in group]
 
-    def rate(self, count):
+    def rate(self, count: int) -> float:
         """Requests a second, the median of the rounds, which are forgotten."""
-        seconds, self.seconds = median(self.seconds), []
+        seconds = float(median(self.seconds))
+        self.seconds = []
         return count / seconds
 
-    def end(self):
+    def end(self) -> None:
         self.process.terminate()
         self.process.wait()
-        self.process.stdout.close()
+        self.told.close()
 
 
-def view(path):
+def view(path: str) -> bytes:
     return f"GET {path} HTTP/1.1\r\nHost: localhost\r\n\r\n".encode()
 
 
-def command(number):
+def command(number: int) -> bytes:
     """The opening or closing of one of the breakers, which take turns, ten seconds after the one before."""
     said = {
         "kind": "switch",
@@ -135,7 +142,7 @@ def command(number):
     return (head + body).encode()
 
 
-def compare(name, servers, rounds, at_once=1):
+def compare(name: str, servers: list[Server], rounds: list[list[bytes]], at_once: int = 1) -> None:
     """Asks both servers the same, round by round, and prints their rates; the replies have to be equal."""
     for requests in rounds:
         groups = [requests[begin : begin + at_once] for begin in range(0, len(requests), at_once)]
@@ -149,25 +156,25 @@ def compare(name, servers, rounds, at_once=1):
     print(f"| {name} | {len(rounds)} x {count:,} | {figures} |", flush=True)
 
 
-def serve_both(folder, text, words):
+def serve_both(folder: Path, text: Path, words: argparse.Namespace) -> list[Server]:
     """Both servers, each over a book of its own in the folder."""
     book, plain, other = (folder / f"{name}.db" for name in ["desk", "desk-plain", "desk-other"])
     clear(book, plain, other)
     plain_words = [sys.executable, BENCHES / "plain_desk.py", text, *PERIOD]
     if words.plain:
         return [Server([*plain_words, "--book", path]) for path in [other, plain]]
-    for job in [["init", *PERIOD], ["import", text]]:
-        subprocess.run([words.program, job[0], "--book", book, *job[1:]], stdout=subprocess.DEVNULL, check=True)
+    for job, *rest in [["init", *PERIOD], ["import", str(text)]]:
+        subprocess.run([words.program, job, "--book", book, *rest], stdout=subprocess.DEVNULL, check=True)
     program = [words.program, "serve", "--book", book, "--port", "0"]
     return [Server(program), Server([*plain_words, "--book", plain])]
 
 
-def rounds_of(requests, rounds):
+def rounds_of(requests: list[bytes], rounds: int) -> list[list[bytes]]:
     size = len(requests) // rounds
     return [requests[size * number : size * (number + 1)] for number in range(rounds)]
 
 
-def measure(name, folder, text, words):
+def measure(name: str, folder: Path, text: Path, words: argparse.Namespace) -> None:
     servers = serve_both(folder, text, words)
     try:
         views = [[view("/totals")] * words.views] * words.rounds
@@ -181,20 +188,22 @@ def measure(name, folder, text, words):
             server.end()
 
 
-def main():
-    words = argparse.ArgumentParser(description="Times requests to the program and to a plain desk in Python.")
-    words.add_argument("--views", type=int, default=2_000, help="how many GETs a round, a multiple of 1,000")
-    words.add_argument("--commands", type=int, default=400, help="how many POSTs a round")
-    words.add_argument("--rounds", type=int, default=5)
-    words.add_argument("--program", default=PROGRAM, help="the program (that of crates/outagebook)")
-    words.add_argument("--folder", type=Path, default=BENCHES.parent / "bench-data", help="where books on disk are made")
-    words.add_argument("--memory", type=Path, default=Path("/dev/shm"), help="where books in memory are made")
-    words.add_argument("--plain", action="store_true", help="the plain desk in place of the program")
-    words = words.parse_args()
+def main() -> None:
+    parser = argparse.ArgumentParser(description="Times requests to the program and to a plain desk in Python.")
+    parser.add_argument("--views", type=int, default=2_000, help="how many GETs a round, a multiple of 1,000")
+    parser.add_argument("--commands", type=int, default=400, help="how many POSTs a round")
+    parser.add_argument("--rounds", type=int, default=5)
+    parser.add_argument("--program", default=PROGRAM, help="the program (that of crates/outagebook)")
+    parser.add_argument("--folder", type=Path, default=DATA, help="where books on disk are made")
+    parser.add_argument("--memory", type=Path, default=Path("/dev/shm"), help="where books in memory are made")
+    parser.add_argument("--plain", action="store_true", help="the plain desk in place of the program")
+    words = parser.parse_args()
     words.folder.mkdir(exist_ok=True)
     text = words.folder / "desk.csv"
     text.write_text(book_text(), encoding="ascii")
-    print("| Requests over one kept connection | rounds | program, a second | http.server and sqlite3, a second | ratio |")
+    print(
+        "| Requests over one kept connection | rounds | program, a second | http.server and sqlite3, a second | ratio |"
+    )
     print("|---|---|---|---|---|")
     measure("on disk", words.folder, text, words)
     measure("in memory", words.memory, text, words)

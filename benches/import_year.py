@@ -13,17 +13,17 @@ import sqlite3
 import subprocess
 import sys
 import tempfile
+from collections.abc import Sequence
 from contextlib import closing
 from pathlib import Path
 
-from compare import PROGRAM
 from make_year import DAYS, FIRST_DATE, csv_lines, year_lines
+from places import BENCHES, DATA, PROGRAM
 
-BENCHES = Path(__file__).resolve().parent
 TABLES = ["meta", "cause", "node", "device", "life", "customer", "entry", "mark", "cmd", "moved", "posting"]
 
 
-def measure(words):
+def measure(words: Sequence[object]) -> tuple[float, float, float, str]:
     """The seconds by the clock and of the processor, the peak in MB and the output of a process."""
     # By way of GNU time, a small process: a peak would begin with that of the one which it is started from.
     with tempfile.NamedTemporaryFile("r") as figures:
@@ -35,25 +35,25 @@ def measure(words):
     return clock, user + system, peak / 1024, ended.stdout
 
 
-def show(name, words):
+def show(name: str, words: Sequence[object]) -> None:
     clock, processor, peak, output = measure(words)
     said = output.splitlines()[0]
     print(f"| {name} | {clock:.2f} | {processor:.2f} | {peak:.1f} | {said} |", flush=True)
 
 
-def make_text(path, words):
+def make_text(path: Path, words: argparse.Namespace) -> None:
     lines = year_lines(words.entries, words.seed, words.customers, "rising", 0, words.lives)
     path.write_text("".join(f"{line}\n" for line in csv_lines(lines)), encoding="ascii")
 
 
-def clear(*paths):
+def clear(*paths: Path) -> None:
     """Takes away books of earlier runs, with the files beside them."""
     for path in paths:
         for beside in path.parent.glob(f"{path.name}*"):
             beside.unlink()
 
 
-def first_difference(one, other):
+def first_difference(one: Path, other: Path) -> str | None:
     """The first table in which two books differ, None where there is none."""
     with closing(sqlite3.connect(one)) as database:
         database.execute("ATTACH ? AS other", (str(other),))
@@ -65,15 +65,17 @@ def first_difference(one, other):
     return None
 
 
-def main():
-    words = argparse.ArgumentParser(description="Times the jobs of the program over a made year.")
-    words.add_argument("--entries", type=int, default=10_000, help="even")
-    words.add_argument("--customers", type=int, default=100_000)
-    words.add_argument("--lives", type=int, default=0, help="devices that join, and ties and lines that are taken down")
-    words.add_argument("--seed", type=int, default=1)
-    words.add_argument("--program", default=PROGRAM, help="the program (that of crates/outagebook)")
-    words.add_argument("--folder", type=Path, default=BENCHES.parent / "bench-data", help="where books are made")
-    words = words.parse_args()
+def main() -> int:
+    parser = argparse.ArgumentParser(description="Times the jobs of the program over a made year.")
+    parser.add_argument("--entries", type=int, default=10_000, help="even")
+    parser.add_argument("--customers", type=int, default=100_000)
+    parser.add_argument(
+        "--lives", type=int, default=0, help="devices that join, and ties and lines that are taken down"
+    )
+    parser.add_argument("--seed", type=int, default=1)
+    parser.add_argument("--program", default=PROGRAM, help="the program (that of crates/outagebook)")
+    parser.add_argument("--folder", type=Path, default=DATA, help="where books are made")
+    words = parser.parse_args()
     words.folder.mkdir(exist_ok=True)
     text, book, plain = (words.folder / name for name in ["import.csv", "import.db", "import-plain.db"])
     moves = words.folder / "import-moves.csv"

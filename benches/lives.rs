@@ -8,52 +8,21 @@
 //! kilobytes, and the seconds without supply. It ends with status 1 where a plain count of those differs.
 
 mod breadth_first;
+mod calls;
 mod case;
 mod measure;
 mod numbers;
 
-use case::{Case, Life, NO_END, YEAR, small_cases};
-use measure::{peak, timed};
+use case::{Case, DEVICES, Life, NO_END, YEAR, seconds_without_supply, small_cases};
+use measure::{ended, median, peak, timed, words};
 use numbers::Numbers;
 use std::hint::black_box;
 use std::process::ExitCode;
 
-unsafe extern "C" {
-    fn bench_lives(
-        nodes: u16,
-        from: *const u16,
-        from_len: usize,
-        to: *const u16,
-        to_len: usize,
-        closed: *const u8,
-        closed_len: usize,
-        devices: *const u16,
-        devices_len: usize,
-        closes: *const u8,
-        closes_len: usize,
-        seconds: *const u32,
-        seconds_len: usize,
-        lived: *const u16,
-        lived_len: usize,
-        since: *const u32,
-        since_len: usize,
-        until: *const u32,
-        until_len: usize,
-        searches: *mut u64,
-        searches_len: usize,
-    ) -> u64;
-}
-
-const NODES: usize = 1_000;
-const DEVICES: usize = 1_500;
-/// Feeders that leave GRID.
-const FEEDERS: usize = 20;
 /// Devices that join in the course of the year.
 const JOINING: usize = 50;
 /// Devices that leave in its course.
 const LEAVING: usize = 30;
-/// Small cases that are compared beside the large one.
-const SMALL_CASES: usize = 300;
 
 /// A device and the life that it is given.
 #[derive(Clone, Copy)]
@@ -65,52 +34,26 @@ struct Given {
 /// The seconds without supply that the proved library answers once these lives are given one after the other, and how often the
 /// network was searched for each.
 fn proved(case: &Case, given: &[Given]) -> (u64, Vec<u64>) {
-    let (devices, closes, seconds) = (case.devices(), case.closes(), case.seconds());
-    let lived: Vec<u16> = given.iter().map(|given| given.device).collect();
+    let devices: Vec<u16> = given.iter().map(|given| given.device).collect();
     let since: Vec<u32> = given.iter().map(|given| given.life.since).collect();
     let until: Vec<u32> = given.iter().map(|given| given.life.until).collect();
     let mut searches = vec![0; given.len()];
-    let sum = unsafe {
-        bench_lives(
-            case.nodes as u16,
-            case.from.as_ptr(),
-            case.from.len(),
-            case.to.as_ptr(),
-            case.to.len(),
-            case.closed.as_ptr(),
-            case.closed.len(),
-            devices.as_ptr(),
-            devices.len(),
-            closes.as_ptr(),
-            closes.len(),
-            seconds.as_ptr(),
-            seconds.len(),
-            lived.as_ptr(),
-            lived.len(),
-            since.as_ptr(),
-            since.len(),
-            until.as_ptr(),
-            until.len(),
-            searches.as_mut_ptr(),
-            searches.len(),
-        )
+    let lives = calls::Lives {
+        devices: &devices,
+        since: &since,
+        until: &until,
     };
+    let sum = case.call(|network, sheet| calls::lives(network, sheet, lives, &mut searches));
     (sum, searches)
 }
 
-/// The seconds without supply under these lives, counted with no runs: from stretch to stretch, as many for each section that
-/// isn't reached.
+/// The seconds without supply under these lives, by a plain count.
 fn plain(case: &Case, given: &[Given]) -> u64 {
     let mut lives = case.whole_lives();
     for given in given {
         lives[usize::from(given.device)] = given.life;
     }
-    let mut sum = 0;
-    case.stretches(&lives, |since, until, reached| {
-        let dark = reached.iter().filter(|&&is| !is).count() as u64;
-        sum += dark * u64::from(until - since);
-    });
-    sum
+    seconds_without_supply(case, &lives)
 }
 
 /// Devices of which some join and the others leave at any second of the year. Those that join are given a life after the year
@@ -154,8 +97,7 @@ fn mean_and_greatest(numbers: &[u64]) -> (u64, u64) {
 
 /// Measures one case and prints its line. It answers whether the plain count agrees.
 fn measure(entries: usize, calls: usize, numbers: &mut Numbers) -> bool {
-    let mut case = Case::network(NODES, DEVICES, FEEDERS, numbers);
-    case.switch(entries, 4 * 3_600, numbers);
+    let case = Case::of_year(entries, numbers);
     let all = joining_and_leaving(numbers);
     let (mut seconds, mut searches) = (0, Vec::new());
     let mut spent: Vec<f64> = Vec::new();
@@ -168,14 +110,12 @@ fn measure(entries: usize, calls: usize, numbers: &mut Numbers) -> bool {
         })[0];
         spent.push(after - before);
     }
-    spent.sort_by(f64::total_cmp);
-    let peak = peak();
-    let median = spent[calls / 2];
-    let one = median / (JOINING + LEAVING) as f64;
+    let (peak, all_lives) = (peak(), median(spent));
+    let one = all_lives / (JOINING + LEAVING) as f64;
     let (joining, leaving) = searches[JOINING..].split_at(JOINING);
     let (joining, leaving) = (mean_and_greatest(joining), mean_and_greatest(leaving));
     println!(
-        "{entries}\t{median}\t{one}\t{}\t{}\t{}\t{}\t{peak}\t{seconds}",
+        "{entries}\t{all_lives}\t{one}\t{}\t{}\t{}\t{}\t{peak}\t{seconds}",
         joining.0, joining.1, leaving.0, leaving.1
     );
     seconds == plain(&case, &all)
@@ -205,18 +145,15 @@ fn agrees(case: &Case, numbers: &mut Numbers) -> bool {
 }
 
 fn main() -> ExitCode {
-    let mut words = std::env::args().skip(1).map(|word| word.parse().ok());
-    let (Some(Some(entries)), Some(Some(calls))) = (words.next(), words.next()) else {
-        eprintln!("the words are the number of entries and the number of timed calls");
+    let Some([entries, calls]) = words("the number of entries and the number of timed calls")
+    else {
         return ExitCode::FAILURE;
     };
-    let mut numbers = Numbers::new(0x9E37_79B9_7F4A_7C15);
+    let mut numbers = Numbers::begin();
     let is_right = measure(entries, calls, &mut numbers);
-    let small = small_cases(SMALL_CASES, &mut numbers);
-    if is_right && small.iter().all(|case| agrees(case, &mut numbers)) {
-        ExitCode::SUCCESS
-    } else {
-        eprintln!("{entries} entries: the seconds without supply differ from the plain count");
-        ExitCode::FAILURE
-    }
+    let small = small_cases(&mut numbers);
+    ended(
+        is_right && small.iter().all(|case| agrees(case, &mut numbers)),
+        &format!("{entries} entries: the seconds without supply differ from the plain count"),
+    )
 }

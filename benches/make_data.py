@@ -6,9 +6,12 @@
 
 import random
 import sys
+from collections.abc import Iterator
 
 HEADER = "kind,ref,f1,f2,f3,f4,f5,f6"
 LAST_SECOND = 99_999_999_999
+Bound = int | str  # a second, or nothing: ""
+Fields = tuple[int | str, ...]
 
 # The large text: a network that is run radially, with ties between its feeders, over a long span.
 LARGE_SEED = 20261122
@@ -23,20 +26,19 @@ LARGE_SECONDS = 100_000
 class Text:
     """Rows of eight fields, each with a reference of its own."""
 
-    def __init__(self):
+    def __init__(self) -> None:
         self.rows = [HEADER]
 
-    def add(self, kind, *fields):
-        fields = [str(field) for field in fields]
+    def add(self, kind: str, *fields: object) -> None:
         padding = [""] * (6 - len(fields))
-        self.rows.append(",".join([kind, f"R{len(self.rows)}", *fields, *padding]))
+        self.rows.append(",".join([kind, f"R{len(self.rows)}", *map(str, fields), *padding]))
 
-    def data(self, line_end="\n", last_line_end=True):
+    def data(self, line_end: str = "\n", last_line_end: bool = True) -> bytes:
         text = line_end.join(self.rows) + (line_end if last_line_end else "")
         return text.encode("ascii")
 
 
-def large_text():
+def large_text() -> bytes:
     """1,000 nodes, 1,500 devices, 1,000 customers and 500 switchings in 100,000 seconds.
 
     Each node but GRID hangs on an earlier one by a closed device; the other devices are ties,
@@ -72,7 +74,7 @@ def large_text():
     return text.data()
 
 
-def add_outages(text, rng, ties):
+def add_outages(text: Text, rng: random.Random, ties: int) -> None:
     """The switchings of the large text, entered outage by outage and so not in order of time."""
     for outage in range(LARGE_OUTAGES):
         opened = LARGE_FIRST + rng.randrange(LARGE_SECONDS - 4_000)
@@ -86,7 +88,7 @@ def add_outages(text, rng, ties):
             text.add("switch", tie, "close", rng.randrange(opened, restored), cause, "CREW-2")
 
 
-def small_text(seed):
+def small_text(seed: int) -> bytes:
     """A text that `total` takes, with what is seldom in a book: meshed networks, devices side by
     side, several switchings in one second and at the span's first and last one, switchings that
     change nothing, services and lives inside the span, at its bounds or outside, lives that are set
@@ -111,7 +113,7 @@ def small_text(seed):
     return text.data(rng.choice(["\n", "\r\n", "\r"]), rng.random() < 0.8)
 
 
-def add_nodes(text, rng):
+def add_nodes(text: Text, rng: random.Random) -> tuple[list[str], list[str]]:
     names = ["GRID"]
     sections = []
     for number in range(rng.randint(1, 9)):
@@ -124,42 +126,46 @@ def add_nodes(text, rng):
     return names, sections
 
 
-def device(rng, names, first, end):
+def device(rng: random.Random, names: list[str], first: int, end: int) -> Fields:
     """The fields of a device behind its name; in most of them the life is left out."""
     a, b = rng.sample(names, 2)
     since, until = life(rng, first, end) if rng.random() < 0.4 else ("", "")
     return a, b, rng.choice(["open", "closed", "closed"]), since, until
 
 
-def life(rng, first, end):
+def bound(rng: random.Random, first: int, end: int) -> Bound:
+    bounds: list[Bound] = ["", (first + end) // 2, near(rng, first, end)]
+    return rng.choice(bounds)
+
+
+def life(rng: random.Random, first: int, end: int) -> tuple[Bound, Bound]:
     """The two fields of a life, either of which may be empty; one may be a second of switchings."""
-    since, until = (rng.choice(["", (first + end) // 2, near(rng, first, end)]) for _ in range(2))
-    return since, until if until != "" and until > int(since or "0") else ""
+    since, until = bound(rng, first, end), bound(rng, first, end)
+    return since, until if until != "" and int(until) > int(since or "0") else ""
 
 
-def connections(rng, sections, first, end):
+def connections(rng: random.Random, sections: list[str], first: int, end: int) -> Iterator[Fields]:
     numbers = rng.sample(range(1, 40), rng.choice([1, 6, 20, 20])) if sections else []
     for number in numbers:
         since = near(rng, first, end)
         until = near(rng, first, end)
-        if until <= since or rng.random() < 0.3:
-            until = ""
-        yield number, rng.choice(sections), since, until
+        is_open = until <= since or rng.random() < 0.3
+        yield number, rng.choice(sections), since, "" if is_open else until
 
 
-def switchings(rng, devices, first, end):
+def switchings(rng: random.Random, devices: list[str], first: int, end: int) -> Iterator[Fields]:
     for _ in range(rng.randint(0, 24) if devices else 0):
         second = rng.choice([first, end - 1, rng.randrange(first, end), (first + end) // 2])
         yield rng.choice(devices), rng.choice(["open", "close"]), second, rng.randint(1, 63), "K1"
 
 
-def near(rng, first, end):
+def near(rng: random.Random, first: int, end: int) -> int:
     """A second in the span or near it."""
     second = rng.choice([0, first, end - 1, end, rng.randrange(first, end), rng.randint(first - 3, end + 3)])
     return min(max(0, second), LAST_SECOND)
 
 
-def main():
+def main() -> None:
     data = large_text() if sys.argv[1] == "large" else small_text(int(sys.argv[2]))
     sys.stdout.buffer.write(data)
 

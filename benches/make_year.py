@@ -12,7 +12,9 @@ import argparse
 import heapq
 import random
 import sys
+from collections.abc import Callable, Iterable, Iterator
 from datetime import date, datetime, timedelta, timezone
+from functools import partial
 
 FIRST = 1_704_067_200
 DAYS = 366
@@ -30,6 +32,8 @@ CAUSES = [
     "STORM", "LIGHTNING", "TREE", "ANIMAL", "VEHICLE", "DIGGING", "EQUIPMENT", "OVERLOAD", "PLANNED",
     "SWITCHING", "SUPPLIER", "UNKNOWN",
 ]  # fmt: skip
+Act = Callable[[], str]  # done when its moment comes, it answers the line of its command
+Tie = tuple[str, str, str]  # its name and its two nodes
 CREWS = [f"CREW-{number}" for number in range(1, 13)]
 
 
@@ -39,16 +43,16 @@ class Network:
     A node is a name. `above` is the node that it hangs on, `below` those that hang on it.
     """
 
-    def __init__(self, rng):
-        self.feeder_of = {}
-        self.above = {}
-        self.below = {"GRID": []}
-        self.breaker_of = {}
-        self.ties = []
+    def __init__(self, rng: random.Random) -> None:
+        self.feeder_of: dict[str, int] = {}
+        self.above: dict[str, str] = {}
+        self.below: dict[str, list[str]] = {"GRID": []}
+        self.breaker_of: dict[str, str] = {}
+        self.ties: list[Tie] = []
         self.add_feeders(rng)
         self.add_ties(rng)
 
-    def add_feeders(self, rng):
+    def add_feeders(self, rng: random.Random) -> None:
         buses, sections = 0, 0
         for feeder in range(1, FEEDERS + 1):
             trunk = ["GRID"]
@@ -67,27 +71,27 @@ class Network:
                 self.hang(name, trunk[0] if len(trunk) == 1 else rng.choice(trunk[1:][-6:]))
                 trunk.append(name)
 
-    def hang(self, name, above):
+    def hang(self, name: str, above: str) -> None:
         self.above[name] = above
         self.below[above].append(name)
         self.below[name] = []
         self.breaker_of[name] = f"BREAKER-{len(self.above)}"
 
-    def add_ties(self, rng):
+    def add_ties(self, rng: random.Random) -> None:
         nodes = list(self.above)
         while len(self.above) + len(self.ties) < DEVICES:
             a, b = rng.sample(nodes, 2)
             if self.above[a] != b and self.above[b] != a:
                 self.ties.append((f"TIE-{len(self.ties) + 1}", a, b))
 
-    def cut_off(self, name):
+    def cut_off(self, name: str) -> list[str]:
         """The nodes that hang on a node, itself among them."""
         found = [name]
         for node in found:
             found += self.below[node]
         return found
 
-    def lines(self):
+    def lines(self) -> Iterator[str]:
         for name in self.above:
             if name in self.feeder_of:
                 yield f"section {name} {self.feeder_of[name]}"
@@ -99,7 +103,7 @@ class Network:
             yield f"device {tie} {a} {b} open 0 -"
 
 
-def customer_lines(rng, network, customers, order):
+def customer_lines(rng: random.Random, network: Network, customers: int, order: str) -> Iterator[str]:
     """Customers of any sections: one in ten begins its service within the year, and one in ten ends it there."""
     sections = list(network.feeder_of)
     numbers = list(range(1, customers + 1))
@@ -116,28 +120,28 @@ def customer_lines(rng, network, customers, order):
 class Entry:
     """A switching, and the moment at which it is entered."""
 
-    def __init__(self, device, act, second, cause, crew, moment):
+    def __init__(self, device: str, act: str, second: int, cause: int, crew: str, moment: float) -> None:
         self.device = device
         self.act = act
         self.second = second
         self.cause = cause
         self.crew = crew
         self.moment = moment
-        self.number = None
+        self.number = 0  # until it is entered
         self.revision = 1
 
 
 class Sheet:
     """The switchings of a year by outages, with what is corrected and withdrawn of them later."""
 
-    def __init__(self, rng, network, entries):
+    def __init__(self, rng: random.Random, network: Network, entries: int) -> None:
         self.rng = rng
         self.network = network
-        self.outages = []
-        self.marks = []
+        self.outages: list[list[Entry]] = []
+        self.entered_so_far = 0
         wanted = entries
         nodes = list(network.above)
-        ties_of = {}
+        ties_of: dict[str, list[Tie]] = {}
         for tie in network.ties:
             for node in tie[1:]:
                 ties_of.setdefault(node, []).append(tie)
@@ -146,7 +150,7 @@ class Sheet:
             self.outages.append(outage)
             wanted -= len(outage)
 
-    def outage(self, node, ties_of, wanted):
+    def outage(self, node: str, ties_of: dict[str, list[Tie]], wanted: int) -> list[Entry]:
         """A breaker is opened and closed again; sometimes a tie supplies a part of what is cut off meanwhile."""
         rng = self.rng
         cause = rng.randint(1, len(CAUSES))
@@ -165,51 +169,49 @@ class Sheet:
                 steps += [(tie[0], "close", closed), (tie[0], "open", back)]
         return [Entry(*step, cause, crew, self.entered(step[2])) for step in steps]
 
-    def entered(self, second):
+    def entered(self, second: int) -> float:
         """The moment at which a switching is entered: at once, or one in twenty late."""
         return second + self.delay() if self.rng.random() < 0.05 else second
 
-    def delay(self):
+    def delay(self) -> float:
         """Most that is late comes within hours, some within two days, one in ten within three weeks."""
         (longest,) = self.rng.choices([4 * 3_600, 2 * DAY, 21 * DAY], weights=[6, 3, 1])
         return 1 + longest * self.rng.random()
 
-    def acts(self):
+    def acts(self) -> Iterator[tuple[float, Act]]:
         """What is done, each with its moment: entries, corrections and withdrawals."""
         for outage in self.outages:
             for entry in outage:
-                yield entry.moment, "enter", entry
+                yield entry.moment, partial(self.enter, entry)
             entered = max(entry.moment for entry in outage)
             if self.rng.random() < 0.01:
                 withdrawn = entered + self.delay()
                 for entry in self.rng.sample(outage, len(outage)):
                     withdrawn += 60
-                    yield withdrawn, "withdraw", entry
+                    yield withdrawn, partial(self.withdrawal, entry)
                 continue
             for place, entry in enumerate(outage):
                 if self.rng.random() < 0.03:
-                    yield entered + self.delay(), "correct", (entry, outage[place ^ 1])
+                    yield entered + self.delay(), partial(self.correction, entry, outage[place ^ 1])
 
-    def lines(self, told=()):
+    def lines(self, told: Iterable[tuple[float, str]] = ()) -> Iterator[str]:
         """The commands in the order of their moments, with what else is told, pairs of a moment and a line."""
-        acts = [*self.acts(), *((moment, "tell", line) for moment, line in told)]
-        acts = [(moment, place, kind, what) for place, (moment, kind, what) in enumerate(acts)]
-        heapq.heapify(acts)
-        number = 0
-        while acts:
-            _, _, kind, what = heapq.heappop(acts)
-            if kind == "enter":
-                number += 1
-                what.number = number
-                yield f"switch {what.device} {what.act} {what.second} {what.cause} {what.crew}"
-            elif kind == "withdraw":
-                yield f"withdraw {what.number} {what.revision}"
-            elif kind == "tell":
-                yield what
-            else:
-                yield self.correction(*what)
+        acts: list[tuple[float, Act]] = [*self.acts(), *((moment, partial(str, line)) for moment, line in told)]
+        in_turn = [(moment, place, act) for place, (moment, act) in enumerate(acts)]
+        heapq.heapify(in_turn)
+        while in_turn:
+            _, _, act = heapq.heappop(in_turn)
+            yield act()
 
-    def correction(self, entry, other):
+    def enter(self, entry: Entry) -> str:
+        self.entered_so_far += 1
+        entry.number = self.entered_so_far
+        return f"switch {entry.device} {entry.act} {entry.second} {entry.cause} {entry.crew}"
+
+    def withdrawal(self, entry: Entry) -> str:
+        return f"withdraw {entry.number} {entry.revision}"
+
+    def correction(self, entry: Entry, other: Entry) -> str:
         """Another second, which doesn't pass that of the same device's other switching, and sometimes another cause."""
         second = entry.second + self.rng.randint(-900, 900)
         second = min(max(second, FIRST), END - 1)
@@ -225,7 +227,7 @@ class Sheet:
         return f"correct {entry.number} {revision} {entry.act} {second} {entry.cause} {entry.crew}"
 
 
-def life_lines(rng, network, lives):
+def life_lines(rng: random.Random, network: Network, lives: int) -> Iterator[tuple[int, str]]:
     """Lives by turns, each with the moment at which it is told, up to two days after its second or before it: a device
     joins, a tie is taken down, a line is taken down and stands again some hours later."""
     nodes, breakers = list(network.above), list(network.breaker_of.values())
@@ -244,7 +246,7 @@ def life_lines(rng, network, lives):
             yield told + rng.randint(1, DAY), f"life {breaker} 0 -"
 
 
-def late_lines(rng, network, pairs):
+def late_lines(rng: random.Random, network: Network, pairs: int) -> Iterator[str]:
     """Short outages of a minute at any second of the year, each entered after all others."""
     breakers = list(network.breaker_of.values())
     for _ in range(pairs):
@@ -255,7 +257,7 @@ def late_lines(rng, network, pairs):
         yield f"switch {breaker} close {opened + 60} {cause} CREW-1"
 
 
-def year_lines(entries, seed, customers, order, late, lives=0):
+def year_lines(entries: int, seed: int, customers: int, order: str, late: int, lives: int = 0) -> Iterator[str]:
     """The lines of a year; those of two years that differ only in `late` begin alike."""
     network = Network(random.Random(f"network {seed}"))
     for code, name in enumerate(CAUSES, 1):
@@ -276,10 +278,10 @@ MOMENTS = {"connect": [2, 3], "switch": [2], "correct": [3], "device": [4, 5], "
 WHOLE = {"device": ["0", "-"], "life": ["0", "-"]}  # a life's ends that a row leaves out
 
 
-def csv_lines(lines):
+def csv_lines(lines: Iterable[str]) -> Iterator[str]:
     """The same commands as rows, each under a reference of its own, with civil moments in UTC."""
     yield "kind,ref,f1,f2,f3,f4,f5,f6"
-    counts = {}
+    counts: dict[str, int] = {}
     for line in lines:
         kind, *fields = line.split(" ")
         for place in MOMENTS.get(kind, ()):
@@ -291,20 +293,22 @@ def csv_lines(lines):
         yield ",".join([kind, f"{word}-{counts[word]}", *fields])
 
 
-def civil(second):
+def civil(second: int) -> str:
     return datetime.fromtimestamp(second, timezone.utc).strftime("%Y-%m-%dT%H:%M:%SZ")
 
 
-def main():
-    words = argparse.ArgumentParser(description="Writes a made year to standard output.")
-    words.add_argument("entries", type=int, help="the number of entries of the sheet, even")
-    words.add_argument("seed", type=int)
-    words.add_argument("--customers", type=int, default=100_000)
-    words.add_argument("--order", choices=["rising", "falling", "random"], default="rising", help="of their numbers")
-    words.add_argument("--late", type=int, default=0, help="short outages that are entered after all others")
-    words.add_argument("--lives", type=int, default=0, help="devices that join, and ties and lines that are taken down")
-    words.add_argument("--csv", action="store_true", help="rows of CSV in place of body texts")
-    words = words.parse_args()
+def main() -> None:
+    parser = argparse.ArgumentParser(description="Writes a made year to standard output.")
+    parser.add_argument("entries", type=int, help="the number of entries of the sheet, even")
+    parser.add_argument("seed", type=int)
+    parser.add_argument("--customers", type=int, default=100_000)
+    parser.add_argument("--order", choices=["rising", "falling", "random"], default="rising", help="of their numbers")
+    parser.add_argument("--late", type=int, default=0, help="short outages that are entered after all others")
+    parser.add_argument(
+        "--lives", type=int, default=0, help="devices that join, and ties and lines that are taken down"
+    )
+    parser.add_argument("--csv", action="store_true", help="rows of CSV in place of body texts")
+    words = parser.parse_args()
     if words.entries % 2 or words.entries + 2 * words.late > MOST_ENTRIES:
         sys.exit("the entries are even, and with the late ones 50,000 at most")
     if words.lives > MOST_LIVES:

@@ -1,6 +1,10 @@
-//! The time and the memory of this process.
+//! The words, the time and the memory of this process, and how it ends.
+//!
+//! A program uses some of this alone.
+#![allow(dead_code)]
 
 use std::ffi::c_long;
+use std::process::ExitCode;
 
 unsafe extern "C" {
     /// The C library's processor time of this process, in millionths of a second.
@@ -31,4 +35,29 @@ pub fn peak() -> u64 {
     let line = status.lines().find(|line| line.starts_with("VmHWM:"));
     let kilobytes = line.and_then(|line| line.split_whitespace().nth(1));
     kilobytes.and_then(|word| word.parse().ok()).unwrap_or(0)
+}
+
+/// The middle one of some numbers.
+pub fn median(mut numbers: Vec<f64>) -> f64 {
+    numbers.sort_by(f64::total_cmp);
+    numbers[numbers.len() / 2]
+}
+
+/// The words of the command line as so many numbers; else it says what they are.
+pub fn words<const N: usize>(what: &str) -> Option<[usize; N]> {
+    let words = std::env::args().skip(1).map_while(|word| word.parse().ok());
+    let numbers = words.collect::<Vec<usize>>().try_into().ok();
+    if numbers.is_none() {
+        eprintln!("the words are {what}");
+    }
+    numbers
+}
+
+/// Success where it is right; else it says what isn't.
+pub fn ended(is_right: bool, wrong: &str) -> ExitCode {
+    if is_right {
+        return ExitCode::SUCCESS;
+    }
+    eprintln!("{wrong}");
+    ExitCode::FAILURE
 }

@@ -4,8 +4,9 @@
 pub struct Numbers(u64);
 
 impl Numbers {
-    pub fn new(seed: u64) -> Numbers {
-        Numbers(seed)
+    /// The numbers that all programs here begin with.
+    pub fn begin() -> Numbers {
+        Numbers(0x9E37_79B9_7F4A_7C15)
     }
 
     /// The next number below `limit`.

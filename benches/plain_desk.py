@@ -13,25 +13,27 @@ import os
 import sys
 from http.server import BaseHTTPRequestHandler, HTTPServer
 
+import places  # noqa: F401, the modules of oracle/
 from commands import NAMES, Refusal
 from plain_office import Office
 from state import Period
 
 MEMBERS = ["kind", "ref", "f1", "f2", "f3", "f4", "f5", "f6"]
 DIMENSIONS = ["cause", "feeder", "day"]
+Answer = tuple[int, dict[str, object]]  # status and body
 CONFLICTS = {3, 7, 8, 11, 13, 14}
 
 
-def amounts_of(amounts):
+def amounts_of(amounts: dict[int, int]) -> list[list[int]]:
     return [[key, amounts[key]] for key in sorted(amounts) if amounts[key]]
 
 
-def totals_of(office):
+def totals_of(office: Office) -> Answer:
     totals = {name: amounts_of(amounts) for name, amounts in zip(DIMENSIONS, office.amounts)}
     return 200, {**totals, "total": sum(office.amounts[0].values())}
 
 
-def row_of(body):
+def row_of(body: bytes) -> list[str]:
     """The fields of a command in JSON."""
     try:
         said = json.loads(body)
@@ -45,13 +47,20 @@ def row_of(body):
     return [said.get(name, "") for name in MEMBERS]
 
 
-def answer_of(office, body):
+def number_of(office: Office, ref: str) -> int:
+    """The number of a command that was accepted before."""
+    known = office.known(ref)
+    assert known is not None
+    return known[0]
+
+
+def answer_of(office: Office, body: bytes) -> Answer:
     """The status and the body that answer a command."""
     try:
         row = row_of(body)
-        number = office.act(row) or office.known(row[1])[0]
+        number = office.act(row) or number_of(office, row[1])
     except Refusal as refusal:
-        said = {"refused": refusal.number, "name": NAMES[refusal.number]}
+        said: dict[str, object] = {"refused": refusal.number, "name": NAMES[refusal.number]}
         if refusal.detail is not None:
             said["detail"] = refusal.detail
         return 409 if refusal.number in CONFLICTS else 422, said
@@ -63,9 +72,9 @@ class Desk(BaseHTTPRequestHandler):
     protocol_version = "HTTP/1.1"
     disable_nagle_algorithm = True
     wbufsize = -1  # a reply goes out in one write
-    office = None
+    office: Office
 
-    def reply(self, status, value):
+    def reply(self, status: int, value: object) -> None:
         body = json.dumps(value, separators=(",", ":"), sort_keys=True).encode()
         self.send_response(status)
         self.send_header("Content-Type", "application/json")
@@ -73,32 +82,32 @@ class Desk(BaseHTTPRequestHandler):
         self.end_headers()
         self.wfile.write(body)
 
-    def do_GET(self):
+    def do_GET(self) -> None:
         if self.path == "/totals":
             self.reply(*totals_of(self.office))
         else:
             self.send_error(404)
 
-    def do_POST(self):
+    def do_POST(self) -> None:
         body = self.rfile.read(int(self.headers["Content-Length"]))
         if self.path == "/commands":
             self.reply(*answer_of(self.office, body))
         else:
             self.send_error(404)
 
-    def log_message(self, *_):
+    def log_message(self, *_: object) -> None:
         pass
 
 
-def main():
-    words = argparse.ArgumentParser(description="Serves a new book over HTTP with kept connections.")
-    words.add_argument("text", help="the commands that the book begins with, as CSV")
-    words.add_argument("--book", required=True, help="the file of the new book")
-    words.add_argument("--first", required=True, help="the first day of the period")
-    words.add_argument("--days", type=int, required=True, help="how many days it has")
-    words.add_argument("--zone", default="UTC0", help="the POSIX rule of the zone")
-    words.add_argument("--port", type=int, default=0, help="the port (one that is free)")
-    words = words.parse_args()
+def main() -> None:
+    parser = argparse.ArgumentParser(description="Serves a new book over HTTP with kept connections.")
+    parser.add_argument("text", help="the commands that the book begins with, as CSV")
+    parser.add_argument("--book", required=True, help="the file of the new book")
+    parser.add_argument("--first", required=True, help="the first day of the period")
+    parser.add_argument("--days", type=int, required=True, help="how many days it has")
+    parser.add_argument("--zone", default="UTC0", help="the POSIX rule of the zone")
+    parser.add_argument("--port", type=int, default=0, help="the port (one that is free)")
+    words = parser.parse_args()
     if os.path.exists(words.book):
         sys.exit(f"{words.book}: there is a book already")
     Desk.office = Office(words.book, Period(words.first, words.days, words.zone), "wal", "full")

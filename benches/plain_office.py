@@ -13,48 +13,29 @@ import os
 import sqlite3
 import sys
 import time
+from pathlib import Path
 
+import places  # noqa: F401, the modules of oracle/
+from commands import Value
 from make_year import DAYS, FIRST_DATE
 from model import VERSION, kind_of
-from state import Period, State
+from state import End, Period, State
+from tables import TABLES
 from year import Book
 
-TABLES = """
-CREATE TABLE meta (id INTEGER PRIMARY KEY CHECK (id = 1), version INTEGER NOT NULL, day0 TEXT NOT NULL,
-    days INTEGER NOT NULL, zone TEXT NOT NULL) STRICT;
-CREATE TABLE cause (code INTEGER PRIMARY KEY, name TEXT NOT NULL UNIQUE) STRICT;
-CREATE TABLE node (id INTEGER PRIMARY KEY, name TEXT NOT NULL UNIQUE, kind INTEGER NOT NULL,
-    feeder INTEGER NOT NULL) STRICT;
-CREATE TABLE device (id INTEGER PRIMARY KEY, name TEXT NOT NULL UNIQUE, a INTEGER NOT NULL REFERENCES node (id),
-    b INTEGER NOT NULL REFERENCES node (id), normal INTEGER NOT NULL CHECK (normal >= 0 AND normal <= 1)) STRICT;
-CREATE TABLE customer (id INTEGER PRIMARY KEY, section INTEGER NOT NULL REFERENCES node (id),
-    since INTEGER NOT NULL, until INTEGER) STRICT;
-CREATE TABLE entry (id INTEGER PRIMARY KEY, rev INTEGER NOT NULL, device INTEGER NOT NULL REFERENCES device (id),
-    pos INTEGER NOT NULL CHECK (pos >= 0 AND pos <= 1), second INTEGER NOT NULL,
-    cause INTEGER NOT NULL REFERENCES cause (code), crew TEXT NOT NULL,
-    kept INTEGER NOT NULL CHECK (kept >= 0 AND kept <= 1)) STRICT;
-CREATE TABLE mark (day INTEGER PRIMARY KEY, engineer TEXT NOT NULL) STRICT;
-CREATE TABLE cmd (id INTEGER PRIMARY KEY, ref TEXT NOT NULL UNIQUE, body TEXT NOT NULL) STRICT;
-CREATE TABLE moved (cmd INTEGER NOT NULL REFERENCES cmd (id), dim INTEGER NOT NULL, k INTEGER NOT NULL,
-    delta INTEGER NOT NULL CHECK (delta <> 0), PRIMARY KEY (cmd, dim, k)) STRICT;
-CREATE TABLE posting (dim INTEGER NOT NULL, k INTEGER NOT NULL, amount INTEGER NOT NULL CHECK (amount >= 0),
-    PRIMARY KEY (dim, k)) STRICT;
-CREATE TABLE life (device INTEGER PRIMARY KEY REFERENCES device (id), since INTEGER NOT NULL, until INTEGER) STRICT;
-"""
 
-
-class Amounts(dict):
+class Amounts(dict[int, int]):
     """Amounts by key, with what those had that were set since somebody asked."""
 
-    def __init__(self):
+    def __init__(self) -> None:
         super().__init__()
-        self.before = {}
+        self.before: dict[int, int] = {}
 
-    def __setitem__(self, key, amount):
+    def __setitem__(self, key: int, amount: int) -> None:
         self.before.setdefault(key, self.get(key, 0))
         super().__setitem__(key, amount)
 
-    def taken(self):
+    def taken(self) -> list[tuple[int, int, int]]:
         """The keys whose amounts differ from what they had, rising, with the difference and the amount."""
         before, self.before = self.before, {}
         return [(key, self[key] - before[key], self[key]) for key in sorted(before) if self[key] != before[key]]
@@ -63,7 +44,7 @@ class Amounts(dict):
 class Office(State):
     """What was said, the runs and amounts that follow, and the tables."""
 
-    def __init__(self, path, period, journal, synchronous):
+    def __init__(self, path: str | Path, period: Period, journal: str, synchronous: str) -> None:
         super().__init__(period)
         self.count = 0
         self.moved = 0
@@ -77,7 +58,7 @@ class Office(State):
         self.run("PRAGMA foreign_keys = ON")
         self.create()
 
-    def create(self):
+    def create(self) -> None:
         period = self.period
         days = len(period.bounds) - 1
         self.run("BEGIN")
@@ -91,14 +72,15 @@ class Office(State):
             self.database.executemany("INSERT INTO posting VALUES (?, ?, 0)", rows)
         self.run("COMMIT")
 
-    def known(self, ref):
+    def known(self, ref: str) -> tuple[int, str] | None:
         """The number and the body of a reference's command, None where there is none."""
-        return self.run("SELECT id, body FROM cmd WHERE ref = ?", (ref,)).fetchone()
+        row: tuple[int, str] | None = self.run("SELECT id, body FROM cmd WHERE ref = ?", (ref,)).fetchone()
+        return row
 
-    def accepted(self):
+    def accepted(self) -> int:
         return self.count
 
-    def accept(self, ref, kind, values, body):
+    def accept(self, ref: str, kind: str, values: list[Value], body: str) -> int:
         """The transaction of a command."""
         self.say(kind, values)
         self.book.act(kind, *body.split()[1:])
@@ -116,64 +98,64 @@ class Office(State):
         self.run("COMMIT")
         return self.count
 
-    def write_cause(self, code, name):
+    def write_cause(self, code: int, name: str) -> None:
         self.run("INSERT INTO cause VALUES (?, ?)", (code, name))
 
-    def write_bus(self, name, feeder=None):
+    def write_bus(self, name: str, feeder: int | None = None) -> None:
         row = self.book.node_of[name], name, kind_of(name, feeder), feeder or 0
         self.run("INSERT INTO node VALUES (?, ?, ?, ?)", row)
 
     write_section = write_bus
 
-    def write_device(self, name, a, b, normal, since, until):
+    def write_device(self, name: str, a: str, b: str, normal: str, since: int, until: End) -> None:
         nodes = self.book.node_of
         device = self.book.device_of[name]
         self.run("INSERT INTO device VALUES (?, ?, ?, ?, ?)", (device, name, nodes[a], nodes[b], normal == "closed"))
         self.run("INSERT INTO life VALUES (?, ?, ?)", (device, since, end_of(until)))
 
-    def write_life(self, name, since, until):
+    def write_life(self, name: str, since: int, until: End) -> None:
         row = since, end_of(until), self.book.device_of[name]
         self.run("UPDATE life SET since = ?, until = ? WHERE device = ?", row)
 
-    def write_connect(self, number, section, since, until):
+    def write_connect(self, number: int, section: str, since: int, until: End) -> None:
         row = number, self.book.node_of[section], since, end_of(until)
         self.run("INSERT INTO customer VALUES (?, ?, ?, ?)", row)
 
-    def write_revise(self, number, since, until):
+    def write_revise(self, number: int, since: int, until: End) -> None:
         self.run("UPDATE customer SET since = ?, until = ? WHERE id = ?", (since, end_of(until), number))
 
-    def write_switch(self, device, act, second, cause, crew):
+    def write_switch(self, device: str, act: str, second: int, cause: int, crew: str) -> None:
         row = len(self.entries), 1, self.book.device_of[device], act == "close", second, cause, crew, 1
         self.run("INSERT INTO entry VALUES (?, ?, ?, ?, ?, ?, ?, ?)", row)
 
-    def write_correct(self, number, revision, act, second, cause, crew):
+    def write_correct(self, number: int, revision: int, act: str, second: int, cause: int, crew: str) -> None:
         row = revision + 1, act == "close", second, cause, crew, number
         self.run("UPDATE entry SET rev = ?, pos = ?, second = ?, cause = ?, crew = ? WHERE id = ?", row)
 
-    def write_withdraw(self, number, revision):
+    def write_withdraw(self, number: int, revision: int) -> None:
         self.run("UPDATE entry SET rev = ?, kept = 0 WHERE id = ?", (revision + 1, number))
 
-    def write_mark(self, day, engineer):
+    def write_mark(self, day: str, engineer: str) -> None:
         self.run("INSERT INTO mark VALUES (?, ?)", (self.period.index_of(day), engineer))
 
-    def write_unmark(self, day, _engineer):
+    def write_unmark(self, day: str, _engineer: str) -> None:
         self.run("DELETE FROM mark WHERE day = ?", (self.period.index_of(day),))
 
 
-def end_of(until):
+def end_of(until: End) -> int | None:
     return None if until == "-" else until
 
 
-def main():
-    words = argparse.ArgumentParser(description="Imports CSV texts into a new book of SQLite and prints the seconds.")
-    words.add_argument("texts", nargs="+", help="the texts")
-    words.add_argument("--book", default=":memory:", help="the file of the new book (in memory)")
-    words.add_argument("--first", default=FIRST_DATE.isoformat(), help="the first day of the period")
-    words.add_argument("--days", type=int, default=DAYS, help="how many days it has")
-    words.add_argument("--zone", default="UTC0", help="the POSIX rule of the zone")
-    words.add_argument("--journal", choices=["wal", "delete"], default="wal")
-    words.add_argument("--synchronous", choices=["full", "normal", "off"], default="full")
-    words = words.parse_args()
+def main() -> int:
+    parser = argparse.ArgumentParser(description="Imports CSV texts into a new book of SQLite and prints the seconds.")
+    parser.add_argument("texts", nargs="+", help="the texts")
+    parser.add_argument("--book", default=":memory:", help="the file of the new book (in memory)")
+    parser.add_argument("--first", default=FIRST_DATE.isoformat(), help="the first day of the period")
+    parser.add_argument("--days", type=int, default=DAYS, help="how many days it has")
+    parser.add_argument("--zone", default="UTC0", help="the POSIX rule of the zone")
+    parser.add_argument("--journal", choices=["wal", "delete"], default="wal")
+    parser.add_argument("--synchronous", choices=["full", "normal", "off"], default="full")
+    words = parser.parse_args()
     if os.path.exists(words.book):
         sys.exit(f"{words.book}: there is a book already")
     office = Office(words.book, Period(words.first, words.days, words.zone), words.journal, words.synchronous)

@@ -24,7 +24,7 @@ ORDERS = {
 }
 
 
-def main():
+def main() -> None:
     if len(sys.argv) != 2:
         sys.exit(__doc__)
     with closing(sqlite3.connect(f"file:{sys.argv[1]}?mode=ro", uri=True)) as book:

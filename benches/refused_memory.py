@@ -22,13 +22,13 @@ import subprocess
 import sys
 import tempfile
 from collections import Counter
+from collections.abc import Sequence
 from itertools import count
 from pathlib import Path
 
-from compare import PROGRAM
 from import_year import TABLES
+from places import BENCHES, PROGRAM
 
-BENCHES = Path(__file__).resolve().parent
 HEADER = "kind,ref,f1,f2,f3,f4,f5,f6\n"
 ROWS = "cause,R1,3,STORM,,,,\nbus,R2,BUS-A,,,,,\nsection,R3,S1,1,,,,\n"
 TEXTS = {"stopped.csv": HEADER + ROWS + "section,R4,S1,2,,,,\n", "changed.csv": HEADER + ROWS + "section,R4,S2,1,,,,\n"}
@@ -40,6 +40,9 @@ JOBS = [
     ("export", "moves.csv"),
     ("audit",),
 ]
+Said = tuple[str, str, int]  # printed, told, status
+Refusal = tuple[Path, str, int]  # the library, the kind of request, which of them
+Rows = dict[str, list[tuple[object, ...]]]
 FAULT = re.compile(r"fault (2[0-4]) [A-Za-z]+\n")
 COUNTS = re.compile(r"added (\d+) again (\d+)\n")
 
@@ -48,23 +51,27 @@ class Wrong(Exception):
     """A run that did what it must not."""
 
 
-def run(program, folder, job, refusal=None):
+def run(program: Path, folder: Path, job: Sequence[str], refusal: Refusal | None = None) -> tuple[Said, bool]:
     """What a job prints, tells and ends with; and whether the refusal was met."""
     told = folder / "told"
     told.unlink(missing_ok=True)
-    names = {} if refusal is None else dict(zip(["LD_PRELOAD", "REFUSE_WHAT", "REFUSE_NTH"], map(str, refusal)), REFUSE_TOLD=str(told))
-    words = [program, job[0], "--book", "book.db", *job[1:]]
+    names = (
+        {}
+        if refusal is None
+        else dict(zip(["LD_PRELOAD", "REFUSE_WHAT", "REFUSE_NTH"], map(str, refusal)), REFUSE_TOLD=str(told))
+    )
+    words: list[str | Path] = [program, job[0], "--book", "book.db", *job[1:]]
     done = subprocess.run(words, cwd=folder, env=os.environ | names, capture_output=True, text=True, timeout=120)
     return (done.stdout, done.stderr, done.returncode), told.exists()
 
 
-def rows_of(folder):
+def rows_of(folder: Path) -> Rows:
     """All rows of the eleven tables."""
     with sqlite3.connect(folder / "book.db") as database:
         return {table: sorted(database.execute(f"SELECT * FROM {table}"), key=repr) for table in TABLES}
 
 
-def wanted_again(job, wanted, found):
+def wanted_again(job: Sequence[str], wanted: Said, found: Said) -> bool:
     """Whether the same job, after its refused run, was answered as it should be."""
     if job[0] == "init":
         return found in [wanted, ("", "refused 17 BadBook\n", 2)]
@@ -75,7 +82,9 @@ def wanted_again(job, wanted, found):
     return found == wanted
 
 
-def goes_on(program, folder, place, wanted, end, refusal):
+def goes_on(
+    program: Path, folder: Path, place: int, wanted: list[Said], end: tuple[Rows, str], refusal: Refusal
+) -> str | None:
     """A job with one request refused, and then it again and all after it: what it answered, or None where no request was that far."""
     first, met = run(program, folder, JOBS[place], refusal)
     if not met:
@@ -97,7 +106,7 @@ def goes_on(program, folder, place, wanted, end, refusal):
     return "as if nothing were refused" if done else first[1].strip()
 
 
-def refuse_each(program, library, what, words, work):
+def refuse_each(program: Path, library: Path, what: str, words: argparse.Namespace, work: Path) -> None:
     """Every job with each request of one kind refused in turn."""
     start, states, wanted = work / "start", [], []
     start.mkdir()
@@ -110,7 +119,7 @@ def refuse_each(program, library, what, words, work):
     for place, job in enumerate(JOBS):
         if words.only and job[0] not in words.only:
             continue
-        told = Counter()
+        told = Counter[str]()
         for nth in count(words.first, words.every):
             folder = shutil.copytree(states[place], work / "now")
             try:
@@ -122,24 +131,29 @@ def refuse_each(program, library, what, words, work):
                 break
             told[answer] += 1
         answers = ", ".join(f"{runs} {answer}" for answer, runs in sorted(told.items()))
-        print(f"| {what} | {job[0]} {job[-1] if job[0] in ('import', 'export') else ''} | {sum(told.values())} | {answers} |", flush=True)
+        print(
+            f"| {what} | {job[0]} {job[-1] if job[0] in ('import', 'export') else ''} | {sum(told.values())} | {answers} |",
+            flush=True,
+        )
 
 
-def built_library(folder):
+def built_library(folder: Path) -> Path:
     """What refuses requests, built into a folder."""
     library = folder / "refuse.so"
     subprocess.run(["cc", "-O2", "-shared", "-fPIC", "-o", library, BENCHES / "refuse.c"], check=True)
     return library
 
 
-def main():
-    words = argparse.ArgumentParser(description="Each request for memory, read and write refused in turn.")
-    words.add_argument("--program", default=PROGRAM, help="the program (that of crates/outagebook)")
-    words.add_argument("--what", nargs="+", default=["memory", "read", "write"], choices=["memory", "read", "write"])
-    words.add_argument("--only", nargs="+", help="the jobs whose requests are refused (all)")
-    words.add_argument("--first", type=int, default=1, help="the first request that is refused (1)")
-    words.add_argument("--every", type=int, default=1, help="which of them from there on: each second one, .. (1, all)")
-    words = words.parse_args()
+def main() -> int:
+    parser = argparse.ArgumentParser(description="Each request for memory, read and write refused in turn.")
+    parser.add_argument("--program", default=PROGRAM, help="the program (that of crates/outagebook)")
+    parser.add_argument("--what", nargs="+", default=["memory", "read", "write"], choices=["memory", "read", "write"])
+    parser.add_argument("--only", nargs="+", help="the jobs whose requests are refused (all)")
+    parser.add_argument("--first", type=int, default=1, help="the first request that is refused (1)")
+    parser.add_argument(
+        "--every", type=int, default=1, help="which of them from there on: each second one, .. (1, all)"
+    )
+    words = parser.parse_args()
     with tempfile.TemporaryDirectory() as folder:
         library = built_library(Path(folder))
         print("| Refused | Job | Runs | Answers |\n|---|---|---|---|")

@@ -18,7 +18,8 @@ from concurrent.futures import ThreadPoolExecutor
 from itertools import count, islice
 from pathlib import Path
 
-from refused_memory import BENCHES, built_library
+from places import BENCHES
+from refused_memory import built_library
 
 PROGRAM = BENCHES.parent / "crates/ob_office_tests/out/ob_office_tests_tests"
 TESTS = {
@@ -37,23 +38,30 @@ PASSED = "test result: ok"
 class Test:
     """A test of a program, whose runs tell by files in a folder whether a request was refused."""
 
-    def __init__(self, program, library, name, folder):
+    def __init__(self, program: Path, library: Path, name: str, folder: Path) -> None:
         self.program = program
         self.library = library
         self.name = name
         self.folder = folder
 
-    def run(self, nth):
+    def run(self, nth: int) -> tuple[bool, str | None]:
         """One run: whether its nth request was refused, and what it said where it failed."""
         told = self.folder / f"told-{nth}"
-        names = {"LD_PRELOAD": str(self.library), "REFUSE_WHAT": "memory", "REFUSE_NTH": str(nth), "REFUSE_TOLD": str(told)}
-        done = subprocess.run([self.program, self.name], env=os.environ | names, capture_output=True, text=True, timeout=120)
+        names = {
+            "LD_PRELOAD": str(self.library),
+            "REFUSE_WHAT": "memory",
+            "REFUSE_NTH": str(nth),
+            "REFUSE_TOLD": str(told),
+        }
+        done = subprocess.run(
+            [self.program, self.name], env=os.environ | names, capture_output=True, text=True, timeout=120
+        )
         refused = told.exists()
         told.unlink(missing_ok=True)
         has_passed = done.returncode == 0 and PASSED in done.stdout + done.stderr
         return refused, None if has_passed else f"status {done.returncode}: {(done.stdout + done.stderr).strip()}"
 
-    def sweep(self, first, every, jobs):
+    def sweep(self, first: int, every: int, jobs: int) -> tuple[int, int]:
         """All runs up to one that meets no refusal: how many, and how many were refused. Ends the program where one fails."""
         runs = refusals = 0
         numbers = count(first, every)
@@ -69,14 +77,16 @@ class Test:
                         return runs, refusals
 
 
-def main():
-    words = argparse.ArgumentParser(description="Each request for memory of a test refused in turn.")
-    words.add_argument("tests", nargs="*", metavar="TEST", help="the tests' names (those of TESTS)")
-    words.add_argument("--program", default=PROGRAM, help="the program of tests")
-    words.add_argument("--first", type=int, default=1, help="the first request that is refused (1)")
-    words.add_argument("--every", type=int, default=1, help="which of them from there on: each second one, .. (1, all)")
-    words.add_argument("--jobs", type=int, default=1, help="how many runs at a time (1)")
-    words = words.parse_args()
+def main() -> int:
+    parser = argparse.ArgumentParser(description="Each request for memory of a test refused in turn.")
+    parser.add_argument("tests", nargs="*", metavar="TEST", help="the tests' names (those of TESTS)")
+    parser.add_argument("--program", default=PROGRAM, help="the program of tests")
+    parser.add_argument("--first", type=int, default=1, help="the first request that is refused (1)")
+    parser.add_argument(
+        "--every", type=int, default=1, help="which of them from there on: each second one, .. (1, all)"
+    )
+    parser.add_argument("--jobs", type=int, default=1, help="how many runs at a time (1)")
+    words = parser.parse_args()
     program = Path(words.program).resolve()
     print("| Test | Runs | Refused | All passed | Seconds |\n|---|---|---|---|---|")
     with tempfile.TemporaryDirectory() as folder:

@@ -12,18 +12,17 @@ import re
 import shutil
 import subprocess
 import sys
+from collections.abc import Sequence
 from datetime import date
 from pathlib import Path
 from statistics import median
+from typing import NoReturn
 
 from make_data import large_text, small_text
 from make_year import year_lines
+from places import BENCHES, DATA, PROGRAM, ROOT
 from reference import customer_seconds, read_book
 
-ROOT = Path(__file__).resolve().parent.parent
-BENCHES = ROOT / "benches"
-DATA = ROOT / "bench-data"
-PROGRAM = ROOT / "crates/outagebook/out/outagebook"
 LIBRARY = ROOT / "crates/bench_calls/out"
 WORKED = DATA / "worked"
 SEARCH = DATA / "search"
@@ -57,22 +56,26 @@ LATE_TURNS = 3
 ORDERS = ["rising", "falling", "random"]
 ORDER_CALLS = 5
 YEAR_SEED = 1
+OfYear = tuple[float, float, int, int]  # processor seconds, peak in MB, searches, customer-seconds
 
 
-def run_tool(words, folder):
+def run_tool(words: Sequence[str | Path], folder: Path) -> None:
     done = subprocess.run(words, cwd=folder, capture_output=True, text=True)
     if done.returncode:
         sys.exit(f"{' '.join(map(str, words))}\n{done.stdout}{done.stderr}")
 
 
-def build():
+def build() -> None:
     """Proves and builds the program and the library, and compiles what is compared with them."""
-    toolchain = Path(shutil.which("rt")).resolve().parent.parent
+    rt = shutil.which("rt")
+    if rt is None:
+        sys.exit("rt is not on the path")
+    toolchain = Path(rt).resolve().parent.parent
     run_tool(["rt", "run", "--", "--help"], ROOT / "crates/outagebook")
     run_tool(["rt", "lib"], ROOT / "crates/bench_calls")
     rustc = ["rustc", "--edition", "2024", "-O"]
-    library = ["-L", LIBRARY, "-l", "static=bench_calls"]
-    c_library = ["-L", toolchain / "c", "-l", "static=libc_c"]
+    library: list[str | Path] = ["-L", LIBRARY, "-l", "static=bench_calls"]
+    c_library: list[str | Path] = ["-L", toolchain / "c", "-l", "static=libc_c"]
     programs = [("worked.rs", WORKED), ("search.rs", SEARCH), ("build.rs", BUILD)]
     programs += [("counts.rs", COUNTS), ("lives.rs", LIVES), ("year.rs", YEAR)]
     for source, program in programs:
@@ -80,14 +83,14 @@ def build():
     run_tool([*rustc, BENCHES / "total.rs", "-o", PLAIN_TOTAL], ROOT)
 
 
-def compare_worked():
+def compare_worked() -> None:
     """Compares what the calls of the library answer in worked cases."""
     if subprocess.run([WORKED]).returncode:
         sys.exit(1)
     print("the calls of the library answer the worked cases")
 
 
-def show_searches(repeats):
+def show_searches(repeats: int) -> None:
     """The table of one search of each network."""
     done = subprocess.run([SEARCH, str(repeats)], stdout=subprocess.PIPE, text=True)
     if done.returncode:
@@ -95,14 +98,14 @@ def show_searches(repeats):
     print("| One search | reached | proved, us | breadth first, us | ratio |")
     print("|---|---|---|---|---|")
     for line in done.stdout.splitlines():
-        name, nodes, proved, plain = line.split("\t")
-        proved, plain = int(proved) / 1e3, int(plain) / 1e3
+        name, nodes, *nanoseconds = line.split("\t")
+        proved, plain = (int(text) / 1e3 for text in nanoseconds)
         print(f"| {name} | {nodes} | {proved:.2f} | {plain:.2f} | {proved / plain:.2f} |")
 
 
-def measure_build(entries):
+def measure_build(entries: int) -> tuple[float, float, float, float]:
     """What a process prints: the seconds of network and sheet, of one build, the least, and the peak in MB."""
-    words = [BUILD, str(entries), str(BUILD_CALLS)]
+    words: list[str | Path] = [BUILD, str(entries), str(BUILD_CALLS)]
     done = subprocess.run(words, stdout=subprocess.PIPE, text=True)
     if done.returncode:
         sys.exit(1)
@@ -110,7 +113,7 @@ def measure_build(entries):
     return making, build, least, peak / 1024
 
 
-def show_builds():
+def show_builds() -> None:
     """The table of the runs of a year, built from scratch; the sizes take turns."""
     turns = [[measure_build(entries) for entries in SHEETS] for _ in range(BUILD_TURNS)]
     print("| Entries | searches | network and sheet, s | one build, s | least, s | times | peak, MB | times |")
@@ -125,10 +128,10 @@ def show_builds():
         print(f"| {' | '.join(columns)} |")
 
 
-def measure_lives(entries):
+def measure_lives(entries: int) -> tuple[float, float, list[float], float]:
     """What a process prints: the seconds of all lives and of one, the mean and the greatest searches of joining and of leaving,
     and the peak in MB."""
-    words = [LIVES, str(entries), str(LIFE_CALLS)]
+    words: list[str | Path] = [LIVES, str(entries), str(LIFE_CALLS)]
     done = subprocess.run(words, stdout=subprocess.PIPE, text=True)
     if done.returncode:
         sys.exit(1)
@@ -136,10 +139,12 @@ def measure_lives(entries):
     return all_lives, one, searches, peak / 1024
 
 
-def show_lives():
+def show_lives() -> None:
     """The table of devices that join and leave within a year, each time the least of several medians; the sizes take turns."""
     turns = [[measure_lives(entries) for entries in LIVED_SHEETS] for _ in range(LIFE_TURNS)]
-    print("| Entries | all lives, s | one, ms | searches of one that joins | at most | of one that leaves | at most | peak, MB |")
+    print(
+        "| Entries | all lives, s | one, ms | searches of one that joins | at most | of one that leaves | at most | peak, MB |"
+    )
     print("|---|---|---|---|---|---|---|---|")
     for entries, measured in zip(LIVED_SHEETS, zip(*turns)):
         all_lives, ones, searches, peaks = zip(*measured)
@@ -148,10 +153,10 @@ def show_lives():
         print(f"| {' | '.join(columns)} |")
 
 
-def measure_counts(entries, customers):
+def measure_counts(entries: int, customers: int) -> tuple[float, float, float, float, float]:
     """What a process prints: the runs, the seconds of making, of counts and indices and of a plain count, and the
     peak in MB."""
-    words = [COUNTS, str(entries), str(customers), str(COUNT_CALLS)]
+    words: list[str | Path] = [COUNTS, str(entries), str(customers), str(COUNT_CALLS)]
     done = subprocess.run(words, stdout=subprocess.PIPE, text=True)
     if done.returncode:
         sys.exit(1)
@@ -159,7 +164,7 @@ def measure_counts(entries, customers):
     return runs, making, counts, plain, peak / 1024
 
 
-def show_counts():
+def show_counts() -> None:
     """The table of counts and indices over a year, each time the least of several medians; the sizes take turns."""
     turns = [[measure_counts(*sizes) for sizes in ROLLS] for _ in range(COUNT_TURNS)]
     print("| Customers | runs | all made, s | counts and indices, s | plain Rust, s | ratio | peak, MB |")
@@ -172,7 +177,9 @@ def show_counts():
         print(f"| {' | '.join(columns)} |")
 
 
-def year_text(entries, seed=YEAR_SEED, customers=100_000, order="rising", late=0, lives=0):
+def year_text(
+    entries: int, seed: int = YEAR_SEED, customers: int = 100_000, order: str = "rising", late: int = 0, lives: int = 0
+) -> Path:
     """A made year in a file."""
     path = DATA / f"year-{entries}-{seed}-{customers}-{order}-{late}-{lives}.txt"
     lines = year_lines(entries, seed, customers, order, late, lives)
@@ -180,7 +187,7 @@ def year_text(entries, seed=YEAR_SEED, customers=100_000, order="rising", late=0
     return path
 
 
-def measure_year(book, path, calls):
+def measure_year(book: str, path: Path, calls: int) -> OfYear:
     """The least processor seconds of a call, the peak in MB, the searches and the customer-seconds of a year."""
     done = subprocess.run([YEAR, book, path, str(calls)], stdout=subprocess.PIPE, text=True)
     if done.returncode:
@@ -189,15 +196,16 @@ def measure_year(book, path, calls):
     return float(seconds), int(peak) / 1024, int(searches), int(total)
 
 
-def measure_years(book, paths, calls=YEAR_CALLS, turns=YEAR_TURNS):
+def measure_years(book: str, paths: list[Path], calls: int = YEAR_CALLS, turns: int = YEAR_TURNS) -> list[OfYear]:
     """The same of some years, each the least of several processes; the years take turns."""
     measured = [[measure_year(book, path, calls) for path in paths] for _ in range(turns)]
     return [min(of_year) for of_year in zip(*measured)]
 
 
-def measure_python_year(path):
+def measure_python_year(path: Path) -> tuple[float, float, str]:
     """The processor seconds and the peak in MB of one run of the year in Python, and what it prints."""
     child = subprocess.Popen([sys.executable, PYTHON_YEAR, path], stdout=subprocess.PIPE, text=True)
+    assert child.stdout is not None
     output = child.stdout.read()
     _, status, usage = os.wait4(child.pid, 0)
     child.returncode = os.waitstatus_to_exitcode(status)
@@ -206,7 +214,7 @@ def measure_python_year(path):
     return usage.ru_utime + usage.ru_stime, usage.ru_maxrss / 1024, output
 
 
-def lines_of_table(table):
+def lines_of_table(table: str) -> set[str]:
     """The amounts and indices of an annual table, as the plain books print them."""
     lines = []
     for line in table.splitlines():
@@ -223,14 +231,14 @@ def lines_of_table(table):
     return {line for line in lines if not re.fullmatch("(cause|feeder|day) [0-9]+ 0", line)}
 
 
-def year_lines_of(*words):
+def year_lines_of(*words: str | Path) -> str:
     done = subprocess.run(words, stdout=subprocess.PIPE, text=True)
     if done.returncode:
         sys.exit(1)
     return done.stdout
 
 
-def compare_year(path):
+def compare_year(path: Path) -> int:
     """Compares the annual table of the proved book with the lines of both plain ones."""
     proved = lines_of_table(year_lines_of(YEAR, "proved", path, "table"))
     plain = set(year_lines_of(YEAR, "plain", path, "table").splitlines())
@@ -241,7 +249,7 @@ def compare_year(path):
     return len(proved)
 
 
-def compare_years():
+def compare_years() -> None:
     """Compares whole years, and small ones whose network has few customers, in which devices join and leave."""
     count = compare_year(year_text(PYTHON_ENTRIES))
     for seed in range(1, SMALL_YEARS + 1):
@@ -249,9 +257,11 @@ def compare_years():
     print(f"{SMALL_YEARS + 1} years, {count} amounts, counts and indices are those of both plain books")
 
 
-def show_years():
+def show_years() -> None:
     """The table of whole years."""
-    print("| Entries | searches | proved, s | plain Rust, s | ratio | Python, s | ratio | proved, MB | plain Rust, MB | Python, MB |")
+    print(
+        "| Entries | searches | proved, s | plain Rust, s | ratio | Python, s | ratio | proved, MB | plain Rust, MB | Python, MB |"
+    )
     print("|---|---|---|---|---|---|---|---|---|---|")
     for entries in YEARS:
         path = year_text(entries)
@@ -260,8 +270,8 @@ def show_years():
         columns = [f"{entries:,}", f"{searches:,}", f"{proved:.2f}", f"{plain:.2f}", f"{proved / plain:.2f}"]
         python_peak = "-"
         if entries <= PYTHON_ENTRIES:
-            python, python_peak, output = measure_python_year(path)
-            python_peak = f"{python_peak:.1f}"
+            python, peak, output = measure_python_year(path)
+            python_peak = f"{peak:.1f}"
             columns += [f"{python:.1f}", f"{proved / python:.3f}"]
         else:
             output = f"W {plain_total}\n"
@@ -272,7 +282,7 @@ def show_years():
         print(f"| {' | '.join(columns)} |", flush=True)
 
 
-def show_late():
+def show_late() -> None:
     """The table of short outages that are entered after all others, by the differences to the year without them."""
     print("| Entries before | searches a command | proved, ms a command | plain Rust, ms a command |")
     print("|---|---|---|---|")
@@ -285,7 +295,7 @@ def show_late():
         print(f"| {' | '.join(columns)} |", flush=True)
 
 
-def show_connections():
+def show_connections() -> None:
     """The table of a network and 100,000 customers, in three orders of their numbers."""
     print("| Order of the numbers | proved, s | plain Rust, s | ratio | proved, MB | plain Rust, MB |")
     print("|---|---|---|---|---|---|")
@@ -297,18 +307,18 @@ def show_connections():
         print(f"| {' | '.join(columns)} |", flush=True)
 
 
-def output_of(program, data):
+def output_of(program: Path, data: bytes) -> bytes | None:
     done = subprocess.run([program, "total"], input=data, capture_output=True)
     return done.stdout if done.returncode == 0 else None
 
 
-def differs(data):
+def differs(data: bytes) -> bool:
     """Whether the program takes the text and answers another total than the model."""
     output = output_of(PROGRAM, data)
     return output is not None and output != b"W %d\n" % customer_seconds(read_book(data))
 
 
-def least_difference(data):
+def least_difference(data: bytes) -> bytes:
     """A text that differs and of which no row can be left out."""
     rows = data.splitlines()
     place = 2
@@ -326,7 +336,7 @@ def least_difference(data):
     return b"\n".join(rows) + b"\n"
 
 
-def compare_totals():
+def compare_totals() -> None:
     """Compares the program with the model on both inputs and on the small texts."""
     texts = [FIRST_RUN.read_bytes(), LARGE.read_bytes()]
     texts += [small_text(seed) for seed in range(1, SMALL_TEXTS + 1)]
@@ -340,12 +350,12 @@ def compare_totals():
     print(f"{len(texts)} totals are those of the model: the first run, the large text and small ones")
 
 
-def refuse(data, reason):
+def refuse(data: bytes, reason: str) -> NoReturn:
     (DATA / "difference.csv").write_bytes(data)
     sys.exit(f"{reason}: bench-data/difference.csv")
 
 
-def processor_seconds(program, path):
+def processor_seconds(program: Path, path: Path) -> float:
     """The processor time of one run."""
     with open(path, "rb") as text:
         child = subprocess.Popen([program, "total"], stdin=text, stdout=subprocess.DEVNULL)
@@ -353,41 +363,37 @@ def processor_seconds(program, path):
     child.returncode = os.waitstatus_to_exitcode(status)
     if child.returncode:
         sys.exit(f"{program}: status {child.returncode}")
-    return usage.ru_utime + usage.ru_stime
+    return float(usage.ru_utime + usage.ru_stime)
 
 
-def peak_kilobytes(program, path):
+def peak_kilobytes(program: Path, path: Path) -> int:
     """The peak of resident memory of one run."""
-    words = ["/usr/bin/time", "-f", "%M", program, "total"]
+    words: list[str | Path] = ["/usr/bin/time", "-f", "%M", program, "total"]
     with open(path, "rb") as text:
         done = subprocess.run(words, stdin=text, capture_output=True, check=True)
     return int(done.stderr)
 
 
-def show_totals():
+def show_totals() -> None:
     """The table of `total`, each figure the least of several runs."""
     print("| `total` of | proved, s | plain Rust, s | ratio | proved, MB | plain Rust, MB | ratio |")
     print("|---|---|---|---|---|---|---|")
     runs = range(TOTAL_RUNS)
     for name, path in [("the first run", FIRST_RUN), ("the large text", LARGE)]:
-        proved, plain = (
-            min(processor_seconds(program, path) for _ in runs) for program in [PROGRAM, PLAIN_TOTAL]
-        )
+        proved, plain = (min(processor_seconds(program, path) for _ in runs) for program in [PROGRAM, PLAIN_TOTAL])
         columns = [f"{proved:.4f}", f"{plain:.4f}", f"{proved / plain:.2f}"]
-        proved, plain = (
-            min(peak_kilobytes(program, path) for _ in runs) / 1024 for program in [PROGRAM, PLAIN_TOTAL]
-        )
+        proved, plain = (min(peak_kilobytes(program, path) for _ in runs) / 1024 for program in [PROGRAM, PLAIN_TOTAL])
         columns += [f"{proved:.1f}", f"{plain:.1f}", f"{proved / plain:.2f}"]
         print(f"| {name} | {' | '.join(columns)} |")
 
 
-def measure_totals(_):
+def measure_totals(_: int) -> None:
     LARGE.write_bytes(large_text())
     compare_totals()
     show_totals()
 
 
-def measure_a_year(_):
+def measure_a_year(_: int) -> None:
     compare_years()
     show_years()
     print()
@@ -407,12 +413,12 @@ PARTS = {
 }
 
 
-def main():
-    words = argparse.ArgumentParser(description="Runs the benchmarks.")
-    words.add_argument("--repeats", type=int, default=100, help="timed calls for each search (100)")
-    words.add_argument("--no-build", action="store_true", help="take what an earlier run has built")
-    words.add_argument("--only", choices=PARTS, help="one part alone")
-    words = words.parse_args()
+def main() -> None:
+    parser = argparse.ArgumentParser(description="Runs the benchmarks.")
+    parser.add_argument("--repeats", type=int, default=100, help="timed calls for each search (100)")
+    parser.add_argument("--no-build", action="store_true", help="take what an earlier run has built")
+    parser.add_argument("--only", choices=PARTS, help="one part alone")
+    words = parser.parse_args()
     DATA.mkdir(exist_ok=True)
     if not words.no_build:
         print("building: the first time this proves each crate below", flush=True)

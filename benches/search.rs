@@ -7,6 +7,7 @@
 //! number of nodes.
 
 mod breadth_first;
+mod calls;
 mod numbers;
 
 use breadth_first::Lists;
@@ -14,19 +15,6 @@ use numbers::Numbers;
 use std::hint::black_box;
 use std::process::ExitCode;
 use std::time::Instant;
-
-unsafe extern "C" {
-    fn bench_search(
-        nodes: u16,
-        from: *const u16,
-        from_len: usize,
-        to: *const u16,
-        to_len: usize,
-        closed: *const u8,
-        closed_len: usize,
-        rounds: u32,
-    ) -> u64;
-}
 
 const NODES: usize = 1_000;
 const MESH_DEVICES: usize = 1_500;
@@ -53,18 +41,18 @@ impl Network {
 
     /// The sum of the nodes that so many proved searches reach.
     fn proved(&self, rounds: u32) -> u64 {
-        unsafe {
-            bench_search(
-                NODES as u16,
-                self.from.as_ptr(),
-                self.from.len(),
-                self.to.as_ptr(),
-                self.to.len(),
-                self.closed.as_ptr(),
-                self.closed.len(),
-                rounds,
-            )
-        }
+        let Network {
+            from, to, closed, ..
+        } = self;
+        calls::search(
+            calls::Network {
+                nodes: NODES as u16,
+                from,
+                to,
+                closed,
+            },
+            rounds,
+        )
     }
 }
 
@@ -110,7 +98,7 @@ fn mesh(numbers: &mut Numbers) -> Vec<(u16, u16)> {
 }
 
 fn networks() -> Vec<Network> {
-    let mut numbers = Numbers::new(0x9E37_79B9_7F4A_7C15);
+    let mut numbers = Numbers::begin();
     let chain = chain();
     let mesh = mesh(&mut numbers);
     let mut open = Network::new("mesh, a quarter open", &shuffled(&mesh, &mut numbers));

@@ -19,10 +19,11 @@ import sys
 import tempfile
 import time
 from collections import Counter
+from collections.abc import Iterable
 from contextlib import closing
 from pathlib import Path
 
-from compare import EXAMPLES, FORTNIGHT, PROGRAM
+from places import EXAMPLES, FORTNIGHT, PROGRAM
 
 TEXT = EXAMPLES / "fortnight.csv"
 
@@ -34,22 +35,22 @@ class Wrong(Exception):
 class Office:
     """A book of the fortnight in a folder, by the program's subcommands."""
 
-    def __init__(self, program, folder):
+    def __init__(self, program: str | Path, folder: Path) -> None:
         self.program, self.folder, self.book = program, folder, folder / "book.db"
         first, days, zone = FORTNIGHT
         self.run("init", "--first", first, "--days", str(days), "--zone", zone)
 
-    def words(self, job, *rest):
+    def words(self, job: str, *rest: str | Path) -> list[str | Path]:
         return [self.program, job, "--book", self.book, *rest]
 
-    def run(self, job, *rest):
+    def run(self, job: str, *rest: str | Path) -> str:
         """What a job prints; it has to end well."""
         ended = subprocess.run(self.words(job, *rest), capture_output=True, text=True, check=False)
         if ended.returncode:
             raise Wrong(f"{job} ended with {ended.returncode}: {ended.stdout}{ended.stderr}")
         return ended.stdout
 
-    def kill_import(self, seconds):
+    def kill_import(self, seconds: float) -> bool:
         """Begins an import and kills it after so many seconds. True says that it was killed, not done before."""
         child = subprocess.Popen(self.words("import", TEXT), stdout=subprocess.DEVNULL)
         try:
@@ -61,18 +62,18 @@ class Office:
             raise Wrong(f"an import ended with {status}")
         return status == -9
 
-    def refs(self):
+    def refs(self) -> list[str]:
         """The references of the commands in the book, in order."""
         with closing(sqlite3.connect(f"file:{self.book}?mode=ro", uri=True)) as database:
             return [ref for (ref,) in database.execute("SELECT ref FROM cmd ORDER BY id")]
 
 
-def refs_of_text():
+def refs_of_text() -> list[str]:
     with TEXT.open(newline="", encoding="ascii") as text:
         return [row["ref"] for row in csv.DictReader(text)]
 
 
-def tables_of_prefixes(program, counts):
+def tables_of_prefixes(program: str | Path, counts: Iterable[int]) -> dict[int, str]:
     """The annual table of a book of so many first rows, for each count: what nobody killed."""
     lines = TEXT.read_text(encoding="ascii").splitlines(keepends=True)
     tables = {}
@@ -88,7 +89,7 @@ def tables_of_prefixes(program, counts):
     return tables
 
 
-def look_after_kill(office, wanted, before, tables):
+def look_after_kill(office: Office, wanted: list[str], before: int, tables: dict[int, str]) -> int:
     """The number of commands that a killed import has left; they are the first, and as many as before at least."""
     if office.run("audit") != "audit ok\n":
         raise Wrong("audit finds a difference")
@@ -102,7 +103,7 @@ def look_after_kill(office, wanted, before, tables):
     return len(refs)
 
 
-def look_at_end(office):
+def look_at_end(office: Office) -> None:
     moves = office.folder / "moves.csv"
     office.run("export", moves)
     for name, said in [("table.txt", office.run("table")), ("moves.csv", moves.read_text(encoding="ascii"))]:
@@ -110,10 +111,10 @@ def look_at_end(office):
             raise Wrong(f"at the end {name} is another one")
 
 
-def soak(program, folder, kills, seed):
+def soak(program: str | Path, folder: Path, kills: int, seed: int) -> tuple[int, Counter[int]]:
     """Kills imports until there were so many kills; answers how many books, and how many kills left how many commands."""
     random.seed(seed)
-    wanted, tables, left = refs_of_text(), {}, Counter()
+    wanted, tables, left = refs_of_text(), dict[int, str](), Counter[int]()
     books = 0
     whole = 0.1
     while left.total() < kills:
@@ -137,26 +138,28 @@ def soak(program, folder, kills, seed):
     return books, left
 
 
-def words_of(description):
+def words_of(description: str) -> argparse.Namespace:
     """The words of the command line, with the number of kills and the folder as they count."""
-    words = argparse.ArgumentParser(description=description)
-    words.add_argument("--kills", type=int, default=1000)
-    words.add_argument("--quick", action="store_true", help="50 kills")
-    words.add_argument("--seed", type=int, default=1)
-    words.add_argument("--program", default=PROGRAM, help="the program (that of crates/outagebook)")
-    words.add_argument("--folder", type=Path, help="where books are made (a temporary folder)")
-    words = words.parse_args()
+    parser = argparse.ArgumentParser(description=description)
+    parser.add_argument("--kills", type=int, default=1000)
+    parser.add_argument("--quick", action="store_true", help="50 kills")
+    parser.add_argument("--seed", type=int, default=1)
+    parser.add_argument("--program", default=PROGRAM, help="the program (that of crates/outagebook)")
+    parser.add_argument("--folder", type=Path, help="where books are made (a temporary folder)")
+    words = parser.parse_args()
     words.kills = 50 if words.quick else words.kills
     words.folder = Path(words.folder or tempfile.mkdtemp(prefix="soak-"))
     words.folder.mkdir(exist_ok=True)
     return words
 
 
-def show(books, left):
-    print(f"{left.total()} kills over {books} books; {len(left)} different numbers of commands were left, {min(left)} to {max(left)}")
+def show(books: int, left: Counter[int]) -> None:
+    print(
+        f"{left.total()} kills over {books} books; {len(left)} different numbers of commands were left, {min(left)} to {max(left)}"
+    )
 
 
-def main():
+def main() -> int:
     words = words_of("Kills imports of the sample fortnight at random moments.")
     try:
         books, left = soak(words.program, words.folder, words.kills, words.seed)

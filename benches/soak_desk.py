@@ -26,44 +26,47 @@ from pathlib import Path
 
 from soak import TEXT, Office, Wrong, look_after_kill, look_at_end, show, words_of
 
+Reply = tuple[int, bytes]  # status and body
 BROKEN = (OSError, http.client.HTTPException)
 
 
 class Desk:
     """The program as it serves a book, until it is killed."""
 
-    def __init__(self, office):
+    def __init__(self, office: Office) -> None:
         words = office.words("serve", "--port", "0")
         self.child = subprocess.Popen(words, stdout=subprocess.PIPE, stderr=subprocess.DEVNULL, text=True)
-        line = self.child.stdout.readline()
+        assert self.child.stdout is not None
+        self.told = self.child.stdout
+        line = self.told.readline()
         if not line.startswith("listening 127.0.0.1:"):
             raise Wrong(f"serve says {line!r}")
         self.connection = http.client.HTTPConnection("127.0.0.1", int(line.rpartition(":")[2]))
 
-    def post(self, command):
+    def post(self, command: str) -> Reply:
         """The status and the body of the reply to one command."""
         self.connection.request("POST", "/commands", command)
         reply = self.connection.getresponse()
         return reply.status, reply.read()
 
-    def kill(self):
+    def kill(self) -> None:
         self.child.kill()
         self.child.wait()
-        self.child.stdout.close()
+        self.told.close()
         self.connection.close()
 
 
-def commands_of_text():
+def commands_of_text() -> list[str]:
     """The rows of the sample as the bodies of requests."""
     with TEXT.open(newline="", encoding="ascii") as text:
         return [json.dumps({name: value for name, value in row.items() if value}) for row in csv.DictReader(text)]
 
 
-def refs_of(commands):
+def refs_of(commands: list[str]) -> list[str]:
     return [json.loads(command)["ref"] for command in commands]
 
 
-def replies_unkilled(program, commands):
+def replies_unkilled(program: str | Path, commands: list[str]) -> tuple[list[Reply], float]:
     """The replies of a desk that nobody kills before it has given all, and the seconds that they took."""
     with tempfile.TemporaryDirectory() as folder:
         desk = Desk(Office(program, Path(folder)))
@@ -74,7 +77,7 @@ def replies_unkilled(program, commands):
     return replies, seconds
 
 
-def post_until_killed(office, commands, replies, answered, seconds):
+def post_until_killed(office: Office, commands: list[str], replies: list[Reply], answered: int, seconds: float) -> int:
     """Sends the commands after the answered ones, and kills the desk after so many seconds; answers how many are answered then."""
     desk = Desk(office)
     killer = threading.Timer(seconds, desk.child.kill)
@@ -94,14 +97,14 @@ def post_until_killed(office, commands, replies, answered, seconds):
     return answered
 
 
-def soak(program, folder, kills, seed):
+def soak(program: str | Path, folder: Path, kills: int, seed: int) -> tuple[int, Counter[int], int]:
     """Kills desks until there were so many kills; answers how many books there were, how many kills left how many commands, and how many commands
     were kept that had not been answered."""
     random.seed(seed)
     commands = commands_of_text()
     refs = refs_of(commands)
     replies, whole = replies_unkilled(program, commands)
-    tables, left, books, unanswered = {}, Counter(), 0, 0
+    tables, left, books, unanswered = dict[int, str](), Counter[int](), 0, 0
     while left.total() < kills:
         place = folder / f"desk-{books}"
         place.mkdir()
@@ -119,7 +122,7 @@ def soak(program, folder, kills, seed):
     return books, left, unanswered
 
 
-def main():
+def main() -> int:
     words = words_of("Kills the desk at random moments.")
     try:
         books, left, unanswered = soak(words.program, words.folder, words.kills, words.seed)
@@ -127,7 +130,9 @@ def main():
         print(f"{wrong}\nthe books are in {words.folder}")
         return 1
     show(books, left)
-    print(f"{unanswered} kills fell between a commit and its reply; each command was answered once more, as before, and nothing was lost")
+    print(
+        f"{unanswered} kills fell between a commit and its reply; each command was answered once more, as before, and nothing was lost"
+    )
     return 0
 
 

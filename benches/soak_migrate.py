@@ -16,8 +16,9 @@ import sys
 import time
 from collections import Counter
 from contextlib import closing
+from pathlib import Path
 
-from compare import EXAMPLES
+from places import EXAMPLES
 from soak import Wrong, words_of
 
 SQL = EXAMPLES / "fortnight-version-1.sql"
@@ -25,7 +26,7 @@ TABLE = EXAMPLES / "fortnight-version-1.table.txt"
 SAID = {1: "migrated\n", 2: "version 2\n"}
 
 
-def run(program, job, book):
+def run(program: str | Path, job: str, book: Path) -> str:
     """What a job prints; it has to end well."""
     ended = subprocess.run([program, job, "--book", book], capture_output=True, text=True, check=False)
     if ended.returncode:
@@ -33,14 +34,14 @@ def run(program, job, book):
     return ended.stdout
 
 
-def rows_of(book):
+def rows_of(book: Path) -> dict[str, list[tuple[object, ...]]]:
     """All rows of all tables."""
     with closing(sqlite3.connect(f"file:{book}?mode=ro", uri=True)) as database:
         tables = [name for (name,) in database.execute("SELECT name FROM sqlite_master WHERE type = 'table'")]
         return {table: sorted(database.execute(f"SELECT * FROM {table}"), key=repr) for table in tables}
 
 
-def new_place(folder, number, start):
+def new_place(folder: Path, number: int | str, start: Path) -> Path:
     """A folder with a book of version 1."""
     place = folder / f"book-{number}"
     place.mkdir()
@@ -48,7 +49,7 @@ def new_place(folder, number, start):
     return place
 
 
-def look_at_end(program, book, version):
+def look_at_end(program: str | Path, book: Path, version: int) -> None:
     """What the next migration of a book says that has this version, and what is there then."""
     table = TABLE.read_text("ascii")
     for job, wanted in [("migrate", SAID[version]), ("migrate", SAID[2]), ("audit", "audit ok\n"), ("table", table)]:
@@ -56,7 +57,7 @@ def look_at_end(program, book, version):
             raise Wrong(f"over version {version} {job} says {said}")
 
 
-def is_killed(program, book, seconds):
+def is_killed(program: str | Path, book: Path, seconds: float) -> bool:
     """Begins a migration and kills it after so many seconds. True says that it was killed, not done before."""
     child = subprocess.Popen([program, "migrate", "--book", book], stdout=subprocess.DEVNULL)
     try:
@@ -69,7 +70,7 @@ def is_killed(program, book, seconds):
     return status == -9
 
 
-def soak(program, folder, kills, seed):
+def soak(program: str | Path, folder: Path, kills: int, seed: int) -> Counter[int]:
     """Kills so many migrations; answers how many left which version."""
     random.seed(seed)
     start = folder / "start.db"
@@ -80,7 +81,7 @@ def soak(program, folder, kills, seed):
     run(program, "migrate", place / "book.db")
     whole = time.perf_counter() - begun
     rows = {1: rows_of(start), 2: rows_of(place / "book.db")}
-    left, number = Counter(), 0
+    left, number = Counter[int](), 0
     while left.total() < kills:
         place, number = new_place(folder, number, start), number + 1
         if is_killed(program, place / "book.db", random.uniform(0, 1.1 * whole)):
@@ -94,7 +95,7 @@ def soak(program, folder, kills, seed):
     return left
 
 
-def main():
+def main() -> int:
     words = words_of("Kills migrations of the sample fortnight of version 1 at random moments.")
     try:
         left = soak(words.program, words.folder, words.kills, words.seed)

@@ -20,7 +20,7 @@ import threading
 import time
 from pathlib import Path
 
-from compare import PROGRAM, ROOT
+from places import PROGRAM, ROOT
 from soak import TEXT, Office, Wrong
 from soak_desk import BROKEN, Desk
 
@@ -28,7 +28,7 @@ FIRST, END = 1_742_770_800, 1_743_976_800  # the fortnight's seconds
 CAUSES = range(1, 9)
 
 
-def rows_of_text():
+def rows_of_text() -> list[dict[str, str]]:
     with TEXT.open(newline="", encoding="ascii") as text:
         return list(csv.DictReader(text))
 
@@ -36,20 +36,21 @@ def rows_of_text():
 class Client(threading.Thread):
     """Sends random commands over one connection, so many for each report that has begun."""
 
-    def __init__(self, desk, rows, seed, share):
+    def __init__(self, desk: Desk, rows: list[dict[str, str]], seed: int, share: int) -> None:
         super().__init__(daemon=True)
         self.desk, self.share, self.rng = desk, share, random.Random(seed)
         self.devices = [row["f1"] for row in rows if row["kind"] == "device"]
         self.refs = [row["ref"] for row in rows]  # accepted, in order
         self.begun_with = len(self.refs)
         self.revisions = self.revisions_of(rows)
-        self.number, self.rounds, self.sent, self.is_over, self.wrong = self.count_entries(rows), 0, 0, False, None
+        self.number, self.rounds, self.sent, self.is_over = self.count_entries(rows), 0, 0, False
+        self.wrong: Exception | None = None
 
     @staticmethod
-    def count_entries(rows):
+    def count_entries(rows: list[dict[str, str]]) -> int:
         return sum(row["kind"] == "switch" for row in rows)
 
-    def revisions_of(self, rows):
+    def revisions_of(self, rows: list[dict[str, str]]) -> dict[int, int]:
         """The revision of each kept entry."""
         revisions = {number: 1 for number in range(1, self.count_entries(rows) + 1)}
         for row in rows:
@@ -60,10 +61,10 @@ class Client(threading.Thread):
         return revisions
 
     @property
-    def acted(self):
+    def acted(self) -> int:
         return len(self.refs) - self.begun_with
 
-    def drawn(self):
+    def drawn(self) -> list[str]:
         """A command that the desk accepts."""
         rng = self.rng
         act = [rng.choice(["open", "close"]), str(rng.randrange(FIRST, END)), str(rng.choice(CAUSES)), "SOAK"]
@@ -76,7 +77,7 @@ class Client(threading.Thread):
         entry = rng.choice(sorted(self.revisions))
         return [kind, str(entry), str(self.revisions[entry]), *(act if kind == "correct" else [])]
 
-    def take(self, kind, fields):
+    def take(self, kind: str, fields: list[str]) -> None:
         """Keeps what an accepted command changed."""
         if kind == "switch":
             self.number += 1
@@ -86,7 +87,7 @@ class Client(threading.Thread):
         elif kind == "withdraw":
             del self.revisions[int(fields[0])]
 
-    def send(self):
+    def send(self) -> None:
         kind, *fields = self.drawn()
         self.sent += 1
         ref = f"SOAK-{self.sent}"
@@ -97,7 +98,7 @@ class Client(threading.Thread):
         self.take(kind, fields)
         self.refs.append(ref)
 
-    def run(self):
+    def run(self) -> None:
         try:
             while not self.is_over:
                 if self.acted < self.share * self.rounds:
@@ -108,7 +109,7 @@ class Client(threading.Thread):
             self.wrong = wrong
 
 
-def run_tool(office, tool, *words):
+def run_tool(office: Office, tool: str, *words: str | Path) -> str:
     """What a tool prints of the book; it has to end well."""
     command = [sys.executable, ROOT / f"tools/{tool}.py", office.book, *words, "--program", office.program]
     done = subprocess.run(list(map(str, command)), capture_output=True, text=True, check=False)
@@ -117,7 +118,7 @@ def run_tool(office, tool, *words):
     return done.stdout
 
 
-def look_at_commands(office, client):
+def look_at_commands(office: Office, client: Client) -> None:
     """The commands that a copy of the book has are the first ones that the desk accepted."""
     before = len(client.refs)
     rows = csv.DictReader(run_tool(office, "commands").splitlines())
@@ -129,7 +130,7 @@ def look_at_commands(office, client):
         raise Wrong(f"{len(refs)} commands where {before} to {after} were answered, or others")
 
 
-def soak(office, client, reports):
+def soak(office: Office, client: Client, reports: int) -> list[float]:
     """Makes the reports; answers the seconds of each."""
     seconds = []
     client.start()
@@ -146,14 +147,14 @@ def soak(office, client, reports):
     return seconds
 
 
-def main():
-    words = argparse.ArgumentParser(description="Makes reports of a book while its desk acts commands.")
-    words.add_argument("--commands", type=int, default=1000)
-    words.add_argument("--reports", type=int, default=50)
-    words.add_argument("--seed", type=int, default=1)
-    words.add_argument("--program", default=PROGRAM, help="the program (that of crates/outagebook)")
-    words.add_argument("--folder", type=Path, help="where the book is made (a temporary folder)")
-    words = words.parse_args()
+def main() -> int:
+    parser = argparse.ArgumentParser(description="Makes reports of a book while its desk acts commands.")
+    parser.add_argument("--commands", type=int, default=1000)
+    parser.add_argument("--reports", type=int, default=50)
+    parser.add_argument("--seed", type=int, default=1)
+    parser.add_argument("--program", default=PROGRAM, help="the program (that of crates/outagebook)")
+    parser.add_argument("--folder", type=Path, help="where the book is made (a temporary folder)")
+    words = parser.parse_args()
     folder = Path(words.folder or tempfile.mkdtemp(prefix="soak-"))
     folder.mkdir(exist_ok=True)
     office = Office(words.program, folder)
@@ -170,7 +171,9 @@ def main():
         client.join()
         desk.kill()
     pages = {(folder / f"page-{number}.html").read_bytes() for number in range(words.reports)}
-    print(f"{words.reports} reports, {len(pages)} different pages, under {client.acted} commands; none failed, none differed")
+    print(
+        f"{words.reports} reports, {len(pages)} different pages, under {client.acted} commands; none failed, none differed"
+    )
     print(f"a report took {min(seconds):.2f} to {max(seconds):.2f} s; {office.run('audit').strip()}")
     return 0
 

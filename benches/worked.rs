@@ -4,86 +4,12 @@
 //! It links the static library that `rt lib` makes of `crates/bench_calls`; `run.py` builds and runs it. It ends with status 1
 //! where a call answers something else, and names the case.
 
+mod calls;
+mod measure;
+
+use calls::{Lives, Network, Roll, Sheet};
+use measure::ended;
 use std::process::ExitCode;
-
-unsafe extern "C" {
-    fn bench_search(
-        nodes: u16,
-        from: *const u16,
-        from_len: usize,
-        to: *const u16,
-        to_len: usize,
-        closed: *const u8,
-        closed_len: usize,
-        rounds: u32,
-    ) -> u64;
-
-    fn bench_build(
-        nodes: u16,
-        from: *const u16,
-        from_len: usize,
-        to: *const u16,
-        to_len: usize,
-        closed: *const u8,
-        closed_len: usize,
-        devices: *const u16,
-        devices_len: usize,
-        closes: *const u8,
-        closes_len: usize,
-        seconds: *const u32,
-        seconds_len: usize,
-        rounds: u32,
-    ) -> u64;
-
-    fn bench_counts(
-        nodes: u16,
-        from: *const u16,
-        from_len: usize,
-        to: *const u16,
-        to_len: usize,
-        closed: *const u8,
-        closed_len: usize,
-        devices: *const u16,
-        devices_len: usize,
-        closes: *const u8,
-        closes_len: usize,
-        seconds: *const u32,
-        seconds_len: usize,
-        sections: *const u16,
-        sections_len: usize,
-        begins: *const u32,
-        begins_len: usize,
-        ends: *const u32,
-        ends_len: usize,
-        marked: *const u16,
-        marked_len: usize,
-        rounds: u32,
-    ) -> u64;
-
-    fn bench_lives(
-        nodes: u16,
-        from: *const u16,
-        from_len: usize,
-        to: *const u16,
-        to_len: usize,
-        closed: *const u8,
-        closed_len: usize,
-        devices: *const u16,
-        devices_len: usize,
-        closes: *const u8,
-        closes_len: usize,
-        seconds: *const u32,
-        seconds_len: usize,
-        lived: *const u16,
-        lived_len: usize,
-        since: *const u32,
-        since_len: usize,
-        until: *const u32,
-        until_len: usize,
-        searches: *mut u64,
-        searches_len: usize,
-    ) -> u64;
-}
 
 /// GRID, 1, 2 and 3 in a ring with a chord from GRID to 2.
 const FROM: [u16; 5] = [0, 1, 3, 3, 2];
@@ -91,6 +17,12 @@ const TO: [u16; 5] = [1, 2, 2, 0, 0];
 
 /// GRID, 1, 2 and 3 in a chain; the other two devices are normally open.
 const CHAIN: [u8; 5] = [1, 1, 1, 0, 0];
+const NETWORK: Network = Network {
+    nodes: 4,
+    from: &FROM,
+    to: &TO,
+    closed: &CHAIN,
+};
 
 const LAST: u32 = 366 * 86_400 - 1;
 
@@ -109,18 +41,15 @@ impl Cases {
 }
 
 fn search(nodes: u16, from: &[u16], to: &[u16], closed: &[u8], rounds: u32) -> u64 {
-    unsafe {
-        bench_search(
+    calls::search(
+        Network {
             nodes,
-            from.as_ptr(),
-            from.len(),
-            to.as_ptr(),
-            to.len(),
-            closed.as_ptr(),
-            closed.len(),
-            rounds,
-        )
-    }
+            from,
+            to,
+            closed,
+        },
+        rounds,
+    )
 }
 
 fn searches(cases: &mut Cases) {
@@ -151,24 +80,15 @@ fn searches(cases: &mut Cases) {
 }
 
 fn build(devices: &[u16], closes: &[u8], seconds: &[u32], rounds: u32) -> u64 {
-    unsafe {
-        bench_build(
-            4,
-            FROM.as_ptr(),
-            FROM.len(),
-            TO.as_ptr(),
-            TO.len(),
-            CHAIN.as_ptr(),
-            CHAIN.len(),
-            devices.as_ptr(),
-            devices.len(),
-            closes.as_ptr(),
-            closes.len(),
-            seconds.as_ptr(),
-            seconds.len(),
-            rounds,
-        )
-    }
+    calls::build(
+        NETWORK,
+        Sheet {
+            devices,
+            closes,
+            seconds,
+        },
+        rounds,
+    )
 }
 
 /// 2 and 3 are cut off at 100. Device 3 supplies 3 again at 160, and not 2, by the late entry that opens what joins them; 2 is
@@ -197,34 +117,22 @@ fn builds(cases: &mut Cases) {
 
 /// What both sets of figures come to in the chain, where 3 is cut off from 100 to 500 and from 1,000 to 1,250.
 fn figures(sections: &[u16], begins: &[u32], ends: &[u32], marked: &[u16]) -> u64 {
-    let (devices, closes) = ([2_u16; 4], [0_u8, 1, 0, 1]);
-    let seconds = [100_u32, 500, 1_000, 1_250];
-    unsafe {
-        bench_counts(
-            4,
-            FROM.as_ptr(),
-            FROM.len(),
-            TO.as_ptr(),
-            TO.len(),
-            CHAIN.as_ptr(),
-            CHAIN.len(),
-            devices.as_ptr(),
-            devices.len(),
-            closes.as_ptr(),
-            closes.len(),
-            seconds.as_ptr(),
-            seconds.len(),
-            sections.as_ptr(),
-            sections.len(),
-            begins.as_ptr(),
-            begins.len(),
-            ends.as_ptr(),
-            ends.len(),
-            marked.as_ptr(),
-            marked.len(),
-            1,
-        )
-    }
+    let sheet = Sheet {
+        devices: &[2; 4],
+        closes: &[0, 1, 0, 1],
+        seconds: &[100, 500, 1_000, 1_250],
+    };
+    calls::counts(
+        NETWORK,
+        sheet,
+        Roll {
+            sections,
+            begins,
+            ends,
+        },
+        marked,
+        1,
+    )
 }
 
 /// One customer of two has an interruption of 400 seconds and one of 250: SAIFI 1/2, SAIDI 10/3, CAIDI 20/3, CAIFI 1/1, ASAI
@@ -258,32 +166,21 @@ fn counts(cases: &mut Cases) {
 /// The seconds without supply in the chain once devices have these lives, where 3 is cut off from 10 to 110 and device 3, which
 /// supplies it too, is closed at 20.
 fn lived(devices: &[u16], since: &[u32], until: &[u32], searches: &mut [u64]) -> u64 {
-    let (switched, closes, seconds) = ([2_u16, 3, 2], [0_u8, 1, 1], [10_u32, 20, 110]);
-    unsafe {
-        bench_lives(
-            4,
-            FROM.as_ptr(),
-            FROM.len(),
-            TO.as_ptr(),
-            TO.len(),
-            CHAIN.as_ptr(),
-            CHAIN.len(),
-            switched.as_ptr(),
-            switched.len(),
-            closes.as_ptr(),
-            closes.len(),
-            seconds.as_ptr(),
-            seconds.len(),
-            devices.as_ptr(),
-            devices.len(),
-            since.as_ptr(),
-            since.len(),
-            until.as_ptr(),
-            until.len(),
-            searches.as_mut_ptr(),
-            searches.len(),
-        )
-    }
+    let sheet = Sheet {
+        devices: &[2, 3, 2],
+        closes: &[0, 1, 1],
+        seconds: &[10, 20, 110],
+    };
+    calls::lives(
+        NETWORK,
+        sheet,
+        Lives {
+            devices,
+            since,
+            until,
+        },
+        searches,
+    )
 }
 
 /// Where devices are always there, 3 is without supply from 10 to 20.
@@ -318,9 +215,9 @@ fn main() -> ExitCode {
     builds(&mut cases);
     counts(&mut cases);
     lives(&mut cases);
-    if cases.wrong == 0 {
-        ExitCode::SUCCESS
-    } else {
-        ExitCode::FAILURE
-    }
+    let wrong = cases.wrong;
+    ended(
+        wrong == 0,
+        &format!("{wrong} calls answered something else"),
+    )
 }

@@ -13,28 +13,26 @@ import sqlite3
 import sys
 from collections.abc import Iterator
 from contextlib import closing
-from importlib import import_module
 from pathlib import Path
-from typing import Any
-
-ROOT = Path(__file__).resolve().parents[2]
-HAS_ORACLE = (ROOT / "oracle").is_dir()
-Listed = tuple[str, list[str], bytes]
 
 # The oracle's modules import one another by their names.
-sys.path[0] = str(ROOT / ("oracle" if HAS_ORACLE else "benches"))
-compare, model, state, tables = (
-    import_module(name) for name in ("compare", "model", "state", "tables" if HAS_ORACLE else "plain_office")
-)
+sys.path[0] = str(Path(__file__).resolve().parents[2] / "oracle")
+
+from compare import texts  # noqa: E402
+from model import Book  # noqa: E402
+from state import Period  # noqa: E402
+from tables import TABLES  # noqa: E402
+
+Listed = tuple[str, tuple[str, int, str], bytes]
 
 
-def write_book(book: Any, path: Path) -> None:
+def write_book(book: Book, path: Path) -> None:
     """A book's rows in a new file with a write-ahead log, as the program leaves it."""
     path.unlink(missing_ok=True)
     with closing(sqlite3.connect(str(path))) as database:
         database.execute("PRAGMA journal_mode = wal")
         database.execute("PRAGMA synchronous = off")
-        database.executescript(tables.TABLES)
+        database.executescript(TABLES)
         for table, rows in book.tables().items():
             for row in rows:
                 database.execute(f"INSERT INTO {table} VALUES ({', '.join('?' * len(row))})", row)
@@ -44,8 +42,8 @@ def write_book(book: Any, path: Path) -> None:
 def listed(path: Path) -> Iterator[Listed]:
     """The name, the period and the bytes of each text of a list."""
     for line in path.read_text().splitlines():
-        text, *period = line.split()
-        yield Path(text).stem, period, Path(text).read_bytes()
+        text, first, days, zone = line.split()
+        yield Path(text).stem, (first, int(days), zone), Path(text).read_bytes()
 
 
 def main() -> None:
@@ -56,9 +54,8 @@ def main() -> None:
         "--list", type=Path, help="texts in place of these: lines of FILE, FIRST, DAYS and ZONE, by spaces"
     )
     args = parser.parse_args()
-    for name, period, data in listed(args.list) if args.list else compare.texts(args.seeds):
-        first, days, zone = period
-        book = model.Book(state.Period(first, int(days), zone))
+    for name, period, data in listed(args.list) if args.list else texts(args.seeds):
+        book = Book(Period(*period))
         book.import_text(data)
         name = name.replace(" ", "-").replace(",", "")
         (args.folder / f"{name}.csv").write_bytes(data)

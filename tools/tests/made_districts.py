@@ -18,18 +18,16 @@ import sqlite3
 import sys
 from collections.abc import Iterator
 from contextlib import closing
-from importlib import import_module
 from pathlib import Path
 from typing import Any
 
-ROOT = Path(__file__).resolve().parents[2]
-HAS_ORACLE = (ROOT / "oracle").is_dir()
-
 # The oracle's modules import one another by their names.
-sys.path[0] = str(ROOT / ("oracle" if HAS_ORACLE else "benches"))
-make_commands, model, state, tables = (
-    import_module(name) for name in ("make_commands", "model", "state", "tables" if HAS_ORACLE else "plain_office")
-)
+sys.path[0] = str(Path(__file__).resolve().parents[2] / "oracle")
+
+from make_commands import period_of, text_of  # noqa: E402
+from model import Book  # noqa: E402
+from state import Period  # noqa: E402
+from tables import TABLES  # noqa: E402
 
 PARTS = ("a", "b")
 Device = tuple[str, str, str]  # its name and its ends
@@ -107,7 +105,7 @@ def said_to(cut: Cut, part: str, commands: list[tuple[str, str]]) -> Iterator[li
 
 def book_of(period: tuple[str, int, str], rows: list[list[str]]) -> Any:
     """The model's book of some rows, none of which is refused."""
-    book = model.Book(state.Period(*period), keeps_moves=False)
+    book = Book(Period(*period), keeps_moves=False)
     for row in rows:
         book.act(row)
     return book
@@ -118,7 +116,7 @@ def write(book: Any, rows: list[list[str]], path: Path) -> None:
     with closing(sqlite3.connect(f"{path}.db")) as database:
         database.execute("PRAGMA journal_mode = wal")
         database.execute("PRAGMA synchronous = off")
-        database.executescript(tables.TABLES)
+        database.executescript(TABLES)
         for table, values in book.tables().items():
             for row in values:
                 database.execute(f"INSERT INTO {table} VALUES ({', '.join('?' * len(row))})", row)
@@ -151,9 +149,9 @@ def add_ties(whole: Any, rng: random.Random) -> None:
 
 
 def make(folder: Path, seed: int, with_ties: bool) -> None:
-    period = make_commands.period_of(seed)
-    whole = model.Book(state.Period(*period), keeps_moves=False)
-    whole.import_text(make_commands.text_of(seed))
+    period = period_of(seed)
+    whole = Book(Period(*period), keeps_moves=False)
+    whole.import_text(text_of(seed))
     if with_ties:
         add_ties(whole, random.Random(f"ties {seed}"))
     cut = Cut(whole, random.Random(f"cut {seed}"), with_ties)
@@ -172,7 +170,7 @@ def make(folder: Path, seed: int, with_ties: bool) -> None:
 def make_of_text(folder: Path, line: str) -> None:
     """The book of a text; a row that is refused is an error."""
     text, first, days, zone = line.split()
-    book = model.Book(state.Period(first, int(days), zone), keeps_moves=False)
+    book = Book(Period(first, int(days), zone), keeps_moves=False)
     _, _, refusal = book.import_text(Path(text).read_bytes())
     if refusal:
         sys.exit(f"{text}: {refusal}")

@@ -18,6 +18,7 @@ from pathlib import Path
 
 PLACES = sorted(Path("/usr/lib/postgresql").glob("*/bin"), key=lambda place: int(place.parent.name))
 STARTS_IN = 60  # seconds
+RUNUSER = shutil.which("runuser") or "/usr/sbin/runuser"
 
 
 def missing() -> str | None:
@@ -32,7 +33,7 @@ def missing() -> str | None:
 
 
 def as_postgres(words: list[str]) -> list[str]:
-    return ["runuser", "-u", "postgres", "--", *words] if os.geteuid() == 0 else words
+    return [RUNUSER, "-u", "postgres", "--", *words] if os.geteuid() == 0 else words
 
 
 @contextmanager
@@ -84,7 +85,9 @@ def main() -> int:
     if len(sys.argv) < 2 or missing():
         print(missing() or "usage: own_postgres.py COMMAND ..", file=sys.stderr)
         return 64
+    python = Path(sys.executable).parent  # a page's `python3` is the Python that runs this
     with server() as environment:
+        environment["PATH"] = f"{python}:{os.environ.get('PATH', '')}"
         return subprocess.run(sys.argv[1:], env={**os.environ, **environment}, check=False).returncode
 
 

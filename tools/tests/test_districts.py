@@ -27,6 +27,7 @@ from tests.many_books import books_of, district_rows, figures_of, opened, parts_
 from tests.support import EXAMPLES, PROGRAM, ROOT, needs_program
 
 GIS_COLUMNS = ["type", "name", "feeder", "from", "to", "normal", "note"]
+NGINX = shutil.which("nginx") or "/usr/sbin/nginx"
 TIE_HEAD = "tie,district,node,other_district,other_node\n"
 
 
@@ -449,7 +450,7 @@ def proxy(ports: dict[str, int], users: Iterable[str]) -> Any:
         f"daemon off; user root; pid {folder}/pid; error_log {folder}/error.log; events {{}}\n"
         f"http {{ access_log off; {temporary}\n{text}\n}}\n"
     )
-    child = subprocess.Popen(["nginx", "-c", str(folder / "nginx.conf"), "-e", str(folder / "error.log")])
+    child = subprocess.Popen([NGINX, "-c", str(folder / "nginx.conf"), "-e", str(folder / "error.log")])
     try:
         wait_for(port)
         yield f"https://127.0.0.1:{port}"
@@ -553,7 +554,7 @@ class Desks(unittest.TestCase):
         path.write_text("district,url\nnorth,localhost\n")
         self.assertEqual(run("districts", "desks", path).returncode, 1)
 
-    @unittest.skipUnless(shutil.which("nginx") and shutil.which("openssl"), "nginx or openssl isn't installed")
+    @unittest.skipUnless(Path(NGINX).exists() and shutil.which("openssl"), "nginx or openssl isn't installed")
     def test_one_proxy_for_three_districts(self) -> None:
         with ExitStack() as stack:
             ports = {name: stack.enter_context(desk(book)) for name, book in self.books.items()}

@@ -31,7 +31,8 @@ pub extern "C" fn bench_lives(
     until: &[u32],
     searches: &mut [u64],
 ) -> u64
-    ensures { (result ≡ 0) ⊎ AddsUpLives nodes from.now to.now closed.now devices.now closes.now seconds.now lived.now since.now until.now result }
+    ensures { (result ≡ 0) ⊎ AddsUpLives nodes from.now to.now closed.now devices.now closes.now
+        seconds.now lived.now since.now until.now result }
 {
     if lived.len() != since.len() || lived.len() != until.len() || lived.len() != searches.len() {
         return 0;
@@ -63,9 +64,13 @@ fn live(
     requires sinces { length lived.now ≡ length since.now }
     requires untils { length lived.now ≡ length until.now }
     requires places { length lived.now ≡ length searches.old }
-    requires runs { HasRuns (case_of made.old.net.network made.old.sheet.entries made.old.year) timeline.old }
-    ensures case { IfSome result (λ _. case_of made.new.net.network made.new.sheet.entries made.new.year ≡ with_lives (case_of made.old.net.network made.old.sheet.entries made.old.year) lived.now since.now until.now) }
-    ensures runs { IfSome result (λ _. HasRuns (case_of made.new.net.network made.new.sheet.entries made.new.year) timeline.new) }
+    requires runs { HasRuns (case_of made.old.net.network made.old.sheet.entries made.old.year)
+        timeline.old }
+    ensures case { IfSome result (λ _. case_of made.new.net.network made.new.sheet.entries
+        made.new.year ≡ with_lives (case_of made.old.net.network made.old.sheet.entries
+        made.old.year) lived.now since.now until.now) }
+    ensures runs { IfSome result (λ _. HasRuns (case_of made.new.net.network made.new.sheet.entries
+        made.new.year) timeline.new) }
 {
     let first = made.year.first_second();
     for place in 0..lived.len() {
@@ -80,9 +85,13 @@ fn live(
 
 /// Gives a device another life, in the network and in its runs.
 fn live_one(made: &mut Made, timeline: &mut Windowed, device: u16, life: Life) -> Option<()>
-    requires runs { HasRuns (case_of made.old.net.network made.old.sheet.entries made.old.year) timeline.old }
-    ensures case { IfSome result (λ _. case_of made.new.net.network made.new.sheet.entries made.new.year ≡ with_one_life (case_of made.old.net.network made.old.sheet.entries made.old.year) device life) }
-    ensures runs { IfSome result (λ _. HasRuns (case_of made.new.net.network made.new.sheet.entries made.new.year) timeline.new) }
+    requires runs { HasRuns (case_of made.old.net.network made.old.sheet.entries made.old.year)
+        timeline.old }
+    ensures case { IfSome result (λ _. case_of made.new.net.network made.new.sheet.entries
+        made.new.year ≡ with_one_life (case_of made.old.net.network made.old.sheet.entries
+        made.old.year) device life) }
+    ensures runs { IfSome result (λ _. HasRuns (case_of made.new.net.network made.new.sheet.entries
+        made.new.year) timeline.new) }
 {
     if device >= made.net.devices() {
         return None;

@@ -18,7 +18,8 @@ use std::alloc::Global;
 /// It answers 0 where memory is refused, where a line is no command, or where a command isn't accepted in its turn.
 #[unsafe(no_mangle)]
 pub extern "C" fn bench_year(alloc: Global, text: &[u8], searches: &mut u64) -> u64
-    ensures { (result ≡ 0) ⊎ ((b : BookState) × IsYear text.now b × (result ≡ without_supply_of_book b)) }
+    ensures { (result ≡ 0) ⊎ ((b : BookState) × IsYear text.now b
+        × (result ≡ without_supply_of_book b)) }
 {
     let Some(book) = book_of(alloc, text) else {
         return 0;
@@ -32,7 +33,8 @@ pub extern "C" fn bench_year(alloc: Global, text: &[u8], searches: &mut u64) -> 
 /// It answers 0 where there is no such year, where memory is refused, or where the table is too short for it.
 #[unsafe(no_mangle)]
 pub extern "C" fn bench_year_table(alloc: Global, text: &[u8], table: &mut [u8]) -> usize
-    ensures { (result ≡ 0) ⊎ ((b : BookState) × IsYear text.now b × (take result table.new ≡ annual_table_of_book b)) }
+    ensures { (result ≡ 0) ⊎ ((b : BookState) × IsYear text.now b
+        × (take result table.new ≡ annual_table_of_book b)) }
 {
     let Some(book) = book_of(alloc, text) else {
         return 0;

@@ -12,7 +12,8 @@ use ob_state::State;
 /// The amounts of each dimension add up to all customer-seconds without supply.
 pub fn amounts_add_up(state: &State, postings: &Postings)
     requires posted { ArePosted state.now.state postings.now }
-    ensures totals { (dim : Dimension) → total_of postings.now dim ≡ without_supply_of_book state.now.state }
+    ensures totals { (dim : Dimension) → total_of postings.now dim
+        ≡ without_supply_of_book state.now.state }
 {
     total_laws();
     let _ = (state.accepted(), state.period().days());

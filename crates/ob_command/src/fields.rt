@@ -72,7 +72,8 @@ pub(crate) fn read_fields(
 // Each kind's columns from the left, then those that are empty.
 
 fn cause(spelling: Spelling, fields: &Fields<'_>) -> Result<Command, Refusal>
-    ensures { result ≡ cause_of spelling fields.now.f1.now fields.now.f2.now (fields.now.f3.now ∷ fields.now.f4.now ∷ fields.now.f5.now ∷ fields.now.f6.now ∷ []) }
+    ensures { result ≡ cause_of spelling fields.now.f1.now fields.now.f2.now
+        (fields.now.f3.now ∷ fields.now.f4.now ∷ fields.now.f5.now ∷ fields.now.f6.now ∷ []) }
 {
     let code = spelling.read_code(fields.f1).ok_or(Refusal::BadField(3))?;
     let name = Name::read(fields.f2).ok_or(Refusal::BadField(4))?;
@@ -84,7 +85,8 @@ fn cause(spelling: Spelling, fields: &Fields<'_>) -> Result<Command, Refusal>
 }
 
 fn bus(fields: &Fields<'_>) -> Result<Command, Refusal>
-    ensures { result ≡ bus_of fields.now.f1.now (fields.now.f2.now ∷ fields.now.f3.now ∷ fields.now.f4.now ∷ fields.now.f5.now ∷ fields.now.f6.now ∷ []) }
+    ensures { result ≡ bus_of fields.now.f1.now (fields.now.f2.now ∷ fields.now.f3.now
+        ∷ fields.now.f4.now ∷ fields.now.f5.now ∷ fields.now.f6.now ∷ []) }
 {
     let name = Name::read(fields.f1).ok_or(Refusal::BadField(3))?;
     complete(
@@ -95,7 +97,8 @@ fn bus(fields: &Fields<'_>) -> Result<Command, Refusal>
 }
 
 fn section(spelling: Spelling, fields: &Fields<'_>) -> Result<Command, Refusal>
-    ensures { result ≡ section_of spelling fields.now.f1.now fields.now.f2.now (fields.now.f3.now ∷ fields.now.f4.now ∷ fields.now.f5.now ∷ fields.now.f6.now ∷ []) }
+    ensures { result ≡ section_of spelling fields.now.f1.now fields.now.f2.now
+        (fields.now.f3.now ∷ fields.now.f4.now ∷ fields.now.f5.now ∷ fields.now.f6.now ∷ []) }
 {
     let name = Name::read(fields.f1).ok_or(Refusal::BadField(3))?;
     let feeder = spelling.read_feeder(fields.f2).ok_or(Refusal::BadField(4))?;
@@ -112,7 +115,9 @@ fn device(
     since: Option<Moment>,
     until: Option<Moment>,
 ) -> Result<Command, Refusal>
-    ensures { result ≡ device_of fields.now.f1.now fields.now.f2.now fields.now.f3.now fields.now.f4.now (start_as spelling fields.now.f5.now since) (end_as spelling fields.now.f6.now until) }
+    ensures { result ≡ device_of fields.now.f1.now fields.now.f2.now fields.now.f3.now
+        fields.now.f4.now (start_as spelling fields.now.f5.now since)
+        (end_as spelling fields.now.f6.now until) }
 {
     let name = Name::read(fields.f1).ok_or(Refusal::BadField(3))?;
     let a = Name::read(fields.f2).ok_or(Refusal::BadField(4))?;
@@ -139,7 +144,9 @@ fn life(
     since: Option<Moment>,
     until: Option<Moment>,
 ) -> Result<Command, Refusal>
-    ensures { result ≡ life_of fields.now.f1.now (start_as spelling fields.now.f2.now since) (end_as spelling fields.now.f3.now until) (fields.now.f4.now ∷ fields.now.f5.now ∷ fields.now.f6.now ∷ []) }
+    ensures { result ≡ life_of fields.now.f1.now (start_as spelling fields.now.f2.now since)
+        (end_as spelling fields.now.f3.now until) (fields.now.f4.now ∷ fields.now.f5.now
+        ∷ fields.now.f6.now ∷ []) }
 {
     let device = Name::read(fields.f1).ok_or(Refusal::BadField(3))?;
     let since = spelling
@@ -165,7 +172,8 @@ fn connect(
     since: Option<Moment>,
     until: Option<Moment>,
 ) -> Result<Command, Refusal>
-    ensures { result ≡ connect_of spelling fields.now.f1.now fields.now.f2.now since (end_as spelling fields.now.f4.now until) (fields.now.f5.now ∷ fields.now.f6.now ∷ []) }
+    ensures { result ≡ connect_of spelling fields.now.f1.now fields.now.f2.now since
+        (end_as spelling fields.now.f4.now until) (fields.now.f5.now ∷ fields.now.f6.now ∷ []) }
 {
     let customer = spelling.read_serial(fields.f1).ok_or(Refusal::BadField(3))?;
     let section = Name::read(fields.f2).ok_or(Refusal::BadField(4))?;
@@ -191,7 +199,9 @@ fn revise(
     since: Option<Moment>,
     until: Option<Moment>,
 ) -> Result<Command, Refusal>
-    ensures { result ≡ revise_of spelling fields.now.f1.now since (end_as spelling fields.now.f3.now until) (fields.now.f4.now ∷ fields.now.f5.now ∷ fields.now.f6.now ∷ []) }
+    ensures { result ≡ revise_of spelling fields.now.f1.now since
+        (end_as spelling fields.now.f3.now until) (fields.now.f4.now ∷ fields.now.f5.now
+        ∷ fields.now.f6.now ∷ []) }
 {
     let customer = spelling.read_serial(fields.f1).ok_or(Refusal::BadField(3))?;
     let since = since.ok_or(Refusal::BadField(4))?;
@@ -214,7 +224,8 @@ fn switch(
     fields: &Fields<'_>,
     second: Option<Moment>,
 ) -> Result<Command, Refusal>
-    ensures { result ≡ switch_of spelling fields.now.f1.now fields.now.f2.now second fields.now.f4.now fields.now.f5.now (fields.now.f6.now ∷ []) }
+    ensures { result ≡ switch_of spelling fields.now.f1.now fields.now.f2.now second
+        fields.now.f4.now fields.now.f5.now (fields.now.f6.now ∷ []) }
 {
     let device = Name::read(fields.f1).ok_or(Refusal::BadField(3))?;
     let act = read_act(fields.f2).ok_or(Refusal::BadField(4))?;
@@ -239,7 +250,8 @@ fn correct(
     fields: &Fields<'_>,
     second: Option<Moment>,
 ) -> Result<Command, Refusal>
-    ensures { result ≡ correct_of spelling fields.now.f1.now fields.now.f2.now fields.now.f3.now second fields.now.f5.now fields.now.f6.now }
+    ensures { result ≡ correct_of spelling fields.now.f1.now fields.now.f2.now fields.now.f3.now
+        second fields.now.f5.now fields.now.f6.now }
 {
     let entry = spelling.read_serial(fields.f1).ok_or(Refusal::BadField(3))?;
     let revision = spelling.read_serial(fields.f2).ok_or(Refusal::BadField(4))?;
@@ -258,7 +270,8 @@ fn correct(
 }
 
 fn withdraw(spelling: Spelling, fields: &Fields<'_>) -> Result<Command, Refusal>
-    ensures { result ≡ withdraw_of spelling fields.now.f1.now fields.now.f2.now (fields.now.f3.now ∷ fields.now.f4.now ∷ fields.now.f5.now ∷ fields.now.f6.now ∷ []) }
+    ensures { result ≡ withdraw_of spelling fields.now.f1.now fields.now.f2.now
+        (fields.now.f3.now ∷ fields.now.f4.now ∷ fields.now.f5.now ∷ fields.now.f6.now ∷ []) }
 {
     let entry = spelling.read_serial(fields.f1).ok_or(Refusal::BadField(3))?;
     let revision = spelling.read_serial(fields.f2).ok_or(Refusal::BadField(4))?;
@@ -270,7 +283,8 @@ fn withdraw(spelling: Spelling, fields: &Fields<'_>) -> Result<Command, Refusal>
 }
 
 fn mark(date: Option<CivilDate>, fields: &Fields<'_>) -> Result<Command, Refusal>
-    ensures { result ≡ mark_of date fields.now.f2.now (fields.now.f3.now ∷ fields.now.f4.now ∷ fields.now.f5.now ∷ fields.now.f6.now ∷ []) }
+    ensures { result ≡ mark_of date fields.now.f2.now
+        (fields.now.f3.now ∷ fields.now.f4.now ∷ fields.now.f5.now ∷ fields.now.f6.now ∷ []) }
 {
     let date = date.ok_or(Refusal::BadField(3))?;
     let engineer = Crew::read(fields.f2).ok_or(Refusal::BadField(4))?;
@@ -282,7 +296,8 @@ fn mark(date: Option<CivilDate>, fields: &Fields<'_>) -> Result<Command, Refusal
 }
 
 fn unmark(date: Option<CivilDate>, fields: &Fields<'_>) -> Result<Command, Refusal>
-    ensures { result ≡ unmark_of date fields.now.f2.now (fields.now.f3.now ∷ fields.now.f4.now ∷ fields.now.f5.now ∷ fields.now.f6.now ∷ []) }
+    ensures { result ≡ unmark_of date fields.now.f2.now
+        (fields.now.f3.now ∷ fields.now.f4.now ∷ fields.now.f5.now ∷ fields.now.f6.now ∷ []) }
 {
     let date = date.ok_or(Refusal::BadField(3))?;
     let engineer = Crew::read(fields.f2).ok_or(Refusal::BadField(4))?;

@@ -32,7 +32,8 @@ pub(crate) fn split(text: &[u8]) -> Option<(&[u8], Fields<'_>)>
 
 // The next word, and what stands behind the space after it.
 fn word(text: Option<&[u8]>) -> Option<(&[u8], Option<&[u8]>)>
-    ensures { option_map (λ p. (p.0.now, option_map (λ r. r.now) p.1)) result ≡ word_in (option_map (λ t. t.now) text.entry) }
+    ensures { option_map (λ p. (p.0.now, option_map (λ r. r.now) p.1)) result
+        ≡ word_in (option_map (λ t. t.now) text.entry) }
 {
     let Some(text) = text else {
         return Some((b"", None));

@@ -55,8 +55,9 @@ pub fn commit_act<S: Alter>(
     requires can { CanWrite postings.now act.now }
     ensures mode { conn.new.in_transaction ≡ false }
     ensures faults { IfErr result IsStoreFault }
-    ensures done { OnOk result ((t : Tables) → Keeps (state S.Store conn.old) t → NeedsRows postings.now act.now t
-        → Keeps (state S.Store conn.new) (with_act postings.now act.now t)) }
+    ensures done { OnOk result ((t : Tables) → Keeps (state S.Store conn.old) t
+        → NeedsRows postings.now act.now t → Keeps (state S.Store conn.new)
+        (with_act postings.now act.now t)) }
     ensures undone { IfErr result (λ stop. stop ≡ out_of_memory
         → (t : Tables) → Keeps (state S.Store conn.old) t → Keeps (state S.Store conn.new) t) }
     ensures either { IfErr result (λ stop. (t : Tables) → Keeps (state S.Store conn.old) t
@@ -64,7 +65,8 @@ pub fn commit_act<S: Alter>(
         → KeepsEither (state S.Store conn.new) t (with_act postings.now act.now t)) }
     // a crash leaves no more than before, but for the rows of the command
     ensures survives { Survives (state S.Store conn.old) (state S.Store conn.new)
-        (LeavesChanged (state S.Store conn.old) (NeedsRows postings.now act.now) (with_act postings.now act.now)) }
+        (LeavesChanged (state S.Store conn.old) (NeedsRows postings.now act.now)
+        (with_act postings.now act.now)) }
 {
     // what is open is a whole database
     let _schema = conn.schema();

@@ -23,18 +23,20 @@ pub fn commit_new<S: Alter>(
 ) -> Result<(), Stop>
     requires mode { conn.old.in_transaction ≡ false }
     ensures mode { conn.new.in_transaction ≡ false }
-    ensures faults { IfErr result (λ stop. (stop ≡ Stop.Refused Refusal.BadBook) ⊎ IsStoreFault stop) }
+    ensures faults { IfErr result (λ stop. (stop ≡ Stop.Refused Refusal.BadBook)
+        ⊎ IsStoreFault stop) }
     ensures refused { (result ≡ Err (Stop.Refused Refusal.BadBook))
         ↔ ((state S.Store conn.old).now.schema ≢ no_schema) }
     ensures empty { result ≢ Err (Stop.Refused Refusal.BadBook)
         → (state S.Store conn.old).now.schema ≡ no_schema }
-    ensures done { OnOk result (Keeps (state S.Store conn.new) (new_tables first_day.now days zone.now)) }
+    ensures done { OnOk result (Keeps (state S.Store conn.new)
+        (new_tables first_day.now days zone.now)) }
     ensures same { IfErr result (λ stop. stop ≢ Stop.Fault Fault.Store
         → Stays (state S.Store conn.old) (state S.Store conn.new)) }
     ensures kept { IfErr result (λ stop. stop ≢ Stop.Fault Fault.Store
         → (t : Tables) → Keeps (state S.Store conn.old) t → Keeps (state S.Store conn.new) t) }
-    ensures either { IfErr result (λ stop. StaysOrBegins (state S.Store conn.old) (state S.Store conn.new)
-        (new_tables first_day.now days zone.now)) }
+    ensures either { IfErr result (λ stop. StaysOrBegins (state S.Store conn.old)
+        (state S.Store conn.new) (new_tables first_day.now days zone.now)) }
     // a crash leaves no more than before, but for the tables of a new book where nothing was
     ensures survives { Survives (state S.Store conn.old) (state S.Store conn.new)
         (Begins (state S.Store conn.old) (new_tables first_day.now days zone.now)) }

@@ -34,10 +34,12 @@ pub fn look_up<S: Alter>(
     ensures mode { conn.new.in_transaction ≡ false }
     ensures faults { IfErr result IsStoreFault }
     ensures survives { Survives (state S.Store conn.old) (state S.Store conn.new) (λ _. ⊥) }
-    ensures kept { (t : Tables) → Keeps (state S.Store conn.old) t → Keeps (state S.Store conn.new) t }
+    ensures kept { (t : Tables) → Keeps (state S.Store conn.old) t
+        → Keeps (state S.Store conn.new) t }
     ensures found { HasCleanDisk (state S.Store conn.new)
         → IfOk result (λ known. (t : Tables) → Keeps (state S.Store conn.old) t
-        → IsUnder (filter (is_reference reference.now) (t ATable.Command)) reference.now body.now known) }
+        → IsUnder (filter (is_reference reference.now) (t ATable.Command)) reference.now body.now
+        known) }
 {
     match known_rows(conn, reference) {
         Ok(rows) => tell(&rows, reference, body),
@@ -51,7 +53,8 @@ fn known_rows<S: Alter>(conn: &mut Connection<S>, reference: &[u8]) -> Result<Ve
     ensures mode { conn.new.in_transaction ≡ false }
     ensures faults { IfErr result IsStoreFault }
     ensures survives { Survives (state S.Store conn.old) (state S.Store conn.new) (λ _. ⊥) }
-    ensures kept { (t : Tables) → Keeps (state S.Store conn.old) t → Keeps (state S.Store conn.new) t }
+    ensures kept { (t : Tables) → Keeps (state S.Store conn.old) t
+        → Keeps (state S.Store conn.new) t }
     ensures found { HasCleanDisk (state S.Store conn.new)
         → IfOk result (λ rows. (t : Tables) → Keeps (state S.Store conn.old) t
         → IsPermutation (filter (is_reference reference.now) (t ATable.Command)) rows.items) }

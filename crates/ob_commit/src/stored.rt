@@ -31,7 +31,8 @@ pub fn stored_moves<S: Alter>(
     ensures mode { conn.new.in_transaction ≡ false }
     ensures faults { IfErr result IsStoreFault }
     ensures survives { Survives (state S.Store conn.old) (state S.Store conn.new) (λ _. ⊥) }
-    ensures kept { (t : Tables) → Keeps (state S.Store conn.old) t → Keeps (state S.Store conn.new) t }
+    ensures kept { (t : Tables) → Keeps (state S.Store conn.old) t
+        → Keeps (state S.Store conn.new) t }
     ensures found { HasCleanDisk (state S.Store conn.new)
         → IfOk result (λ moves. (t : Tables) → Keeps (state S.Store conn.old) t
         → (expected : List AMoved) → AreInOrder expected
@@ -50,7 +51,8 @@ fn moved_rows<S: Alter>(conn: &mut Connection<S>, no: u32) -> Result<Vec<Row>, S
     ensures mode { conn.new.in_transaction ≡ false }
     ensures faults { IfErr result IsStoreFault }
     ensures survives { Survives (state S.Store conn.old) (state S.Store conn.new) (λ _. ⊥) }
-    ensures kept { (t : Tables) → Keeps (state S.Store conn.old) t → Keeps (state S.Store conn.new) t }
+    ensures kept { (t : Tables) → Keeps (state S.Store conn.old) t
+        → Keeps (state S.Store conn.new) t }
     ensures found { HasCleanDisk (state S.Store conn.new)
         → IfOk result (λ rows. (t : Tables) → Keeps (state S.Store conn.old) t
         → AreMovesIn (t ATable.Moved) no rows.items) }

@@ -24,7 +24,8 @@ pub struct NewBody {
 
 /// Gives commands other body texts.
 fn write_bodies<S: Alter>(tx: &mut Transaction<'_, S>, bodies: &[NewBody]) -> Result<(), Stop>
-    ensures { ChangesOpen S.Store tx.old.conn tx.new.conn result (HasBodies bodies.now) (with_bodies bodies.now) }
+    ensures { ChangesOpen S.Store tx.old.conn tx.new.conn result (HasBodies bodies.now)
+        (with_bodies bodies.now) }
 {
     'bodies: for at in 0..bodies.len() {
         let it = &bodies[at];
@@ -70,14 +71,17 @@ pub fn commit_upgrade<S: Alter>(
     ensures mode { conn.new.in_transaction ≡ false }
     ensures faults { IfErr result IsStoreFault }
     ensures done { OnOk result ((t : Tables) → KeepsIn AVersion.One (state S.Store conn.old) t
-        → CanUpgrade bodies.now devices t → Keeps (state S.Store conn.new) (with_upgrade bodies.now devices t)) }
+        → CanUpgrade bodies.now devices t → Keeps (state S.Store conn.new)
+        (with_upgrade bodies.now devices t)) }
     ensures undone { IfErr result (λ stop. stop ≡ out_of_memory → (t : Tables)
-        → KeepsIn AVersion.One (state S.Store conn.old) t → KeepsIn AVersion.One (state S.Store conn.new) t) }
-    ensures either { IfErr result (λ stop. (t : Tables) → KeepsIn AVersion.One (state S.Store conn.old) t
-        → CanUpgrade bodies.now devices t
+        → KeepsIn AVersion.One (state S.Store conn.old) t
+        → KeepsIn AVersion.One (state S.Store conn.new) t) }
+    ensures either { IfErr result (λ stop. (t : Tables)
+        → KeepsIn AVersion.One (state S.Store conn.old) t → CanUpgrade bodies.now devices t
         → KeepsOldOr (state S.Store conn.new) t (with_upgrade bodies.now devices t)) }
     ensures survives { Survives (state S.Store conn.old) (state S.Store conn.new)
-        (LeavesUpgraded (state S.Store conn.old) (CanUpgrade bodies.now devices) (with_upgrade bodies.now devices)) }
+        (LeavesUpgraded (state S.Store conn.old) (CanUpgrade bodies.now devices)
+        (with_upgrade bodies.now devices)) }
 {
     // what is open is a whole database
     let _schema = conn.schema();

@@ -47,14 +47,17 @@ enum NextNumber {
 /// What stands next, behind the last number.
 fn next_number<S: Alter>(rows: &mut Rows<'_, S>, last: Option<i64>) -> Result<NextNumber, Stop>
     ensures same_reference { rows.new.conn.ghost_name ≡ rows.old.conn.ghost_name }
-    ensures survives { Survives (state S.Store rows.old.conn.now) (state S.Store rows.new.conn.now) (λ _. ⊥) }
-    ensures mode { rows.old.conn.now.in_transaction ≡ false → rows.new.conn.now.in_transaction ≡ false }
+    ensures survives { Survives (state S.Store rows.old.conn.now) (state S.Store rows.new.conn.now)
+        (λ _. ⊥) }
+    ensures mode { rows.old.conn.now.in_transaction ≡ false
+        → rows.new.conn.now.in_transaction ≡ false }
     ensures faults { IfErr result IsStoreFault }
     ensures kept { (v : Version) (t : Tables) → KeepsIn v (state S.Store rows.old.conn.now) t
         → KeepsIn v (state S.Store rows.new.conn.now) t }
     ensures above { IfOk result (IsNextAbove last) }
     ensures same { HasCleanDisk (state S.Store rows.new.conn.now)
-        → OnOk result (IsUnchanged (state S.Store rows.old.conn.now) (state S.Store rows.new.conn.now)) }
+        → OnOk result (IsUnchanged (state S.Store rows.old.conn.now)
+        (state S.Store rows.new.conn.now)) }
     ensures stands { HasCleanDisk (state S.Store rows.new.conn.now) → IfOk result (λ next.
         (v : Version) → (state S.Store rows.old.conn.now).now.schema ≡ schema_of v
         → (given : List ARow) → HasGiven S.Store number_text [] rows.old.conn.now given
@@ -73,16 +76,19 @@ fn next_number<S: Alter>(rows: &mut Rows<'_, S>, last: Option<i64>) -> Result<Ne
 /// Whether the numbers to come rise.
 fn rise<S: Alter>(rows: &mut Rows<'_, S>) -> Result<bool, Stop>
     ensures same_reference { rows.new.conn.ghost_name ≡ rows.old.conn.ghost_name }
-    ensures survives { Survives (state S.Store rows.old.conn.now) (state S.Store rows.new.conn.now) (λ _. ⊥) }
-    ensures mode { rows.old.conn.now.in_transaction ≡ false → rows.new.conn.now.in_transaction ≡ false }
+    ensures survives { Survives (state S.Store rows.old.conn.now) (state S.Store rows.new.conn.now)
+        (λ _. ⊥) }
+    ensures mode { rows.old.conn.now.in_transaction ≡ false
+        → rows.new.conn.now.in_transaction ≡ false }
     ensures faults { IfErr result IsStoreFault }
     ensures kept { (v : Version) (t : Tables) → KeepsIn v (state S.Store rows.old.conn.now) t
         → KeepsIn v (state S.Store rows.new.conn.now) t }
     ensures same { HasCleanDisk (state S.Store rows.new.conn.now) → OnOk result
         (IsTrue (state S.Store rows.old.conn.now).is_open
         → IsUnchanged (state S.Store rows.old.conn.now) (state S.Store rows.new.conn.now)) }
-    ensures apart { HasCleanDisk (state S.Store rows.new.conn.now) → IfOk result (λ is.
-        IsTrue (state S.Store rows.old.conn.now).is_open → (v : Version) → (state S.Store rows.old.conn.now).now.schema ≡ schema_of v
+    ensures apart { HasCleanDisk (state S.Store rows.new.conn.now)
+        → IfOk result (λ is. IsTrue (state S.Store rows.old.conn.now).is_open → (v : Version)
+        → (state S.Store rows.old.conn.now).now.schema ≡ schema_of v
         → HasGiven S.Store number_text [] rows.old.conn.now []
         → IsTrue is ↔ AreApart ((state S.Store rows.old.conn.now).now.trees 14)) }
 {
@@ -103,10 +109,13 @@ pub fn are_apart<S: Alter>(conn: &mut Connection<S>) -> Result<bool, Stop>
     ensures survives { Survives (state S.Store conn.old) (state S.Store conn.new) (λ _. ⊥) }
     ensures clean { HasCleanDisk (state S.Store conn.new) → HasCleanDisk (state S.Store conn.old) }
     ensures faults { IfErr result IsStoreFault }
-    ensures kept { (v : Version) (t : Tables) → KeepsIn v (state S.Store conn.old) t → KeepsIn v (state S.Store conn.new) t }
-    ensures same { HasCleanDisk (state S.Store conn.new) → OnOk result ((v : Version) → conn.old.schema ≡ schema_of v
+    ensures kept { (v : Version) (t : Tables) → KeepsIn v (state S.Store conn.old) t
+        → KeepsIn v (state S.Store conn.new) t }
+    ensures same { HasCleanDisk (state S.Store conn.new)
+        → OnOk result ((v : Version) → conn.old.schema ≡ schema_of v
         → IsUnchanged (state S.Store conn.old) (state S.Store conn.new)) }
-    ensures apart { HasCleanDisk (state S.Store conn.new) → IfOk result (λ is. (v : Version) → conn.old.schema ≡ schema_of v
+    ensures apart { HasCleanDisk (state S.Store conn.new)
+        → IfOk result (λ is. (v : Version) → conn.old.schema ≡ schema_of v
         → IsTrue is ↔ AreApart ((state S.Store conn.old).now.trees 14)) }
 {
     let statement = match conn.prepare("SELECT rowid FROM posting ORDER BY rowid") {

@@ -59,7 +59,8 @@ fn read_body_in(alloc: Global, text: &[u8], version: Version) -> Result<Option<C
 /// The command whose row it is in a version, whatever its number. The error is that memory was refused.
 fn filed_in(alloc: Global, row: &Row, version: Version) -> Result<Option<Filed>, Stop>
     ensures filed { IfOk result (λ found. (f : AFiled)
-        → (found ≡ Some f) ↔ (IsFiled version f × (row.now ≡ row_with version (rowid row.now) (referenced f)))) }
+        → (found ≡ Some f) ↔ (IsFiled version f × (row.now
+        ≡ row_with version (rowid row.now) (referenced f)))) }
     ensures err { IfErr result (λ stop. stop ≡ out_of_memory) }
 {
     if row.column_count() != 3 {
@@ -99,14 +100,17 @@ fn next_filed<S: Alter>(
     version: Version,
 ) -> Result<Next, Stop>
     ensures same_reference { rows.new.conn.ghost_name ≡ rows.old.conn.ghost_name }
-    ensures survives { Survives (state S.Store rows.old.conn.now) (state S.Store rows.new.conn.now) (λ _. ⊥) }
+    ensures survives { Survives (state S.Store rows.old.conn.now) (state S.Store rows.new.conn.now)
+        (λ _. ⊥) }
     ensures kept { (v : AVersion) (t : Tables) → KeepsIn v (state S.Store rows.old.conn.now) t
         → KeepsIn v (state S.Store rows.new.conn.now) t }
-    ensures mode { rows.old.conn.now.in_transaction ≡ false → rows.new.conn.now.in_transaction ≡ false }
+    ensures mode { rows.old.conn.now.in_transaction ≡ false
+        → rows.new.conn.now.in_transaction ≡ false }
     ensures faults { IfErr result IsStoreFault }
     ensures valid { IfOk result (IsNext version last) }
     ensures same { HasCleanDisk (state S.Store rows.new.conn.now)
-        → OnOk result (IsUnchanged (state S.Store rows.old.conn.now) (state S.Store rows.new.conn.now)) }
+        → OnOk result (IsUnchanged (state S.Store rows.old.conn.now)
+        (state S.Store rows.new.conn.now)) }
     ensures stands { HasCleanDisk (state S.Store rows.new.conn.now) → IfOk result (λ next.
         (v : AVersion) → (state S.Store rows.old.conn.now).now.schema ≡ schema_of v
         → (given : List ARow) → HasGiven S.Store command_listing.text [] rows.old.conn.now given
@@ -140,19 +144,22 @@ fn filed_rows<S: Alter>(
     version: Version,
 ) -> Result<Option<Commands>, Stop>
     ensures same_reference { rows.new.conn.ghost_name ≡ rows.old.conn.ghost_name }
-    ensures survives { Survives (state S.Store rows.old.conn.now) (state S.Store rows.new.conn.now) (λ _. ⊥) }
+    ensures survives { Survives (state S.Store rows.old.conn.now) (state S.Store rows.new.conn.now)
+        (λ _. ⊥) }
     ensures kept { (v : AVersion) (t : Tables) → KeepsIn v (state S.Store rows.old.conn.now) t
         → KeepsIn v (state S.Store rows.new.conn.now) t }
-    ensures mode { rows.old.conn.now.in_transaction ≡ false → rows.new.conn.now.in_transaction ≡ false }
+    ensures mode { rows.old.conn.now.in_transaction ≡ false
+        → rows.new.conn.now.in_transaction ≡ false }
     ensures faults { IfErr result IsStoreFault }
     ensures valid { IfOk result (AreFiled version) }
     ensures same { HasCleanDisk (state S.Store rows.new.conn.now) → OnOk result
         (IsTrue (state S.Store rows.old.conn.now).is_open
         → IsUnchanged (state S.Store rows.old.conn.now) (state S.Store rows.new.conn.now)) }
-    ensures read { HasCleanDisk (state S.Store rows.new.conn.now) → IfOk result (λ found.
-        IsTrue (state S.Store rows.old.conn.now).is_open → (v : AVersion) → (state S.Store rows.old.conn.now).now.schema ≡ schema_of v
-        → HasGiven S.Store command_listing.text [] rows.old.conn.now []
-        → (shown : List Columns) → Shows (state S.Store rows.old.conn.now).now.trees ATable.Command shown
+    ensures read { HasCleanDisk (state S.Store rows.new.conn.now)
+        → IfOk result (λ found. IsTrue (state S.Store rows.old.conn.now).is_open → (v : AVersion)
+        → (state S.Store rows.old.conn.now).now.schema ≡ schema_of v
+        → HasGiven S.Store command_listing.text [] rows.old.conn.now [] → (shown : List Columns)
+        → Shows (state S.Store rows.old.conn.now).now.trees ATable.Command shown
         → IsCommands version found shown) }
 {
     let mut commands = Vec::new(alloc);
@@ -186,7 +193,8 @@ pub fn read_commands<S: Alter>(
 ) -> Result<Option<Commands>, Stop>
     ensures mode { conn.old.in_transaction ≡ false → conn.new.in_transaction ≡ false }
     ensures survives { Survives (state S.Store conn.old) (state S.Store conn.new) (λ _. ⊥) }
-    ensures kept { (v : AVersion) (t : Tables) → KeepsIn v (state S.Store conn.old) t → KeepsIn v (state S.Store conn.new) t }
+    ensures kept { (v : AVersion) (t : Tables) → KeepsIn v (state S.Store conn.old) t
+        → KeepsIn v (state S.Store conn.new) t }
     ensures clean { HasCleanDisk (state S.Store conn.new) → HasCleanDisk (state S.Store conn.old) }
     ensures faults { IfErr result IsReadFault }
     ensures valid { IfOk result (AreFiled version) }
@@ -194,10 +202,13 @@ pub fn read_commands<S: Alter>(
         → IfErr result (λ stop. stop ≡ bad_book → (v : AVersion) → conn.old.schema ≢ schema_of v) }
     ensures missed { HasNoMeaning conn.old.schema command_listing.text
         → Survives (state S.Store conn.old) (state S.Store conn.new) (λ _. ⊥)
-        × (HasCleanDisk (state S.Store conn.new) → IsMissed (state S.Store conn.old) (state S.Store conn.new) result) }
-    ensures same { HasCleanDisk (state S.Store conn.new) → OnOk result ((v : AVersion) → conn.old.schema ≡ schema_of v
+        × (HasCleanDisk (state S.Store conn.new) → IsMissed (state S.Store conn.old)
+        (state S.Store conn.new) result) }
+    ensures same { HasCleanDisk (state S.Store conn.new)
+        → OnOk result ((v : AVersion) → conn.old.schema ≡ schema_of v
         → IsUnchanged (state S.Store conn.old) (state S.Store conn.new)) }
-    ensures read { HasCleanDisk (state S.Store conn.new) → IfOk result (λ found. (v : AVersion) → conn.old.schema ≡ schema_of v
+    ensures read { HasCleanDisk (state S.Store conn.new)
+        → IfOk result (λ found. (v : AVersion) → conn.old.schema ≡ schema_of v
         → (rows : List Columns) → Shows (state S.Store conn.old).now.trees ATable.Command rows
         → IsCommands version found rows) }
 {

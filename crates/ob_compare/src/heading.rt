@@ -79,21 +79,26 @@ pub fn read_heading<S: Alter>(
 ) -> Result<Option<Heading>, Stop>
     ensures mode { conn.old.in_transaction ≡ false → conn.new.in_transaction ≡ false }
     ensures survives { Survives (state S.Store conn.old) (state S.Store conn.new) (λ _. ⊥) }
-    ensures kept { (v : Version) (t : Tables) → KeepsIn v (state S.Store conn.old) t → KeepsIn v (state S.Store conn.new) t }
+    ensures kept { (v : Version) (t : Tables) → KeepsIn v (state S.Store conn.old) t
+        → KeepsIn v (state S.Store conn.new) t }
     ensures clean { HasCleanDisk (state S.Store conn.new) → HasCleanDisk (state S.Store conn.old) }
     ensures faults { IfErr result IsReadFault }
     ensures foreign { HasCleanDisk (state S.Store conn.new)
         → IfErr result (λ stop. stop ≡ bad_book → (v : Version) → conn.old.schema ≢ schema_of v) }
     ensures missed { HasNoMeaning conn.old.schema (select_of ATable.Meta)
         → Survives (state S.Store conn.old) (state S.Store conn.new) (λ _. ⊥)
-        × (HasCleanDisk (state S.Store conn.new) → IsMissed (state S.Store conn.old) (state S.Store conn.new) result) }
-    ensures empty { conn.old.schema ≡ no_schema
-        → Survives (state S.Store conn.old) (state S.Store conn.new) (λ _. ⊥)
-        × (HasCleanDisk (state S.Store conn.new) → IsMissed (state S.Store conn.old) (state S.Store conn.new) result) }
-    ensures same { HasCleanDisk (state S.Store conn.new) → OnOk result ((v : Version) → conn.old.schema ≡ schema_of v
+        × (HasCleanDisk (state S.Store conn.new) → IsMissed (state S.Store conn.old)
+        (state S.Store conn.new) result) }
+    ensures empty { conn.old.schema ≡ no_schema → Survives (state S.Store conn.old)
+        (state S.Store conn.new) (λ _. ⊥) × (HasCleanDisk (state S.Store conn.new)
+        → IsMissed (state S.Store conn.old) (state S.Store conn.new) result) }
+    ensures same { HasCleanDisk (state S.Store conn.new)
+        → OnOk result ((v : Version) → conn.old.schema ≡ schema_of v
         → IsUnchanged (state S.Store conn.old) (state S.Store conn.new)) }
-    ensures read { HasCleanDisk (state S.Store conn.new) → IfOk result (λ found. (v : Version) → conn.old.schema ≡ schema_of v
-        → (rows : List Columns) → Shows (state S.Store conn.old).now.trees ATable.Meta rows → IsHeading found rows) }
+    ensures read { HasCleanDisk (state S.Store conn.new)
+        → IfOk result (λ found. (v : Version) → conn.old.schema ≡ schema_of v
+        → (rows : List Columns) → Shows (state S.Store conn.old).now.trees ATable.Meta rows
+        → IsHeading found rows) }
 {
     match list_all(conn, select_of(Table::Meta)) {
         Ok(rows) => heading_in(alloc, &rows),

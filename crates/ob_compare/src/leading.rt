@@ -20,7 +20,8 @@ fn adopts<T: Timeline>(
     command: &Command,
     noted: &mut Vec<EndNodes>,
 ) -> Result<bool, Stop>
-    ensures accepted { IfOk result (λ is. IsTrue is ↔ (refusal_to book.old.state command.now ≡ None)) }
+    ensures accepted { IfOk result (λ is. IsTrue is
+        ↔ (refusal_to book.old.state command.now ≡ None)) }
     ensures book { result ≡ Ok true → book.new.state ≡ next book.old.state command.now }
     ensures noted { result ≡ Ok true → noted.old.items ≡ ends_of book.old.state.network
         → noted.new.items ≡ ends_of book.new.state.network }

@@ -74,10 +74,12 @@ pub(crate) fn select_of(table: Table) -> &'static str
 fn goes_on<S: Alter, L: Listed>(rows: &mut Rows<'_, S>, listed: &L, at: usize) -> Result<bool, Stop>
     requires { at < length (L.places listed.now) }
     ensures same_reference { rows.new.conn.ghost_name ≡ rows.old.conn.ghost_name }
-    ensures survives { Survives (state S.Store rows.old.conn.now) (state S.Store rows.new.conn.now) (λ _. ⊥) }
+    ensures survives { Survives (state S.Store rows.old.conn.now) (state S.Store rows.new.conn.now)
+        (λ _. ⊥) }
     ensures kept { (v : Version) (t : Tables) → KeepsIn v (state S.Store rows.old.conn.now) t
         → KeepsIn v (state S.Store rows.new.conn.now) t }
-    ensures mode { rows.old.conn.now.in_transaction ≡ false → rows.new.conn.now.in_transaction ≡ false }
+    ensures mode { rows.old.conn.now.in_transaction ≡ false
+        → rows.new.conn.now.in_transaction ≡ false }
     ensures faults { IfErr result IsStoreFault }
     ensures same { HasCleanDisk (state S.Store rows.new.conn.now)
         → OnOk result (IsTrue (state S.Store rows.old.conn.now).is_open
@@ -101,18 +103,22 @@ fn goes_on<S: Alter, L: Listed>(rows: &mut Rows<'_, S>, listed: &L, at: usize) -
 /// Whether the next rows are those of the places, one after another.
 fn follows<S: Alter, L: Listed>(rows: &mut Rows<'_, S>, listed: &L) -> Result<bool, Stop>
     ensures same_reference { rows.new.conn.ghost_name ≡ rows.old.conn.ghost_name }
-    ensures survives { Survives (state S.Store rows.old.conn.now) (state S.Store rows.new.conn.now) (λ _. ⊥) }
+    ensures survives { Survives (state S.Store rows.old.conn.now) (state S.Store rows.new.conn.now)
+        (λ _. ⊥) }
     ensures kept { (v : Version) (t : Tables) → KeepsIn v (state S.Store rows.old.conn.now) t
         → KeepsIn v (state S.Store rows.new.conn.now) t }
-    ensures mode { rows.old.conn.now.in_transaction ≡ false → rows.new.conn.now.in_transaction ≡ false }
+    ensures mode { rows.old.conn.now.in_transaction ≡ false
+        → rows.new.conn.now.in_transaction ≡ false }
     ensures faults { IfErr result IsStoreFault }
     ensures same { HasCleanDisk (state S.Store rows.new.conn.now)
         → OnOk result (IsTrue (state S.Store rows.old.conn.now).is_open
         → IsUnchanged (state S.Store rows.old.conn.now) (state S.Store rows.new.conn.now)) }
-    ensures goes { HasCleanDisk (state S.Store rows.new.conn.now) → IfOk result (λ is.
-        IsTrue (state S.Store rows.old.conn.now).is_open → (v : Version) → Has v L.table → rows.old.conn.now.schema ≡ schema_of v
-        → (given : List ARow) → HasGiven S.Store (select_of L.table) [] rows.old.conn.now given
-        → Goes S.Store (listing_of L.table) is rows.new.conn.now given (standing (L.places listed.now))) }
+    ensures goes { HasCleanDisk (state S.Store rows.new.conn.now)
+        → IfOk result (λ is. IsTrue (state S.Store rows.old.conn.now).is_open → (v : Version)
+        → Has v L.table → rows.old.conn.now.schema ≡ schema_of v → (given : List ARow)
+        → HasGiven S.Store (select_of L.table) [] rows.old.conn.now given
+        → Goes S.Store (listing_of L.table) is rows.new.conn.now given
+        (standing (L.places listed.now))) }
 {
     'places: for at in 0..listed.count() {
         if !goes_on(rows, listed, at)? {
@@ -126,18 +132,22 @@ fn follows<S: Alter, L: Listed>(rows: &mut Rows<'_, S>, listed: &L) -> Result<bo
 fn matches<S: Alter, L: Listed>(rows: &mut Rows<'_, S>, listed: &L) -> Result<bool, Stop>
     requires rises { IsStrictlySortedBy (row_cmp L.table) (standing (L.places listed.now)) }
     ensures same_reference { rows.new.conn.ghost_name ≡ rows.old.conn.ghost_name }
-    ensures survives { Survives (state S.Store rows.old.conn.now) (state S.Store rows.new.conn.now) (λ _. ⊥) }
+    ensures survives { Survives (state S.Store rows.old.conn.now) (state S.Store rows.new.conn.now)
+        (λ _. ⊥) }
     ensures kept { (v : Version) (t : Tables) → KeepsIn v (state S.Store rows.old.conn.now) t
         → KeepsIn v (state S.Store rows.new.conn.now) t }
-    ensures mode { rows.old.conn.now.in_transaction ≡ false → rows.new.conn.now.in_transaction ≡ false }
+    ensures mode { rows.old.conn.now.in_transaction ≡ false
+        → rows.new.conn.now.in_transaction ≡ false }
     ensures faults { IfErr result IsStoreFault }
     ensures same { HasCleanDisk (state S.Store rows.new.conn.now)
         → OnOk result (IsTrue (state S.Store rows.old.conn.now).is_open
         → IsUnchanged (state S.Store rows.old.conn.now) (state S.Store rows.new.conn.now)) }
-    ensures holds { HasCleanDisk (state S.Store rows.new.conn.now) → IfOk result (λ is.
-        IsTrue (state S.Store rows.old.conn.now).is_open → (v : Version) → Has v L.table → rows.old.conn.now.schema ≡ schema_of v
+    ensures holds { HasCleanDisk (state S.Store rows.new.conn.now)
+        → IfOk result (λ is. IsTrue (state S.Store rows.old.conn.now).is_open → (v : Version)
+        → Has v L.table → rows.old.conn.now.schema ≡ schema_of v
         → HasGiven S.Store (select_of L.table) [] rows.old.conn.now []
-        → IsTrue is ↔ Shows (state S.Store rows.old.conn.now).now.trees L.table (standing (L.places listed.now))) }
+        → IsTrue is ↔ Shows (state S.Store rows.old.conn.now).now.trees L.table
+        (standing (L.places listed.now))) }
 {
     if !follows(rows, listed)? {
         return Ok(false);

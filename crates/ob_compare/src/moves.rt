@@ -32,13 +32,14 @@ use ob_book::Book;
 use ob_command::Command;
 use ob_post::Moved;
 use ob_sweep::Timeline;
-use ob_tables::{Table, Version, int, signed, stop_of};
+use ob_tables::{Table, Version, int, signed_value, stop_of};
 use ob_upgrade::fits_version_one;
 use sqlite::{Alter, Connection, Row, Rows};
 
 /// Whether the row is that of an amount that a command moved.
 fn is_moved(row: &Row, no: u32, it: &Moved) -> bool
-    ensures { IsTrue result ↔ (row.now ≡ moved_row no (dim_number it.now.dim) it.now.key it.now.delta) }
+    ensures { IsTrue result ↔ (row.now ≡ moved_row no (dim_number it.now.dim) it.now.key
+        it.now.delta) }
 {
     let Moved { dim, key, delta } = *it;
     is_row(
@@ -47,7 +48,7 @@ fn is_moved(row: &Row, no: u32, it: &Moved) -> bool
             int(no),
             int(u32::from(dim.number())),
             int(u32::from(key)),
-            signed(delta),
+            signed_value(delta),
         ],
     )
 }
@@ -55,17 +56,21 @@ fn is_moved(row: &Row, no: u32, it: &Moved) -> bool
 /// Whether the next row is that of an amount that a command moved.
 fn next_is<S: Alter>(rows: &mut Rows<'_, S>, no: u32, it: &Moved) -> Result<bool, Stop>
     ensures same_reference { rows.new.conn.ghost_name ≡ rows.old.conn.ghost_name }
-    ensures survives { Survives (state S.Store rows.old.conn.now) (state S.Store rows.new.conn.now) (λ _. ⊥) }
+    ensures survives { Survives (state S.Store rows.old.conn.now) (state S.Store rows.new.conn.now)
+        (λ _. ⊥) }
     ensures kept { (v : AVersion) (t : Tables) → KeepsIn v (state S.Store rows.old.conn.now) t
         → KeepsIn v (state S.Store rows.new.conn.now) t }
-    ensures mode { rows.old.conn.now.in_transaction ≡ false → rows.new.conn.now.in_transaction ≡ false }
+    ensures mode { rows.old.conn.now.in_transaction ≡ false
+        → rows.new.conn.now.in_transaction ≡ false }
     ensures faults { IfErr result IsStoreFault }
     ensures same { HasCleanDisk (state S.Store rows.new.conn.now)
-        → OnOk result (IsUnchanged (state S.Store rows.old.conn.now) (state S.Store rows.new.conn.now)) }
-    ensures goes { HasCleanDisk (state S.Store rows.new.conn.now) → IfOk result (λ is.
-        (v : AVersion) → (state S.Store rows.old.conn.now).now.schema ≡ schema_of v → (given : List ARow)
-        → HasGiven S.Store moved_listing.text [] rows.old.conn.now given → Goes S.Store moved_listing is
-        rows.new.conn.now given (moved_row no (dim_number it.now.dim) it.now.key it.now.delta ∷ [])) }
+        → OnOk result (IsUnchanged (state S.Store rows.old.conn.now)
+        (state S.Store rows.new.conn.now)) }
+    ensures goes { HasCleanDisk (state S.Store rows.new.conn.now)
+        → IfOk result (λ is. (v : AVersion) → (state S.Store rows.old.conn.now).now.schema
+        ≡ schema_of v → (given : List ARow) → HasGiven S.Store moved_listing.text []
+        rows.old.conn.now given → Goes S.Store moved_listing is rows.new.conn.now given
+        (moved_row no (dim_number it.now.dim) it.now.key it.now.delta ∷ [])) }
 {
     advance(rows)?;
     match rows.get() {
@@ -77,17 +82,20 @@ fn next_is<S: Alter>(rows: &mut Rows<'_, S>, no: u32, it: &Moved) -> Result<bool
 /// Whether the next rows are those of what a command moved.
 fn matches<S: Alter>(rows: &mut Rows<'_, S>, no: u32, moves: &[Moved]) -> Result<bool, Stop>
     ensures same_reference { rows.new.conn.ghost_name ≡ rows.old.conn.ghost_name }
-    ensures survives { Survives (state S.Store rows.old.conn.now) (state S.Store rows.new.conn.now) (λ _. ⊥) }
+    ensures survives { Survives (state S.Store rows.old.conn.now) (state S.Store rows.new.conn.now)
+        (λ _. ⊥) }
     ensures kept { (v : AVersion) (t : Tables) → KeepsIn v (state S.Store rows.old.conn.now) t
         → KeepsIn v (state S.Store rows.new.conn.now) t }
-    ensures mode { rows.old.conn.now.in_transaction ≡ false → rows.new.conn.now.in_transaction ≡ false }
+    ensures mode { rows.old.conn.now.in_transaction ≡ false
+        → rows.new.conn.now.in_transaction ≡ false }
     ensures faults { IfErr result IsStoreFault }
     ensures same { HasCleanDisk (state S.Store rows.new.conn.now)
         → OnOk result (IsTrue (state S.Store rows.old.conn.now).is_open
         → IsUnchanged (state S.Store rows.old.conn.now) (state S.Store rows.new.conn.now)) }
-    ensures goes { HasCleanDisk (state S.Store rows.new.conn.now) → IfOk result (λ is.
-        IsTrue (state S.Store rows.old.conn.now).is_open → (v : AVersion) → (state S.Store rows.old.conn.now).now.schema ≡ schema_of v
-        → (given : List ARow) → HasGiven S.Store moved_listing.text [] rows.old.conn.now given
+    ensures goes { HasCleanDisk (state S.Store rows.new.conn.now)
+        → IfOk result (λ is. IsTrue (state S.Store rows.old.conn.now).is_open → (v : AVersion)
+        → (state S.Store rows.old.conn.now).now.schema ≡ schema_of v → (given : List ARow)
+        → HasGiven S.Store moved_listing.text [] rows.old.conn.now given
         → Goes S.Store moved_listing is rows.new.conn.now given (rows_of_moves no moves.now)) }
 {
     'moves: for at in 0..moves.len() {
@@ -141,18 +149,22 @@ fn takes_on<S: Alter, T: Timeline>(
     version: Version,
 ) -> Result<bool, Stop>
     ensures same_reference { rows.new.conn.ghost_name ≡ rows.old.conn.ghost_name }
-    ensures survives { Survives (state S.Store rows.old.conn.now) (state S.Store rows.new.conn.now) (λ _. ⊥) }
+    ensures survives { Survives (state S.Store rows.old.conn.now) (state S.Store rows.new.conn.now)
+        (λ _. ⊥) }
     ensures kept { (v : AVersion) (t : Tables) → KeepsIn v (state S.Store rows.old.conn.now) t
         → KeepsIn v (state S.Store rows.new.conn.now) t }
-    ensures mode { rows.old.conn.now.in_transaction ≡ false → rows.new.conn.now.in_transaction ≡ false }
+    ensures mode { rows.old.conn.now.in_transaction ≡ false
+        → rows.new.conn.now.in_transaction ≡ false }
     ensures faults { IfErr result IsStoreFault }
     ensures same { HasCleanDisk (state S.Store rows.new.conn.now)
         → OnOk result (IsTrue (state S.Store rows.old.conn.now).is_open
         → IsUnchanged (state S.Store rows.old.conn.now) (state S.Store rows.new.conn.now)) }
-    ensures goes { HasCleanDisk (state S.Store rows.new.conn.now) → IfOk result (λ is.
-        IsTrue (state S.Store rows.old.conn.now).is_open → (v : AVersion) → (state S.Store rows.old.conn.now).now.schema ≡ schema_of v
-        → (given : List ARow) → HasGiven S.Store moved_listing.text [] rows.old.conn.now given
-        → IsTrue (accepts_in version book.old.state command.now) → Goes S.Store moved_listing is rows.new.conn.now given
+    ensures goes { HasCleanDisk (state S.Store rows.new.conn.now)
+        → IfOk result (λ is. IsTrue (state S.Store rows.old.conn.now).is_open → (v : AVersion)
+        → (state S.Store rows.old.conn.now).now.schema ≡ schema_of v → (given : List ARow)
+        → HasGiven S.Store moved_listing.text [] rows.old.conn.now given
+        → IsTrue (accepts_in version book.old.state command.now)
+        → Goes S.Store moved_listing is rows.new.conn.now given
         (rows_of_moves no (moves_of book.old.state (next book.old.state command.now)))) }
     ensures book { result ≡ Ok true → IsTrue (accepts_in version book.old.state command.now)
         × (book.new.state ≡ next book.old.state command.now) }
@@ -192,21 +204,24 @@ fn follows<S: Alter, T: Timeline, P: Progress>(
     progress: &mut P,
 ) -> Result<bool, Stop>
     ensures same_reference { rows.new.conn.ghost_name ≡ rows.old.conn.ghost_name }
-    ensures survives { Survives (state S.Store rows.old.conn.now) (state S.Store rows.new.conn.now) (λ _. ⊥) }
+    ensures survives { Survives (state S.Store rows.old.conn.now) (state S.Store rows.new.conn.now)
+        (λ _. ⊥) }
     ensures kept { (v : AVersion) (t : Tables) → KeepsIn v (state S.Store rows.old.conn.now) t
         → KeepsIn v (state S.Store rows.new.conn.now) t }
-    ensures mode { rows.old.conn.now.in_transaction ≡ false → rows.new.conn.now.in_transaction ≡ false }
+    ensures mode { rows.old.conn.now.in_transaction ≡ false
+        → rows.new.conn.now.in_transaction ≡ false }
     ensures faults { IfErr result IsStoreFault }
     ensures same { HasCleanDisk (state S.Store rows.new.conn.now)
         → OnOk result (IsTrue (state S.Store rows.old.conn.now).is_open
         → IsUnchanged (state S.Store rows.old.conn.now) (state S.Store rows.new.conn.now)) }
-    ensures moved { HasCleanDisk (state S.Store rows.new.conn.now) → IfOk result (λ is.
-        IsTrue (state S.Store rows.old.conn.now).is_open → (v : AVersion) → (state S.Store rows.old.conn.now).now.schema ≡ schema_of v
+    ensures moved { HasCleanDisk (state S.Store rows.new.conn.now)
+        → IfOk result (λ is. IsTrue (state S.Store rows.old.conn.now).is_open → (v : AVersion)
+        → (state S.Store rows.old.conn.now).now.schema ≡ schema_of v
         → HasGiven S.Store moved_listing.text [] rows.old.conn.now [] → (table : List Columns)
         → Shows (state S.Store rows.old.conn.now).now.trees ATable.Moved table
         → IsTrue is ↔ HasMoved version table book.old.state (filed_of commands.now)) }
-    ensures book { result ≡ Ok true
-        → next_all_in version book.old.state (commands_of (filed_of commands.now)) ≡ Some book.new.state }
+    ensures book { result ≡ Ok true → next_all_in version book.old.state
+        (commands_of (filed_of commands.now)) ≡ Some book.new.state }
     ensures noted { result ≡ Ok true → noted.old.items ≡ ends_of book.old.state.network
         → noted.new.items ≡ ends_of book.new.state.network }
 {
@@ -243,21 +258,25 @@ pub fn holds_moves<S: Alter, T: Timeline, P: Progress>(
 ) -> Result<bool, Stop>
     ensures mode { conn.old.in_transaction ≡ false → conn.new.in_transaction ≡ false }
     ensures survives { Survives (state S.Store conn.old) (state S.Store conn.new) (λ _. ⊥) }
-    ensures kept { (v : AVersion) (t : Tables) → KeepsIn v (state S.Store conn.old) t → KeepsIn v (state S.Store conn.new) t }
+    ensures kept { (v : AVersion) (t : Tables) → KeepsIn v (state S.Store conn.old) t
+        → KeepsIn v (state S.Store conn.new) t }
     ensures clean { HasCleanDisk (state S.Store conn.new) → HasCleanDisk (state S.Store conn.old) }
     ensures faults { IfErr result IsReadFault }
     ensures foreign { HasCleanDisk (state S.Store conn.new)
         → IfErr result (λ stop. stop ≡ bad_book → (v : AVersion) → conn.old.schema ≢ schema_of v) }
     ensures missed { HasNoMeaning conn.old.schema moved_listing.text
         → Survives (state S.Store conn.old) (state S.Store conn.new) (λ _. ⊥)
-        × (HasCleanDisk (state S.Store conn.new) → IsMissed (state S.Store conn.old) (state S.Store conn.new) result) }
-    ensures same { HasCleanDisk (state S.Store conn.new) → OnOk result ((v : AVersion) → conn.old.schema ≡ schema_of v
+        × (HasCleanDisk (state S.Store conn.new) → IsMissed (state S.Store conn.old)
+        (state S.Store conn.new) result) }
+    ensures same { HasCleanDisk (state S.Store conn.new)
+        → OnOk result ((v : AVersion) → conn.old.schema ≡ schema_of v
         → IsUnchanged (state S.Store conn.old) (state S.Store conn.new)) }
-    ensures moved { HasCleanDisk (state S.Store conn.new) → IfOk result (λ is. (v : AVersion) → conn.old.schema ≡ schema_of v
-        → (table : List Columns) → Shows (state S.Store conn.old).now.trees ATable.Moved table
+    ensures moved { HasCleanDisk (state S.Store conn.new)
+        → IfOk result (λ is. (v : AVersion) → conn.old.schema ≡ schema_of v → (table : List Columns)
+        → Shows (state S.Store conn.old).now.trees ATable.Moved table
         → IsTrue is ↔ HasMoved version table book.old.state (filed_of commands.now)) }
-    ensures book { result ≡ Ok true
-        → next_all_in version book.old.state (commands_of (filed_of commands.now)) ≡ Some book.new.state }
+    ensures book { result ≡ Ok true → next_all_in version book.old.state
+        (commands_of (filed_of commands.now)) ≡ Some book.new.state }
     ensures noted { result ≡ Ok true → noted.old.items ≡ ends_of book.old.state.network
         → noted.new.items ≡ ends_of book.new.state.network }
 {

@@ -16,7 +16,7 @@ use ob_tables::stop_of;
 use sqlite::{Alter, Connection, Error, ErrorCode, Row, Statement};
 
 /// Why a text wasn't prepared: the tables lack what it names, as those of no book, or the store failed.
-fn unprepared(error: Error) -> Stop
+fn stop_of_prepare(error: Error) -> Stop
     ensures faults { IsReadFault result }
     ensures foreign { result ≡ bad_book → IsInputError error }
     ensures missed { IsInputError error → result ≡ bad_book }
@@ -33,18 +33,21 @@ fn unprepared(error: Error) -> Stop
 pub(crate) fn prepare<S: Alter>(conn: &mut Connection<S>, sql: &str) -> Result<Statement, Stop>
     ensures mode { conn.old.in_transaction ≡ false → conn.new.in_transaction ≡ false }
     ensures survives { Survives (state S.Store conn.old) (state S.Store conn.new) (λ _. ⊥) }
-    ensures kept { (v : Version) (t : Tables) → KeepsIn v (state S.Store conn.old) t → KeepsIn v (state S.Store conn.new) t }
+    ensures kept { (v : Version) (t : Tables) → KeepsIn v (state S.Store conn.old) t
+        → KeepsIn v (state S.Store conn.new) t }
     ensures faults { IfErr result IsReadFault }
-    ensures foreign { HasCleanDisk (state S.Store conn.new) → IfErr result (λ stop. stop ≡ bad_book
-        → HasNoMeaning conn.old.schema sql.now × IsUnchanged (state S.Store conn.old) (state S.Store conn.new)) }
+    ensures foreign { HasCleanDisk (state S.Store conn.new)
+        → IfErr result (λ stop. stop ≡ bad_book → HasNoMeaning conn.old.schema sql.now
+        × IsUnchanged (state S.Store conn.old) (state S.Store conn.new)) }
     ensures missed { HasCleanDisk (state S.Store conn.new) → HasNoMeaning conn.old.schema sql.now
         → IsMissed (state S.Store conn.old) (state S.Store conn.new) result }
-    ensures prepared { HasCleanDisk (state S.Store conn.new) → IfOk result (λ statement.
-        (statement.text ≡ sql.now) × IsUnchanged (state S.Store conn.old) (state S.Store conn.new)) }
+    ensures prepared { HasCleanDisk (state S.Store conn.new)
+        → IfOk result (λ statement. (statement.text ≡ sql.now)
+        × IsUnchanged (state S.Store conn.old) (state S.Store conn.new)) }
 {
     match conn.prepare(sql) {
         Ok(statement) => Ok(statement),
-        Err(error) => Err(unprepared(error)),
+        Err(error) => Err(stop_of_prepare(error)),
     }
 }
 
@@ -53,17 +56,21 @@ pub(crate) fn list_all<S: Alter>(conn: &mut Connection<S>, sql: &str) -> Result<
     ensures mode { conn.old.in_transaction ≡ false → conn.new.in_transaction ≡ false }
     ensures clean { HasCleanDisk (state S.Store conn.new) → HasCleanDisk (state S.Store conn.old) }
     ensures faults { IfErr result IsReadFault }
-    ensures foreign { HasCleanDisk (state S.Store conn.new) → IfErr result (λ stop. stop ≡ bad_book
-        → (schema : Schema) (l : Listing) → IsListingOver schema l → l.text ≡ sql.now → conn.old.schema ≢ schema) }
+    ensures foreign { HasCleanDisk (state S.Store conn.new)
+        → IfErr result (λ stop. stop ≡ bad_book → (schema : Schema) (l : Listing)
+        → IsListingOver schema l → l.text ≡ sql.now → conn.old.schema ≢ schema) }
     ensures missed { HasNoMeaning conn.old.schema sql.now
         → Survives (state S.Store conn.old) (state S.Store conn.new) (λ _. ⊥)
-        × (HasCleanDisk (state S.Store conn.new) → IsMissed (state S.Store conn.old) (state S.Store conn.new) result) }
+        × (HasCleanDisk (state S.Store conn.new) → IsMissed (state S.Store conn.old)
+        (state S.Store conn.new) result) }
     ensures survives { (schema : Schema) (l : Listing) → IsListingOver schema l → l.text ≡ sql.now
         → Survives (state S.Store conn.old) (state S.Store conn.new) (λ _. ⊥) }
     ensures kept { (v : Version) (l : Listing) → IsListingOver (schema_of v) l → l.text ≡ sql.now
-        → (t : Tables) → KeepsIn v (state S.Store conn.old) t → KeepsIn v (state S.Store conn.new) t }
-    ensures listed { HasCleanDisk (state S.Store conn.new) → IfOk result (λ rows.
-        (schema : Schema) (l : Listing) → IsListingOver schema l → l.text ≡ sql.now → conn.old.schema ≡ schema
+        → (t : Tables) → KeepsIn v (state S.Store conn.old) t
+        → KeepsIn v (state S.Store conn.new) t }
+    ensures listed { HasCleanDisk (state S.Store conn.new)
+        → IfOk result (λ rows. (schema : Schema) (l : Listing) → IsListingOver schema l
+        → l.text ≡ sql.now → conn.old.schema ≡ schema
         → Lists l (state S.Store conn.old).now rows.items
         × IsUnchanged (state S.Store conn.old) (state S.Store conn.new)) }
 {

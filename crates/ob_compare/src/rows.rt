@@ -39,15 +39,19 @@ pub(crate) fn is_row(row: &Row, values: &[ValueRef<'_>]) -> bool
 /// Moves to the next row, or past the last.
 pub(crate) fn advance<S: Alter>(rows: &mut Rows<'_, S>) -> Result<(), Stop>
     ensures same_reference { rows.new.conn.ghost_name ≡ rows.old.conn.ghost_name }
-    ensures survives { Survives (state S.Store rows.old.conn.now) (state S.Store rows.new.conn.now) (λ _. ⊥) }
+    ensures survives { Survives (state S.Store rows.old.conn.now) (state S.Store rows.new.conn.now)
+        (λ _. ⊥) }
     ensures kept { (v : Version) (t : Tables) → KeepsIn v (state S.Store rows.old.conn.now) t
         → KeepsIn v (state S.Store rows.new.conn.now) t }
-    ensures mode { rows.old.conn.now.in_transaction ≡ false → rows.new.conn.now.in_transaction ≡ false }
+    ensures mode { rows.old.conn.now.in_transaction ≡ false
+        → rows.new.conn.now.in_transaction ≡ false }
     ensures faults { IfErr result IsStoreFault }
     ensures same { HasCleanDisk (state S.Store rows.new.conn.now)
-        → OnOk result (IsUnchanged (state S.Store rows.old.conn.now) (state S.Store rows.new.conn.now)) }
-    ensures goes { HasCleanDisk (state S.Store rows.new.conn.now) → OnOk result
-        (Advances S.Store rows.old.conn.now rows.new.conn.now (row_if rows.new.has_row rows.new.conn.now)) }
+        → OnOk result (IsUnchanged (state S.Store rows.old.conn.now)
+        (state S.Store rows.new.conn.now)) }
+    ensures goes { HasCleanDisk (state S.Store rows.new.conn.now)
+        → OnOk result (Advances S.Store rows.old.conn.now rows.new.conn.now
+        (row_if rows.new.has_row rows.new.conn.now)) }
 {
     match rows.advance() {
         Ok(()) => Ok(()),
@@ -58,16 +62,20 @@ pub(crate) fn advance<S: Alter>(rows: &mut Rows<'_, S>) -> Result<(), Stop>
 /// Whether no row is left.
 pub(crate) fn is_over<S: Alter>(rows: &mut Rows<'_, S>) -> Result<bool, Stop>
     ensures same_reference { rows.new.conn.ghost_name ≡ rows.old.conn.ghost_name }
-    ensures survives { Survives (state S.Store rows.old.conn.now) (state S.Store rows.new.conn.now) (λ _. ⊥) }
+    ensures survives { Survives (state S.Store rows.old.conn.now) (state S.Store rows.new.conn.now)
+        (λ _. ⊥) }
     ensures kept { (v : Version) (t : Tables) → KeepsIn v (state S.Store rows.old.conn.now) t
         → KeepsIn v (state S.Store rows.new.conn.now) t }
-    ensures mode { rows.old.conn.now.in_transaction ≡ false → rows.new.conn.now.in_transaction ≡ false }
+    ensures mode { rows.old.conn.now.in_transaction ≡ false
+        → rows.new.conn.now.in_transaction ≡ false }
     ensures faults { IfErr result IsStoreFault }
     ensures same { HasCleanDisk (state S.Store rows.new.conn.now)
-        → OnOk result (IsUnchanged (state S.Store rows.old.conn.now) (state S.Store rows.new.conn.now)) }
-    ensures over { HasCleanDisk (state S.Store rows.new.conn.now) → IfOk result (λ is.
-        (schema : Schema) (l : Listing) → IsListingOver schema l → (state S.Store rows.old.conn.now).now.schema ≡ schema
-        → (given : List ARow) → HasGiven S.Store l.text [] rows.old.conn.now given
+        → OnOk result (IsUnchanged (state S.Store rows.old.conn.now)
+        (state S.Store rows.new.conn.now)) }
+    ensures over { HasCleanDisk (state S.Store rows.new.conn.now)
+        → IfOk result (λ is. (schema : Schema) (l : Listing) → IsListingOver schema l
+        → (state S.Store rows.old.conn.now).now.schema ≡ schema → (given : List ARow)
+        → HasGiven S.Store l.text [] rows.old.conn.now given
         → Ends S.Store l is rows.new.conn.now given) }
 {
     advance(rows)?;

@@ -30,20 +30,23 @@ fn is_version(rows: &[Row], version: u32) -> bool
 pub fn has_version<S: Alter>(conn: &mut Connection<S>, version: u32) -> Result<bool, Stop>
     ensures mode { conn.old.in_transaction ≡ false → conn.new.in_transaction ≡ false }
     ensures survives { Survives (state S.Store conn.old) (state S.Store conn.new) (λ _. ⊥) }
-    ensures kept { (v : Version) (t : Tables) → KeepsIn v (state S.Store conn.old) t → KeepsIn v (state S.Store conn.new) t }
+    ensures kept { (v : Version) (t : Tables) → KeepsIn v (state S.Store conn.old) t
+        → KeepsIn v (state S.Store conn.new) t }
     ensures clean { HasCleanDisk (state S.Store conn.new) → HasCleanDisk (state S.Store conn.old) }
     ensures faults { IfErr result IsReadFault }
     ensures foreign { HasCleanDisk (state S.Store conn.new)
         → IfErr result (λ stop. stop ≡ bad_book → ¬ (IsOfBook conn.old.schema)) }
     ensures missed { HasNoMeaning conn.old.schema (select_of ATable.Meta)
         → Survives (state S.Store conn.old) (state S.Store conn.new) (λ _. ⊥)
-        × (HasCleanDisk (state S.Store conn.new) → IsMissed (state S.Store conn.old) (state S.Store conn.new) result) }
-    ensures empty { conn.old.schema ≡ no_schema
-        → Survives (state S.Store conn.old) (state S.Store conn.new) (λ _. ⊥)
-        × (HasCleanDisk (state S.Store conn.new) → IsMissed (state S.Store conn.old) (state S.Store conn.new) result) }
+        × (HasCleanDisk (state S.Store conn.new) → IsMissed (state S.Store conn.old)
+        (state S.Store conn.new) result) }
+    ensures empty { conn.old.schema ≡ no_schema → Survives (state S.Store conn.old)
+        (state S.Store conn.new) (λ _. ⊥) × (HasCleanDisk (state S.Store conn.new)
+        → IsMissed (state S.Store conn.old) (state S.Store conn.new) result) }
     ensures same { HasCleanDisk (state S.Store conn.new) → OnOk result (IsOfBook conn.old.schema
         → IsUnchanged (state S.Store conn.old) (state S.Store conn.new)) }
-    ensures version { HasCleanDisk (state S.Store conn.new) → IfOk result (λ is. IsOfBook conn.old.schema
+    ensures version { HasCleanDisk (state S.Store conn.new)
+        → IfOk result (λ is. IsOfBook conn.old.schema
         → IsTrue is ↔ HasVersion version (state S.Store conn.old).now.trees) }
 {
     match list_all(conn, select_of(Table::Meta)) {

@@ -38,7 +38,9 @@ impl Model for Roll {
       room = r.room;
     } };
 
-    ghost invariant = { λ r. IsRoll r.customers.items × AreShelves r.customers.items r.room r.shelves.items × (length r.customers.items + r.room ≤ vec_capacity r.customers) };
+    ghost invariant = { λ r. IsRoll r.customers.items
+        × AreShelves r.customers.items r.room r.shelves.items
+        × (length r.customers.items + r.room ≤ vec_capacity r.customers) };
 }
 
 impl Roll {
@@ -132,7 +134,8 @@ impl Roll {
     /// the number, else with `BadService` where the service would end no later than it begins.
     pub fn revise(&mut self, no: u32, since: Second, until: Option<Second>) -> Result<(), Refusal>
         ensures refused { result_err result ≡ revise_refusal self.old.customers «no» since until }
-        ensures ok { OnOk result (self.new.customers ≡ with_service «no» since until self.old.customers) }
+        ensures ok { OnOk result (self.new.customers
+            ≡ with_service «no» since until self.old.customers) }
         ensures err { OnErr result (self.new ≡ self.old) }
         ensures room { self.new.room ≡ self.old.room }
     {
@@ -191,8 +194,10 @@ impl Roll {
             return 0;
         }
         let shelf = &self.shelves[shelf_of(section, self.shelves.len())];
-        let begun = shelf.services.passed(section, b) + shelf.ends.passed(section, a);
-        let over = shelf.services.passed(section, a) + shelf.ends.passed(section, b);
+        let begun = shelf.services.seconds_passed(section, b)
+            + shelf.ends.seconds_passed(section, a);
+        let over = shelf.services.seconds_passed(section, a)
+            + shelf.ends.seconds_passed(section, b);
         (begun - over) as u64
     }
 
@@ -201,8 +206,10 @@ impl Roll {
     pub fn section_blocks(&self, section: u16) -> &[SectionBlock]
         ensures of_section { All (λ b. b.section ≡ section) result.now }
         ensures positive { All (λ b. 0 < b.block.count) result.now }
-        ensures sums { (f : ℕ → Option ℕ → ℕ) → sum_over_blocks f (map (λ b. b.block) result.now) ≡ sum_over_customers f section self.now.customers }
-        ensures ordered { AllPairs (λ a b. service_cmp (service_of a.block) (service_of b.block) ≡ Less) result.now }
+        ensures sums { (f : ℕ → Option ℕ → ℕ) → sum_over_blocks f (map (λ b. b.block) result.now)
+            ≡ sum_over_customers f section self.now.customers }
+        ensures ordered { AllPairs (λ a b. service_cmp (service_of a.block) (service_of b.block)
+            ≡ Less) result.now }
         ensures few { sum_by (λ b. b.block.count) result.now ≤ 100_000 }
     {
         if self.shelves.is_empty() {
@@ -215,12 +222,17 @@ impl Roll {
     /// The blocks of a section, each service of its customers once, by `since` and then by `until`,
     /// where a service without end comes first.
     pub fn blocks(&self, section: u16) -> Result<Vec<Block>, Stop>
-        ensures counts { IfOk result (λ blocks. All (λ b. b.count ≡ count_by (has_service section b.since b.until) self.now.customers) blocks.items) }
+        ensures counts { IfOk result (λ blocks. All (λ b. b.count
+            ≡ count_by (has_service section b.since b.until) self.now.customers) blocks.items) }
         ensures positive { IfOk result (λ blocks. All (λ b. 0 < b.count) blocks.items) }
-        ensures once { IfOk result (λ blocks. AllPairs (λ a b. a.since ≡ b.since → a.until ≢ b.until) blocks.items) }
-        ensures complete { IfOk result (λ blocks. All (λ c. c.section ≡ section → Any (λ b. (b.since ≡ c.since) × (b.until ≡ c.until)) blocks.items) self.now.customers) }
-        ensures sums { IfOk result (λ blocks. (f : ℕ → Option ℕ → ℕ) → sum_over_blocks f blocks.items ≡ sum_over_customers f section self.now.customers) }
-        ensures ordered { IfOk result (λ blocks. AllPairs (λ a b. service_cmp (service_of a) (service_of b) ≡ Less) blocks.items) }
+        ensures once { IfOk result (λ blocks. AllPairs (λ a b. a.since ≡ b.since
+            → a.until ≢ b.until) blocks.items) }
+        ensures complete { IfOk result (λ blocks. All (λ c. c.section ≡ section
+            → Any (λ b. (b.since ≡ c.since) × (b.until ≡ c.until)) blocks.items) self.now.customers) }
+        ensures sums { IfOk result (λ blocks. (f : ℕ → Option ℕ → ℕ)
+            → sum_over_blocks f blocks.items ≡ sum_over_customers f section self.now.customers) }
+        ensures ordered { IfOk result (λ blocks. AllPairs
+            (λ a b. service_cmp (service_of a) (service_of b) ≡ Less) blocks.items) }
         ensures few { IfOk result (λ blocks. sum_by (λ b. b.count) blocks.items ≤ 100_000) }
         ensures err { IfErr result (λ stop. stop ≡ out_of_memory) }
     {
@@ -243,7 +255,9 @@ fn without_section(alloc: Global, blocks: &[SectionBlock]) -> Result<Vec<Block>,
 // Makes the shelves where there are none.
 fn make_shelves(shelves: &mut Vec<Shelf>, alloc: Global) -> Result<(), AllocError>
     ensures some { OnOk result (0 < length shelves.new.items) }
-    ensures shelves { (customers : List Customer) (room : ℕ) → AreShelves customers room shelves.old.items → AreShelves customers room shelves.new.items }
+    ensures shelves { (customers : List Customer) (room : ℕ)
+        → AreShelves customers room shelves.old.items
+        → AreShelves customers room shelves.new.items }
 {
     if !shelves.is_empty() {
         return Ok(());
@@ -268,7 +282,8 @@ fn empty_shelves(alloc: Global, count: usize) -> Result<Vec<Shelf>, AllocError>
 fn reserve_each(shelves: &mut [Shelf]) -> Result<(), AllocError>
     requires few { All (λ s. s.customers ≤ 100_000) shelves.old }
     ensures len { length shelves.new ≡ length shelves.old }
-    ensures kept { (k : ℕ) (d : Shelf) → IsRoomier (slice_index_or shelves.old k d) (slice_index_or shelves.new k d) }
+    ensures kept { (k : ℕ) (d : Shelf) → IsRoomier (slice_index_or shelves.old k d)
+        (slice_index_or shelves.new k d) }
     ensures ok { OnOk result (All HasRoom shelves.new) }
 {
     for shelf in 0..shelves.len() {
@@ -290,7 +305,8 @@ fn shelf_of(section: u16, shelves: usize) -> usize
 fn place_of(customers: &[Customer], no: u32) -> Result<usize, usize>
     requires { AllPairs (λ c d. c.«no» < d.«no») customers.now }
     ensures known { is_ok result ≡ has_number customers.now «no» }
-    ensures found { IfOk result (λ place. slice_get customers.now place ≡ find (λ c. c.«no» == «no») customers.now) }
+    ensures found { IfOk result (λ place. slice_get customers.now place
+        ≡ find (λ c. c.«no» == «no») customers.now) }
     ensures within { IfOk result (λ place. place < length customers.now) }
     ensures place { IfErr result (λ place. place ≡ count_by (λ c. nat_lt c.«no» «no») customers.now) }
     ensures bound { IfErr result (λ place. place ≤ length customers.now) }

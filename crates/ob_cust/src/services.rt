@@ -74,7 +74,8 @@ impl Services {
     pub fn add(&mut self, section: u16, since: Second, until: Option<Second>)
         requires room { customers_of self.old.blocks < self.old.capacity }
         requires few { customers_of self.old.blocks < 100_000 }
-        ensures sums { (f : ℕ → ℕ → Option ℕ → ℕ) → sum_of f self.new.blocks ≡ sum_of f self.old.blocks + f section since until }
+        ensures sums { (f : ℕ → ℕ → Option ℕ → ℕ) → sum_of f self.new.blocks
+            ≡ sum_of f self.old.blocks + f section since until }
         ensures capacity { self.new.capacity ≡ self.old.capacity }
     {
         match place_of(&self.blocks, section, since, until) {
@@ -100,8 +101,10 @@ impl Services {
 
     /// Counts one customer less of a service that is there.
     pub fn remove(&mut self, section: u16, since: Second, until: Option<Second>)
-        requires there { (f : ℕ → ℕ → Option ℕ → ℕ) → f section since until ≤ sum_of f self.old.blocks }
-        ensures sums { (f : ℕ → ℕ → Option ℕ → ℕ) → sum_of f self.new.blocks + f section since until ≡ sum_of f self.old.blocks }
+        requires there { (f : ℕ → ℕ → Option ℕ → ℕ)
+            → f section since until ≤ sum_of f self.old.blocks }
+        ensures sums { (f : ℕ → ℕ → Option ℕ → ℕ) → sum_of f self.new.blocks + f section since until
+            ≡ sum_of f self.old.blocks }
         ensures capacity { self.new.capacity ≡ self.old.capacity }
     {
         let Ok(place) = place_of(&self.blocks, section, since, until) else {
@@ -119,7 +122,8 @@ impl Services {
     pub fn add_end(&mut self, section: u16, end: Option<Second>)
         requires room { customers_of self.old.blocks < self.old.capacity }
         requires few { customers_of self.old.blocks < 100_000 }
-        ensures sums { (f : ℕ → ℕ → Option ℕ → ℕ) → sum_of f self.new.blocks ≡ sum_of f self.old.blocks + option_map_or (λ since. f section since None) end 0 }
+        ensures sums { (f : ℕ → ℕ → Option ℕ → ℕ) → sum_of f self.new.blocks
+            ≡ sum_of f self.old.blocks + option_map_or (λ since. f section since None) end 0 }
         ensures capacity { self.new.capacity ≡ self.old.capacity }
     {
         if let Some(since) = end {
@@ -129,8 +133,10 @@ impl Services {
 
     /// Counts one customer less of the service without end that begins at `end`, where there is one.
     pub fn remove_end(&mut self, section: u16, end: Option<Second>)
-        requires there { (f : ℕ → ℕ → Option ℕ → ℕ) → option_map_or (λ since. f section since None) end 0 ≤ sum_of f self.old.blocks }
-        ensures sums { (f : ℕ → ℕ → Option ℕ → ℕ) → sum_of f self.new.blocks + option_map_or (λ since. f section since None) end 0 ≡ sum_of f self.old.blocks }
+        requires there { (f : ℕ → ℕ → Option ℕ → ℕ)
+            → option_map_or (λ since. f section since None) end 0 ≤ sum_of f self.old.blocks }
+        ensures sums { (f : ℕ → ℕ → Option ℕ → ℕ) → sum_of f self.new.blocks + option_map_or
+            (λ since. f section since None) end 0 ≡ sum_of f self.old.blocks }
         ensures capacity { self.new.capacity ≡ self.old.capacity }
     {
         if let Some(since) = end {
@@ -142,8 +148,10 @@ impl Services {
     pub fn of_section(&self, section: u16) -> &[SectionBlock]
         ensures of_section { All (λ b. b.section ≡ section) result.now }
         ensures positive { All (λ b. 0 < b.block.count) result.now }
-        ensures sums { (f : ℕ → Option ℕ → ℕ) → sum_over_blocks f (map (λ b. b.block) result.now) ≡ sum_of (λ s since until. if s == section then f since until else 0) self.now.blocks }
-        ensures ordered { AllPairs (λ a b. service_cmp (service_of a.block) (service_of b.block) ≡ Less) result.now }
+        ensures sums { (f : ℕ → Option ℕ → ℕ) → sum_over_blocks f (map (λ b. b.block) result.now)
+            ≡ sum_of (λ s since until. if s == section then f since until else 0) self.now.blocks }
+        ensures ordered { AllPairs (λ a b. service_cmp (service_of a.block) (service_of b.block)
+            ≡ Less) result.now }
     {
         let first = first_of(&self.blocks, section);
         let end = end_of(&self.blocks, section);
@@ -152,7 +160,7 @@ impl Services {
 
     /// How many seconds have passed at `x` since the services of the section began, summed over their
     /// customers.
-    pub fn passed(&self, section: u16, x: Second) -> u128
+    pub fn seconds_passed(&self, section: u16, x: Second) -> u128
         ensures { result ≡ sum_of (since_start section x) self.now.blocks }
     {
         let place = begun_before(&self.blocks, section, x);
@@ -177,10 +185,13 @@ fn place_of(
 ) -> Result<usize, usize>
     requires { AreServices blocks.now }
     ensures found { IfOk result (λ p. p < length blocks.now) }
-    ensures same { IfOk result (λ p. (d : SectionBlock) → key (slice_index_or blocks.now p d) ≡ (section, (since, until))) }
+    ensures same { IfOk result (λ p. (d : SectionBlock)
+        → key (slice_index_or blocks.now p d) ≡ (section, (since, until))) }
     ensures bound { IfErr result (λ p. p ≤ length blocks.now) }
-    ensures below { IfErr result (λ p. AllWithin (λ b. key_cmp (key b) (section, (since, until)) ≡ Less) blocks.now 0 p) }
-    ensures above { IfErr result (λ p. AllWithin (λ b. key_cmp (key b) (section, (since, until)) ≡ Greater) blocks.now p (length blocks.now)) }
+    ensures below { IfErr result (λ p. AllWithin (λ b. key_cmp (key b) (section, (since, until))
+        ≡ Less) blocks.now 0 p) }
+    ensures above { IfErr result (λ p. AllWithin (λ b. key_cmp (key b) (section, (since, until))
+        ≡ Greater) blocks.now p (length blocks.now)) }
 {
     blocks.binary_search_by_key(&(section, (since, until)), |b| {
         (b.section, (b.block.since, b.block.until))
@@ -220,7 +231,8 @@ fn begun_before(blocks: &[SectionBlock], section: u16, x: Second) -> usize
     requires { AreServices blocks.now }
     ensures bound { result ≤ length blocks.now }
     ensures below { AllWithin (λ b. is_begun section x b ≡ true) blocks.now 0 result }
-    ensures above { AllWithin (λ b. is_begun section x b ≡ false) blocks.now result (length blocks.now) }
+    ensures above { AllWithin (λ b. is_begun section x b ≡ false) blocks.now result
+        (length blocks.now) }
 {
     blocks.partition_point(
         |b: &SectionBlock| -> bool
@@ -234,9 +246,13 @@ fn recount(blocks: &mut Vec<SectionBlock>, before: &mut Vec<Before>, place: usiz
     requires services { IsServices blocks.old.items before.old.items }
     requires place { place < length blocks.old.items }
     requires positive { 0 < count }
-    requires few { (d : SectionBlock) → customers_of blocks.old.items + count ≤ 100_000 + (slice_index_or blocks.old.items place d).block.count }
+    requires few { (d : SectionBlock) → customers_of blocks.old.items + count ≤ 100_000 +
+        (slice_index_or blocks.old.items place d).block.count }
     ensures services { IsServices blocks.new.items before.new.items }
-    ensures sums { (f : ℕ → ℕ → Option ℕ → ℕ) (d : SectionBlock) → let b = slice_index_or blocks.old.items place d in sum_of f blocks.new.items + b.block.count * f b.section b.block.since b.block.until ≡ sum_of f blocks.old.items + count * f b.section b.block.since b.block.until }
+    ensures sums { (f : ℕ → ℕ → Option ℕ → ℕ) (d : SectionBlock)
+        → let b = slice_index_or blocks.old.items place d in sum_of f blocks.new.items +
+        b.block.count * f b.section b.block.since b.block.until
+        ≡ sum_of f blocks.old.items + count * f b.section b.block.since b.block.until }
     ensures capacity { vec_capacity blocks.new ≡ vec_capacity blocks.old }
     ensures capacity_before { vec_capacity before.new ≡ vec_capacity before.old }
 {
@@ -250,13 +266,16 @@ fn put(blocks: &mut Vec<SectionBlock>, before: &mut Vec<Before>, place: usize, b
     requires services { IsServices blocks.old.items before.old.items }
     requires place { place ≤ length blocks.old.items }
     requires below { AllWithin (λ b. key_cmp (key b) (key block) ≡ Less) blocks.old.items 0 place }
-    requires above { AllWithin (λ b. key_cmp (key b) (key block) ≡ Greater) blocks.old.items place (length blocks.old.items) }
+    requires above { AllWithin (λ b. key_cmp (key b) (key block) ≡ Greater) blocks.old.items place
+        (length blocks.old.items) }
     requires positive { 0 < block.block.count }
     requires few { customers_of blocks.old.items + block.block.count ≤ 100_000 }
     requires room { length blocks.old.items < vec_capacity blocks.old }
     requires room_before { length blocks.old.items < vec_capacity before.old }
     ensures services { IsServices blocks.new.items before.new.items }
-    ensures sums { (f : ℕ → ℕ → Option ℕ → ℕ) → sum_of f blocks.new.items ≡ sum_of f blocks.old.items + block.block.count * f block.section block.block.since block.block.until }
+    ensures sums { (f : ℕ → ℕ → Option ℕ → ℕ) → sum_of f blocks.new.items
+        ≡ sum_of f blocks.old.items + block.block.count * f block.section block.block.since
+        block.block.until }
     ensures capacity { vec_capacity blocks.new ≡ vec_capacity blocks.old }
     ensures capacity_before { vec_capacity before.new ≡ vec_capacity before.old }
 {
@@ -275,7 +294,9 @@ fn take_out(blocks: &mut Vec<SectionBlock>, before: &mut Vec<Before>, place: usi
     requires services { IsServices blocks.old.items before.old.items }
     requires place { place < length blocks.old.items }
     ensures services { IsServices blocks.new.items before.new.items }
-    ensures sums { (f : ℕ → ℕ → Option ℕ → ℕ) (d : SectionBlock) → let b = slice_index_or blocks.old.items place d in sum_of f blocks.new.items + b.block.count * f b.section b.block.since b.block.until ≡ sum_of f blocks.old.items }
+    ensures sums { (f : ℕ → ℕ → Option ℕ → ℕ) (d : SectionBlock)
+        → let b = slice_index_or blocks.old.items place d in sum_of f blocks.new.items +
+        b.block.count * f b.section b.block.since b.block.until ≡ sum_of f blocks.old.items }
     ensures capacity { vec_capacity blocks.new ≡ vec_capacity blocks.old }
     ensures capacity_before { vec_capacity before.new ≡ vec_capacity before.old }
 {
@@ -288,9 +309,11 @@ fn take_out(blocks: &mut Vec<SectionBlock>, before: &mut Vec<Before>, place: usi
 fn carry(blocks: &[SectionBlock], before: &mut [Before], section: u16, place: usize)
     requires services { AreServices blocks.now }
     requires len { length before.old ≡ length blocks.now }
-    requires front { (k : ℕ) → k < place → k < length blocks.now → IsBeforeAt blocks.now before.old k }
+    requires front { (k : ℕ) → k < place → k < length blocks.now
+        → IsBeforeAt blocks.now before.old k }
     requires from { AllWithin (λ b. section ≤ b.section) blocks.now place (length blocks.now) }
-    requires later { (k : ℕ) (d : SectionBlock) → place ≤ k → k < length blocks.now → section < (slice_index_or blocks.now k d).section → IsBeforeAt blocks.now before.old k }
+    requires later { (k : ℕ) (d : SectionBlock) → place ≤ k → k < length blocks.now
+        → section < (slice_index_or blocks.now k d).section → IsBeforeAt blocks.now before.old k }
     ensures services { IsServices blocks.now before.new }
 {
     for at in place..blocks.len() {
@@ -307,7 +330,8 @@ fn sums_at(blocks: &[SectionBlock], before: &[Before], at: usize) -> Before
     requires len { length before.now ≡ length blocks.now }
     requires at { at < length blocks.now }
     requires front { (k : ℕ) → k < at → IsBeforeAt blocks.now before.now k }
-    ensures { (d : SectionBlock) → IsBefore (slice_index_or blocks.now at d).section (take at blocks.now) result }
+    ensures { (d : SectionBlock) → IsBefore (slice_index_or blocks.now at d).section
+        (take at blocks.now) result }
 {
     if at == 0 || blocks[at - 1].section != blocks[at].section {
         return Before {

@@ -51,8 +51,11 @@ impl Shelf {
         requires ends { customers_of self.old.ends.blocks ≤ self.old.customers }
         requires few { self.old.customers < 100_000 }
         requires room { HasRoom self.old }
-        ensures services { (f : ℕ → ℕ → Option ℕ → ℕ) → sum_of f self.new.services.blocks ≡ sum_of f self.old.services.blocks + f customer.now.section customer.now.since customer.now.until }
-        ensures ends { (f : ℕ → ℕ → Option ℕ → ℕ) → sum_of f self.new.ends.blocks ≡ sum_of f self.old.ends.blocks + at_end f customer.now.section customer.now.until }
+        ensures services { (f : ℕ → ℕ → Option ℕ → ℕ)
+            → sum_of f self.new.services.blocks ≡ sum_of f self.old.services.blocks + f
+            customer.now.section customer.now.since customer.now.until }
+        ensures ends { (f : ℕ → ℕ → Option ℕ → ℕ) → sum_of f self.new.ends.blocks
+            ≡ sum_of f self.old.ends.blocks + at_end f customer.now.section customer.now.until }
         ensures customers { self.new.customers ≡ self.old.customers + 1 }
         ensures capacity { self.new.services.capacity ≡ self.old.services.capacity }
         ensures capacity_of_ends { self.new.ends.capacity ≡ self.old.ends.capacity }
@@ -65,14 +68,22 @@ impl Shelf {
 
     /// Counts a customer with its other service in place of its old one.
     pub fn revise(&mut self, old: &Customer, new: &Customer)
-        requires there { (f : ℕ → ℕ → Option ℕ → ℕ) → f old.now.section old.now.since old.now.until ≤ sum_of f self.old.services.blocks }
-        requires there_end { (f : ℕ → ℕ → Option ℕ → ℕ) → at_end f old.now.section old.now.until ≤ sum_of f self.old.ends.blocks }
+        requires there { (f : ℕ → ℕ → Option ℕ → ℕ)
+            → f old.now.section old.now.since old.now.until ≤ sum_of f self.old.services.blocks }
+        requires there_end { (f : ℕ → ℕ → Option ℕ → ℕ)
+            → at_end f old.now.section old.now.until ≤ sum_of f self.old.ends.blocks }
         requires room { customers_of self.old.services.blocks ≤ self.old.services.capacity }
         requires few { customers_of self.old.services.blocks ≤ 100_000 }
-        requires room_of_ends { customers_of self.old.ends.blocks < self.old.ends.capacity + at_end (λ section since until. 1) old.now.section old.now.until }
-        requires few_ends { customers_of self.old.ends.blocks < 100_000 + at_end (λ section since until. 1) old.now.section old.now.until }
-        ensures services { (f : ℕ → ℕ → Option ℕ → ℕ) → sum_of f self.new.services.blocks + f old.now.section old.now.since old.now.until ≡ sum_of f self.old.services.blocks + f new.now.section new.now.since new.now.until }
-        ensures ends { (f : ℕ → ℕ → Option ℕ → ℕ) → sum_of f self.new.ends.blocks + at_end f old.now.section old.now.until ≡ sum_of f self.old.ends.blocks + at_end f new.now.section new.now.until }
+        requires room_of_ends { customers_of self.old.ends.blocks < self.old.ends.capacity + at_end
+            (λ section since until. 1) old.now.section old.now.until }
+        requires few_ends { customers_of self.old.ends.blocks < 100_000 + at_end
+            (λ section since until. 1) old.now.section old.now.until }
+        ensures services { (f : ℕ → ℕ → Option ℕ → ℕ)
+            → sum_of f self.new.services.blocks + f old.now.section old.now.since old.now.until
+            ≡ sum_of f self.old.services.blocks + f new.now.section new.now.since new.now.until }
+        ensures ends { (f : ℕ → ℕ → Option ℕ → ℕ) → sum_of f self.new.ends.blocks + at_end f
+            old.now.section old.now.until ≡ sum_of f self.old.ends.blocks + at_end f new.now.section
+            new.now.until }
         ensures customers { self.new.customers ≡ self.old.customers }
         ensures capacity { self.new.services.capacity ≡ self.old.services.capacity }
         ensures capacity_of_ends { self.new.ends.capacity ≡ self.old.ends.capacity }

@@ -12,17 +12,17 @@ use Rattle.ob_stream.specs.declared.watched.Watched.{Watched}
 use Rattle.ob_book.specs.Acts.{ActState, Referenced, act, acts}
 use Rattle.ob_store.specs.Acting.{under}
 use Rattle.ob_store.specs.Keeping.{KeeperValue, KeepsBook, KeepsEitherBook, Ties}
-use Rattle.ob_rows.specs.Rows.{Fields, rows_of}
+use Rattle.ob_csv.specs.Rows.{Fields, rows_of}
 use Rattle.ob_import.specs.Imports.{Import, ImportsBody, after_header}
 use Rattle.ob_requests.specs.Message.{Message, path_of}
 use Rattle.ob_requests.specs.Stream.{ends}
 use Rattle.ob_requests.specs.declared.framing.Method.{Method}
 use Rattle.ob_requests.specs.declared.framing.Method.TheVariants as methods
-use Rattle.ob_answers.specs.Answers.{Answer, RouteAnswers}
-use Rattle.ob_answers.specs.Answering.{RouteAnswered, StandsLost, StandsShort}
-use Rattle.ob_answers.specs.Routes.{route_of}
-use Rattle.ob_answers.specs.declared.routes.Route.{Route}
-use Rattle.ob_answers.specs.declared.routes.Route.TheVariants as routes
+use Rattle.ob_routes.specs.Answers.{Answer, RouteAnswers}
+use Rattle.ob_routes.specs.Answering.{RouteAnswered, StandsLost, StandsShort}
+use Rattle.ob_routes.specs.Routes.{route_of}
+use Rattle.ob_routes.specs.declared.routes.Route.{Route}
+use Rattle.ob_routes.specs.declared.routes.Route.TheVariants as routes
 use Rattle.ob_desk.specs.Crashes.{IsActed, IsLeft, LeavesFirst, Outlasts}
 use Rattle.ob_desk.specs.Exchanges.{AnswersAt, Replies}
 use Rattle.ob_desk.specs.Serving.{Breaks, BreaksAnswer, BreaksReply, Fails, Serves}

@@ -4,7 +4,7 @@ use Rattle.ob_book.specs.Acts.{ActState}
 use Rattle.ob_requests.specs.Continue.{interim_text}
 use Rattle.ob_requests.specs.Message.{Message}
 use Rattle.ob_requests.specs.Stream.{ends}
-use Rattle.ob_answers.specs.Answers.{Answer, RequestsAreAnsweredOneThing, answer_text}
+use Rattle.ob_routes.specs.Answers.{Answer, RequestsAreAnsweredOneThing, answer_text}
 use Rattle.ob_desk.specs.Exchanges.{AnswersAt, Replies}
 use Rattle.ob_desk.specs.Laws.{RepliesAreOneThing}
 

@@ -8,7 +8,7 @@ use Rattle.ob_requests.specs.declared.framing.HeadRefusal.{HeadRefusal}
 use Rattle.ob_requests.specs.declared.framing.HeadRefusal.TheVariants as refusals
 use Rattle.ob_replies.specs.declared.status.Status.{Status}
 use Rattle.ob_replies.specs.declared.status.Status.TheVariants as statuses
-use Rattle.ob_answers.specs.Answers.{Answer, Answers, answer_text, bookless, empty}
+use Rattle.ob_routes.specs.Answers.{Answer, Answers, answer_text, bookless, empty}
 
 -- The answer to a request over a book, where there is one: the bytes of its reply, which tell whether the connection ends, and
 -- the book after it. Without a book only what needs none is answered.

@@ -8,8 +8,8 @@ use Rattle.ob_base.specs.declared.stop.Fault.TheVariants.{Reopen, Store}
 use Rattle.ob_book.specs.Acts.{ActState}
 use Rattle.ob_store.specs.Keeping.{KeeperValue, Ties}
 use Rattle.ob_requests.specs.Message.{Message}
-use Rattle.ob_answers.specs.Answers.{bookless}
-use Rattle.ob_answers.specs.Answering.{Answered}
+use Rattle.ob_routes.specs.Answers.{bookless}
+use Rattle.ob_routes.specs.Answering.{Answered}
 
 -- the fault of a call, where there is one
 abbrev pub fault_of : {A : Type 0} → Result A Fault → Option Fault

@@ -1,7 +1,7 @@
 //! Laws of what is written for requests.
 ghost use Rattle.ob_desk.specs.Laws.{RepliesAreOneThing};
 
-use ob_answers::answers_law;
+use ob_routes::answers_law;
 
 /// Requests are answered by one text, which leaves one book.
 pub fn replies_law()

@@ -37,13 +37,16 @@ pub fn run_serve<S: Alter, T: Timeline, L: FaultLog>(
     keeper: &mut Keeper<S, T>,
     log: &mut L,
 ) -> Result<(), Fault>
-    ensures clean { HasCleanDisk (state S.Store keeper.new.conn) → HasCleanDisk (state S.Store keeper.old.conn) }
+    ensures clean { HasCleanDisk (state S.Store keeper.new.conn)
+        → HasCleanDisk (state S.Store keeper.old.conn) }
     ensures unopened { keeper.old.book ≡ None → keeper.new ≡ keeper.old }
-    ensures dropped { IsSome keeper.old.book → (keeper.new.book ≡ None) ↔ (result ≡ Err Fault.Store) }
+    ensures dropped { IsSome keeper.old.book → (keeper.new.book ≡ None)
+        ↔ (result ≡ Err Fault.Store) }
     ensures reopen { result ≡ Err Fault.Reopen → keeper.old.book ≡ None }
     ensures ends { IfErr result (λ f. (f ≡ Fault.Input) ⊎ (ends_desk f ≡ true)) }
-    ensures left { HasCleanDisk (state S.Store keeper.new.conn) → (b : ActState) → Ties S.Store keeper.old b
-        → IsSome keeper.old.book → IsLeft S.Store keeper.new b (fault_of result) }
+    ensures left { HasCleanDisk (state S.Store keeper.new.conn) → (b : ActState)
+        → Ties S.Store keeper.old b → IsSome keeper.old.book
+        → IsLeft S.Store keeper.new b (fault_of result) }
 {
     let most = if streams == 0 { u64::MAX } else { streams };
     'streams: for _ in 0..most {
@@ -81,8 +84,9 @@ fn serve_connection<S: Alter, T: Timeline>(
 ) -> Result<Served, Fault>
     ensures kept { IsKept S.Store keeper.old keeper.new (fault_of result) }
     ensures reopen { result ≡ Err Fault.Reopen → keeper.old.book ≡ None }
-    ensures left { HasCleanDisk (state S.Store keeper.new.conn) → (b : ActState) → Ties S.Store keeper.old b
-        → IsSome keeper.old.book → IsLeft S.Store keeper.new b (fault_of result) }
+    ensures left { HasCleanDisk (state S.Store keeper.new.conn) → (b : ActState)
+        → Ties S.Store keeper.old b → IsSome keeper.old.book
+        → IsLeft S.Store keeper.new b (fault_of result) }
 {
     // A reply doesn't wait for the client to acknowledge the one before it. Where the system refuses that, it only comes later.
     let _ = stream.set_nodelay(true);

@@ -6,10 +6,10 @@ ghost use Rattle.ob_desk.specs.Exchanges.{head_status};
 ghost use Rattle.ob_desk.specs.Standing.{IsKept, fault_of};
 ghost use Rattle.ob_desk.specs.Turns.{HasAnswerCause, IsAnswered, IsUnanswered};
 
-use ob_answers::{Routes, answer};
 use ob_base::Fault;
 use ob_replies::{Status, empty_reply};
 use ob_requests::{HeadRefusal, Request};
+use ob_routes::{Routes, answer};
 use ob_store::Keeper;
 use ob_stream::{Retries, Watched, write_text};
 use ob_sweep::Timeline;
@@ -41,10 +41,11 @@ pub(crate) fn reply_to<W: Write, S: Alter, T: Timeline>(
     request: &Request,
     ends: bool,
 ) -> Result<(), Fault>
-    ensures answered { OnOk result (IsAnswered S.Store (watched_bytes W.contents writer.old) (watched_bytes W.contents writer.new)
-        keeper.old keeper.new (message_of request.now) ends) }
-    ensures unanswered { IfErr result (IsUnanswered S.Store writer.new (watched_bytes W.contents writer.old) (watched_bytes W.contents writer.new)
-        keeper.old keeper.new (message_of request.now) ends) }
+    ensures answered { OnOk result (IsAnswered S.Store (watched_bytes W.contents writer.old)
+        (watched_bytes W.contents writer.new) keeper.old keeper.new (message_of request.now) ends) }
+    ensures unanswered { IfErr result (IsUnanswered S.Store writer.new
+        (watched_bytes W.contents writer.old) (watched_bytes W.contents writer.new) keeper.old
+        keeper.new (message_of request.now) ends) }
     ensures cause { IfErr result (HasAnswerCause S.Store writer.new keeper.old) }
     ensures kept { IsKept S.Store keeper.old keeper.new (fault_of result) }
 {

@@ -8,9 +8,9 @@ ghost use Rattle.ob_desk.specs.Serving.{Fails, Serves};
 ghost use Rattle.ob_desk.specs.Standing.{IsKept, fault_of};
 
 use crate::turn::{Turn, serve_turn};
-use ob_answers::Routes;
 use ob_base::Fault;
 use ob_requests::Ahead;
+use ob_routes::Routes;
 use ob_store::Keeper;
 use ob_stream::{Retries, Watched};
 use ob_sweep::Timeline;
@@ -47,12 +47,16 @@ pub fn serve_stream<R: Read, W: Write, S: Alter, T: Timeline>(
     keeper: &mut Keeper<S, T>,
 ) -> Result<Served, Fault>
     ensures serves { IfOk result (λ served. Serves S.Store (watched_bytes R.remaining reader.old)
-        (watched_bytes W.contents writer.old) (watched_bytes W.contents writer.new) keeper.old keeper.new served.requests) }
-    ensures fails { IfErr result (Fails S.Store (watched_bytes R.remaining reader.old) (watched_bytes R.remaining reader.new)
-        (watched_bytes W.contents writer.old) (watched_bytes W.contents writer.new) reader.new writer.new keeper.old keeper.new) }
-    ensures clean { HasCleanDisk (state S.Store keeper.new.conn) → HasCleanDisk (state S.Store keeper.old.conn) }
+        (watched_bytes W.contents writer.old) (watched_bytes W.contents writer.new) keeper.old
+        keeper.new served.requests) }
+    ensures fails { IfErr result (Fails S.Store (watched_bytes R.remaining reader.old)
+        (watched_bytes R.remaining reader.new) (watched_bytes W.contents writer.old)
+        (watched_bytes W.contents writer.new) reader.new writer.new keeper.old keeper.new) }
+    ensures clean { HasCleanDisk (state S.Store keeper.new.conn)
+        → HasCleanDisk (state S.Store keeper.old.conn) }
     ensures unopened { keeper.old.book ≡ None → keeper.new ≡ keeper.old }
-    ensures dropped { IsSome keeper.old.book → (keeper.new.book ≡ None) ↔ (result ≡ Err Fault.Store) }
+    ensures dropped { IsSome keeper.old.book → (keeper.new.book ≡ None)
+        ↔ (result ≡ Err Fault.Store) }
 {
     let Ok(routes) = Routes::new(alloc) else {
         return Err(Fault::OutOfMemory);
@@ -72,9 +76,11 @@ fn serve_requests<R: Read, W: Write, S: Alter, T: Timeline>(
 ) -> Result<Served, Fault>
     requires { ahead.old ≡ [] }
     ensures serves { IfOk result (λ served. Serves S.Store (watched_bytes R.remaining reader.old)
-        (watched_bytes W.contents writer.old) (watched_bytes W.contents writer.new) keeper.old keeper.new served.requests) }
-    ensures fails { IfErr result (Fails S.Store (watched_bytes R.remaining reader.old) (watched_bytes R.remaining reader.new)
-        (watched_bytes W.contents writer.old) (watched_bytes W.contents writer.new) reader.new writer.new keeper.old keeper.new) }
+        (watched_bytes W.contents writer.old) (watched_bytes W.contents writer.new) keeper.old
+        keeper.new served.requests) }
+    ensures fails { IfErr result (Fails S.Store (watched_bytes R.remaining reader.old)
+        (watched_bytes R.remaining reader.new) (watched_bytes W.contents writer.old)
+        (watched_bytes W.contents writer.new) reader.new writer.new keeper.old keeper.new) }
     ensures kept { IsKept S.Store keeper.old keeper.new (fault_of result) }
 {
     let mut retries = Retries::new();

@@ -8,10 +8,10 @@ ghost use Rattle.ob_desk.specs.Standing.{IsKept, fault_of};
 ghost use Rattle.ob_desk.specs.Turns.{TurnFails, TurnIs};
 
 use crate::reply::{head_status, reply_to};
-use ob_answers::Routes;
 use ob_base::Fault;
 use ob_replies::empty_reply;
 use ob_requests::{Ahead, Next, Request, read_request};
+use ob_routes::Routes;
 use ob_store::Keeper;
 use ob_stream::{Retries, Watched, write_text};
 use ob_sweep::Timeline;
@@ -50,11 +50,14 @@ pub(crate) fn serve_turn<R: Read, W: Write, S: Alter, T: Timeline>(
     allowed: u32,
 ) -> Result<Turn, Fault>
     ensures turn { IfOk result (TurnIs S.Store allowed
-        (unread ahead.old (watched_bytes R.remaining reader.old)) (unread ahead.new (watched_bytes R.remaining reader.new))
-        (watched_bytes W.contents writer.old) (watched_bytes W.contents writer.new) keeper.old keeper.new) }
+        (unread ahead.old (watched_bytes R.remaining reader.old))
+        (unread ahead.new (watched_bytes R.remaining reader.new))
+        (watched_bytes W.contents writer.old) (watched_bytes W.contents writer.new) keeper.old
+        keeper.new) }
     ensures fails { IfErr result (TurnFails S.Store allowed
-        (unread ahead.old (watched_bytes R.remaining reader.old)) (watched_bytes R.remaining reader.new)
-        (watched_bytes W.contents writer.old) (watched_bytes W.contents writer.new) reader.new writer.new keeper.old keeper.new) }
+        (unread ahead.old (watched_bytes R.remaining reader.old))
+        (watched_bytes R.remaining reader.new) (watched_bytes W.contents writer.old)
+        (watched_bytes W.contents writer.new) reader.new writer.new keeper.old keeper.new) }
     ensures kept { IsKept S.Store keeper.old keeper.new (fault_of result) }
 {
     match read_request(alloc, reader, writer, retries, ahead)? {

@@ -1,10 +1,10 @@
 //! A desk over a store in memory, what streams are answered by it, and what it is tried by.
 use crate::log::Log;
 use crate::streams::{Sink, Source};
-use ob_answers::{ReplyText, Routes, answer};
 use ob_base::Fault;
 use ob_desk::{run_serve, serve_stream};
 use ob_requests::Request;
+use ob_routes::{ReplyText, Routes, answer};
 use ob_store::Keeper;
 use ob_stream::Watched;
 use ob_sweep::{Timeline, Windowed};

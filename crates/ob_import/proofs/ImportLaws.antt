@@ -10,7 +10,7 @@ use Rattle.std.proofs.lemmas.Slice.Eq.{bytes_eq-Decides}
 use Rattle.std.proofs.lemmas.Iterator.Adapters.{position_from-zero}
 use Rattle.ob_base.specs.declared.stop.Refusal.{Refusal}
 use Rattle.ob_base.specs.declared.stop.Refusal.TheVariants.{Full, RefConflict}
-use Rattle.ob_rows.specs.Rows.{Fields}
+use Rattle.ob_csv.specs.Rows.{Fields}
 use Rattle.ob_command.specs.Commands.{body_text}
 use Rattle.ob_command.specs.Fields.{IsRow, RowsSayOneThing}
 use Rattle.ob_command.specs.declared.command.Command.{Command}

@@ -14,9 +14,9 @@ use Rattle.ob_base.specs.declared.stop.Refusal.TheVariants.{BadField, Full}
 use Rattle.ob_base.specs.declared.stop.Stop.{Stop}
 use Rattle.ob_base.specs.declared.stop.Stop.TheVariants as stops
 use Rattle.std.specs.Io.KnownBytes.{Consumes}
-use Rattle.ob_rows.specs.Header.{is_header}
-use Rattle.ob_rows.specs.WholeRows.{WholeRowsStand, whole_rows}
-use Rattle.ob_rows.specs.Rows.{Fields, TakesRow, rows_of}
+use Rattle.ob_csv.specs.Header.{is_header}
+use Rattle.ob_csv.specs.WholeRows.{WholeRowsStand, whole_rows}
+use Rattle.ob_csv.specs.Rows.{Fields, TakesRow, rows_of}
 use Rattle.ob_command.specs.Fields.{IsRow}
 use Rattle.ob_book.specs.Acts.{ActState, Referenced, Reply, act, acts, answer, is_accepted, take_on}
 use Rattle.ob_store.specs.Keeping.{KeeperValue, KeepsEitherBook, Ties}

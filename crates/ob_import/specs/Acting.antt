@@ -7,7 +7,7 @@ use Rattle.ob_base.specs.declared.stop.Refusal.{Refusal}
 use Rattle.ob_base.specs.declared.stop.Stop.{Stop}
 use Rattle.ob_base.specs.declared.stop.Stop.TheVariants.{Refused, Fault}
 use Rattle.ob_base.specs.declared.stop.Fault.TheVariants.{OutOfMemory, Store}
-use Rattle.ob_rows.specs.Rows.{Fields}
+use Rattle.ob_csv.specs.Rows.{Fields}
 use Rattle.ob_command.specs.Fields.{IsRow}
 use Rattle.ob_book.specs.Acts.{ActState, Referenced, act, answer, is_accepted}
 use Rattle.ob_store.specs.Keeping.{KeeperValue, KeepsEitherBook, Ties}

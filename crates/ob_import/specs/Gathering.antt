@@ -1,7 +1,7 @@
 -- What a clause sees of a text that is gathered first.
 use Rattle.std.specs.Prelude.{ℕ, ◌≤◌, Bool, true, false, List, [], ◌∷◌, length, Option, Some, None, if◌then◌else◌}
-use Rattle.ob_rows.specs.Rows.{Fields, rows_of}
-use Rattle.ob_rows.specs.WholeRows.{whole_rows}
+use Rattle.ob_csv.specs.Rows.{Fields, rows_of}
+use Rattle.ob_csv.specs.WholeRows.{whole_rows}
 
 -- no known byte is left
 abbrev pub is_over : Option (List ℕ) → Bool

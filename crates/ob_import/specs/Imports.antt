@@ -4,8 +4,8 @@ use Rattle.std.specs.Bool.{MatchBool}
 use Rattle.std.specs.Result.{is_ok}
 use Rattle.ob_base.specs.declared.stop.Refusal.{Refusal}
 use Rattle.ob_base.specs.declared.stop.Refusal.TheVariants.{BadField, Full}
-use Rattle.ob_rows.specs.Header.{is_header}
-use Rattle.ob_rows.specs.Rows.{Fields}
+use Rattle.ob_csv.specs.Header.{is_header}
+use Rattle.ob_csv.specs.Rows.{Fields}
 use Rattle.ob_command.specs.Fields.{IsRow}
 use Rattle.ob_book.specs.Acts.{ActState, Referenced, acts, act, answer}
 

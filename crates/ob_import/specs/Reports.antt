@@ -6,8 +6,8 @@ use Rattle.sqlite.specs.Held.{state}
 use Rattle.sqlite.specs.State.{HasCleanDisk}
 use Rattle.ob_base.specs.declared.stop.Fault.{Fault}
 use Rattle.ob_base.specs.declared.stop.Fault.TheVariants.{OutOfMemory, Store, Reopen, Input, Output}
-use Rattle.ob_rows.specs.Rows.{Fields}
-use Rattle.ob_rows.specs.WholeRows.{whole_rows}
+use Rattle.ob_csv.specs.Rows.{Fields}
+use Rattle.ob_csv.specs.WholeRows.{whole_rows}
 use Rattle.ob_book.specs.Acts.{ActState, Referenced, act}
 use Rattle.ob_store.specs.Keeping.{KeeperValue, KeepsEitherBook, Ties}
 use Rattle.ob_import.specs.Imports.{Begins, Import, ImportsBody, Says, Taken, after_header}

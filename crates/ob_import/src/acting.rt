@@ -11,8 +11,8 @@ ghost use Rattle.ob_import.specs.Acting.{Adds, AddsRow};
 use ob_base::{Fault, Ref, Refusal, Stop};
 use ob_book::Command;
 use ob_command::read_row;
+use ob_csv::Row;
 use ob_record::reached_law;
-use ob_rows::Row;
 use ob_store::Keeper;
 use ob_sweep::Timeline;
 use sqlite::Alter;
@@ -24,10 +24,11 @@ pub(crate) fn act_row<S: Alter, T: Timeline>(
 ) -> Result<bool, Stop>
     requires { IsSome keeper.old.book }
     ensures faults { IfErr result IsActStop }
-    ensures clean { HasCleanDisk (state S.Store keeper.new.conn) → HasCleanDisk (state S.Store keeper.old.conn) }
+    ensures clean { HasCleanDisk (state S.Store keeper.new.conn)
+        → HasCleanDisk (state S.Store keeper.old.conn) }
     ensures dropped { (keeper.new.book ≡ None) ↔ (result ≡ Err (Stop.Fault Fault.Store)) }
-    ensures acted { HasCleanDisk (state S.Store keeper.new.conn) → (b : ActState) → Ties S.Store keeper.old b
-        → AddsRow S.Store keeper.new b row.now result }
+    ensures acted { HasCleanDisk (state S.Store keeper.new.conn) → (b : ActState)
+        → Ties S.Store keeper.old b → AddsRow S.Store keeper.new b row.now result }
 {
     match command_in(row) {
         Ok(said) => act(keeper, said.0, said.1),
@@ -53,19 +54,20 @@ fn act<S: Alter, T: Timeline>(
 ) -> Result<bool, Stop>
     requires { IsSome keeper.old.book }
     ensures faults { IfErr result IsActStop }
-    ensures clean { HasCleanDisk (state S.Store keeper.new.conn) → HasCleanDisk (state S.Store keeper.old.conn) }
+    ensures clean { HasCleanDisk (state S.Store keeper.new.conn)
+        → HasCleanDisk (state S.Store keeper.old.conn) }
     ensures dropped { (keeper.new.book ≡ None) ↔ (result ≡ Err (Stop.Fault Fault.Store)) }
-    ensures acted { HasCleanDisk (state S.Store keeper.new.conn) → (b : ActState) → Ties S.Store keeper.old b
-        → Adds S.Store keeper.new b (under reference command) result }
+    ensures acted { HasCleanDisk (state S.Store keeper.new.conn) → (b : ActState)
+        → Ties S.Store keeper.old b → Adds S.Store keeper.new b (under reference command) result }
 {
     reached_law();
-    let before = accepted(keeper);
+    let before = accepted_count(keeper);
     keeper.act(reference, command)?;
-    Ok(before < accepted(keeper))
+    Ok(before < accepted_count(keeper))
 }
 
 /// How many commands the book has accepted.
-fn accepted<S: Alter, T: Timeline>(keeper: &Keeper<S, T>) -> u32
+fn accepted_count<S: Alter, T: Timeline>(keeper: &Keeper<S, T>) -> u32
     ensures { IfSome keeper.now.book (λ s. result ≡ s.accepted) }
 {
     match keeper.book() {

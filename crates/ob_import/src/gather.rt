@@ -6,7 +6,7 @@ ghost use Rattle.ob_stream.specs.Watching.{HasJustFailed, watched_bytes};
 ghost use Rattle.ob_stream.specs.Streams.{Passes};
 ghost use Rattle.ob_import.specs.Gathering.{is_over};
 
-use ob_rows::whole_rows_end;
+use ob_csv::whole_rows_end;
 use ob_stream::{Retries, Watched, read_some};
 use std::alloc::{AllocError, Global};
 use std::io::Read;
@@ -26,9 +26,13 @@ pub(crate) fn gather<R: Read>(
     limit: usize,
 ) -> Result<Gathered, AllocError>
     requires { limit < 2 ^ 32 }
-    ensures consumed { IfOk result (λ g. Consumes (watched_bytes R.remaining reader.old) (watched_bytes R.remaining reader.new) g.bytes.items) }
-    ensures whole { IfOk result (λ g. g.whole ≡ true → (is_over (watched_bytes R.remaining reader.new) ≡ true) × (length g.bytes.items ≤ limit)) }
-    ensures cut { IfOk result (λ g. g.whole ≡ false → HasJustFailed reader.new ⊎ Passes (watched_bytes R.remaining reader.old) limit) }
+    ensures consumed { IfOk result (λ g. Consumes (watched_bytes R.remaining reader.old)
+        (watched_bytes R.remaining reader.new) g.bytes.items) }
+    ensures whole { IfOk result (λ g. g.whole ≡ true
+        → (is_over (watched_bytes R.remaining reader.new) ≡ true)
+        × (length g.bytes.items ≤ limit)) }
+    ensures cut { IfOk result (λ g. g.whole ≡ false
+        → HasJustFailed reader.new ⊎ Passes (watched_bytes R.remaining reader.old) limit) }
 {
     let mut bytes = Vec::new(alloc);
     let mut chunk = [0u8; 4096];
@@ -53,7 +57,7 @@ pub(crate) fn gather<R: Read>(
 
 impl Gathered {
     ghost use Rattle.std.specs.Prelude.{◌≡◌};
-    ghost use Rattle.ob_rows.specs.Rows.{rows_of};
+    ghost use Rattle.ob_csv.specs.Rows.{rows_of};
     ghost use Rattle.ob_import.specs.Gathering.{gathered_rows};
 
     /// The part that has the rows which may act: all of a whole text, and of one that broke off its whole rows.

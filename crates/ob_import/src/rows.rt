@@ -1,14 +1,14 @@
 //! The rows of a text act in turn, up to the first refusal.
 ghost use Rattle.std.specs.Prelude.{◌≡◌, ◌≢◌, true, false, [], Some, Ok, IsSome, IfSome, IfOk, IfErr};
-ghost use Rattle.ob_rows.specs.Rows.{TakesRow};
-ghost use Rattle.ob_rows.specs.RowReading.{rows_left};
+ghost use Rattle.ob_csv.specs.Rows.{TakesRow};
+ghost use Rattle.ob_csv.specs.RowReading.{rows_left};
 ghost use Rattle.ob_import.specs.Imports.{after_header};
 ghost use Rattle.ob_import.specs.Reports.{HasCause, Runs};
 
 use crate::acting::act_row;
 use crate::report::{ImportFault, ImportReport};
 use ob_base::{Fault, Refusal, Stop};
-use ob_rows::{MOST_ROWS, Row, RowReader};
+use ob_csv::{MOST_ROWS, Row, RowReader};
 use ob_store::{Keeper, Progress};
 use ob_sweep::Timeline;
 use sqlite::Alter;
@@ -25,7 +25,8 @@ pub(crate) fn import_all<R: Read, S: Alter, T: Timeline, P: Progress>(
     progress: &mut P,
 ) -> Result<ImportReport, ImportFault>
     requires { IsSome keeper.old.book }
-    ensures runs { Runs S.Store after_header keeper.old keeper.new (rows_left R.remaining rows.old) whole result }
+    ensures runs { Runs S.Store after_header keeper.old keeper.new (rows_left R.remaining rows.old)
+        whole result }
     ensures some { whole ≡ false → IfOk result (λ _. rows_left R.remaining rows.old ≢ Some []) }
 {
     let mut row = Row::new(alloc);
@@ -58,14 +59,15 @@ fn import_rows<R: Read, S: Alter, T: Timeline, P: Progress>(
     progress: &mut P,
 ) -> Result<ImportReport, ImportFault>
     requires { IsSome keeper.old.book }
-    ensures runs { Runs S.Store (λ rows. Some rows) keeper.old keeper.new (rows_left R.remaining rows.old) whole result }
+    ensures runs { Runs S.Store (λ rows. Some rows) keeper.old keeper.new
+        (rows_left R.remaining rows.old) whole result }
 {
     let mut tally = Tally { added: 0, again: 0 };
     for number in 1..MOST_ROWS + 1 {
         match take_row(rows, row, whole) {
             Ok(true) => {}
             Ok(false) => return Ok(report(tally, None)),
-            Err(fault) => return Err(broken(tally, fault)),
+            Err(fault) => return Err(fault_after(tally, fault)),
         }
         match act_row(keeper, row) {
             Ok(is_new) => {
@@ -73,23 +75,25 @@ fn import_rows<R: Read, S: Alter, T: Timeline, P: Progress>(
                 progress.step(number);
             }
             Err(Stop::Refused(refusal)) => return Ok(report(tally, Some((number, refusal)))),
-            Err(Stop::Fault(fault)) => return Err(broken(tally, fault)),
+            Err(Stop::Fault(fault)) => return Err(fault_after(tally, fault)),
         }
     }
     match take_row(rows, row, whole) {
         Ok(true) => Ok(report(tally, Some((MOST_ROWS + 1, Refusal::Full(MOST_ROWS))))),
         Ok(false) => Ok(report(tally, None)),
-        Err(fault) => Err(broken(tally, fault)),
+        Err(fault) => Err(fault_after(tally, fault)),
     }
 }
 
 /// The next row into `row`, and whether there was one. `Input` behind the last row of what isn't the whole text.
 fn take_row<R: Read>(rows: &mut RowReader<R>, row: &mut Row, whole: bool) -> Result<bool, Fault>
-    ensures takes { IfOk result (λ found. TakesRow (rows_left R.remaining rows.old) (rows_left R.remaining rows.new) found row.new) }
+    ensures takes { IfOk result (λ found. TakesRow (rows_left R.remaining rows.old)
+        (rows_left R.remaining rows.new) found row.new) }
     ensures ended { result ≡ Ok false → whole ≡ true }
     ensures fault { IfErr result (λ f. HasCause f (whole ≡ false)) }
     ensures store { IfErr result (λ f. f ≢ Fault.Store) }
-    ensures all { IfErr result (λ f. f ≡ Fault.Input → IfSome (rows_left R.remaining rows.old) (λ rows. rows ≡ [])) }
+    ensures all { IfErr result (λ f. f ≡ Fault.Input
+        → IfSome (rows_left R.remaining rows.old) (λ rows. rows ≡ [])) }
 {
     match rows.next_row(row) {
         Ok(found) => {
@@ -141,7 +145,7 @@ fn report(tally: Tally, stopped: Option<(u32, Refusal)>) -> ImportReport
     }
 }
 
-fn broken(tally: Tally, fault: Fault) -> ImportFault
+fn fault_after(tally: Tally, fault: Fault) -> ImportFault
     ensures fault { result ≡ record { fault = fault; added = tally.added; again = tally.again } }
 {
     ImportFault {

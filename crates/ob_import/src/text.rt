@@ -4,7 +4,7 @@ ghost use Rattle.sqlite.specs.Held.{state};
 ghost use Rattle.sqlite.specs.State.{HasCleanDisk};
 ghost use Rattle.ob_stream.specs.Streams.{Passes};
 ghost use Rattle.ob_stream.specs.Watching.{HasJustFailed, watched_bytes};
-ghost use Rattle.ob_rows.specs.Rows.{rows_of};
+ghost use Rattle.ob_csv.specs.Rows.{rows_of};
 ghost use Rattle.ob_book.specs.Acts.{ActState};
 ghost use Rattle.ob_store.specs.Keeping.{Ties};
 ghost use Rattle.ob_import.specs.Gathering.{IsWithin, gathered_rows};
@@ -16,7 +16,7 @@ use crate::report::{ImportFault, ImportReport};
 use crate::rows::import_all;
 use ob_base::Fault;
 use ob_command::rows_law;
-use ob_rows::{MOST_BYTES, RowReader, whole_rows_law};
+use ob_csv::{MOST_BYTES, RowReader, whole_rows_law};
 use ob_store::{Keeper, Progress, Silent, Work};
 use ob_stream::{Retries, Watched};
 use ob_sweep::Timeline;
@@ -41,21 +41,23 @@ pub fn import_text<S: Alter, T: Timeline>(
 ) -> Result<ImportReport, ImportFault>
     ensures reopen { (keeper.old.book ≡ None) ↔ (result ≡ no_book) }
     ensures unopened { keeper.old.book ≡ None → keeper.new ≡ keeper.old }
-    ensures imported { HasCleanDisk (state S.Store keeper.new.conn) → (b : ActState) → Ties S.Store keeper.old b
-        → IsSome keeper.old.book → Imported S.Store keeper.new b (Some (rows_of text.now)) result }
-    ensures clean { HasCleanDisk (state S.Store keeper.new.conn) → HasCleanDisk (state S.Store keeper.old.conn) }
+    ensures imported { HasCleanDisk (state S.Store keeper.new.conn) → (b : ActState)
+        → Ties S.Store keeper.old b → IsSome keeper.old.book
+        → Imported S.Store keeper.new b (Some (rows_of text.now)) result }
+    ensures clean { HasCleanDisk (state S.Store keeper.new.conn)
+        → HasCleanDisk (state S.Store keeper.old.conn) }
     ensures dropped { IsSome keeper.old.book → (keeper.new.book ≡ None) ↔ IsStoreFault result }
     ensures cause { IsSome keeper.old.book → IfErr result (λ e. HasCause e.fault ⊥) }
 {
     if keeper.book().is_none() {
-        return Err(unopened());
+        return Err(fault_without_book());
     }
     let mut rows = RowReader::new(alloc, text);
     import_all(alloc, &mut rows, true, keeper, &mut Silent)
 }
 
 /// Imports the commands of the CSV text that a reader gives, as `import_text` does. The text has at most
-/// `ob_rows::MOST_BYTES` bytes; an interrupted read is tried again, 65,536 times in all.
+/// `ob_csv::MOST_BYTES` bytes; an interrupted read is tried again, 65,536 times in all.
 ///
 /// # Errors
 ///
@@ -68,16 +70,22 @@ pub fn import<R: Read, S: Alter, T: Timeline>(
 ) -> Result<ImportReport, ImportFault>
     ensures reopen { (keeper.old.book ≡ None) ↔ (result ≡ no_book) }
     ensures unopened { keeper.old.book ≡ None → keeper.new ≡ keeper.old }
-    ensures imported { HasCleanDisk (state S.Store keeper.new.conn) → (b : ActState) → Ties S.Store keeper.old b
-        → IsSome keeper.old.book → Imported S.Store keeper.new b (option_map rows_of (watched_bytes R.remaining reader.old)) result }
-    ensures clean { HasCleanDisk (state S.Store keeper.new.conn) → HasCleanDisk (state S.Store keeper.old.conn) }
+    ensures imported { HasCleanDisk (state S.Store keeper.new.conn) → (b : ActState)
+        → Ties S.Store keeper.old b → IsSome keeper.old.book
+        → Imported S.Store keeper.new b (option_map rows_of (watched_bytes R.remaining reader.old))
+        result }
+    ensures clean { HasCleanDisk (state S.Store keeper.new.conn)
+        → HasCleanDisk (state S.Store keeper.old.conn) }
     ensures dropped { IsSome keeper.old.book → (keeper.new.book ≡ None) ↔ IsStoreFault result }
     ensures cause { IsSome keeper.old.book → IfErr result (λ e. HasCause e.fault
         (HasJustFailed reader.new ⊎ Passes (watched_bytes R.remaining reader.old) 268435456)) }
-    ensures broken { HasCleanDisk (state S.Store keeper.new.conn) → (b : ActState) → Ties S.Store keeper.old b
-        → IsSome keeper.old.book → IfErr result (λ e. e.fault ≡ Fault.Input
-        → HoldsWholeRows S.Store keeper.new b (watched_bytes R.remaining reader.old) (watched_bytes R.remaining reader.new) e.added e.again) }
-    ensures bound { IfOk result (λ r. r.stopped ≡ None → IsWithin (watched_bytes R.remaining reader.old) 268435456) }
+    ensures broken { HasCleanDisk (state S.Store keeper.new.conn) → (b : ActState)
+        → Ties S.Store keeper.old b → IsSome keeper.old.book
+        → IfErr result (λ e. e.fault ≡ Fault.Input
+        → HoldsWholeRows S.Store keeper.new b (watched_bytes R.remaining reader.old)
+        (watched_bytes R.remaining reader.new) e.added e.again) }
+    ensures bound { IfOk result (λ r. r.stopped ≡ None
+        → IsWithin (watched_bytes R.remaining reader.old) 268435456) }
 {
     import_with_progress(alloc, reader, keeper, &mut Silent)
 }
@@ -96,19 +104,25 @@ pub fn import_with_progress<R: Read, S: Alter, T: Timeline, P: Progress>(
 ) -> Result<ImportReport, ImportFault>
     ensures reopen { (keeper.old.book ≡ None) ↔ (result ≡ no_book) }
     ensures unopened { keeper.old.book ≡ None → keeper.new ≡ keeper.old }
-    ensures imported { HasCleanDisk (state S.Store keeper.new.conn) → (b : ActState) → Ties S.Store keeper.old b
-        → IsSome keeper.old.book → Imported S.Store keeper.new b (option_map rows_of (watched_bytes R.remaining reader.old)) result }
-    ensures clean { HasCleanDisk (state S.Store keeper.new.conn) → HasCleanDisk (state S.Store keeper.old.conn) }
+    ensures imported { HasCleanDisk (state S.Store keeper.new.conn) → (b : ActState)
+        → Ties S.Store keeper.old b → IsSome keeper.old.book
+        → Imported S.Store keeper.new b (option_map rows_of (watched_bytes R.remaining reader.old))
+        result }
+    ensures clean { HasCleanDisk (state S.Store keeper.new.conn)
+        → HasCleanDisk (state S.Store keeper.old.conn) }
     ensures dropped { IsSome keeper.old.book → (keeper.new.book ≡ None) ↔ IsStoreFault result }
     ensures cause { IsSome keeper.old.book → IfErr result (λ e. HasCause e.fault
         (HasJustFailed reader.new ⊎ Passes (watched_bytes R.remaining reader.old) 268435456)) }
-    ensures broken { HasCleanDisk (state S.Store keeper.new.conn) → (b : ActState) → Ties S.Store keeper.old b
-        → IsSome keeper.old.book → IfErr result (λ e. e.fault ≡ Fault.Input
-        → HoldsWholeRows S.Store keeper.new b (watched_bytes R.remaining reader.old) (watched_bytes R.remaining reader.new) e.added e.again) }
-    ensures bound { IfOk result (λ r. r.stopped ≡ None → IsWithin (watched_bytes R.remaining reader.old) 268435456) }
+    ensures broken { HasCleanDisk (state S.Store keeper.new.conn) → (b : ActState)
+        → Ties S.Store keeper.old b → IsSome keeper.old.book
+        → IfErr result (λ e. e.fault ≡ Fault.Input
+        → HoldsWholeRows S.Store keeper.new b (watched_bytes R.remaining reader.old)
+        (watched_bytes R.remaining reader.new) e.added e.again) }
+    ensures bound { IfOk result (λ r. r.stopped ≡ None
+        → IsWithin (watched_bytes R.remaining reader.old) 268435456) }
 {
     if keeper.book().is_none() {
-        return Err(unopened());
+        return Err(fault_without_book());
     }
     let mut retries = Retries::new();
     whole_rows_law();
@@ -132,8 +146,8 @@ fn import_gathered<S: Alter, T: Timeline, P: Progress>(
     requires { IsSome keeper.old.book }
     ensures runs { Runs S.Store after_header keeper.old keeper.new
         (Some (gathered_rows gathered.now.whole gathered.now.bytes.items)) gathered.now.whole result }
-    ensures some { gathered.now.whole ≡ false
-        → IfOk result (λ _. Some (gathered_rows gathered.now.whole gathered.now.bytes.items) ≢ Some []) }
+    ensures some { gathered.now.whole ≡ false → IfOk result
+        (λ _. Some (gathered_rows gathered.now.whole gathered.now.bytes.items) ≢ Some []) }
 {
     let part = gathered.whole_part();
     // the first line is the header
@@ -150,7 +164,7 @@ fn lines_of(text: &[u8]) -> u64 {
 }
 
 /// There is no book to import into.
-fn unopened() -> ImportFault
+fn fault_without_book() -> ImportFault
     ensures { Err result ≡ no_book }
 {
     ImportFault {

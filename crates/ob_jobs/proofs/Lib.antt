@@ -1,2 +1,4 @@
 pub mod Ends
 pub mod After
+pub mod Plain
+pub mod Written

@@ -7,7 +7,7 @@ use Rattle.ob_stream.specs.declared.watched.Watched.{Watched}
 use Rattle.ob_store.specs.Creating.{Created}
 use Rattle.ob_store.specs.Keeping.{KeeperValue}
 use Rattle.ob_import.specs.declared.report.ImportReport.{ImportReport}
-use Rattle.ob_words.specs.declared.status.Unfinished.{Unfinished}
+use Rattle.ob_cli.specs.declared.status.Unfinished.{Unfinished}
 use Rattle.ob_jobs.specs.After.{TellsAfter}
 use Rattle.ob_jobs.specs.Endings.{audit_end, import_end, job_end}
 use Rattle.ob_jobs.specs.Importing.{TellsExport, TellsImport}

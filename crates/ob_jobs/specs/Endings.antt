@@ -5,8 +5,8 @@ use Rattle.ob_base.specs.declared.stop.Stop.{Stop}
 use Rattle.ob_base.specs.declared.stop.Stop.TheVariants.{Refused}
 use Rattle.ob_tables.specs.declared.table.Table.{Table}
 use Rattle.ob_import.specs.declared.report.ImportReport.{ImportReport}
-use Rattle.ob_words.specs.declared.status.Unfinished.{Unfinished}
-use Rattle.ob_words.specs.declared.status.Unfinished.TheVariants.{Stopped, Differs}
+use Rattle.ob_cli.specs.declared.status.Unfinished.{Unfinished}
+use Rattle.ob_cli.specs.declared.status.Unfinished.TheVariants.{Stopped, Differs}
 
 -- a job that is done or stopped
 abbrev pub job_end : {X : Type 0} → Result X Stop → Result ⊤ Unfinished

@@ -11,7 +11,7 @@ use Rattle.ob_base.specs.declared.stop.Fault.TheVariants as faults
 use Rattle.ob_stream.specs.Streams.{Passes}
 use Rattle.ob_stream.specs.Watching.{HasJustFailed, watched_bytes}
 use Rattle.ob_stream.specs.declared.watched.Watched.{Watched}
-use Rattle.ob_rows.specs.Rows.{rows_of}
+use Rattle.ob_csv.specs.Rows.{rows_of}
 use Rattle.ob_book.specs.Acts.{ActState}
 use Rattle.ob_tables.specs.Schema.{book_schema}
 use Rattle.ob_store.specs.Keeping.{KeeperValue, Ties}
@@ -19,8 +19,8 @@ use Rattle.ob_import.specs.Gathering.{IsWithin}
 use Rattle.ob_import.specs.Reports.{HasCause, HoldsWholeRows, Imported, IsStoreFault, no_book}
 use Rattle.ob_import.specs.declared.report.ImportReport.{ImportReport}
 use Rattle.ob_import.specs.declared.report.ImportFault.{ImportFault}
-use Rattle.ob_export.specs.Exporting.{Exports}
-use Rattle.ob_export.specs.Text.{moves_text}
+use Rattle.ob_jobs.specs.Exporting.{Exports}
+use Rattle.ob_jobs.specs.Text.{moves_text}
 use Rattle.ob_jobs.specs.After.{TellsAfter}
 
 -- how many rows added a command, and how many named one that the book had

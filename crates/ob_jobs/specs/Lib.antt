@@ -7,3 +7,5 @@ pub mod Loads
 pub mod Migrations
 pub mod Endings
 pub mod Books
+pub mod Exporting
+pub mod Text

@@ -25,7 +25,8 @@ pub fn run_audit<S: Alter, T: Timeline, W: Write>(
     keeper: &mut Keeper<S, T>,
     writer: &mut Watched<W>,
 ) -> Result<Option<Table>, Stop>
-    ensures { TellsAfter (AuditOf S.Store keeper.old keeper.new) audit_line W.contents writer.old writer.new result }
+    ensures { TellsAfter (AuditOf S.Store keeper.old keeper.new) audit_line W.contents writer.old
+        writer.new result }
 {
     let found = match audit_tables(keeper) {
         Ok(found) => found,

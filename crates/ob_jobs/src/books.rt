@@ -14,11 +14,11 @@ use crate::migrate::run_migrate;
 use crate::opening::{OpenInput, OpenOutput, ServeBook};
 use crate::table::run_table;
 use ob_base::{Fault, Stop};
+use ob_cli::Unfinished;
 use ob_import::{ImportReport, Progress};
 use ob_store::Keeper;
 use ob_stream::Watched;
 use ob_sweep::Timeline;
-use ob_words::Unfinished;
 use sqlite::Alter;
 use std::alloc::Global;
 use std::io::Write;
@@ -41,7 +41,8 @@ pub fn make_book<S: Alter, T: Timeline, W: Write>(
     zone: &[u8],
     writer: &mut Watched<W>,
 ) -> Result<(), Unfinished>
-    ensures { MakesBook S.Store W.contents keeper.old keeper.new first.now days zone.now writer.old writer.new result }
+    ensures { MakesBook S.Store W.contents keeper.old keeper.new first.now days zone.now writer.old
+        writer.new result }
 {
     end_of_job(run_init(keeper, first, days, zone, writer))
 }
@@ -84,8 +85,8 @@ fn print_loaded<S: Alter, T: Timeline, P: Progress, W: Write>(
     writer: &mut Watched<W>,
 ) -> Result<(), Stop>
     ensures { LoadsThen S.Store (λ mid done. (keeper.new ≡ mid)
-        × Tells (HasTable mid.book) (λ _. table_text mid.book) W.contents writer.old writer.new done)
-        (writer.new ≡ writer.old) keeper.old keeper.new result }
+        × Tells (HasTable mid.book) (λ _. table_text mid.book) W.contents writer.old writer.new
+        done) (writer.new ≡ writer.old) keeper.old keeper.new result }
 {
     match load_book(keeper, progress) {
         Ok(()) => run_table(keeper, writer),
@@ -101,8 +102,8 @@ pub fn import_into_book<O: OpenInput, S: Alter, T: Timeline, P: Progress, W: Wri
     progress: &mut P,
     writer: &mut Watched<W>,
 ) -> Result<(), Unfinished>
-    ensures { ImportsIntoBook S.Store O.opens O.Input.remaining W.contents keeper.old keeper.new input.old input.new
-        writer.old writer.new result }
+    ensures { ImportsIntoBook S.Store O.opens O.Input.remaining W.contents keeper.old keeper.new
+        input.old input.new writer.old writer.new result }
 {
     end_of_import(import_loaded(alloc, keeper, input, progress, writer))
 }
@@ -114,8 +115,8 @@ fn import_loaded<O: OpenInput, S: Alter, T: Timeline, P: Progress, W: Write>(
     progress: &mut P,
     writer: &mut Watched<W>,
 ) -> Result<ImportReport, Stop>
-    ensures { LoadsThen S.Store (λ mid done. ImportsInput S.Store O.opens O.Input.remaining W.contents mid keeper.new
-        input.old input.new writer.old writer.new done)
+    ensures { LoadsThen S.Store (λ mid done. ImportsInput S.Store O.opens O.Input.remaining
+        W.contents mid keeper.new input.old input.new writer.old writer.new done)
         ((input.new ≡ input.old) × (writer.new ≡ writer.old)) keeper.old keeper.new result }
 {
     match load_book(keeper, progress) {
@@ -132,8 +133,8 @@ fn import_opened<O: OpenInput, S: Alter, T: Timeline, P: Progress, W: Write>(
     progress: &mut P,
     writer: &mut Watched<W>,
 ) -> Result<ImportReport, Stop>
-    ensures { ImportsInput S.Store O.opens O.Input.remaining W.contents keeper.old keeper.new input.old input.new
-        writer.old writer.new result }
+    ensures { ImportsInput S.Store O.opens O.Input.remaining W.contents keeper.old keeper.new
+        input.old input.new writer.old writer.new result }
 {
     match input.open() {
         Some(opened) => {
@@ -152,8 +153,8 @@ pub fn export_from_book<O: OpenOutput, S: Alter, T: Timeline, P: Progress, W: Wr
     progress: &mut P,
     writer: &mut Watched<W>,
 ) -> Result<(), Unfinished>
-    ensures { ExportsFromBook S.Store O.opens O.Output.contents W.contents keeper.old keeper.new output.old output.new
-        writer.old writer.new result }
+    ensures { ExportsFromBook S.Store O.opens O.Output.contents W.contents keeper.old keeper.new
+        output.old output.new writer.old writer.new result }
 {
     end_of_job(export_loaded(alloc, keeper, output, progress, writer))
 }
@@ -165,8 +166,8 @@ fn export_loaded<O: OpenOutput, S: Alter, T: Timeline, P: Progress, W: Write>(
     progress: &mut P,
     writer: &mut Watched<W>,
 ) -> Result<u64, Stop>
-    ensures { LoadsThen S.Store (λ mid done. ExportsOutput S.Store O.opens O.Output.contents W.contents mid keeper.new
-        output.old output.new writer.old writer.new done)
+    ensures { LoadsThen S.Store (λ mid done. ExportsOutput S.Store O.opens O.Output.contents
+        W.contents mid keeper.new output.old output.new writer.old writer.new done)
         ((output.new ≡ output.old) × (writer.new ≡ writer.old)) keeper.old keeper.new result }
 {
     match load_book(keeper, progress) {
@@ -182,8 +183,8 @@ fn export_opened<O: OpenOutput, S: Alter, T: Timeline, W: Write>(
     output: &mut O,
     writer: &mut Watched<W>,
 ) -> Result<u64, Stop>
-    ensures { ExportsOutput S.Store O.opens O.Output.contents W.contents keeper.old keeper.new output.old output.new
-        writer.old writer.new result }
+    ensures { ExportsOutput S.Store O.opens O.Output.contents W.contents keeper.old keeper.new
+        output.old output.new writer.old writer.new result }
 {
     match output.open() {
         Some(opened) => {

@@ -3,9 +3,9 @@ ghost use Rattle.std.specs.Prelude.{◌≡◌};
 ghost use Rattle.ob_jobs.specs.Endings.{audit_end, import_end, job_end};
 
 use ob_base::Stop;
+use ob_cli::Unfinished;
 use ob_import::ImportReport;
 use ob_tables::Table;
-use ob_words::Unfinished;
 
 /// The end of a job that is done or stopped.
 pub(crate) fn end_of_job<X: Copy>(job: Result<X, Stop>) -> Result<(), Unfinished>

@@ -2,9 +2,9 @@
 ghost use Rattle.std.specs.Prelude.{◌≡◌, IfOk, string_bytes};
 ghost use Rattle.ob_jobs.specs.Importing.{ExportOf, TellsExport, export_line};
 
+use crate::export_moves;
 use crate::tell::tell;
 use ob_base::{Fault, Stop};
-use ob_export::export_moves;
 use ob_store::Keeper;
 use ob_stream::Watched;
 use ob_sweep::Timeline;
@@ -12,19 +12,20 @@ use sqlite::Alter;
 use std::alloc::{AllocError, Global};
 use std::io::Write;
 
-/// Writes what the accepted commands moved into a file, as [`ob_export::export_moves`], and then `rows`, how many amounts they
+/// Writes what the accepted commands moved into a file, as [`ob_jobs::export_moves`], and then `rows`, how many amounts they
 /// are, and LF.
 ///
 /// # Errors
 ///
-/// Those of [`ob_export::export_moves`], and then nothing is told; `Fault::Output` also where the writer fails.
+/// Those of [`ob_jobs::export_moves`], and then nothing is told; `Fault::Output` also where the writer fails.
 pub fn run_export<F: Write, S: Alter, T: Timeline, W: Write>(
     alloc: Global,
     keeper: &mut Keeper<S, T>,
     file: &mut Watched<F>,
     writer: &mut Watched<W>,
 ) -> Result<u64, Stop>
-    ensures { TellsExport S.Store F.contents W.contents keeper.old keeper.new file.old file.new writer.old writer.new result }
+    ensures { TellsExport S.Store F.contents W.contents keeper.old keeper.new file.old file.new
+        writer.old writer.new result }
 {
     let rows = match export_rows(alloc, keeper, file) {
         Ok(rows) => rows,

@@ -26,7 +26,8 @@ pub fn run_import<R: Read, S: Alter, T: Timeline, P: Progress, W: Write>(
     progress: &mut P,
     writer: &mut Watched<W>,
 ) -> Result<ImportReport, Stop>
-    ensures { TellsImport S.Store R.remaining W.contents keeper.old keeper.new reader.old reader.new writer.old writer.new result }
+    ensures { TellsImport S.Store R.remaining W.contents keeper.old keeper.new reader.old reader.new
+        writer.old writer.new result }
 {
     let report = match import_rows(alloc, keeper, reader, progress) {
         Ok(report) => report,
@@ -49,7 +50,8 @@ fn import_rows<R: Read, S: Alter, T: Timeline, P: Progress>(
     reader: &mut Watched<R>,
     progress: &mut P,
 ) -> Result<ImportReport, Stop>
-    ensures { ImportsAs (ImportOf S.Store R.remaining keeper.old keeper.new reader.old reader.new) result }
+    ensures { ImportsAs (ImportOf S.Store R.remaining keeper.old keeper.new reader.old reader.new)
+        result }
 {
     match import_with_progress(alloc, reader, keeper, progress) {
         Ok(report) => Ok(report),

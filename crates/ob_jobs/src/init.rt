@@ -25,8 +25,8 @@ pub fn run_init<S: Alter, T: Timeline, W: Write>(
     zone: &[u8],
     writer: &mut Watched<W>,
 ) -> Result<(), Stop>
-    ensures { Tells (Created S.Store keeper.old keeper.new first.now days zone.now) (λ _. created_line) W.contents
-        writer.old writer.new result }
+    ensures { Tells (Created S.Store keeper.old keeper.new first.now days zone.now)
+        (λ _. created_line) W.contents writer.old writer.new result }
 {
     match keeper.create(first, days, zone) {
         Ok(()) => tell(writer, b"created\n".as_slice()),

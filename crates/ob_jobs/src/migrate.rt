@@ -23,7 +23,8 @@ pub fn run_migrate<S: Alter, T: Timeline, W: Write>(
     keeper: &mut Keeper<S, T>,
     writer: &mut Watched<W>,
 ) -> Result<bool, Stop>
-    ensures { Tells (MigrationOf S.Store keeper.old keeper.new) migrate_line W.contents writer.old writer.new result }
+    ensures { Tells (MigrationOf S.Store keeper.old keeper.new) migrate_line W.contents writer.old
+        writer.new result }
 {
     let migrated = match migrate_tables(keeper) {
         Ok(migrated) => migrated,

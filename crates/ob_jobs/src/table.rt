@@ -20,7 +20,8 @@ pub fn run_table<S: Alter, T: Timeline, W: Write>(
     keeper: &Keeper<S, T>,
     writer: &mut Watched<W>,
 ) -> Result<(), Stop>
-    ensures { Tells (HasTable keeper.now.book) (λ _. table_text keeper.now.book) W.contents writer.old writer.new result }
+    ensures { Tells (HasTable keeper.now.book) (λ _. table_text keeper.now.book) W.contents
+        writer.old writer.new result }
 {
     let Some(book) = keeper.book() else {
         return Err(Stop::Fault(Fault::Reopen));

@@ -18,7 +18,9 @@ use std::alloc::{AllocError, Global};
 /// `{"cause":[[3,9000]],"day":[[0,9000]],"feeder":[[1,9000]],"total":9000}`. The error is that memory was refused.
 pub fn totals_text(alloc: Global, postings: &Postings, days: u16) -> Result<Vec<u8>, Stop>
     requires days { days ≡ day_count postings.now }
-    ensures text { IfOk result (λ text. text.items ≡ definition.totals_text (amount_of postings.now) (day_count postings.now) (total_of postings.now Total)) }
+    ensures text { IfOk result (λ text. text.items
+        ≡ definition.totals_text (amount_of postings.now) (day_count postings.now)
+        (total_of postings.now Total)) }
     ensures err { IfErr result (λ stop. stop ≡ out_of_memory) }
 {
     let totals = totals(alloc, postings, days)?;
@@ -28,7 +30,8 @@ pub fn totals_text(alloc: Global, postings: &Postings, days: u16) -> Result<Vec<
 // The totals as JSON.
 fn totals(alloc: Global, postings: &Postings, days: u16) -> Result<Value, AllocError>
     requires days { days ≡ day_count postings.now }
-    ensures data { IfOk result (λ v. view v ≡ totals_data (amount_of postings.now) (day_count postings.now) (total_of postings.now Total)) }
+    ensures data { IfOk result (λ v. view v ≡ totals_data (amount_of postings.now)
+        (day_count postings.now) (total_of postings.now Total)) }
 {
     json!(in alloc; {
         "cause": rows(alloc, postings, Dim::Cause, 0, 64)?,
@@ -49,7 +52,8 @@ fn rows(
     requires order { first ≤ end }
     requires exist { (key : ℕ) → first ≤ key → key < end → IsKey (day_count postings.now) dim key }
     requires all { keys (day_count postings.now) dim ≡ range_with_len first (end - first) }
-    ensures data { IfOk result (λ v. view v ≡ rows_data (amount_of postings.now) (day_count postings.now) dim) }
+    ensures data { IfOk result (λ v. view v ≡ rows_data (amount_of postings.now)
+        (day_count postings.now) dim) }
 {
     let mut rows = Vec::new(alloc);
     for key in first..end {
@@ -60,7 +64,8 @@ fn rows(
 
 // Puts a row for the key behind the others, where its amount isn't 0.
 fn push_row(alloc: Global, rows: &mut Vec<Value>, key: u16, amount: u64) -> Result<(), AllocError>
-    ensures data { OnOk result (map view rows.new.items ≡ map view rows.old.items ++ map row_data (filter has_amount ((key, amount) ∷ []))) }
+    ensures data { OnOk result (map view rows.new.items
+        ≡ map view rows.old.items ++ map row_data (filter has_amount ((key, amount) ∷ []))) }
 {
     if amount > 0 {
         rows.push(row(alloc, key, amount)?)?;

@@ -2,10 +2,10 @@
 use crate::sinks::{Shelf, Sink};
 use crate::sources::Source;
 use crate::tables::has_rows;
-use ob_export::export_moves;
 use ob_import::{
     ImportFault, ImportReport, Progress, Work, import, import_text, import_with_progress,
 };
+use ob_jobs::export_moves;
 use ob_net::{Fault, Refusal, Stop, Watched};
 use ob_store::Keeper;
 use ob_sweep::{Timeline, Windowed};

@@ -3,3 +3,9 @@ mod Versions
 mod Numbered
 mod Network
 mod Keyed
+mod Changed
+mod Examples
+mod Renewed
+mod Rowing
+mod Same
+mod Upgrades

@@ -1,2 +1,4 @@
 pub mod Fields
 pub mod Parts
+pub mod OldTables
+pub mod Laws

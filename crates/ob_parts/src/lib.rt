@@ -5,8 +5,12 @@
 //! nothing is written.
 #![tactic(auto)]
 
+mod bodies;
 mod fields;
+mod laws;
 mod part;
 mod parts;
 
+pub use bodies::new_bodies;
+pub use laws::upgrade_law;
 pub use part::holds_part;

@@ -31,9 +31,10 @@ fn holds_period<S: Alter>(
     period: &Period,
     version: Version,
 ) -> Result<bool, Stop>
-    ensures { (v : AVersion) → Has v ATable.Meta → Compares S.Store v ATable.Meta
-        (meta_row (version_number version) (day_text period.now.first_day) (day_count period.now) period.now.zone ∷ [])
-        conn.old conn.new result }
+    ensures { (v : AVersion) → Has v ATable.Meta
+        → Compares S.Store v ATable.Meta (meta_row (version_number version)
+        (day_text period.now.first_day) (day_count period.now) period.now.zone ∷ []) conn.old
+        conn.new result }
 {
     let days = period.days();
     match period.date_text(0) {
@@ -53,8 +54,9 @@ fn holds_posted<S: Alter, T: Timeline>(
     conn: &mut Connection<S>,
     book: &Book<T>,
 ) -> Result<bool, Stop>
-    ensures { (v : AVersion) → Has v ATable.Posting → Compares S.Store v ATable.Posting
-        (amount_rows (day_count book.now.state.period) (amount book.now.state)) conn.old conn.new result }
+    ensures { (v : AVersion) → Has v ATable.Posting
+        → Compares S.Store v ATable.Posting (amount_rows (day_count book.now.state.period)
+        (amount book.now.state)) conn.old conn.new result }
 {
     holds_amounts(conn, book.postings(), book.period().days())
 }

@@ -140,7 +140,8 @@ impl<'b> Listed for Customers<'b> {
 /// Whether the table of customers holds those of a roll. Nothing is written.
 pub(crate) fn holds_customers<S: Alter>(conn: &mut Connection<S>, roll: &Roll) -> Result<bool, Stop>
     ensures { (v : AVersion) → Has v ATable.Customer
-        → Compares S.Store v ATable.Customer (map row_of_customer roll.now.customers) conn.old conn.new result }
+        → Compares S.Store v ATable.Customer (map row_of_customer roll.now.customers) conn.old
+        conn.new result }
 {
     // They rise by number, by a clause of this call.
     let _ = roll.customers();
@@ -206,7 +207,8 @@ fn is_row_of_entry(row: &Row, entry: &Entry) -> bool
 /// Whether the table of entries holds those of a sheet. Nothing is written.
 pub(crate) fn holds_entries<S: Alter>(conn: &mut Connection<S>, sheet: &Sheet) -> Result<bool, Stop>
     ensures { (v : AVersion) → Has v ATable.Entry
-        → Compares S.Store v ATable.Entry (map row_of_entry sheet.now.entries) conn.old conn.new result }
+        → Compares S.Store v ATable.Entry (map row_of_entry sheet.now.entries) conn.old conn.new
+        result }
 {
     // They are numbered, by a clause of this call.
     let _ = sheet.entry(0);
@@ -258,7 +260,8 @@ pub(crate) fn holds_causes<S: Alter, T: Timeline>(
     book: &Book<T>,
 ) -> Result<bool, Stop>
     ensures { (v : AVersion) → Has v ATable.Cause
-        → Compares S.Store v ATable.Cause (present cause_row 0 book.now.state.causes) conn.old conn.new result }
+        → Compares S.Store v ATable.Cause (present cause_row 0 book.now.state.causes) conn.old
+        conn.new result }
 {
     holds(conn, &Causes { book })
 }
@@ -442,7 +445,8 @@ impl<'b> Listed for Lives<'b> {
 /// Whether the table of lives holds those of a network's devices. Nothing is written.
 pub(crate) fn holds_lives<S: Alter>(conn: &mut Connection<S>, net: &Net) -> Result<bool, Stop>
     ensures { (v : AVersion) → Has v ATable.Life
-        → Compares S.Store v ATable.Life (numbered row_of_life 0 net.now.network.devices) conn.old conn.new result }
+        → Compares S.Store v ATable.Life (numbered row_of_life 0 net.now.network.devices) conn.old
+        conn.new result }
 {
     holds(conn, &Lives { net })
 }
@@ -515,7 +519,8 @@ pub(crate) fn holds_nodes<S: Alter>(
 ) -> Result<bool, Stop>
     requires { names.now ≡ map (λ n. n.name) net.now.network.nodes }
     ensures { (v : AVersion) → Has v ATable.Node
-        → Compares S.Store v ATable.Node (numbered row_of_node 0 net.now.network.nodes) conn.old conn.new result }
+        → Compares S.Store v ATable.Node (numbered row_of_node 0 net.now.network.nodes) conn.old
+        conn.new result }
 {
     holds(conn, &Nodes { net, names })
 }
@@ -592,7 +597,8 @@ pub(crate) fn holds_amounts<S: Alter>(
 ) -> Result<bool, Stop>
     requires { days ≡ day_count postings.now }
     ensures { (v : AVersion) → Has v ATable.Posting
-        → Compares S.Store v ATable.Posting (amount_rows days (amount_of postings.now)) conn.old conn.new result }
+        → Compares S.Store v ATable.Posting (amount_rows days (amount_of postings.now)) conn.old
+        conn.new result }
 {
     holds(conn, &Amounts { postings, days })
 }

@@ -3,7 +3,7 @@ pub mod Sums
 pub mod Deltas
 pub mod Keying
 pub mod Placed
-pub mod Differing
+pub mod DifferingRows
 pub mod Bounds
 pub mod Served
 pub mod Running
@@ -17,3 +17,8 @@ pub mod Rolls
 pub mod AllKeys
 pub mod Reposted
 pub mod EntryCauses
+pub mod Balancing
+pub mod Recaused
+pub mod RunLists
+pub mod SmallCauses
+pub mod Staying

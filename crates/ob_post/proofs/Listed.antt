@@ -14,7 +14,7 @@ use Rattle.ob_post.specs.Keys.{dim_number, IsKey, keys}
 use Rattle.ob_post.specs.Moved.{is_under, delta_of, HaveKeys, IsBefore, AreInOrder, HaveNoZero, is_nonzero, changes_under, moves_by}
 use Rattle.ob_post.proofs.Keying.{same_dim, keys_exist, key_among}
 use Rattle.ob_post.proofs.Deltas.{delta_under, delta_of-append, delta_of_none, after_under, only_once, tail_in_order}
-use Rattle.ob_post.proofs.Differing.{cases_key, difference, none_of_others}
+use Rattle.ob_post.proofs.DifferingRows.{cases_key, difference, none_of_others}
 
 -- ---- two lists that move alike are one
 -- of two rows one is before the other, or both have one key

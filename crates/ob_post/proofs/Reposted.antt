@@ -14,7 +14,7 @@ use Rattle.ob_post.specs.Moved.{delta_of, HaveKeys, moves_by}
 use Rattle.ob_post.specs.MoveLaws.{NoneReposted, NodeStays, NodeReposted, HaveKeysOfMore, RepostedDiffer, DifferencesFit, MovesLeadTo, change_from}
 use Rattle.ob_post.specs.Postings.{PostedAmounts, amount_of, day_count, amount_after, total_after}
 use Rattle.ob_post.proofs.Keying.{key_of_more, same_sums}
-use Rattle.ob_post.proofs.Differing.{cases_key, none_of_others}
+use Rattle.ob_post.proofs.DifferingRows.{cases_key, none_of_others}
 use Rattle.ob_post.proofs.Sums.{sum_by-map}
 use Rattle.ob_post.proofs.Listed.{delta_of-moves_by, keys_of_moves_by}
 

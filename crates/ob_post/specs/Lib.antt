@@ -9,3 +9,5 @@ pub mod RunAmounts
 pub mod SectionAmounts
 pub mod SectionLaws
 pub mod TotalLaws
+pub mod Balances
+pub mod Causes

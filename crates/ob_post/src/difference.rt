@@ -21,14 +21,21 @@ use std::alloc::Global;
 pub fn moves(alloc: Global, taken: &[Moved], given: &[Moved]) -> Result<Vec<Moved>, Stop>
     requires taken { HaveKeys 366 taken.now }
     requires given { HaveKeys 366 given.now }
-    requires fits { (dim : Dimension) (key : ℕ) → FitsSigned w64 (delta_of given.now dim key -ℤ delta_of taken.now dim key) }
-    ensures deltas { IfOk result (λ moved. (dim : Dimension) (key : ℕ) → delta_of moved.items dim key ≡ delta_of given.now dim key -ℤ delta_of taken.now dim key) }
+    requires fits { (dim : Dimension) (key : ℕ) → FitsSigned w64
+        (delta_of given.now dim key -ℤ delta_of taken.now dim key) }
+    ensures deltas { IfOk result (λ moved. (dim : Dimension) (key : ℕ)
+        → delta_of moved.items dim key ≡ delta_of given.now dim key -ℤ delta_of taken.now dim key) }
     ensures no_zero { IfOk result (λ moved. HaveNoZero moved.items) }
     ensures order { IfOk result (λ moved. AreInOrder moved.items) }
     // As one list: with any number of days that has all their keys, the changes of all keys.
-    ensures moves { IfOk result (λ moved. (days : ℕ) → HaveKeys days taken.now → HaveKeys days given.now → moved.items ≡ moves_by (λ dim key. delta_of given.now dim key -ℤ delta_of taken.now dim key) days) }
-    ensures changes { IfOk result (λ moved. (days : ℕ) (change : Dimension → ℕ → ℤ) → HaveKeys days taken.now → HaveKeys days given.now → AreOfChange days taken.now given.now change → moved.items ≡ moves_by change days) }
-    ensures keys { IfOk result (λ moved. (days : ℕ) → HaveKeys days taken.now → HaveKeys days given.now → HaveKeys days moved.items) }
+    ensures moves { IfOk result (λ moved. (days : ℕ) → HaveKeys days taken.now
+        → HaveKeys days given.now → moved.items ≡ moves_by
+        (λ dim key. delta_of given.now dim key -ℤ delta_of taken.now dim key) days) }
+    ensures changes { IfOk result (λ moved. (days : ℕ) (change : Dimension → ℕ → ℤ)
+        → HaveKeys days taken.now → HaveKeys days given.now
+        → AreOfChange days taken.now given.now change → moved.items ≡ moves_by change days) }
+    ensures keys { IfOk result (λ moved. (days : ℕ) → HaveKeys days taken.now
+        → HaveKeys days given.now → HaveKeys days moved.items) }
     ensures err { IfErr result (λ stop. stop ≡ out_of_memory) }
 {
     let taken_sums = sums(alloc, taken)?;
@@ -49,7 +56,9 @@ pub fn moves(alloc: Global, taken: &[Moved], given: &[Moved]) -> Result<Vec<Move
 fn sums(alloc: Global, rows: &[Moved]) -> Result<Vec<i64>, Stop>
     requires { HaveKeys 366 rows.now }
     ensures places { IfOk result (λ sums. length sums.items ≡ MOST_PLACES) }
-    ensures sums { IfOk result (λ sums. (dim : Dimension) (key : ℕ) → IsKey 366 dim key → slice_index_or sums.items (the_place_of dim key) (pos 0) ≡ int_wrap w64 (delta_of rows.now dim key)) }
+    ensures sums { IfOk result (λ sums. (dim : Dimension) (key : ℕ) → IsKey 366 dim key
+        → slice_index_or sums.items (the_place_of dim key) (pos 0)
+        ≡ int_wrap w64 (delta_of rows.now dim key)) }
     ensures err { IfErr result (λ stop. stop ≡ out_of_memory) }
 {
     let mut sums = vec![in alloc; 0i64; MOST_PLACES]?;

@@ -8,12 +8,16 @@
 #![tactic(auto)]
 
 mod difference;
+mod differing;
 pub mod laws;
 mod place;
+mod posting;
 mod postings;
 mod run_amounts;
+mod run_causes;
 
 pub use difference::moves;
+pub use posting::Posting;
 pub use postings::Postings;
 pub use run_amounts::{amounts, post_run, post_runs};
 

@@ -78,11 +78,15 @@ impl Postings {
     /// rows, in any order: an amount may fall below 0 or rise above any bound on the way, not in the end.
     pub fn apply(&mut self, moved: &[Moved])
         requires keys { HaveKeys (day_count self.old) moved.now }
-        requires floor { (dim : Dimension) (key : ℕ) → IsKey (day_count self.old) dim key → pos 0 ≤ℤ amount_after self.old moved.now dim key }
+        requires floor { (dim : Dimension) (key : ℕ) → IsKey (day_count self.old) dim key
+            → pos 0 ≤ℤ amount_after self.old moved.now dim key }
         requires ceiling { (dim : Dimension) → total_after self.old moved.now dim < 2 ^ 63 }
-        ensures amounts { (dim : Dimension) (key : ℕ) → IsKey (day_count self.old) dim key → pos (amount_of self.new dim key) ≡ amount_after self.old moved.now dim key }
+        ensures amounts { (dim : Dimension) (key : ℕ) → IsKey (day_count self.old) dim key
+            → pos (amount_of self.new dim key) ≡ amount_after self.old moved.now dim key }
         // Moved by the change from the amounts that it keeps to new ones, it keeps the new ones.
-        ensures led { (new : Dimension → ℕ → ℕ) → LeadTo self.old moved.now new → (dim : Dimension) (key : ℕ) → IsKey (day_count self.old) dim key → amount_of self.new dim key ≡ new dim key }
+        ensures led { (new : Dimension → ℕ → ℕ) → LeadTo self.old moved.now new
+            → (dim : Dimension) (key : ℕ) → IsKey (day_count self.old) dim key
+            → amount_of self.new dim key ≡ new dim key }
         ensures days { day_count self.new ≡ day_count self.old }
     {
         for row in moved {

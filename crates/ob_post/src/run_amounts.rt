@@ -36,11 +36,17 @@ pub fn amounts(
     requires begins { first_second_of period.now ≤ run.now.since }
     requires some { run.now.since < run.now.until }
     requires ends { run.now.until ≤ end_second_of period.now }
-    ensures served { IfOk result (λ moved. AddUpTo moved.items (served_in roll.now.customers run.now cause feeder (days_of period.now))) }
-    ensures customer_seconds { IfOk result (λ moved. AddUpTo moved.items (customer_seconds_in roll.now.customers run.now cause feeder (days_of period.now))) }
+    ensures served { IfOk result (λ moved. AddUpTo moved.items
+        (served_in roll.now.customers run.now cause feeder (days_of period.now))) }
+    ensures customer_seconds { IfOk result (λ moved. AddUpTo moved.items
+        (customer_seconds_in roll.now.customers run.now cause feeder (days_of period.now))) }
 
     // Where it is a run of a network under a sheet, they are its part of the customer-seconds without supply.
-    ensures without_supply { (net : Network) (entries : List Entry) (p : Days) → p.days ≡ days_of period.now → IsRunOf net entries p run.now cause feeder → IfOk result (λ moved. AddUpTo moved.items (section_seconds_by net entries roll.now.customers p run.now.section (seconds run.now.since run.now.until))) }
+    ensures without_supply { (net : Network) (entries : List Entry) (p : Days)
+        → p.days ≡ days_of period.now → IsRunOf net entries p run.now cause feeder
+        → IfOk result (λ moved. AddUpTo moved.items
+        (section_seconds_by net entries roll.now.customers p run.now.section
+        (seconds run.now.since run.now.until))) }
     ensures keys { IfOk result (λ moved. HaveKeys (day_count period.now) moved.items) }
     ensures err { IfErr result (λ stop. stop ≡ out_of_memory) }
 {
@@ -63,11 +69,18 @@ pub fn post_runs(
     requires causes { All (λ cause. cause < 64) causes.now }
     requires feeder { 1 ≤ feeder }
     requires within { LieWithin (first_second_of period.now) (end_second_of period.now) runs.now }
-    ensures posted { OnOk result ((dim : Dimension) (key : ℕ) → delta_of rows.new.items dim key ≡ delta_of rows.old.items dim key +ℤ pos (amount_of_posted roll.now.customers (days_of period.now) feeder (zip runs.now causes.now) dim key)) }
+    ensures posted { OnOk result ((dim : Dimension) (key : ℕ)
+        → delta_of rows.new.items dim key ≡ delta_of rows.old.items dim key +ℤ pos
+        (amount_of_posted roll.now.customers (days_of period.now) feeder (zip runs.now causes.now)
+        dim key)) }
 
     // Where the causes are those that the runs' cutters have in a sheet, the amount is that of the runs.
-    ensures amounts { (entries : List Entry) → causes.now ≡ map (run_cause entries) runs.now → OnOk result ((dim : Dimension) (key : ℕ) → delta_of rows.new.items dim key ≡ delta_of rows.old.items dim key +ℤ pos (amount_of_runs entries roll.now.customers (days_of period.now) feeder runs.now dim key)) }
-    ensures keys { HaveKeys (day_count period.now) rows.old.items → HaveKeys (day_count period.now) rows.new.items }
+    ensures amounts { (entries : List Entry) → causes.now ≡ map (run_cause entries) runs.now
+        → OnOk result ((dim : Dimension) (key : ℕ)
+        → delta_of rows.new.items dim key ≡ delta_of rows.old.items dim key +ℤ pos
+        (amount_of_runs entries roll.now.customers (days_of period.now) feeder runs.now dim key)) }
+    ensures keys { HaveKeys (day_count period.now) rows.old.items
+        → HaveKeys (day_count period.now) rows.new.items }
     ensures kept { take (length rows.old.items) rows.new.items ≡ rows.old.items }
     ensures err { IfErr result (λ stop. stop ≡ out_of_memory) }
 {
@@ -92,9 +105,14 @@ pub fn post_run(
     requires begins { first_second_of period.now ≤ run.now.since }
     requires some { run.now.since < run.now.until }
     requires ends { run.now.until ≤ end_second_of period.now }
-    ensures served { OnOk result ((dim : Dimension) (key : ℕ) → delta_of rows.new.items dim key ≡ delta_of rows.old.items dim key +ℤ pos (served_in roll.now.customers run.now cause feeder (days_of period.now) dim key)) }
-    ensures amounts { OnOk result ((dim : Dimension) (key : ℕ) → delta_of rows.new.items dim key ≡ delta_of rows.old.items dim key +ℤ pos (customer_seconds_in roll.now.customers run.now cause feeder (days_of period.now) dim key)) }
-    ensures keys { HaveKeys (day_count period.now) rows.old.items → HaveKeys (day_count period.now) rows.new.items }
+    ensures served { OnOk result ((dim : Dimension) (key : ℕ)
+        → delta_of rows.new.items dim key ≡ delta_of rows.old.items dim key +ℤ pos
+        (served_in roll.now.customers run.now cause feeder (days_of period.now) dim key)) }
+    ensures amounts { OnOk result ((dim : Dimension) (key : ℕ)
+        → delta_of rows.new.items dim key ≡ delta_of rows.old.items dim key +ℤ pos
+        (customer_seconds_in roll.now.customers run.now cause feeder (days_of period.now) dim key)) }
+    ensures keys { HaveKeys (day_count period.now) rows.old.items
+        → HaveKeys (day_count period.now) rows.new.items }
     ensures kept { take (length rows.old.items) rows.new.items ≡ rows.old.items }
     ensures err { IfErr result (λ stop. stop ≡ out_of_memory) }
 {

@@ -30,7 +30,8 @@ pub fn act_of<'t, T: Timeline>(
     requires plan { IsPlan book.now.state plan.now }
     requires body { body.now ≡ body_text plan.now.command }
     requires change { LeadsParts book.now.state (next book.now.state plan.now.command) change }
-    requires small { AreSmall (amount book.now.state) × AreSmall (amount (next book.now.state plan.now.command)) }
+    requires small { AreSmall (amount book.now.state)
+        × AreSmall (amount (next book.now.state plan.now.command)) }
     ensures no { result.no ≡ book.now.state.accepted + 1 }
     ensures can { (p : PostedAmounts) → ArePosted book.now.state p → CanWrite p result }
     ensures records { (b : ActState) → IsReached b → b.book ≡ book.now.state

@@ -120,7 +120,8 @@ fn device_added<'t, T: Timeline>(
     since: Moment,
     until: Option<Moment>,
 ) -> RowChange<'t>
-    requires accepted { refusal book.now.state (Device name.now ends.now normal since until) ≡ None }
+    requires accepted { refusal book.now.state (Device name.now ends.now normal since until)
+        ≡ None }
     ensures { LeadsParts book.now.state
         (next book.now.state (Device name.now ends.now normal since until)) result }
 {
@@ -182,7 +183,8 @@ fn customer_added<'t, T: Timeline>(
     until: Option<Moment>,
 ) -> RowChange<'t>
     requires accepted { refusal book.now.state (Connect customer section.now since until) ≡ None }
-    ensures { LeadsParts book.now.state (next book.now.state (Connect customer section.now since until)) result }
+    ensures { LeadsParts book.now.state (next book.now.state
+        (Connect customer section.now since until)) result }
 {
     // The node that has the name is a section, since the command was accepted.
     let Some(section) = book.net().node_of(section) else {
@@ -222,8 +224,10 @@ fn entry_added<'t, T: Timeline>(
     cause: CauseCode,
     crew: &'t Crew,
 ) -> RowChange<'t>
-    requires accepted { refusal book.now.state (Switch device.now act second cause crew.now) ≡ None }
-    ensures { LeadsParts book.now.state (next book.now.state (Switch device.now act second cause crew.now)) result }
+    requires accepted { refusal book.now.state (Switch device.now act second cause crew.now)
+        ≡ None }
+    ensures { LeadsParts book.now.state (next book.now.state
+        (Switch device.now act second cause crew.now)) result }
 {
     // A device has the name, since the command was accepted.
     let Some(device) = book.net().device_of(device) else {
@@ -255,7 +259,8 @@ fn entry_corrected<'t, T: Timeline>(
     cause: CauseCode,
     crew: &'t Crew,
 ) -> RowChange<'t>
-    requires accepted { refusal book.now.state (Correct entry revision act second cause crew.now) ≡ None }
+    requires accepted { refusal book.now.state (Correct entry revision act second cause crew.now)
+        ≡ None }
     ensures { LeadsParts book.now.state
         (next book.now.state (Correct entry revision act second cause crew.now)) result }
 {

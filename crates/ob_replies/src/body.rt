@@ -19,11 +19,11 @@ pub fn accepted_text(alloc: Global, no: u32, moved: &[Moved]) -> Result<Vec<u8>,
     ensures text { IfOk result (λ text. text.items ≡ definition.accepted_text «no» moved.now) }
     ensures err { IfErr result (λ stop. stop ≡ out_of_memory) }
 {
-    let accepted = accepted(alloc, no, moved)?;
+    let accepted = accepted_value(alloc, no, moved)?;
     Ok(accepted.to_vec(alloc)?)
 }
 
-fn accepted(alloc: Global, no: u32, moved: &[Moved]) -> Result<Value, AllocError>
+fn accepted_value(alloc: Global, no: u32, moved: &[Moved]) -> Result<Value, AllocError>
     ensures { IfOk result (λ v. view v ≡ accepted_data «no» moved.now) }
 {
     json!(in alloc; {"moved": moves(alloc, moved)?, "no": no})
@@ -61,11 +61,11 @@ pub fn refused_text(alloc: Global, refusal: &Refusal) -> Result<Vec<u8>, Stop>
     ensures text { IfOk result (λ text. text.items ≡ definition.refused_text refusal.now) }
     ensures err { IfErr result (λ stop. stop ≡ out_of_memory) }
 {
-    let refused = refused(alloc, refusal)?;
+    let refused = refused_value(alloc, refusal)?;
     Ok(refused.to_vec(alloc)?)
 }
 
-fn refused(alloc: Global, refusal: &Refusal) -> Result<Value, AllocError>
+fn refused_value(alloc: Global, refusal: &Refusal) -> Result<Value, AllocError>
     ensures { IfOk result (λ v. view v ≡ refused_data refusal.now) }
 {
     let name = refusal.name();
@@ -126,11 +126,11 @@ pub fn entry_text(alloc: Global, entry: &Entry, device: &Name) -> Result<Vec<u8>
     ensures text { IfOk result (λ text. text.items ≡ definition.entry_text entry.now device.now) }
     ensures err { IfErr result (λ stop. stop ≡ out_of_memory) }
 {
-    let shown = shown(alloc, entry, device)?;
+    let shown = entry_value(alloc, entry, device)?;
     Ok(shown.to_vec(alloc)?)
 }
 
-fn shown(alloc: Global, entry: &Entry, device: &Name) -> Result<Value, AllocError>
+fn entry_value(alloc: Global, entry: &Entry, device: &Name) -> Result<Value, AllocError>
     ensures { IfOk result (λ v. view v ≡ entry_data entry.now device.now) }
 {
     json!(in alloc; {

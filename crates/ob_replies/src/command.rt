@@ -107,7 +107,7 @@ fn command_of_texts(value: &Value) -> Result<(Ref, Command), Refusal>
         or_empty(f5),
         or_empty(f6),
     ]);
-    leftmost(column, row)
+    take_leftmost(column, row)
 }
 
 // The text of a member, empty where it is absent; None where it is no text.
@@ -148,7 +148,7 @@ fn textless(texts: &[Option<&[u8]>]) -> Option<u8>
 }
 
 // What a row says, where a column that holds no text is bad too.
-fn leftmost(
+fn take_leftmost(
     textless: Option<u8>,
     row: Result<(Ref, Command), Refusal>,
 ) -> Result<(Ref, Command), Refusal>

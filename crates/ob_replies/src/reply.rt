@@ -27,7 +27,8 @@ pub fn reply_text(
     body: &[u8],
     closes: bool,
 ) -> Result<Vec<u8>, Stop>
-    ensures text { IfOk result (λ text. text.items ≡ definition.reply_text status media_type body.now closes) }
+    ensures text { IfOk result (λ text. text.items
+        ≡ definition.reply_text status media_type body.now closes) }
     ensures err { IfErr result (λ stop. stop ≡ out_of_memory) }
 {
     let mut text = Vec::new(alloc);

@@ -58,8 +58,9 @@ pub(crate) fn read_ahead<R: Read>(
     ahead: &mut Vec<u8>,
 ) -> Result<bool, Fault>
     requires { vec_len ahead.old < HEAD_BOUND }
-    ensures same { OnOk result (Keeps (unread ahead.old.items (watched_bytes R.remaining reader.old))
-        (unread ahead.new.items (watched_bytes R.remaining reader.new))) }
+    ensures same { OnOk result (Keeps (unread ahead.old.items
+        (watched_bytes R.remaining reader.old)) (unread ahead.new.items
+        (watched_bytes R.remaining reader.new))) }
     ensures bound { vec_len ahead.new ≤ HEAD_BOUND }
     ensures more { result ≡ Ok true → vec_len ahead.old < vec_len ahead.new }
     ensures end { result ≡ Ok false → (ahead.new.items ≡ ahead.old.items)

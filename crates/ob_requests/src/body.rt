@@ -20,12 +20,14 @@ fn fill_body<R: Read>(
 ) -> Result<bool, Fault>
     requires { vec_len body.old ≤ size }
     ensures whole { result ≡ Ok true → vec_len body.new ≡ size }
-    ensures more { OnOk result (ReadsMore (watched_bytes R.remaining reader.old) (watched_bytes R.remaining reader.new)
-        body.old.items body.new.items) }
-    ensures cut { result ≡ Ok false → (vec_len body.new < size) × IsAtEnd (watched_bytes R.remaining reader.new) }
+    ensures more { OnOk result (ReadsMore (watched_bytes R.remaining reader.old)
+        (watched_bytes R.remaining reader.new) body.old.items body.new.items) }
+    ensures cut { result ≡ Ok false → (vec_len body.new < size)
+        × IsAtEnd (watched_bytes R.remaining reader.new) }
     ensures fault { IfErr result (IsReadFault reader.new) }
-    ensures failed { result ≡ Err Fault.Input → (vec_len body.new < size) × ReadsMore (watched_bytes R.remaining reader.old)
-        (watched_bytes R.remaining reader.new) body.old.items body.new.items }
+    ensures failed { result ≡ Err Fault.Input → (vec_len body.new < size)
+        × ReadsMore (watched_bytes R.remaining reader.old) (watched_bytes R.remaining reader.new)
+        body.old.items body.new.items }
 {
     let mut piece = [0u8; PIECE];
     'pieces: while body.len() < size {
@@ -49,12 +51,14 @@ fn body_over<R: Read>(
     ahead: &mut Vec<u8>,
     size: usize,
 ) -> Result<Option<Vec<u8>>, Fault>
-    ensures body { IfOk result (TakesBody (unread ahead.old.items (watched_bytes R.remaining reader.old))
-        (unread ahead.new.items (watched_bytes R.remaining reader.new)) size) }
+    ensures body { IfOk result (TakesBody (unread ahead.old.items
+        (watched_bytes R.remaining reader.old)) (unread ahead.new.items
+        (watched_bytes R.remaining reader.new)) size) }
     ensures bound { vec_len ahead.new ≤ vec_len ahead.old }
     ensures fault { IfErr result (IsReadFault reader.new) }
-    ensures failed { result ≡ Err Fault.Input
-        → StopsInBody (unread ahead.old.items (watched_bytes R.remaining reader.old)) (watched_bytes R.remaining reader.new) size }
+    ensures failed { result ≡ Err Fault.Input → StopsInBody
+        (unread ahead.old.items (watched_bytes R.remaining reader.old))
+        (watched_bytes R.remaining reader.new) size }
 {
     let front = ahead.len().min(size);
     let mut body = take_front(alloc, ahead, front)?;
@@ -76,8 +80,9 @@ pub fn read_body<R: Read>(
     ensures body { IfOk result (TakesBody (unread ahead.old (watched_bytes R.remaining reader.old))
         (unread ahead.new (watched_bytes R.remaining reader.new)) size) }
     ensures fault { IfErr result (IsReadFault reader.new) }
-    ensures failed { result ≡ Err Fault.Input
-        → StopsInBody (unread ahead.old (watched_bytes R.remaining reader.old)) (watched_bytes R.remaining reader.new) size }
+    ensures failed { result ≡ Err Fault.Input → StopsInBody
+        (unread ahead.old (watched_bytes R.remaining reader.old))
+        (watched_bytes R.remaining reader.new) size }
 {
     body_over(alloc, reader, retries, &mut ahead.bytes, size)
 }

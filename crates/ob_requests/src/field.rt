@@ -65,7 +65,8 @@ pub(crate) fn is_said(bytes: &[u8], fields: &[HeaderSpan], name: &[u8], text: &[
 /// Whether one of the fields with this name lists this option, in any case.
 pub(crate) fn has_option(bytes: &[u8], fields: &[HeaderSpan], name: &[u8], option: &[u8]) -> bool
     requires { All (IsHeaderWithin (length bytes.now)) fields.now }
-    ensures { result ≡ lists option.now (values_of name.now (map (header_bytes bytes.now) fields.now)) }
+    ensures { result ≡ lists option.now (values_of name.now
+        (map (header_bytes bytes.now) fields.now)) }
 {
     for field in fields {
         if is_named(bytes, field, name) && is_listed(field.value.of(bytes), option) {

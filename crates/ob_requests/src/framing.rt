@@ -69,7 +69,8 @@ fn is_origin_form(target: &[u8]) -> bool
 
 fn hosts_fit(bytes: &[u8], fields: &[HeaderSpan], version: u8) -> bool
     requires { All (IsHeaderWithin (length bytes.now)) fields.now }
-    ensures { result ≡ hosts_fit version (values_of (codes "host") (map (header_bytes bytes.now) fields.now)) }
+    ensures { result ≡ hosts_fit version (values_of (codes "host")
+        (map (header_bytes bytes.now) fields.now)) }
 {
     match value_named(bytes, fields, b"host") {
         Named::Absent => version == 0,
@@ -80,7 +81,8 @@ fn hosts_fit(bytes: &[u8], fields: &[HeaderSpan], version: u8) -> bool
 
 fn find_length(bytes: &[u8], fields: &[HeaderSpan]) -> Result<Option<u64>, HeadRefusal>
     requires { All (IsHeaderWithin (length bytes.now)) fields.now }
-    ensures { result ≡ content_length (values_of (codes "content-length") (map (header_bytes bytes.now) fields.now)) }
+    ensures { result ≡ content_length (values_of (codes "content-length")
+        (map (header_bytes bytes.now) fields.now)) }
 {
     match value_named(bytes, fields, b"content-length") {
         Named::Absent => Ok(None),
@@ -131,7 +133,8 @@ pub(crate) fn find_framing(
     fields: &[HeaderSpan],
 ) -> Result<Framing, HeadRefusal>
     requires { IsRequestWithin bytes.now fields.now spans.now }
-    ensures { (head : RequestHead) → IsRequestAt bytes.now fields.now spans.now head → result ≡ framing_of head }
+    ensures { (head : RequestHead) → IsRequestAt bytes.now fields.now spans.now head
+        → result ≡ framing_of head }
 {
     let target = spans.path.of(bytes);
     let fields = &fields[..spans.headers];

@@ -63,14 +63,15 @@ pub(crate) fn read_head<R: Read>(
     requires bound { vec_len ahead.old ≤ HEAD_BOUND }
     requires room { FIELD_ROOM ≤ length fields.old }
     ensures bound { vec_len ahead.new ≤ HEAD_BOUND }
-    ensures same { OnOk result (Keeps (unread ahead.old.items (watched_bytes R.remaining reader.old))
-        (unread ahead.new.items (watched_bytes R.remaining reader.new))) }
-    ensures next { IfOk result (λ next. IfSome (unread ahead.old.items (watched_bytes R.remaining reader.old))
-        (λ bytes. BeginsWith bytes next)) }
+    ensures same { OnOk result (Keeps (unread ahead.old.items
+        (watched_bytes R.remaining reader.old)) (unread ahead.new.items
+        (watched_bytes R.remaining reader.new))) }
+    ensures next { IfOk result (λ next. IfSome (unread ahead.old.items
+        (watched_bytes R.remaining reader.old)) (λ bytes. BeginsWith bytes next)) }
     ensures within { IfOk result (λ next. IfHead next (IsRequestWithin ahead.new.items fields.new)) }
     ensures head { IfOk result (λ next. IfHead next (IsRequestOf ahead.new.items fields.new)) }
-    ensures fault { IfErr result (IsHeadFault (unread ahead.old.items (watched_bytes R.remaining reader.old))
-        (watched_bytes R.remaining reader.new) reader.new) }
+    ensures fault { IfErr result (IsHeadFault (unread ahead.old.items
+        (watched_bytes R.remaining reader.old)) (watched_bytes R.remaining reader.new) reader.new) }
 {
     'pieces: loop {
         match parse_head(ahead, fields) {

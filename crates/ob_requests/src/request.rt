@@ -62,8 +62,8 @@ fn write_interim<W: Write>(
     retries: &mut Retries,
     waits: bool,
 ) -> Result<(), Fault>
-    ensures whole { OnOk result (Appends (watched_bytes W.contents writer.old) (watched_bytes W.contents writer.new)
-        (interim_text waits)) }
+    ensures whole { OnOk result (Appends (watched_bytes W.contents writer.old)
+        (watched_bytes W.contents writer.new) (interim_text waits)) }
     ensures front { IfErr result (λ _. AppendsFront (watched_bytes W.contents writer.old)
         (watched_bytes W.contents writer.new) (interim_text waits)) }
     ensures fault { IfErr result (λ f. (f ≡ Fault.Output) × HasJustFailed writer.new) }
@@ -87,12 +87,15 @@ pub fn read_request<R: Read, W: Write>(
     ensures next { IfOk result (Reads (unread ahead.old (watched_bytes R.remaining reader.old))
         (unread ahead.new (watched_bytes R.remaining reader.new))
         (watched_bytes W.contents writer.old) (watched_bytes W.contents writer.new)) }
-    ensures fault { IfErr result (Stops (unread ahead.old (watched_bytes R.remaining reader.old)) (watched_bytes R.remaining reader.new)
-        (watched_bytes W.contents writer.old) (watched_bytes W.contents writer.new) reader.new writer.new) }
-    ensures failed { result ≡ Err Fault.Input
-        → StopsInRequest (unread ahead.old (watched_bytes R.remaining reader.old)) (watched_bytes R.remaining reader.new) }
-    ensures unsent { result ≡ Err Fault.Output
-        → TakesHeadAlone (unread ahead.old (watched_bytes R.remaining reader.old)) (unread ahead.new (watched_bytes R.remaining reader.new)) }
+    ensures fault { IfErr result (Stops (unread ahead.old (watched_bytes R.remaining reader.old))
+        (watched_bytes R.remaining reader.new) (watched_bytes W.contents writer.old)
+        (watched_bytes W.contents writer.new) reader.new writer.new) }
+    ensures failed { result ≡ Err Fault.Input → StopsInRequest
+        (unread ahead.old (watched_bytes R.remaining reader.old))
+        (watched_bytes R.remaining reader.new) }
+    ensures unsent { result ≡ Err Fault.Output → TakesHeadAlone
+        (unread ahead.old (watched_bytes R.remaining reader.old))
+        (unread ahead.new (watched_bytes R.remaining reader.new)) }
 {
     let (framing, target) = match read_start(alloc, reader, retries, ahead)? {
         Start::Head(framing, target) => (framing, target),

@@ -52,10 +52,11 @@ fn start_over<R: Read>(
     requires bound { vec_len ahead.old ≤ HEAD_BOUND }
     requires room { FIELD_ROOM ≤ length fields.old }
     ensures bound { vec_len ahead.new ≤ HEAD_BOUND }
-    ensures start { IfOk result (Starts (unread ahead.old.items (watched_bytes R.remaining reader.old))
-        (unread ahead.new.items (watched_bytes R.remaining reader.new))) }
-    ensures fault { IfErr result (IsHeadFault (unread ahead.old.items (watched_bytes R.remaining reader.old))
-        (watched_bytes R.remaining reader.new) reader.new) }
+    ensures start { IfOk result (Starts (unread ahead.old.items
+        (watched_bytes R.remaining reader.old)) (unread ahead.new.items
+        (watched_bytes R.remaining reader.new))) }
+    ensures fault { IfErr result (IsHeadFault (unread ahead.old.items
+        (watched_bytes R.remaining reader.old)) (watched_bytes R.remaining reader.new) reader.new) }
 {
     let spans = match read_head(reader, retries, ahead, fields)? {
         NextHead::Head(spans) => spans,
@@ -83,8 +84,8 @@ pub fn read_start<R: Read>(
 ) -> Result<Start, Fault>
     ensures start { IfOk result (Starts (unread ahead.old (watched_bytes R.remaining reader.old))
         (unread ahead.new (watched_bytes R.remaining reader.new))) }
-    ensures fault { IfErr result (IsHeadFault (unread ahead.old (watched_bytes R.remaining reader.old))
-        (watched_bytes R.remaining reader.new) reader.new) }
+    ensures fault { IfErr result (IsHeadFault (unread ahead.old
+        (watched_bytes R.remaining reader.old)) (watched_bytes R.remaining reader.new) reader.new) }
 {
     start_over(alloc, reader, retries, &mut ahead.bytes, &mut ahead.fields)
 }

@@ -33,8 +33,10 @@ pub(crate) fn place_by_device(
 ) -> usize
     requires numbered { AreNumbered entries.now }
     requires by_device { IsByDevice entries.now by_device.now }
-    requires from { from ≤ prefix_len (is_until_by_device entries.now until.device until.second until.«no») by_device.now }
-    ensures place { result ≡ prefix_len (is_until_by_device entries.now until.device until.second until.«no») by_device.now }
+    requires from { from ≤ prefix_len (is_until_by_device entries.now until.device until.second
+        until.«no») by_device.now }
+    ensures place { result ≡ prefix_len (is_until_by_device entries.now until.device until.second
+        until.«no») by_device.now }
 {
     let mut low = from;
     let mut step = 1;
@@ -59,10 +61,13 @@ fn place_between(
 ) -> usize
     requires numbered { AreNumbered entries.now }
     requires by_device { IsByDevice entries.now by_device.now }
-    requires from { from ≤ prefix_len (is_until_by_device entries.now until.device until.second until.«no») by_device.now }
-    requires to { prefix_len (is_until_by_device entries.now until.device until.second until.«no») by_device.now ≤ to }
+    requires from { from ≤ prefix_len (is_until_by_device entries.now until.device until.second
+        until.«no») by_device.now }
+    requires to { prefix_len (is_until_by_device entries.now until.device until.second until.«no»)
+        by_device.now ≤ to }
     requires within { to ≤ length by_device.now }
-    ensures place { result ≡ prefix_len (is_until_by_device entries.now until.device until.second until.«no») by_device.now }
+    ensures place { result ≡ prefix_len (is_until_by_device entries.now until.device until.second
+        until.«no») by_device.now }
 {
     let mut low = from;
     let mut high = to;
@@ -99,8 +104,10 @@ pub(crate) fn last_before(
     requires numbered { AreNumbered entries.now }
     requires by_device { IsByDevice entries.now by_device.now }
     requires within { place ≤ length by_device.now }
-    requires before { All (λ number. device_of entries.now number ≤ device) (take place by_device.now) }
-    ensures last { result ≡ last_or None (filter (λ number. device_of entries.now number == device) (take place by_device.now)) }
+    requires before { All (λ number. device_of entries.now number ≤ device)
+        (take place by_device.now) }
+    ensures last { result ≡ last_or None (filter (λ number. device_of entries.now number == device)
+        (take place by_device.now)) }
 {
     let number = by_device[place.checked_sub(1)?];
     (entries[number as usize - 1].device == device).then_some(number)
@@ -115,8 +122,10 @@ pub(crate) fn first_from(
 ) -> Option<u32>
     requires numbered { AreNumbered entries.now }
     requires by_device { IsByDevice entries.now by_device.now }
-    requires behind { All (λ number. device ≤ device_of entries.now number) (drop place by_device.now) }
-    ensures first { result ≡ slice_get (filter (λ number. device_of entries.now number == device) (drop place by_device.now)) 0 }
+    requires behind { All (λ number. device ≤ device_of entries.now number)
+        (drop place by_device.now) }
+    ensures first { result ≡ slice_get (filter (λ number. device_of entries.now number == device)
+        (drop place by_device.now)) 0 }
 {
     let number = *by_device.get(place)?;
     (entries[number as usize - 1].device == device).then_some(number)
@@ -133,7 +142,10 @@ pub(crate) fn positions_until(
 ) -> Result<Vec<Pos>, Stop>
     requires numbered { AreNumbered entries.now }
     requires by_device { IsByDevice entries.now by_device.now }
-    ensures positions { (e : EntryOf) → e.second ≡ second → e.«no» ≡ «no» → IfOk result (λ p. p.items ≡ entered net.now.network (take (prefix_len (λ f. not (is_before e f)) (in_order entries.now)) (in_order entries.now))) }
+    ensures positions { (e : EntryOf) → e.second ≡ second → e.«no» ≡ «no»
+        → IfOk result (λ p. p.items ≡ entered net.now.network
+        (take (prefix_len (λ f. not (is_before e f)) (in_order entries.now))
+        (in_order entries.now))) }
     ensures err { IfErr result (λ stop. stop ≡ out_of_memory) }
 {
     let mut positions = Vec::with_capacity(alloc, usize::from(net.devices()))?;
@@ -162,9 +174,13 @@ fn position_until(
 ) -> Pos
     requires numbered { AreNumbered entries.now }
     requires by_device { IsByDevice entries.now by_device.now }
-    requires place { place ≡ prefix_len (is_until_by_device entries.now until.device until.second until.«no») by_device.now }
+    requires place { place ≡ prefix_len (is_until_by_device entries.now until.device until.second
+        until.«no») by_device.now }
     requires device { until.device < length net.now.network.devices }
-    ensures position { (e : EntryOf) → e.second ≡ until.second → e.«no» ≡ until.«no» → slice_get (entered net.now.network (take (prefix_len (λ f. not (is_before e f)) (in_order entries.now)) (in_order entries.now))) until.device ≡ Some result }
+    ensures position { (e : EntryOf) → e.second ≡ until.second → e.«no» ≡ until.«no»
+        → slice_get (entered net.now.network (take
+        (prefix_len (λ f. not (is_before e f)) (in_order entries.now)) (in_order entries.now)))
+        until.device ≡ Some result }
 {
     match last_before(entries, by_device, place, until.device) {
         Some(number) => entries[number as usize - 1].pos,

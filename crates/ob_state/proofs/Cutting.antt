@@ -17,7 +17,7 @@ use Rattle.ob_sweep.specs.declared.Run.{Run}
 use Rattle.ob_time.specs.Calendar.{end_second_of, first_second_of}
 use Rattle.ob_state.specs.State.{BookState}
 use Rattle.ob_state.specs.Retimings.{runs_in}
-use Rattle.ob_posting.specs.Causes.{BeginAtCutters}
+use Rattle.ob_post.specs.Causes.{BeginAtCutters}
 use Rattle.ob_state.proofs.Untouched.{greatest_has}
 
 -- an entry of a list of other numbers is the one with its number

@@ -32,16 +32,16 @@ use Rattle.ob_post.specs.CustomerSeconds.{Days, has_key}
 use Rattle.ob_post.specs.SectionLaws.{AreOnSections, ByRuns}
 use Rattle.ob_post.specs.declared.Dim.{Dim}
 use Rattle.ob_post.specs.declared.Dim.TheVariants.{Cause, Feeder, Day}
-use Rattle.ob_posting.specs.declared.posting.Posting.{Posting}
+use Rattle.ob_post.specs.declared.posting.Posting.{Posting}
 use Rattle.ob_state.specs.Amounts.{amount, days_of_book}
-use Rattle.ob_posting.specs.Balances.{Balances}
+use Rattle.ob_post.specs.Balances.{Balances}
 use Rattle.ob_state.specs.Effects.{amount_of_first, amount_of_node, amount_of_nodes, with_network, without_device}
 use Rattle.ob_state.specs.Retimings.{runs_in}
 use Rattle.ob_state.specs.Refusals.{first, if_full}
 use Rattle.ob_state.specs.State.{BookState}
 use Rattle.ob_state.specs.States.{AreRunsOf}
 use Rattle.ob_state.proofs.Amounting.{all_nodes, get-before, is_section}
-use Rattle.ob_posting.proofs.Balancing.{balances_as, same_change}
+use Rattle.ob_post.proofs.Balancing.{balances_as, same_change}
 use Rattle.ob_state.proofs.NodeByNode.{section_amount}
 use Rattle.ob_state.proofs.Deltas.{untouched}
 use Rattle.ob_state.proofs.Firsts.{no_head}

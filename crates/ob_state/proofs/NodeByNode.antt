@@ -7,12 +7,12 @@ use Rattle.ob_sweep.specs.declared.Run.{Run}
 use Rattle.ob_time.specs.Calendar.{days_of}
 use Rattle.ob_post.specs.SectionAmounts.{amount_of_runs}
 use Rattle.ob_post.specs.declared.Dim.{Dim}
-use Rattle.ob_posting.specs.declared.posting.Posting.{Posting}
+use Rattle.ob_post.specs.declared.posting.Posting.{Posting}
 use Rattle.ob_state.specs.State.{BookState}
 use Rattle.ob_state.specs.Retimings.{runs_in}
-use Rattle.ob_posting.specs.Balances.{together, Balances}
+use Rattle.ob_post.specs.Balances.{together, Balances}
 use Rattle.ob_state.specs.Effects.{amount_of_node, amount_of_first}
-use Rattle.ob_posting.proofs.Balancing.{balances_as, same_more}
+use Rattle.ob_post.proofs.Balancing.{balances_as, same_more}
 
 sum_suc : (f : ℕ → ℕ) (a n : ℕ) → sum_by f (range_with_len a (suc n)) ≡ sum_by f (range_with_len a n) + f (a + n)
 sum_suc f a zero = let e : a ≡ a + 0 = omega arith in let at = ap f e in omega (arith, at)

@@ -10,15 +10,15 @@ use Rattle.ob_time.specs.Calendar.{day_count, days_of}
 use Rattle.ob_post.specs.SectionAmounts.{amount_of_runs}
 use Rattle.ob_post.specs.SectionLaws.{AreOnSections, ByRuns}
 use Rattle.ob_post.specs.declared.Dim.{Dim}
-use Rattle.ob_posting.specs.declared.posting.Posting.{Posting}
+use Rattle.ob_post.specs.declared.posting.Posting.{Posting}
 use Rattle.ob_state.specs.State.{BookState}
 use Rattle.ob_state.specs.States.{AreRunsOf}
 use Rattle.ob_state.specs.Amounts.{amount}
 use Rattle.ob_state.specs.Retimings.{runs_in}
-use Rattle.ob_posting.specs.Balances.{together, Balances}
+use Rattle.ob_post.specs.Balances.{together, Balances}
 use Rattle.ob_state.specs.Effects.{amount_of_first, with_entries}
 use Rattle.ob_state.proofs.Amounting.{all_nodes, is_section}
-use Rattle.ob_posting.proofs.Balancing.{balances_as}
+use Rattle.ob_post.proofs.Balancing.{balances_as}
 use Rattle.ob_state.proofs.NodeByNode.{one_section}
 
 -- runs are taken from a posting, under the causes of some entries

@@ -11,17 +11,17 @@ use Rattle.ob_command.specs.declared.command.Command.TheVariants.{Cause, Bus, Se
 use Rattle.ob_post.specs.MoveLaws.{AreSmall}
 use Rattle.ob_post.specs.SectionLaws.{Changed, Connected}
 use Rattle.ob_post.specs.TotalLaws.{AmountsAreSmall}
-use Rattle.ob_posting.specs.declared.posting.Posting.{Posting}
+use Rattle.ob_post.specs.declared.posting.Posting.{Posting}
 use Rattle.ob_net.specs.Network.{section_of}
 use Rattle.ob_state.specs.State.{BookState}
 use Rattle.ob_state.specs.Amounts.{amount, days_of_book}
 use Rattle.ob_state.specs.Next.{next}
 use Rattle.ob_state.specs.Refusals.{refusal}
-use Rattle.ob_posting.specs.Balances.{together, Balances}
+use Rattle.ob_post.specs.Balances.{together, Balances}
 use Rattle.ob_state.specs.Effects.{amount_of_customer}
 use Rattle.ob_state.proofs.Accepted.{connect_accepted, few_with}
 use Rattle.ob_state.proofs.Amounting.{small}
-use Rattle.ob_posting.proofs.Balancing.{balances_as, same_change}
+use Rattle.ob_post.proofs.Balancing.{balances_as, same_change}
 
 -- a customer of these parts
 abbrev pub customer_of : ℕ → ℕ → ℕ → Option ℕ → Customer

@@ -22,16 +22,16 @@ use Rattle.ob_post.specs.CauseLaws.{EnteredCause, ChangedCause, SameCause}
 use Rattle.ob_post.specs.SectionAmounts.{run_cause}
 use Rattle.ob_post.specs.SectionLaws.{SameByCause}
 use Rattle.ob_post.specs.declared.Dim.{Dim}
-use Rattle.ob_posting.specs.declared.posting.Posting.{Posting}
+use Rattle.ob_post.specs.declared.posting.Posting.{Posting}
 use Rattle.ob_state.specs.State.{BookState}
 use Rattle.ob_state.specs.States.{AreRunsOf}
 use Rattle.ob_state.specs.Retimings.{runs_in}
-use Rattle.ob_posting.specs.Balances.{Balances}
-use Rattle.ob_posting.specs.Causes.{KeepsCause}
+use Rattle.ob_post.specs.Balances.{Balances}
+use Rattle.ob_post.specs.Causes.{KeepsCause}
 use Rattle.ob_state.specs.Effects.{amount_of_first, amount_of_node, amount_of_nodes, with_entries}
-use Rattle.ob_posting.proofs.Staying.{cause_stays}
+use Rattle.ob_post.proofs.Staying.{cause_stays}
 use Rattle.ob_state.proofs.Amounting.{is_section}
-use Rattle.ob_posting.proofs.Balancing.{same_change}
+use Rattle.ob_post.proofs.Balancing.{same_change}
 use Rattle.ob_state.proofs.NodeByNode.{section_amount}
 use Rattle.ob_state.proofs.Deltas.{untouched}
 use Rattle.ob_state.proofs.Kept.{section_within}

@@ -10,8 +10,8 @@ use Rattle.ob_post.specs.CustomerSeconds.{customer_seconds_by}
 use Rattle.ob_post.specs.SectionAmounts.{amount_at}
 use Rattle.ob_post.specs.declared.Dim.{Dim}
 use Rattle.ob_time.specs.Calendar.{day_count}
-use Rattle.ob_posting.specs.Balances.{Balances}
-use Rattle.ob_posting.specs.declared.posting.Posting.{Posting}
+use Rattle.ob_post.specs.Balances.{Balances}
+use Rattle.ob_post.specs.declared.posting.Posting.{Posting}
 use Rattle.ob_state.specs.declared.effect.Effect.{Effect}
 use Rattle.ob_state.specs.State.{BookState}
 use Rattle.ob_state.specs.Amounts.{days_of_book, moves}

@@ -30,7 +30,7 @@ impl Causes {
         ensures { result ≡ unassigned_alone }
     {
         let mut names = [None; MOST_CAUSES];
-        names[0] = Some(unassigned());
+        names[0] = Some(unassigned_name());
         Causes { names }
     }
 
@@ -64,7 +64,7 @@ impl Causes {
 }
 
 // The name of cause 0.
-fn unassigned() -> Name
+fn unassigned_name() -> Name
     ensures { result ≡ codes "UNASSIGNED" }
 {
     match Name::read(b"UNASSIGNED") {

@@ -132,9 +132,11 @@ impl State {
 
     /// Adds a device that isn't refused.
     pub(crate) fn add_device(&mut self, name: Name, ends: Ends, normal: Pos, life: Life)
-        requires accepted { refusal_to self.old.state (Device name ends normal life.since life.until) ≡ None }
+        requires accepted { refusal_to self.old.state
+            (Device name ends normal life.since life.until) ≡ None }
         requires room { 0 < self.old.room }
-        ensures state { self.new.state ≡ changed self.old.state (Device name ends normal life.since life.until) }
+        ensures state { self.new.state ≡ changed self.old.state
+            (Device name ends normal life.since life.until) }
         ensures searches { self.new.searches ≡ self.old.searches }
     {
         if self
@@ -148,8 +150,10 @@ impl State {
 
     // Sets the life of a device anew, where that isn't refused.
     fn live(&mut self, device: &Name, life: Life)
-        requires accepted { refusal_to self.old.state (Command.Life device.now life.since life.until) ≡ None }
-        ensures state { self.new.state ≡ changed self.old.state (Command.Life device.now life.since life.until) }
+        requires accepted { refusal_to self.old.state
+            (Command.Life device.now life.since life.until) ≡ None }
+        ensures state { self.new.state ≡ changed self.old.state
+            (Command.Life device.now life.since life.until) }
         ensures searches { self.new.searches ≡ self.old.searches }
     {
         let Some(device) = self.net.device_of(device) else {
@@ -161,9 +165,11 @@ impl State {
     }
 
     fn connect(&mut self, customer: Serial, section: &Name, since: Moment, until: Option<Moment>)
-        requires accepted { refusal_to self.old.state (Connect customer section.now since until) ≡ None }
+        requires accepted { refusal_to self.old.state (Connect customer section.now since until)
+            ≡ None }
         requires room { 0 < self.old.room }
-        ensures state { self.new.state ≡ changed self.old.state (Connect customer section.now since until) }
+        ensures state { self.new.state ≡ changed self.old.state
+            (Connect customer section.now since until) }
         ensures searches { self.new.searches ≡ self.old.searches }
     {
         let Some(section) = self.section_named(section) else {
@@ -195,9 +201,11 @@ impl State {
     }
 
     fn switch(&mut self, device: &Name, act: Pos, second: Moment, cause: CauseCode, crew: Crew)
-        requires accepted { refusal_to self.old.state (Switch device.now act second cause crew) ≡ None }
+        requires accepted { refusal_to self.old.state (Switch device.now act second cause crew)
+            ≡ None }
         requires room { 0 < self.old.room }
-        ensures state { self.new.state ≡ changed self.old.state (Switch device.now act second cause crew) }
+        ensures state { self.new.state ≡ changed self.old.state
+            (Switch device.now act second cause crew) }
         ensures searches { self.new.searches ≡ self.old.searches }
     {
         let Some(device) = self.net.device_of(device) else {
@@ -217,7 +225,8 @@ impl State {
         crew: Crew,
     )
         requires { refusal_to self.old.state (Correct entry revision act second cause crew) ≡ None }
-        ensures state { self.new.state ≡ changed self.old.state (Correct entry revision act second cause crew) }
+        ensures state { self.new.state ≡ changed self.old.state
+            (Correct entry revision act second cause crew) }
         ensures searches { self.new.searches ≡ self.old.searches }
     {
         if self

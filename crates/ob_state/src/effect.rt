@@ -10,9 +10,9 @@ ghost use Rattle.ob_state.specs.Searches.{most_searches};
 use crate::change::life_from;
 use crate::parts::{NewDevice, with_bus, with_device, with_life, with_section};
 use crate::retiming::Retiming;
-use crate::service::{connected, revised};
+use crate::service::{effect_of_connect, effect_of_revise};
 use crate::state::State;
-use crate::switching::{Operation, corrected, entered, withdrawn};
+use crate::switching::{Operation, effect_of_correct, effect_of_switch, effect_of_withdraw};
 use ob_base::Stop;
 use ob_command::Command;
 use ob_post::Moved;
@@ -39,7 +39,8 @@ pub fn effect_of<T: Timeline>(
     ensures effect { IfOk result (IsEffect state.old.state (next state.old.state command.now)) }
     ensures err { IfErr result (λ stop. stop ≡ out_of_memory) }
     ensures state { state.new.state ≡ state.old.state }
-    ensures searches { state.new.searches ≤ state.old.searches + most_searches T.bound state.old.state command.now }
+    ensures searches { state.new.searches ≤ state.old.searches + most_searches T.bound
+        state.old.state command.now }
 {
     match *command {
         Command::Cause { .. } | Command::Mark { .. } | Command::Unmark { .. } => Ok(Effect {
@@ -73,12 +74,12 @@ pub fn effect_of<T: Timeline>(
             section,
             since,
             until,
-        } => connected(alloc, state, timeline, customer, &section, since, until),
+        } => effect_of_connect(alloc, state, timeline, customer, &section, since, until),
         Command::Revise {
             customer,
             since,
             until,
-        } => revised(alloc, state, timeline, customer, since, until),
+        } => effect_of_revise(alloc, state, timeline, customer, since, until),
         Command::Switch {
             device,
             act,
@@ -92,7 +93,7 @@ pub fn effect_of<T: Timeline>(
                 cause,
                 crew,
             };
-            entered(alloc, state, timeline, &device, operation)
+            effect_of_switch(alloc, state, timeline, &device, operation)
         }
         Command::Correct {
             entry,
@@ -108,10 +109,10 @@ pub fn effect_of<T: Timeline>(
                 cause,
                 crew,
             };
-            corrected(alloc, state, timeline, entry, revision, operation)
+            effect_of_correct(alloc, state, timeline, entry, revision, operation)
         }
         Command::Withdraw { entry, revision } => {
-            withdrawn(alloc, state, timeline, entry, revision)
+            effect_of_withdraw(alloc, state, timeline, entry, revision)
         }
     }
 }

@@ -10,7 +10,7 @@ ghost use Rattle.ob_state.specs.States.{AreRunsOf, IsSoundState};
 ghost use Rattle.ob_state.specs.Refusals.{refusal};
 ghost use Rattle.ob_state.specs.Next.{next};
 ghost use Rattle.ob_state.specs.Retimings.{runs_in};
-ghost use Rattle.ob_posting.specs.Balances.{Balances, together};
+ghost use Rattle.ob_post.specs.Balances.{Balances, together};
 ghost use Rattle.ob_state.specs.Effects.{IsEffect, amount_of_node, before_change};
 ghost use Rattle.ob_state.specs.Searches.{most_searches};
 
@@ -19,8 +19,8 @@ use crate::retiming::Retiming;
 use crate::state::State;
 use ob_base::{Life, Name, Pos, Stop};
 use ob_command::{Command, Ends, FeederNumber};
+use ob_post::Posting;
 use ob_post::laws::{section_laws, total_laws};
-use ob_posting::Posting;
 use ob_sweep::{Change, Delta, Timeline};
 use std::alloc::Global;
 
@@ -55,7 +55,8 @@ pub fn with_section<T: Timeline>(
 ) -> Result<Effect, Stop>
     requires accepted { refusal state.old.state (Command.Section name feeder) ≡ None }
     requires runs { AreRunsOf state.old.state (T.content timeline.now) }
-    ensures effect { IfOk result (IsEffect state.old.state (next state.old.state (Command.Section name feeder))) }
+    ensures effect { IfOk result (IsEffect state.old.state
+        (next state.old.state (Command.Section name feeder))) }
     ensures err { IfErr result (λ stop. stop ≡ out_of_memory) }
     ensures state { state.new.state ≡ state.old.state }
     ensures searches { state.new.searches ≤ state.old.searches
@@ -67,7 +68,7 @@ pub fn with_section<T: Timeline>(
     let change = Change::Section {
         feeder: feeder.get(),
     };
-    let delta = planned(state, timeline, &change);
+    let delta = plan_change(state, timeline, &change);
     state.take_back_node();
     Ok(Effect {
         moves: Vec::new(alloc),
@@ -82,15 +83,17 @@ pub fn with_device<T: Timeline>(
     timeline: &T,
     device: NewDevice,
 ) -> Result<Effect, Stop>
-    requires accepted { refusal state.old.state
-        (Command.Device device.name device.ends device.normal device.life.since device.life.until) ≡ None }
+    requires accepted { refusal state.old.state (Command.Device device.name device.ends
+        device.normal device.life.since device.life.until) ≡ None }
     requires runs { AreRunsOf state.old.state (T.content timeline.now) }
-    ensures effect { IfOk result (IsEffect state.old.state (next state.old.state
-        (Command.Device device.name device.ends device.normal device.life.since device.life.until))) }
+    ensures effect { IfOk result (IsEffect state.old.state
+        (next state.old.state (Command.Device device.name device.ends device.normal
+        device.life.since device.life.until))) }
     ensures err { IfErr result (λ stop. stop ≡ out_of_memory) }
     ensures state { state.new.state ≡ state.old.state }
-    ensures searches { state.new.searches ≤ state.old.searches + most_searches T.bound state.old.state
-        (Command.Device device.name device.ends device.normal device.life.since device.life.until) }
+    ensures searches { state.new.searches ≤ state.old.searches + most_searches T.bound
+        state.old.state (Command.Device device.name device.ends device.normal device.life.since
+        device.life.until) }
 {
     state.reserve_one()?;
     let _ = state.accepted();
@@ -100,7 +103,7 @@ pub fn with_device<T: Timeline>(
         device: number,
         life: device.life,
     };
-    let effect = altered(alloc, state, timeline, &change);
+    let effect = effect_on_network(alloc, state, timeline, &change);
     state.take_back_device();
     effect
 }
@@ -113,14 +116,15 @@ pub fn with_life<T: Timeline>(
     device: &Name,
     life: Life,
 ) -> Result<Effect, Stop>
-    requires accepted { refusal state.old.state (Command.Life device.now life.since life.until) ≡ None }
+    requires accepted { refusal state.old.state (Command.Life device.now life.since life.until)
+        ≡ None }
     requires runs { AreRunsOf state.old.state (T.content timeline.now) }
     ensures effect { IfOk result (IsEffect state.old.state (next state.old.state
         (Command.Life device.now life.since life.until))) }
     ensures err { IfErr result (λ stop. stop ≡ out_of_memory) }
     ensures state { state.new.state ≡ state.old.state }
-    ensures searches { state.new.searches ≤ state.old.searches + most_searches T.bound state.old.state
-        (Command.Life device.now life.since life.until) }
+    ensures searches { state.new.searches ≤ state.old.searches + most_searches T.bound
+        state.old.state (Command.Life device.now life.since life.until) }
 {
     let _ = state.accepted();
     let Some(device) = state.net.device_of(device) else {
@@ -133,13 +137,13 @@ pub fn with_life<T: Timeline>(
         old,
         new: life,
     };
-    let effect = altered(alloc, state, timeline, &change);
+    let effect = effect_on_network(alloc, state, timeline, &change);
     state.set_life(device, old);
     effect
 }
 
 // The effect of a change of the devices that was made, where a timeline holds the runs before it.
-fn altered<T: Timeline>(
+fn effect_on_network<T: Timeline>(
     alloc: Global,
     state: &mut State,
     timeline: &T,
@@ -148,18 +152,20 @@ fn altered<T: Timeline>(
     requires part { changed change.now state.old.state.entries ≡ state.old.state.entries }
     requires applies { Applies change.now state.old.state.entries }
     requires after { IsAfter change.now state.old.state.network }
-    requires nodes { (net_before change.now state.old.state.network).nodes ≡ state.old.state.network.nodes }
+    requires nodes { (net_before change.now state.old.state.network).nodes
+        ≡ state.old.state.network.nodes }
     requires runs { AreRunsOf (before_change change.now state.old.state) (T.content timeline.now) }
-    ensures effect { IfOk result (IsEffect (before_change change.now state.old.state) state.old.state) }
+    ensures effect { IfOk result (IsEffect (before_change change.now state.old.state)
+        state.old.state) }
     ensures err { IfErr result (λ stop. stop ≡ out_of_memory) }
     ensures state { state.new.state ≡ state.old.state }
-    ensures searches { state.new.searches ≤ state.old.searches
-        + T.bound state.old.state.network state.old.state.entries state.old.state.period change.now }
+    ensures searches { state.new.searches ≤ state.old.searches + T.bound state.old.state.network
+        state.old.state.entries state.old.state.period change.now }
 {
     total_laws();
     let _ = state.accepted();
-    let delta = planned(state, timeline, change)?;
-    let posting = posted(alloc, state, timeline, change, &delta)?;
+    let delta = plan_change(state, timeline, change)?;
+    let posting = post_sections(alloc, state, timeline, change, &delta)?;
     Ok(Effect {
         moves: posting.moves(&state.period)?,
         retiming: Retiming::By(delta),
@@ -167,33 +173,35 @@ fn altered<T: Timeline>(
 }
 
 // What a change of the network that was made alters in the runs, where a timeline holds those before it.
-fn planned<T: Timeline>(state: &mut State, timeline: &T, change: &Change) -> Result<Delta, Stop>
+fn plan_change<T: Timeline>(state: &mut State, timeline: &T, change: &Change) -> Result<Delta, Stop>
     requires part { changed change.now state.old.state.entries ≡ state.old.state.entries }
     requires applies { Applies change.now state.old.state.entries }
     requires after { IsAfter change.now state.old.state.network }
     requires runs { AreRunsOf (before_change change.now state.old.state) (T.content timeline.now) }
-    ensures delta { IfOk result (λ delta. IsDelta state.old.state.network delta (T.content timeline.now)
-        (runs_in state.old.state)) }
+    ensures delta { IfOk result (λ delta. IsDelta state.old.state.network delta
+        (T.content timeline.now) (runs_in state.old.state)) }
     ensures fits { IfOk result (λ delta. Fits (T.content timeline.now) delta) }
     ensures err { IfErr result (λ stop. stop ≡ out_of_memory) }
     ensures state { state.new.state ≡ state.old.state }
-    ensures searches { state.new.searches ≤ state.old.searches
-        + T.bound state.old.state.network state.old.state.entries state.old.state.period change.now }
+    ensures searches { state.new.searches ≤ state.old.searches + T.bound state.old.state.network
+        state.old.state.entries state.old.state.period change.now }
 {
     timeline.plan(&mut state.net, &state.sheet, &state.period, change)
 }
 
 // What is posted for a change of the devices that was made: the runs of the sections that it touches.
-fn posted<T: Timeline>(
+fn post_sections<T: Timeline>(
     alloc: Global,
     state: &State,
     timeline: &T,
     change: &Change,
     delta: &Delta,
 ) -> Result<Posting, Stop>
-    requires nodes { (net_before change.now state.now.state.network).nodes ≡ state.now.state.network.nodes }
+    requires nodes { (net_before change.now state.now.state.network).nodes
+        ≡ state.now.state.network.nodes }
     requires runs { AreRunsOf (before_change change.now state.now.state) (T.content timeline.now) }
-    requires delta { IsDelta state.now.state.network delta.now (T.content timeline.now) (runs_in state.now.state) }
+    requires delta { IsDelta state.now.state.network delta.now (T.content timeline.now)
+        (runs_in state.now.state) }
     ensures posted { IfOk result (λ posting. Balances (day_count state.now.state.period) posting
         (amount (before_change change.now state.now.state)) (amount state.now.state)) }
     ensures err { IfErr result (λ stop. stop ≡ out_of_memory) }
@@ -218,12 +226,15 @@ fn repost<T: Timeline>(
     node: u16,
 ) -> Result<(), Stop>
     requires sound { IsSoundState state.now.state }
-    requires nodes { (net_before change.now state.now.state.network).nodes ≡ state.now.state.network.nodes }
+    requires nodes { (net_before change.now state.now.state.network).nodes
+        ≡ state.now.state.network.nodes }
     requires runs { AreRunsOf (before_change change.now state.now.state) (T.content timeline.now) }
-    requires delta { IsDelta state.now.state.network delta.now (T.content timeline.now) (runs_in state.now.state) }
+    requires delta { IsDelta state.now.state.network delta.now (T.content timeline.now)
+        (runs_in state.now.state) }
     requires node { node < length state.now.state.network.nodes }
     requires touched { IsSome (new_runs delta.now node) }
-    ensures posted { (old new : Dimension → ℕ → ℕ) → Balances (day_count state.now.state.period) posting.old old new
+    ensures posted { (old new : Dimension → ℕ → ℕ)
+        → Balances (day_count state.now.state.period) posting.old old new
         → OnOk result (Balances (day_count state.now.state.period) posting.new
         (together old (amount_of_node (before_change change.now state.now.state) node))
         (together new (amount_of_node state.now.state node))) }

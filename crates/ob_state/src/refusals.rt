@@ -119,7 +119,8 @@ impl State {
     }
 
     fn refuse_device(&self, name: &Name, ends: Ends, life: Life) -> Option<Refusal>
-        ensures { result ≡ first (device_refusal self.now.state.network name.now ends.a ends.b life ∷ []) }
+        ensures { result ≡ first (device_refusal self.now.state.network name.now ends.a ends.b life
+            ∷ []) }
     {
         let unknown = self.net.node_of(ends.a()).is_none() || self.net.node_of(ends.b()).is_none();
         let full = usize::from(self.net.devices()) == MOST_DEVICES;
@@ -130,7 +131,8 @@ impl State {
     }
 
     fn refuse_life(&self, device: &Name, life: Life) -> Option<Refusal>
-        ensures { result ≡ first (refusals self.now.state (Command.Life device.now life.since life.until)) }
+        ensures { result ≡ first (refusals self.now.state
+            (Command.Life device.now life.since life.until)) }
     {
         let unknown = self.net.device_of(device).is_none();
         let bad = !life.ends_later();
@@ -144,7 +146,8 @@ impl State {
         since: Moment,
         until: Option<Moment>,
     ) -> Option<Refusal>
-        ensures { result ≡ first (refusals self.now.state (Connect customer section.now since until)) }
+        ensures { result ≡ first (refusals self.now.state
+            (Connect customer section.now since until)) }
     {
         let taken = self.roll.customer(customer.get()).is_some();
         refuse_if(self.section_named(section).is_none(), Refusal::UnknownName)

@@ -8,7 +8,7 @@ ghost use Rattle.ob_post.specs.declared.Dim.{Dim as Dimension};
 ghost use Rattle.ob_state.specs.States.{AreRunsOf, IsSoundState};
 ghost use Rattle.ob_state.specs.Refusals.{refusal};
 ghost use Rattle.ob_state.specs.Next.{next};
-ghost use Rattle.ob_posting.specs.Balances.{together, Balances};
+ghost use Rattle.ob_post.specs.Balances.{together, Balances};
 ghost use Rattle.ob_state.specs.Effects.{amount_of_customer, IsEffect};
 
 use crate::change::end_of;
@@ -18,13 +18,13 @@ use crate::state::State;
 use ob_base::{Name, Stop};
 use ob_command::{Command, Moment, Serial};
 use ob_cust::{Customer, Roll};
+use ob_post::Posting;
 use ob_post::laws::{roll_laws, section_laws, total_laws};
-use ob_posting::Posting;
 use ob_sweep::Timeline;
 use std::alloc::Global;
 
 /// The effect of a customer that isn't refused. The error is that memory was refused.
-pub fn connected<T: Timeline>(
+pub fn effect_of_connect<T: Timeline>(
     alloc: Global,
     state: &State,
     timeline: &T,
@@ -33,7 +33,8 @@ pub fn connected<T: Timeline>(
     since: Moment,
     until: Option<Moment>,
 ) -> Result<Effect, Stop>
-    requires accepted { refusal state.now.state (Command.Connect customer section.now since until) ≡ None }
+    requires accepted { refusal state.now.state (Command.Connect customer section.now since until)
+        ≡ None }
     requires runs { AreRunsOf state.now.state (T.content timeline.now) }
     ensures effect { IfOk result (IsEffect state.now.state (next state.now.state
         (Command.Connect customer section.now since until))) }
@@ -61,7 +62,7 @@ pub fn connected<T: Timeline>(
 
 /// The effect of another service of a customer, which isn't refused. The error is that memory was
 /// refused.
-pub fn revised<T: Timeline>(
+pub fn effect_of_revise<T: Timeline>(
     alloc: Global,
     state: &State,
     timeline: &T,
@@ -107,7 +108,8 @@ fn take_customer<T: Timeline>(
     requires section { IsSome (home_feeder state.now.state.network customer.section) }
     requires service { is_bad_service customer ≡ false }
     requires runs { AreRunsOf state.now.state (T.content timeline.now) }
-    ensures taken { (old new : Dimension → ℕ → ℕ) → Balances (day_count state.now.state.period) posting.old old new
+    ensures taken { (old new : Dimension → ℕ → ℕ)
+        → Balances (day_count state.now.state.period) posting.old old new
         → OnOk result (Balances (day_count state.now.state.period) posting.new
         (together old (amount_of_customer state.now.state customer)) new) }
     ensures err { IfErr result (λ stop. stop ≡ out_of_memory) }
@@ -134,7 +136,8 @@ fn give_customer<T: Timeline>(
     requires section { IsSome (home_feeder state.now.state.network customer.section) }
     requires service { is_bad_service customer ≡ false }
     requires runs { AreRunsOf state.now.state (T.content timeline.now) }
-    ensures given { (old new : Dimension → ℕ → ℕ) → Balances (day_count state.now.state.period) posting.old old new
+    ensures given { (old new : Dimension → ℕ → ℕ)
+        → Balances (day_count state.now.state.period) posting.old old new
         → OnOk result (Balances (day_count state.now.state.period) posting.new old
         (together new (amount_of_customer state.now.state customer))) }
     ensures err { IfErr result (λ stop. stop ≡ out_of_memory) }

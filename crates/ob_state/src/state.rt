@@ -34,7 +34,8 @@ impl Model for State {
       searches = s.net.searches;
     } };
 
-    ghost invariant = { λ s. IsBookState (book_state s.period s.net.network s.causes s.roll.customers s.sheet.entries s.marks s.accepted) };
+    ghost invariant = { λ s. IsBookState (book_state s.period s.net.network s.causes
+        s.roll.customers s.sheet.entries s.marks s.accepted) };
 }
 
 impl State {
@@ -163,8 +164,10 @@ impl State {
     /// Takes back the node that was added last, which no device joins and of which there is no customer.
     pub(crate) fn take_back_node(&mut self)
         requires some { 1 < length self.old.state.network.nodes }
-        requires free { All (JoinsTwo (length self.old.state.network.nodes - 1)) self.old.state.network.devices }
-        requires customers { All (λ c. IsSome (home_feeder (without_last_node self.old.state.network) c.section)) self.old.state.customers }
+        requires free { All (JoinsTwo (length self.old.state.network.nodes - 1))
+            self.old.state.network.devices }
+        requires customers { All (λ c. IsSome (home_feeder
+            (without_last_node self.old.state.network) c.section)) self.old.state.customers }
         ensures state { self.new.state ≡ without_node self.old.state }
         ensures searches { self.new.searches ≡ self.old.searches }
     {
@@ -174,7 +177,8 @@ impl State {
     /// Takes back the device that was added last, of which there is no entry.
     pub(crate) fn take_back_device(&mut self)
         requires some { 0 < length self.old.state.network.devices }
-        requires entries { All (λ e. e.device < length self.old.state.network.devices - 1) self.old.state.entries }
+        requires entries { All (λ e. e.device < length self.old.state.network.devices - 1)
+            self.old.state.entries }
         ensures state { self.new.state ≡ without_device self.old.state }
         ensures searches { self.new.searches ≡ self.old.searches }
     {
@@ -185,7 +189,8 @@ impl State {
     pub(crate) fn set_life(&mut self, device: u16, life: Life)
         requires device { device < length self.old.state.network.devices }
         requires life { life_refusal life ≡ None }
-        ensures state { self.new.state ≡ with_network self.old.state (with_life self.old.state.network device life) }
+        ensures state { self.new.state ≡ with_network self.old.state
+            (with_life self.old.state.network device life) }
         ensures searches { self.new.searches ≡ self.old.searches }
     {
         if self.net.set_life(device, life).is_err() {

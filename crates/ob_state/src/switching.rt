@@ -13,8 +13,8 @@ ghost use Rattle.ob_state.specs.States.{AreRunsOf, IsBookState, IsSoundState};
 ghost use Rattle.ob_state.specs.Refusals.{refusal};
 ghost use Rattle.ob_state.specs.Next.{next};
 ghost use Rattle.ob_state.specs.Effects.{amount_of_node, with_entries, BalancesFirst, IsEffect};
-ghost use Rattle.ob_posting.specs.Balances.{Balances, Posts};
-ghost use Rattle.ob_posting.specs.Causes.{KeepsCause};
+ghost use Rattle.ob_post.specs.Balances.{Balances, Posts};
+ghost use Rattle.ob_post.specs.Causes.{KeepsCause};
 ghost use Rattle.ob_state.specs.Searches.{most_searches};
 
 use crate::effect::Effect;
@@ -22,9 +22,8 @@ use crate::retiming::Retiming;
 use crate::state::State;
 use ob_base::{Crew, Name, Pos, Stop};
 use ob_command::{CauseCode, Command, Moment, Serial};
-use ob_post::Moved;
 use ob_post::laws::{cause_laws, section_laws, total_laws};
-use ob_posting::Posting;
+use ob_post::{Moved, Posting};
 use ob_sheet::Entry;
 use ob_sweep::{Change, Delta, Timeline};
 use std::alloc::Global;
@@ -39,33 +38,35 @@ pub struct Operation {
 }
 
 /// The effect of a new entry that isn't refused. The error is that memory was refused.
-pub fn entered<T: Timeline>(
+pub fn effect_of_switch<T: Timeline>(
     alloc: Global,
     state: &mut State,
     timeline: &T,
     device: &Name,
     operation: Operation,
 ) -> Result<Effect, Stop>
-    requires accepted { refusal state.old.state (Command.Switch device.now operation.act operation.second
-        operation.cause operation.crew) ≡ None }
+    requires accepted { refusal state.old.state (Command.Switch device.now operation.act
+        operation.second operation.cause operation.crew) ≡ None }
     requires runs { AreRunsOf state.old.state (T.content timeline.now) }
-    ensures effect { IfOk result (IsEffect state.old.state (next state.old.state
-        (Command.Switch device.now operation.act operation.second operation.cause operation.crew))) }
+    ensures effect { IfOk result (IsEffect state.old.state
+        (next state.old.state (Command.Switch device.now operation.act operation.second
+        operation.cause operation.crew))) }
     ensures err { IfErr result (λ stop. stop ≡ out_of_memory) }
     ensures state { state.new.state ≡ state.old.state }
-    ensures searches { state.new.searches ≤ state.old.searches + most_searches T.bound state.old.state
-        (Command.Switch device.now operation.act operation.second operation.cause operation.crew) }
+    ensures searches { state.new.searches ≤ state.old.searches + most_searches T.bound
+        state.old.state (Command.Switch device.now operation.act operation.second operation.cause
+        operation.crew) }
 {
     let Some(device) = state.net.device_of(device) else {
         unreachable!();
     };
     let _ = state.accepted();
     let entry = next_entry(state, device, operation);
-    switched(alloc, state, timeline, &Change::Entered(entry))
+    effect_on_sheet(alloc, state, timeline, &Change::Entered(entry))
 }
 
 /// The effect of a correction that isn't refused. The error is that memory was refused.
-pub fn corrected<T: Timeline>(
+pub fn effect_of_correct<T: Timeline>(
     alloc: Global,
     state: &mut State,
     timeline: &T,
@@ -73,24 +74,26 @@ pub fn corrected<T: Timeline>(
     revision: Serial,
     operation: Operation,
 ) -> Result<Effect, Stop>
-    requires accepted { refusal state.old.state (Command.Correct entry revision operation.act operation.second
-        operation.cause operation.crew) ≡ None }
+    requires accepted { refusal state.old.state (Command.Correct entry revision operation.act
+        operation.second operation.cause operation.crew) ≡ None }
     requires runs { AreRunsOf state.old.state (T.content timeline.now) }
-    ensures effect { IfOk result (IsEffect state.old.state (next state.old.state
-        (Command.Correct entry revision operation.act operation.second operation.cause operation.crew))) }
+    ensures effect { IfOk result (IsEffect state.old.state
+        (next state.old.state (Command.Correct entry revision operation.act operation.second
+        operation.cause operation.crew))) }
     ensures err { IfErr result (λ stop. stop ≡ out_of_memory) }
     ensures state { state.new.state ≡ state.old.state }
-    ensures searches { state.new.searches ≤ state.old.searches + most_searches T.bound state.old.state
-        (Command.Correct entry revision operation.act operation.second operation.cause operation.crew) }
+    ensures searches { state.new.searches ≤ state.old.searches + most_searches T.bound
+        state.old.state (Command.Correct entry revision operation.act operation.second
+        operation.cause operation.crew) }
 {
     let old = entry_at(state, entry, revision);
     let _ = state.accepted();
     let change = correction(old, operation);
-    switched(alloc, state, timeline, &change)
+    effect_on_sheet(alloc, state, timeline, &change)
 }
 
 /// The effect of a withdrawal that isn't refused. The error is that memory was refused.
-pub fn withdrawn<T: Timeline>(
+pub fn effect_of_withdraw<T: Timeline>(
     alloc: Global,
     state: &mut State,
     timeline: &T,
@@ -99,7 +102,8 @@ pub fn withdrawn<T: Timeline>(
 ) -> Result<Effect, Stop>
     requires accepted { refusal state.old.state (Command.Withdraw entry revision) ≡ None }
     requires runs { AreRunsOf state.old.state (T.content timeline.now) }
-    ensures effect { IfOk result (IsEffect state.old.state (next state.old.state (Command.Withdraw entry revision))) }
+    ensures effect { IfOk result (IsEffect state.old.state
+        (next state.old.state (Command.Withdraw entry revision))) }
     ensures err { IfErr result (λ stop. stop ≡ out_of_memory) }
     ensures state { state.new.state ≡ state.old.state }
     ensures searches { state.new.searches ≤ state.old.searches
@@ -107,7 +111,7 @@ pub fn withdrawn<T: Timeline>(
 {
     let old = entry_at(state, entry, revision);
     let _ = state.accepted();
-    switched(alloc, state, timeline, &Change::Withdrawn(old))
+    effect_on_sheet(alloc, state, timeline, &Change::Withdrawn(old))
 }
 
 // The kept entry with a number and a revision.
@@ -125,8 +129,8 @@ fn entry_at(state: &State, entry: Serial, revision: Serial) -> Entry
 
 // The next entry, of an operation of a device.
 fn next_entry(state: &State, device: u16, operation: Operation) -> Entry
-    ensures entry { result ≡ new_entry state.now.state.entries device operation.act operation.second operation.cause
-        operation.crew }
+    ensures entry { result ≡ new_entry state.now.state.entries device operation.act operation.second
+        operation.cause operation.crew }
     ensures cause { operation.cause < 64 }
 {
     Entry {
@@ -143,8 +147,8 @@ fn next_entry(state: &State, device: u16, operation: Operation) -> Entry
 
 // The correction by which an entry tells of another operation.
 fn correction(old: Entry, operation: Operation) -> Change
-    ensures change { result ≡ Change.Corrected old (corrected_entry operation.act operation.second operation.cause
-        operation.crew old) }
+    ensures change { result ≡ Change.Corrected old
+        (corrected_entry operation.act operation.second operation.cause operation.crew old) }
     ensures cause { operation.cause < 64 }
 {
     let new = Entry {
@@ -159,7 +163,7 @@ fn correction(old: Entry, operation: Operation) -> Change
 }
 
 // The effect of a change of the sheet.
-fn switched<T: Timeline>(
+fn effect_on_sheet<T: Timeline>(
     alloc: Global,
     state: &mut State,
     timeline: &T,
@@ -168,7 +172,8 @@ fn switched<T: Timeline>(
     requires runs { AreRunsOf state.old.state (T.content timeline.now) }
     requires of_sheet { IsSome (of_sheet change.now) }
     requires applies { Applies change.now state.old.state.entries }
-    requires changed { IsBookState (with_entries state.old.state (changed change.now state.old.state.entries)) }
+    requires changed { IsBookState (with_entries state.old.state
+        (changed change.now state.old.state.entries)) }
     ensures effect { IfOk result (IsEffect state.old.state (with_entries state.old.state
         (changed change.now state.old.state.entries))) }
     ensures err { IfErr result (λ stop. stop ≡ out_of_memory) }
@@ -194,11 +199,13 @@ fn moves_by_change<T: Timeline>(
 ) -> Result<Vec<Moved>, Stop>
     requires runs { AreRunsOf state.now.state (T.content timeline.now) }
     requires applies { Applies change.now state.now.state.entries }
-    requires changed { IsBookState (with_entries state.now.state (changed change.now state.now.state.entries)) }
+    requires changed { IsBookState (with_entries state.now.state
+        (changed change.now state.now.state.entries)) }
     requires delta { IsDelta state.now.state.network delta.now (T.content timeline.now)
         (runs_in (with_entries state.now.state (changed change.now state.now.state.entries))) }
     ensures moves { IfOk result (λ moved. moved.items
-        ≡ moves state.now.state (with_entries state.now.state (changed change.now state.now.state.entries))) }
+        ≡ moves state.now.state (with_entries state.now.state
+        (changed change.now state.now.state.entries))) }
     ensures err { IfErr result (λ stop. stop ≡ out_of_memory) }
 {
     total_laws();
@@ -231,12 +238,14 @@ fn posted_where_touched<T: Timeline>(
 ) -> Result<Posting, Stop>
     requires runs { AreRunsOf state.now.state (T.content timeline.now) }
     requires applies { Applies change.now state.now.state.entries }
-    requires changed { IsBookState (with_entries state.now.state (changed change.now state.now.state.entries)) }
+    requires changed { IsBookState (with_entries state.now.state
+        (changed change.now state.now.state.entries)) }
     requires delta { IsDelta state.now.state.network delta.now (T.content timeline.now)
         (runs_in (with_entries state.now.state (changed change.now state.now.state.entries))) }
     requires cause { KeepsCause change.now }
     ensures posted { IfOk result (λ posting. Balances (day_count state.now.state.period) posting
-        (amount state.now.state) (amount (with_entries state.now.state (changed change.now state.now.state.entries)))) }
+        (amount state.now.state) (amount (with_entries state.now.state
+        (changed change.now state.now.state.entries)))) }
     ensures err { IfErr result (λ stop. stop ≡ out_of_memory) }
 {
     section_laws();
@@ -260,11 +269,13 @@ fn posted_everywhere<T: Timeline>(
 ) -> Result<Posting, Stop>
     requires runs { AreRunsOf state.now.state (T.content timeline.now) }
     requires applies { Applies change.now state.now.state.entries }
-    requires changed { IsBookState (with_entries state.now.state (changed change.now state.now.state.entries)) }
+    requires changed { IsBookState (with_entries state.now.state
+        (changed change.now state.now.state.entries)) }
     requires delta { IsDelta state.now.state.network delta.now (T.content timeline.now)
         (runs_in (with_entries state.now.state (changed change.now state.now.state.entries))) }
     ensures posted { IfOk result (λ posting. Balances (day_count state.now.state.period) posting
-        (amount state.now.state) (amount (with_entries state.now.state (changed change.now state.now.state.entries)))) }
+        (amount state.now.state) (amount (with_entries state.now.state
+        (changed change.now state.now.state.entries)))) }
     ensures err { IfErr result (λ stop. stop ≡ out_of_memory) }
 {
     section_laws();
@@ -288,13 +299,14 @@ fn post_node<T: Timeline>(
     requires sound { IsSoundState state.now.state }
     requires runs { AreRunsOf state.now.state (T.content timeline.now) }
     requires applies { Applies change.now state.now.state.entries }
-    requires changed { IsBookState (with_entries state.now.state (changed change.now state.now.state.entries)) }
+    requires changed { IsBookState (with_entries state.now.state
+        (changed change.now state.now.state.entries)) }
     requires delta { IsDelta state.now.state.network delta.now (T.content timeline.now)
         (runs_in (with_entries state.now.state (changed change.now state.now.state.entries))) }
     requires node { node < length state.now.state.network.nodes }
-    ensures posted { BalancesFirst state.now.state (changed change.now state.now.state.entries) node posting.old
-        → OnOk result (BalancesFirst state.now.state (changed change.now state.now.state.entries) (node + 1)
-        posting.new) }
+    ensures posted { BalancesFirst state.now.state (changed change.now state.now.state.entries) node
+        posting.old → OnOk result (BalancesFirst state.now.state
+        (changed change.now state.now.state.entries) (node + 1) posting.new) }
     ensures err { IfErr result (λ stop. stop ≡ out_of_memory) }
 {
     section_laws();
@@ -327,14 +339,15 @@ fn post_touched<T: Timeline>(
     requires sound { IsSoundState state.now.state }
     requires runs { AreRunsOf state.now.state (T.content timeline.now) }
     requires applies { Applies change.now state.now.state.entries }
-    requires changed { IsBookState (with_entries state.now.state (changed change.now state.now.state.entries)) }
+    requires changed { IsBookState (with_entries state.now.state
+        (changed change.now state.now.state.entries)) }
     requires delta { IsDelta state.now.state.network delta.now (T.content timeline.now)
         (runs_in (with_entries state.now.state (changed change.now state.now.state.entries))) }
     requires node { node < length state.now.state.network.nodes }
     requires touched { IsSome (new_runs delta.now node) }
     ensures posted { Posts (day_count state.now.state.period) posting.old posting.new result
-        (amount_of_node state.now.state node)
-        (amount_of_node (with_entries state.now.state (changed change.now state.now.state.entries)) node) }
+        (amount_of_node state.now.state node) (amount_of_node
+        (with_entries state.now.state (changed change.now state.now.state.entries)) node) }
     ensures err { IfErr result (λ stop. stop ≡ out_of_memory) }
 {
     section_laws();

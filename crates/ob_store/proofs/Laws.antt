@@ -24,7 +24,7 @@ use Rattle.ob_compare.specs.Moves.{commands_of}
 use Rattle.ob_compare.specs.Ordered.{RowsHaveOneOrder}
 use Rattle.ob_compare.specs.Reading.{command_rows}
 use Rattle.ob_compare.specs.Versioned.{next_all_in}
-use Rattle.ob_migrate.specs.Laws.{OldIsReached, TablesAreAlike}
+use Rattle.ob_parts.specs.Laws.{OldIsReached, TablesAreAlike}
 use Rattle.ob_store.specs.Books.{IsReachedIn, tables_in}
 use Rattle.ob_store.specs.Laws.{Laws}
 

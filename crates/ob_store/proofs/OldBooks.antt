@@ -24,8 +24,8 @@ use Rattle.ob_compare.specs.Listing.{filed_of}
 use Rattle.ob_compare.specs.Reading.{bad_book, command_rows}
 use Rattle.ob_compare.specs.Version.{HasVersion}
 use Rattle.ob_compare.specs.Versioned.{IsReferencedIn}
-use Rattle.ob_migrate.specs.Laws.{IsOldCommand, OldIsReached, TablesAreAlike, Upgraded as UpgradedLaw}
-use Rattle.ob_migrate.specs.OldTables.{HasOldBook, IsOldReached, new_texts, old_tables_of, texts_of}
+use Rattle.ob_parts.specs.Laws.{IsOldCommand, OldIsReached, TablesAreAlike, Upgraded as UpgradedLaw}
+use Rattle.ob_parts.specs.OldTables.{HasOldBook, IsOldReached, new_texts, old_tables_of, texts_of}
 use Rattle.ob_parts.specs.Parts.{parts_in}
 use Rattle.ob_store.specs.declared.migrating.Upgrade.{Upgrade}
 use Rattle.ob_store.specs.declared.named.Named.{Named}

@@ -13,8 +13,8 @@ use Rattle.ob_tables.specs.declared.version.Version.TheVariants.{One}
 use Rattle.ob_commit.specs.Keeps.{LeavesIn}
 use Rattle.ob_record.specs.Naming.{IsReferenced}
 use Rattle.ob_record.specs.Reached.{ReachedAreFew}
-use Rattle.ob_migrate.specs.Laws.{OldIsReached}
-use Rattle.ob_migrate.specs.OldTables.{HasOldBook, IsOldReached, old_tables_of}
+use Rattle.ob_parts.specs.Laws.{OldIsReached}
+use Rattle.ob_parts.specs.OldTables.{HasOldBook, IsOldReached, old_tables_of}
 use Rattle.ob_store.specs.Crashing.{OpensAfterCrash, Restores}
 use Rattle.ob_store.specs.Keeping.{KeeperValue, KeepsBook}
 use Rattle.ob_store.specs.Loading.{trees_in}

@@ -28,8 +28,8 @@ use Rattle.ob_commit.specs.Upgrade.{CanUpgrade, KeepsOldOr, LeavesUpgraded, with
 use Rattle.ob_record.specs.Tables.{tables_of}
 use Rattle.ob_compare.specs.Reading.{IsReadFault}
 use Rattle.ob_compare.specs.Version.{HasVersion}
-use Rattle.ob_migrate.specs.Laws.{OldIsReached}
-use Rattle.ob_migrate.specs.OldTables.{HasOldBook, old_tables_of}
+use Rattle.ob_parts.specs.Laws.{OldIsReached}
+use Rattle.ob_parts.specs.OldTables.{HasOldBook, old_tables_of}
 use Rattle.ob_store.specs.declared.migrating.Upgrade.{Upgrade}
 use Rattle.ob_store.specs.Finding.{Finds, OnlyReads}
 use Rattle.ob_store.specs.Keeping.{KeepsBook}

@@ -5,7 +5,7 @@ use Rattle.ob_tables.specs.declared.version.Version.{Version}
 use Rattle.ob_tables.specs.declared.version.Version.TheVariants.{One, Two}
 use Rattle.ob_record.specs.Reached.{IsReached}
 use Rattle.ob_record.specs.Tables.{tables_of}
-use Rattle.ob_migrate.specs.OldTables.{IsOldReached, old_tables_of}
+use Rattle.ob_parts.specs.OldTables.{IsOldReached, old_tables_of}
 
 -- a book whose commands the version accepted, each in its turn
 abbrev pub IsReachedIn : Version → ActState → Type 0

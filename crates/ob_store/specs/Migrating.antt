@@ -16,7 +16,7 @@ use Rattle.ob_commit.specs.Upgrade.{KeepsOldOr}
 use Rattle.ob_record.specs.Naming.{IsReferenced}
 use Rattle.ob_record.specs.Tables.{tables_of}
 use Rattle.ob_compare.specs.Version.{HasVersion}
-use Rattle.ob_migrate.specs.OldTables.{HasOldBook, IsOldReached, old_tables_of}
+use Rattle.ob_parts.specs.OldTables.{HasOldBook, IsOldReached, old_tables_of}
 use Rattle.ob_store.specs.Finding.{OnlyReads, ShowsTheSame}
 use Rattle.ob_store.specs.Keeping.{KeepsBook}
 use Rattle.ob_store.specs.Loading.{trees_in}

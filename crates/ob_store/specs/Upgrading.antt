@@ -22,7 +22,7 @@ use Rattle.ob_commit.specs.Upgrade.{CanUpgrade, with_upgrade}
 use Rattle.ob_record.specs.Tables.{Shows, tables_of}
 use Rattle.ob_compare.specs.Reading.{IsReadFault}
 use Rattle.ob_compare.specs.Version.{HasVersion}
-use Rattle.ob_migrate.specs.OldTables.{old_tables_of}
+use Rattle.ob_parts.specs.OldTables.{old_tables_of}
 use Rattle.ob_parts.specs.Parts.{parts_in}
 use Rattle.ob_store.specs.declared.migrating.Upgrade.{Upgrade}
 use Rattle.ob_store.specs.Keeping.{KeepsBook}

@@ -30,9 +30,10 @@ pub(crate) fn act_on<S: Alter, T: Timeline>(
     ensures faults { IfErr result IsActStop }
     ensures clean { HasCleanDisk (state S.Store conn.new) → HasCleanDisk (state S.Store conn.old) }
     ensures book { OnErr result (book.new.state ≡ book.old.state) }
-    ensures acts { HasCleanDisk (state S.Store conn.new) → (b : ActState) → KeepsBook (state S.Store conn.old) b
-        → book.old.state ≡ b.book
-        → Acts S.Store conn.new book.old.state book.new.state b (under reference.now command.now) result }
+    ensures acts { HasCleanDisk (state S.Store conn.new) → (b : ActState)
+        → KeepsBook (state S.Store conn.old) b → book.old.state ≡ b.book
+        → Acts S.Store conn.new book.old.state book.new.state b (under reference.now command.now)
+        result }
 {
     reached_law();
     let body = match body_text(alloc, command) {
@@ -63,10 +64,10 @@ fn accept<S: Alter, T: Timeline>(
     ensures faults { IfErr result IsActStop }
     ensures clean { HasCleanDisk (state S.Store conn.new) → HasCleanDisk (state S.Store conn.old) }
     ensures book { OnErr result (book.new.state ≡ book.old.state) }
-    ensures acts { HasCleanDisk (state S.Store conn.new) → (b : ActState) → KeepsBook (state S.Store conn.old) b
-        → book.old.state ≡ b.book
-        → number_of b reference.now ≡ None
-        → Acts S.Store conn.new book.old.state book.new.state b (under reference.now command.now) result }
+    ensures acts { HasCleanDisk (state S.Store conn.new) → (b : ActState)
+        → KeepsBook (state S.Store conn.old) b → book.old.state ≡ b.book
+        → number_of b reference.now ≡ None → Acts S.Store conn.new book.old.state book.new.state b
+        (under reference.now command.now) result }
 {
     reached_law();
     let plan = match book.decide(command) {

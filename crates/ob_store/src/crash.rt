@@ -2,7 +2,7 @@
 ghost use Rattle.ob_store.specs.Crashing.{CrashLaw};
 ghost use Rattle.ob_store.specs.OldCrashing.{OldCrashLaw};
 
-use ob_migrate::upgrade_law;
+use ob_parts::upgrade_law;
 use ob_record::naming_law;
 use sqlite::Alter;
 

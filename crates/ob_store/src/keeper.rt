@@ -103,10 +103,13 @@ impl<S: Alter, T: Timeline> Keeper<S, T> {
         ensures reopen { (self.old.book ≡ None) ↔ (result ≡ Err (Stop.Fault Fault.Reopen)) }
         ensures unopened { self.old.book ≡ None → self.new ≡ self.old }
         ensures faults { IsSome self.old.book → IfErr result IsActStop }
-        ensures dropped { IsSome self.old.book → (self.new.book ≡ None) ↔ (result ≡ Err (Stop.Fault Fault.Store)) }
-        ensures clean { HasCleanDisk (state S.Store self.new.conn) → HasCleanDisk (state S.Store self.old.conn) }
-        ensures acted { HasCleanDisk (state S.Store self.new.conn) → (b : ActState) → Ties S.Store self.old b
-            → IsSome self.old.book → Acted S.Store self.old self.new b (under reference command) result }
+        ensures dropped { IsSome self.old.book → (self.new.book ≡ None)
+            ↔ (result ≡ Err (Stop.Fault Fault.Store)) }
+        ensures clean { HasCleanDisk (state S.Store self.new.conn)
+            → HasCleanDisk (state S.Store self.old.conn) }
+        ensures acted { HasCleanDisk (state S.Store self.new.conn) → (b : ActState)
+            → Ties S.Store self.old b → IsSome self.old.book
+            → Acted S.Store self.old self.new b (under reference command) result }
     {
         let Some(book) = &mut self.book else {
             return Err(Stop::Fault(Fault::Reopen));
@@ -127,11 +130,15 @@ impl<S: Alter, T: Timeline> Keeper<S, T> {
         ensures reopen { (self.old.book ≡ None) ↔ (result ≡ Err (Stop.Fault Fault.Reopen)) }
         ensures unopened { self.old.book ≡ None → self.new ≡ self.old }
         ensures faults { IsSome self.old.book → IfErr result IsStoreFault }
-        ensures dropped { IsSome self.old.book → (self.new.book ≡ None) ↔ (result ≡ Err (Stop.Fault Fault.Store)) }
-        ensures clean { HasCleanDisk (state S.Store self.new.conn) → HasCleanDisk (state S.Store self.old.conn) }
-        ensures survives { Survives (state S.Store self.old.conn) (state S.Store self.new.conn) (λ _. ⊥) }
-        ensures replied { HasCleanDisk (state S.Store self.new.conn) → (b : ActState) → Ties S.Store self.old b
-            → IsSome self.old.book → Replied S.Store self.old self.new b no result }
+        ensures dropped { IsSome self.old.book → (self.new.book ≡ None)
+            ↔ (result ≡ Err (Stop.Fault Fault.Store)) }
+        ensures clean { HasCleanDisk (state S.Store self.new.conn)
+            → HasCleanDisk (state S.Store self.old.conn) }
+        ensures survives { Survives (state S.Store self.old.conn) (state S.Store self.new.conn)
+            (λ _. ⊥) }
+        ensures replied { HasCleanDisk (state S.Store self.new.conn) → (b : ActState)
+            → Ties S.Store self.old b → IsSome self.old.book
+            → Replied S.Store self.old self.new b no result }
     {
         let Some(book) = &self.book else {
             return Err(Stop::Fault(Fault::Reopen));
@@ -153,12 +160,14 @@ impl<S: Alter, T: Timeline> Keeper<S, T> {
         ensures found { OnOk result (IsSome self.new.book) }
         ensures dropped { IfErr result (IsBookAfter self.old.book self.new.book) }
         ensures stops { IfErr result IsLoadFault }
-        ensures clean { HasCleanDisk (state S.Store self.new.conn) → HasCleanDisk (state S.Store self.old.conn) }
-        ensures survives { Survives (state S.Store self.old.conn) (state S.Store self.new.conn) (λ _. ⊥) }
-        ensures loaded { HasCleanDisk (state S.Store self.new.conn) → self.old.conn.schema ≡ book_schema
-            → Loaded S.Store self.old self.new result }
-        ensures outdated { HasCleanDisk (state S.Store self.new.conn) → self.old.conn.schema ≡ old_schema
-            → Outdated S.Store self.old self.new result }
+        ensures clean { HasCleanDisk (state S.Store self.new.conn)
+            → HasCleanDisk (state S.Store self.old.conn) }
+        ensures survives { Survives (state S.Store self.old.conn) (state S.Store self.new.conn)
+            (λ _. ⊥) }
+        ensures loaded { HasCleanDisk (state S.Store self.new.conn)
+            → self.old.conn.schema ≡ book_schema → Loaded S.Store self.old self.new result }
+        ensures outdated { HasCleanDisk (state S.Store self.new.conn)
+            → self.old.conn.schema ≡ old_schema → Outdated S.Store self.old self.new result }
         ensures crash { CrashLaw S.Store S.Store }
     {
         self.load_with_progress(&mut Silent)
@@ -169,12 +178,14 @@ impl<S: Alter, T: Timeline> Keeper<S, T> {
         ensures found { OnOk result (IsSome self.new.book) }
         ensures dropped { IfErr result (IsBookAfter self.old.book self.new.book) }
         ensures stops { IfErr result IsLoadFault }
-        ensures clean { HasCleanDisk (state S.Store self.new.conn) → HasCleanDisk (state S.Store self.old.conn) }
-        ensures survives { Survives (state S.Store self.old.conn) (state S.Store self.new.conn) (λ _. ⊥) }
-        ensures loaded { HasCleanDisk (state S.Store self.new.conn) → self.old.conn.schema ≡ book_schema
-            → Loaded S.Store self.old self.new result }
-        ensures outdated { HasCleanDisk (state S.Store self.new.conn) → self.old.conn.schema ≡ old_schema
-            → Outdated S.Store self.old self.new result }
+        ensures clean { HasCleanDisk (state S.Store self.new.conn)
+            → HasCleanDisk (state S.Store self.old.conn) }
+        ensures survives { Survives (state S.Store self.old.conn) (state S.Store self.new.conn)
+            (λ _. ⊥) }
+        ensures loaded { HasCleanDisk (state S.Store self.new.conn)
+            → self.old.conn.schema ≡ book_schema → Loaded S.Store self.old self.new result }
+        ensures outdated { HasCleanDisk (state S.Store self.new.conn)
+            → self.old.conn.schema ≡ old_schema → Outdated S.Store self.old self.new result }
         ensures crash { CrashLaw S.Store S.Store }
     {
         crash_law::<S, S>();
@@ -205,12 +216,14 @@ impl<S: Alter, T: Timeline> Keeper<S, T> {
         ensures found { OnOk result (self.new.book ≡ self.old.book) }
         ensures dropped { IfErr result (IsBookAfter self.old.book self.new.book) }
         ensures stops { IfErr result IsLoadFault }
-        ensures clean { HasCleanDisk (state S.Store self.new.conn) → HasCleanDisk (state S.Store self.old.conn) }
-        ensures survives { Survives (state S.Store self.old.conn) (state S.Store self.new.conn) (λ _. ⊥) }
-        ensures audited { HasCleanDisk (state S.Store self.new.conn) → self.old.conn.schema ≡ book_schema
-            → Audited S.Store self.old self.new result }
-        ensures outdated { HasCleanDisk (state S.Store self.new.conn) → self.old.conn.schema ≡ old_schema
-            → Outdated S.Store self.old self.new result }
+        ensures clean { HasCleanDisk (state S.Store self.new.conn)
+            → HasCleanDisk (state S.Store self.old.conn) }
+        ensures survives { Survives (state S.Store self.old.conn) (state S.Store self.new.conn)
+            (λ _. ⊥) }
+        ensures audited { HasCleanDisk (state S.Store self.new.conn)
+            → self.old.conn.schema ≡ book_schema → Audited S.Store self.old self.new result }
+        ensures outdated { HasCleanDisk (state S.Store self.new.conn)
+            → self.old.conn.schema ≡ old_schema → Outdated S.Store self.old self.new result }
     {
         match audit_on::<S, T>(self.alloc, &mut self.conn) {
             Ok(found) => Ok(found),
@@ -229,16 +242,20 @@ impl<S: Alter, T: Timeline> Keeper<S, T> {
         ensures found { OnOk result (self.new.book ≡ self.old.book) }
         ensures dropped { IfErr result (IsBookAfter self.old.book self.new.book) }
         ensures stops { IfErr result IsReadFault }
-        ensures clean { HasCleanDisk (state S.Store self.new.conn) → HasCleanDisk (state S.Store self.old.conn) }
+        ensures clean { HasCleanDisk (state S.Store self.new.conn)
+            → HasCleanDisk (state S.Store self.old.conn) }
         // a crash leaves no more than before, but for the tables of version 2 of the book of version 1 that the store kept
         ensures survives { Survives (state S.Store self.old.conn) (state S.Store self.new.conn)
             (LeavesKept (state S.Store self.old.conn)) }
-        ensures migrated { HasCleanDisk (state S.Store self.new.conn) → self.old.conn.schema ≡ old_schema
-            → Migrated S.Store self.old.conn self.new.conn result }
-        ensures current { HasCleanDisk (state S.Store self.new.conn) → self.old.conn.schema ≡ book_schema
-            → LeftAsItWas S.Store self.old.conn self.new.conn result }
-        ensures kept { HasCleanDisk (state S.Store self.new.conn) → IsTrue (state S.Store self.old.conn).is_open
-            → (b : ActState) → KeepsOldBook (state S.Store self.old.conn) b
+        ensures migrated { HasCleanDisk (state S.Store self.new.conn)
+            → self.old.conn.schema ≡ old_schema → Migrated S.Store self.old.conn self.new.conn
+            result }
+        ensures current { HasCleanDisk (state S.Store self.new.conn)
+            → self.old.conn.schema ≡ book_schema → LeftAsItWas S.Store self.old.conn self.new.conn
+            result }
+        ensures kept { HasCleanDisk (state S.Store self.new.conn)
+            → IsTrue (state S.Store self.old.conn).is_open → (b : ActState)
+            → KeepsOldBook (state S.Store self.old.conn) b
             → MigratesKept S.Store self.new.conn b result }
         // the book has the amounts and the counts that version 1 gave it, and its commands are accepted now as then
         ensures figures { SameFigures }
@@ -266,10 +283,13 @@ impl<S: Alter, T: Timeline> Keeper<S, T> {
         ensures sink { IsSome self.old.book → HandsOver V.takes sink.old sink.new result }
         ensures dropped { IsSome self.old.book
             → IsBookAfterMoves V.takes sink.new self.old.book self.new.book result }
-        ensures clean { HasCleanDisk (state S.Store self.new.conn) → HasCleanDisk (state S.Store self.old.conn) }
-        ensures survives { Survives (state S.Store self.old.conn) (state S.Store self.new.conn) (λ _. ⊥) }
-        ensures moves { HasCleanDisk (state S.Store self.new.conn) → (b : ActState) → Ties S.Store self.old b
-            → IsSome self.old.book → MovesOut S.Store V.takes self.old self.new sink.old sink.new b result }
+        ensures clean { HasCleanDisk (state S.Store self.new.conn)
+            → HasCleanDisk (state S.Store self.old.conn) }
+        ensures survives { Survives (state S.Store self.old.conn) (state S.Store self.new.conn)
+            (λ _. ⊥) }
+        ensures moves { HasCleanDisk (state S.Store self.new.conn) → (b : ActState)
+            → Ties S.Store self.old b → IsSome self.old.book
+            → MovesOut S.Store V.takes self.old self.new sink.old sink.new b result }
         ensures rows { MovesAreRows }
     {
         moves_law();

@@ -53,7 +53,8 @@ fn new_book<T: Timeline>(alloc: Global, heading: &Heading) -> Result<Book<T>, St
 
 /// A new book of the heading's period, before the commands, with the names of the nodes that they give it.
 fn begin<T: Timeline>(alloc: Global, named: &Named) -> Result<Led<T>, Stop>
-    ensures begun { IfOk result (λ led. IsBegun named.now led.book.state led.names.items led.ends.items) }
+    ensures begun { IfOk result (λ led. IsBegun named.now led.book.state led.names.items
+        led.ends.items) }
     ensures counted { IfOk result (λ led. led.counted ≡ named.now.counted) }
     ensures moved { IfOk result (λ led. led.moved ≡ false) }
     ensures none { IfErr result (λ stop. stop ≡ bad_book → HasNoPeriodOf named.now.heading) }
@@ -84,11 +85,12 @@ pub(crate) fn follow<S: Alter, T: Timeline, P: Progress>(
     version: Version,
     progress: &mut P,
 ) -> Result<Option<Led<T>>, Stop>
-    ensures led { IfOk result (λ found. IfSome found (λ led. IsLedBy version named.now led.book.state
+    ensures led { IfOk result (λ found. IfSome found
+        (λ led. IsLedBy version named.now led.book.state
         × HasParts led.book.state led.names.items led.ends.items × (led.moved ≡ true)
         × (led.counted ≡ named.now.counted))) }
-    ensures finds { Finds S.Store version (λ trees found. MovesAre version named.now trees (is_some found))
-        (λ _. HasNoPeriodOf named.now.heading) conn.old conn.new result }
+    ensures finds { Finds S.Store version (λ trees found. MovesAre version named.now trees
+        (is_some found)) (λ _. HasNoPeriodOf named.now.heading) conn.old conn.new result }
 {
     version_law();
     let mut led: Led<T> = match begin(alloc, named) {
@@ -139,8 +141,8 @@ pub(crate) fn read_led<S: Alter, T: Timeline, P: Progress>(
     progress: &mut P,
 ) -> Result<Led<T>, Stop>
     ensures parts { IfOk result (λ led. HasParts led.book.state led.names.items led.ends.items) }
-    ensures finds { Finds S.Store AVersion.Two (λ trees led. IsLed trees led.book.state led.counted led.moved) HasNoBook
-        conn.old conn.new result }
+    ensures finds { Finds S.Store AVersion.Two (λ trees led. IsLed trees led.book.state led.counted
+        led.moved) HasNoBook conn.old conn.new result }
 {
     next_law();
     naming_law();

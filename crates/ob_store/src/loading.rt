@@ -52,8 +52,10 @@ fn check_led<S: Alter, T: Timeline>(conn: &mut Connection<S>, led: &Led<T>) -> R
     requires named { led.now.names.items ≡ map (λ n. n.name) led.now.book.state.network.nodes }
     requires joined { led.now.ends.items ≡ ends_of led.now.book.state.network }
     // where the led book was read so before
-    ensures { (first : _) → Finds S.Store AVersion.Two (λ trees l. IsLed trees l.book.state l.counted l.moved) HasNoBook first conn.old
-        (Ok led.now) → Finds S.Store AVersion.Two (λ trees done. Holding trees led.now.book.state) HoldsNoBook first conn.new result }
+    ensures { (first : _) → Finds S.Store AVersion.Two
+        (λ trees l. IsLed trees l.book.state l.counted l.moved) HasNoBook first conn.old
+        (Ok led.now) → Finds S.Store AVersion.Two (λ trees done. Holding trees led.now.book.state)
+        HoldsNoBook first conn.new result }
 {
     match first_off(conn, led) {
         Ok(None) => {}
@@ -74,7 +76,8 @@ pub(crate) fn load_on<S: Alter, T: Timeline, P: Progress>(
     conn: &mut Connection<S>,
     progress: &mut P,
 ) -> Result<Book<T>, Stop>
-    ensures { Tells S.Store (λ trees book. Holding trees book.state) HoldsNoBook conn.old conn.new result }
+    ensures { Tells S.Store (λ trees book. Holding trees book.state) HoldsNoBook conn.old conn.new
+        result }
 {
     match check_version(conn) {
         Ok(()) => load_tables(alloc, conn, progress),
@@ -88,7 +91,8 @@ fn load_tables<S: Alter, T: Timeline, P: Progress>(
     conn: &mut Connection<S>,
     progress: &mut P,
 ) -> Result<Book<T>, Stop>
-    ensures { Finds S.Store AVersion.Two (λ trees book. Holding trees book.state) HoldsNoBook conn.old conn.new result }
+    ensures { Finds S.Store AVersion.Two (λ trees book. Holding trees book.state) HoldsNoBook
+        conn.old conn.new result }
 {
     let led: Led<T> = match read_led(alloc, conn, progress) {
         Ok(led) => led,

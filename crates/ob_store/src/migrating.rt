@@ -7,7 +7,7 @@ ghost use Rattle.sqlite.specs.State.{HasCleanDisk, Survives};
 ghost use Rattle.ob_book.specs.Acts.{ActState};
 ghost use Rattle.ob_commit.specs.Upgrade.{CanUpgrade, LeavesUpgraded, with_upgrade};
 ghost use Rattle.ob_compare.specs.Moves.{ends_of};
-ghost use Rattle.ob_migrate.specs.OldTables.{HasOldBook, new_texts, texts_of};
+ghost use Rattle.ob_parts.specs.OldTables.{HasOldBook, new_texts, texts_of};
 ghost use Rattle.ob_tables.specs.Creation.{old_schema};
 ghost use Rattle.ob_tables.specs.Rows.{AreApart};
 ghost use Rattle.ob_tables.specs.Steps.{IsStoreFault};
@@ -26,8 +26,7 @@ use ob_base::{Fault, Stop};
 use ob_book::next_law;
 use ob_commit::{NewBody, commit_upgrade};
 use ob_compare::{Silent, are_apart, are_distinct, has_version, reaching_law};
-use ob_migrate::{new_bodies, upgrade_law};
-use ob_parts::holds_part;
+use ob_parts::{holds_part, new_bodies, upgrade_law};
 use ob_record::naming_law;
 use ob_sweep::Timeline;
 use ob_tables::{Table, Version};
@@ -93,8 +92,8 @@ fn tells_new<S: Alter>(conn: &mut Connection<S>) -> Result<bool, Stop>
 fn has_old_rows<S: Alter, T: Timeline>(conn: &mut Connection<S>, led: &Led<T>) -> Result<bool, Stop>
     requires named { led.now.names.items ≡ map (λ n. n.name) led.now.book.state.network.nodes }
     requires joined { led.now.ends.items ≡ ends_of led.now.book.state.network }
-    ensures { Finds S.Store AVersion.One (λ trees is. IsTrue is ↔ HasOldRows trees led.now.book.state) NoneSo
-        conn.old conn.new result }
+    ensures { Finds S.Store AVersion.One (λ trees is. IsTrue is
+        ↔ HasOldRows trees led.now.book.state) NoneSo conn.old conn.new result }
 {
     'parts: for at in 0..OLD_PARTS.len() {
         let part = OLD_PARTS[at];
@@ -135,8 +134,9 @@ fn lead_old<S: Alter, T: Timeline>(
 ) -> Result<Led<T>, Stop>
     ensures parts { IfOk result (λ led. HasParts led.book.state led.names.items led.ends.items) }
     // where the commands were read so before
-    ensures finds { (first : _) → Finds S.Store AVersion.One (IsNamed AVersion.One) HoldsNoOldBook first conn.old
-        (Ok named.now) → Finds S.Store AVersion.One (λ trees led. IsNamed AVersion.One trees named.now
+    ensures finds { (first : _) → Finds S.Store AVersion.One (IsNamed AVersion.One) HoldsNoOldBook
+        first conn.old (Ok named.now) → Finds S.Store AVersion.One
+        (λ trees led. IsNamed AVersion.One trees named.now
         × IsLedIn AVersion.One trees led.book.state true true) HoldsNoOldBook first conn.new result }
 {
     old_books_law();
@@ -159,7 +159,8 @@ fn lead_old<S: Alter, T: Timeline>(
 /// Today's body texts of the commands that add devices, and how many devices they lead to.
 fn upgrade_of<T: Timeline>(alloc: Global, named: &Named, led: &Led<T>) -> Result<Upgrade, Stop>
     requires few { length named.now.commands.items ≤ 1_000_000 }
-    ensures texts { IfOk result (λ it. texts_of it.bodies.items ≡ new_texts 1 (filed_of named.now.commands.items)) }
+    ensures texts { IfOk result (λ it. texts_of it.bodies.items
+        ≡ new_texts 1 (filed_of named.now.commands.items)) }
     ensures devices { IfOk result (λ it. it.devices ≡ length led.now.book.state.network.devices) }
     ensures faults { IfErr result (λ stop. stop ≡ out_of_memory) }
 {
@@ -195,11 +196,14 @@ fn write_upgrade<S: Alter>(conn: &mut Connection<S>, it: &Upgrade) -> Result<(),
     requires mode { conn.old.in_transaction ≡ false }
     ensures mode { conn.new.in_transaction ≡ false }
     ensures faults { IfErr result IsStoreFault }
-    ensures survives { Survives (state S.Store conn.old) (state S.Store conn.new) (LeavesUpgraded (state S.Store conn.old)
-        (CanUpgrade it.now.bodies.items it.now.devices) (with_upgrade it.now.bodies.items it.now.devices)) }
-    ensures upgraded { HasCleanDisk (state S.Store conn.new) → IsTrue (state S.Store conn.old).is_open
-        → conn.old.schema ≡ old_schema → (b : ActState) → HasOldBook (state S.Store conn.old).now.trees b
-        → AreApart ((state S.Store conn.old).now.trees 14) → IsUpgradeOf b it.now → Upgraded S.Store conn.old conn.new b result }
+    ensures survives { Survives (state S.Store conn.old) (state S.Store conn.new)
+        (LeavesUpgraded (state S.Store conn.old) (CanUpgrade it.now.bodies.items it.now.devices)
+        (with_upgrade it.now.bodies.items it.now.devices)) }
+    ensures upgraded { HasCleanDisk (state S.Store conn.new)
+        → IsTrue (state S.Store conn.old).is_open → conn.old.schema ≡ old_schema → (b : ActState)
+        → HasOldBook (state S.Store conn.old).now.trees b
+        → AreApart ((state S.Store conn.old).now.trees 14) → IsUpgradeOf b it.now
+        → Upgraded S.Store conn.old conn.new b result }
 {
     upgrade_law();
     // outside a transaction what a connection shows is what was committed, and what is open is a whole database

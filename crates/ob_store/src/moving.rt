@@ -88,14 +88,19 @@ fn read_moved(row: &Row) -> Option<(u32, Moved)>
 /// Moves to the next row, or past the last.
 fn advance<S: Alter>(rows: &mut Rows<'_, S>) -> Result<(), Stop>
     ensures same_reference { rows.new.conn.ghost_name ≡ rows.old.conn.ghost_name }
-    ensures survives { Survives (state S.Store rows.old.conn.now) (state S.Store rows.new.conn.now) (λ _. ⊥) }
-    ensures mode { rows.old.conn.now.in_transaction ≡ false → rows.new.conn.now.in_transaction ≡ false }
+    ensures survives { Survives (state S.Store rows.old.conn.now) (state S.Store rows.new.conn.now)
+        (λ _. ⊥) }
+    ensures mode { rows.old.conn.now.in_transaction ≡ false
+        → rows.new.conn.now.in_transaction ≡ false }
     ensures faults { IfErr result IsStoreFault }
-    ensures kept { (t : Tables) → Keeps (state S.Store rows.old.conn.now) t → Keeps (state S.Store rows.new.conn.now) t }
+    ensures kept { (t : Tables) → Keeps (state S.Store rows.old.conn.now) t
+        → Keeps (state S.Store rows.new.conn.now) t }
     ensures same { HasCleanDisk (state S.Store rows.new.conn.now)
-        → OnOk result (IsUnchanged (state S.Store rows.old.conn.now) (state S.Store rows.new.conn.now)) }
-    ensures goes { HasCleanDisk (state S.Store rows.new.conn.now) → OnOk result
-        (Advances S.Store rows.old.conn.now rows.new.conn.now (row_if rows.new.has_row rows.new.conn.now)) }
+        → OnOk result (IsUnchanged (state S.Store rows.old.conn.now)
+        (state S.Store rows.new.conn.now)) }
+    ensures goes { HasCleanDisk (state S.Store rows.new.conn.now)
+        → OnOk result (Advances S.Store rows.old.conn.now rows.new.conn.now
+        (row_if rows.new.has_row rows.new.conn.now)) }
 {
     match rows.advance() {
         Ok(()) => Ok(()),
@@ -106,12 +111,16 @@ fn advance<S: Alter>(rows: &mut Rows<'_, S>) -> Result<(), Stop>
 /// What the next row says that a command moved, under the number of the command; None where no row is left.
 fn next_moved<S: Alter>(rows: &mut Rows<'_, S>) -> Result<Option<(u32, Moved)>, Stop>
     ensures same_reference { rows.new.conn.ghost_name ≡ rows.old.conn.ghost_name }
-    ensures survives { Survives (state S.Store rows.old.conn.now) (state S.Store rows.new.conn.now) (λ _. ⊥) }
-    ensures mode { rows.old.conn.now.in_transaction ≡ false → rows.new.conn.now.in_transaction ≡ false }
+    ensures survives { Survives (state S.Store rows.old.conn.now) (state S.Store rows.new.conn.now)
+        (λ _. ⊥) }
+    ensures mode { rows.old.conn.now.in_transaction ≡ false
+        → rows.new.conn.now.in_transaction ≡ false }
     ensures faults { IfErr result IsStoreFault }
-    ensures kept { (t : Tables) → Keeps (state S.Store rows.old.conn.now) t → Keeps (state S.Store rows.new.conn.now) t }
+    ensures kept { (t : Tables) → Keeps (state S.Store rows.old.conn.now) t
+        → Keeps (state S.Store rows.new.conn.now) t }
     ensures same { HasCleanDisk (state S.Store rows.new.conn.now)
-        → OnOk result (IsUnchanged (state S.Store rows.old.conn.now) (state S.Store rows.new.conn.now)) }
+        → OnOk result (IsUnchanged (state S.Store rows.old.conn.now)
+        (state S.Store rows.new.conn.now)) }
     ensures next { HasCleanDisk (state S.Store rows.new.conn.now) → IfOk result (λ found.
         (state S.Store rows.old.conn.now).now.schema ≡ book_schema → (given : List ARow)
         → HasGiven S.Store moved_listing.text [] rows.old.conn.now given
@@ -130,12 +139,16 @@ fn next_moved<S: Alter>(rows: &mut Rows<'_, S>) -> Result<Option<(u32, Moved)>, 
 /// Hands the rows to come to a sink, one at a time, and tells how many they are.
 fn hand_rows<S: Alter, V: MoveSink>(rows: &mut Rows<'_, S>, sink: &mut V) -> Result<u64, Halt>
     ensures same_reference { rows.new.conn.ghost_name ≡ rows.old.conn.ghost_name }
-    ensures survives { Survives (state S.Store rows.old.conn.now) (state S.Store rows.new.conn.now) (λ _. ⊥) }
-    ensures mode { rows.old.conn.now.in_transaction ≡ false → rows.new.conn.now.in_transaction ≡ false }
+    ensures survives { Survives (state S.Store rows.old.conn.now) (state S.Store rows.new.conn.now)
+        (λ _. ⊥) }
+    ensures mode { rows.old.conn.now.in_transaction ≡ false
+        → rows.new.conn.now.in_transaction ≡ false }
     ensures sink { Hands V.takes sink.old sink.new result }
-    ensures kept { (t : Tables) → Keeps (state S.Store rows.old.conn.now) t → Keeps (state S.Store rows.new.conn.now) t }
+    ensures kept { (t : Tables) → Keeps (state S.Store rows.old.conn.now) t
+        → Keeps (state S.Store rows.new.conn.now) t }
     ensures hands { HasCleanDisk (state S.Store rows.new.conn.now) → (b : ActState)
-        → KeepsBook (state S.Store rows.old.conn.now) b → IsTrue (state S.Store rows.old.conn.now).is_open
+        → KeepsBook (state S.Store rows.old.conn.now) b
+        → IsTrue (state S.Store rows.old.conn.now).is_open
         → HasGiven S.Store moved_listing.text [] rows.old.conn.now []
         → HandsOut V.takes sink.old sink.new b result }
 {
@@ -160,9 +173,10 @@ pub(crate) fn hand_out<S: Alter, V: MoveSink>(
     ensures mode { conn.old.in_transaction ≡ false → conn.new.in_transaction ≡ false }
     ensures survives { Survives (state S.Store conn.old) (state S.Store conn.new) (λ _. ⊥) }
     ensures sink { Hands V.takes sink.old sink.new result }
-    ensures kept { (b : ActState) → KeepsBook (state S.Store conn.old) b → KeepsBook (state S.Store conn.new) b }
-    ensures hands { HasCleanDisk (state S.Store conn.new) → (b : ActState) → KeepsBook (state S.Store conn.old) b
-        → HandsOut V.takes sink.old sink.new b result }
+    ensures kept { (b : ActState) → KeepsBook (state S.Store conn.old) b
+        → KeepsBook (state S.Store conn.new) b }
+    ensures hands { HasCleanDisk (state S.Store conn.new) → (b : ActState)
+        → KeepsBook (state S.Store conn.old) b → HandsOut V.takes sink.old sink.new b result }
 {
     let statement = match conn.prepare(
         "SELECT cmd, dim, k, delta FROM moved ORDER BY cmd, dim, k",

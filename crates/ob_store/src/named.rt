@@ -27,7 +27,8 @@ pub(crate) fn read_named<S: Alter>(
     version: Version,
 ) -> Result<Named, Stop>
     ensures few { IfOk result (λ named. length named.commands.items ≤ 1_000_000) }
-    ensures finds { Finds S.Store version (IsNamed version) (HasNoBookIn version) conn.old conn.new result }
+    ensures finds { Finds S.Store version (IsNamed version) (HasNoBookIn version) conn.old conn.new
+        result }
 {
     let heading = match read_heading(alloc, conn) {
         Ok(Some(heading)) => heading,

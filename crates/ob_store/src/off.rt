@@ -74,7 +74,8 @@ pub(crate) fn first_off<S: Alter, T: Timeline>(
     requires named { led.now.names.items ≡ map (λ n. n.name) led.now.book.state.network.nodes }
     requires joined { led.now.ends.items ≡ ends_of led.now.book.state.network }
     ensures { (b : ActState) → b.book ≡ led.now.book.state
-        → Finds S.Store AVersion.Two (IsFirstOff b led.now.counted led.now.moved) NoneSo conn.old conn.new result }
+        → Finds S.Store AVersion.Two (IsFirstOff b led.now.counted led.now.moved) NoneSo conn.old
+        conn.new result }
 {
     match first_part_off(conn, led) {
         Ok(None) => {}

@@ -28,7 +28,8 @@ pub(crate) fn stored_reply<S: Alter>(
     ensures mode { conn.new.in_transaction ≡ false }
     ensures faults { IfErr result IsStoreFault }
     ensures survives { Survives (state S.Store conn.old) (state S.Store conn.new) (λ _. ⊥) }
-    ensures kept { (b : ActState) → KeepsBook (state S.Store conn.old) b → KeepsBook (state S.Store conn.new) b }
+    ensures kept { (b : ActState) → KeepsBook (state S.Store conn.old) b
+        → KeepsBook (state S.Store conn.new) b }
     ensures reply { HasCleanDisk (state S.Store conn.new) → IfOk result (λ r. (b : ActState)
         → KeepsBook (state S.Store conn.old) b → 1 ≤ no → no ≤ length b.accepted
         → reply_as r ≡ reply_of b no) }
@@ -55,7 +56,8 @@ pub(crate) fn reply_at<S: Alter, T: Timeline>(
     ensures faults { IfErr result IsStoreFault }
     ensures survives { Survives (state S.Store conn.old) (state S.Store conn.new) (λ _. ⊥) }
     ensures replies { HasCleanDisk (state S.Store conn.new) → (b : ActState)
-        → KeepsBook (state S.Store conn.old) b → book.now.state ≡ b.book → Replies S.Store conn.new b no result }
+        → KeepsBook (state S.Store conn.old) b → book.now.state ≡ b.book
+        → Replies S.Store conn.new b no result }
 {
     reached_law();
     if no == 0 {

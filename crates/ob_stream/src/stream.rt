@@ -28,7 +28,8 @@ impl Retries {
 
     /// Whether a call that answered `error` is tried again, which counts.
     pub fn again(&mut self, error: &io::Error) -> bool
-        ensures again { IsTrue result ↔ ((error_kind error.now ≡ ErrorKind.Interrupted) × (0 < retries_left self.old)) }
+        ensures again { IsTrue result ↔ ((error_kind error.now ≡ ErrorKind.Interrupted)
+            × (0 < retries_left self.old)) }
         ensures counted { result ≡ true → retries_left self.old ≡ retries_left self.new + 1 }
         ensures kept { result ≡ false → retries_left self.new ≡ retries_left self.old }
         ensures fewer { retries_left self.new ≤ retries_left self.old }
@@ -48,7 +49,8 @@ pub fn read_some<R: Read>(
     buf: &mut [u8],
 ) -> Result<usize, Fault>
     ensures bound { IfOk result (λ n. n ≤ length buf.new) }
-    ensures bytes { ReadConsumes (watched_bytes R.remaining reader.old) (watched_bytes R.remaining reader.new) result buf.new }
+    ensures bytes { ReadConsumes (watched_bytes R.remaining reader.old)
+        (watched_bytes R.remaining reader.new) result buf.new }
     ensures fault { IfErr result (λ f. (f ≡ Fault.Input) × HasJustFailed reader.new) }
 {
     loop {
@@ -73,7 +75,8 @@ pub fn read_text<R: Read>(
     ensures whole { IfOk result (λ text. IsWhole (watched_bytes R.remaining reader.old) text.items) }
     ensures bound { IfOk result (λ text. length text.items ≤ limit) }
     ensures fault { IfErr result (λ f. (f ≡ Fault.OutOfMemory)
-        ⊎ ((f ≡ Fault.Input) × (HasJustFailed reader.new ⊎ Passes (watched_bytes R.remaining reader.old) limit))) }
+        ⊎ ((f ≡ Fault.Input) × (HasJustFailed reader.new
+        ⊎ Passes (watched_bytes R.remaining reader.old) limit))) }
 {
     let mut text = Vec::new(alloc);
     let mut chunk = [0u8; 4096];
@@ -97,8 +100,10 @@ pub fn write_text<W: Write>(
     retries: &mut Retries,
     text: &[u8],
 ) -> Result<(), Fault>
-    ensures whole { OnOk result (Appends (watched_bytes W.contents writer.old) (watched_bytes W.contents writer.new) text.now) }
-    ensures front { IfErr result (λ _. AppendsFront (watched_bytes W.contents writer.old) (watched_bytes W.contents writer.new) text.now) }
+    ensures whole { OnOk result (Appends (watched_bytes W.contents writer.old)
+        (watched_bytes W.contents writer.new) text.now) }
+    ensures front { IfErr result (λ _. AppendsFront (watched_bytes W.contents writer.old)
+        (watched_bytes W.contents writer.new) text.now) }
     ensures fault { IfErr result (λ f. (f ≡ Fault.Output) × HasJustFailed writer.new) }
 {
     let mut at = 0;

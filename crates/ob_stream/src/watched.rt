@@ -54,7 +54,8 @@ impl<D: Read> Read for Watched<D> {
 
     fn read(&mut self, buf: &mut [u8]) -> io::Result<usize>
         ensures bound { ReadsAtMost result buf.new }
-        ensures bytes { ReadConsumes (watched_bytes D.remaining self.old) (watched_bytes D.remaining self.new) result buf.new }
+        ensures bytes { ReadConsumes (watched_bytes D.remaining self.old)
+            (watched_bytes D.remaining self.new) result buf.new }
         ensures failed { watched_failed self.new ≡ (watched_failed self.old || is_err result) }
         ensures last { watched_last_failed self.new ≡ is_err result }
     {
@@ -72,8 +73,10 @@ impl<D: Write> Write for Watched<D> {
 
     fn write(&mut self, buf: &[u8]) -> io::Result<usize>
         ensures bound { WritesAtMost result buf.now }
-        ensures bytes { WriteAppends (watched_bytes D.contents self.old) (watched_bytes D.contents self.new) result buf.now }
-        ensures failed { watched_failed self.new ≡ (watched_failed self.old || took_none result buf.now) }
+        ensures bytes { WriteAppends (watched_bytes D.contents self.old)
+            (watched_bytes D.contents self.new) result buf.now }
+        ensures failed { watched_failed self.new ≡
+            (watched_failed self.old || took_none result buf.now) }
         ensures last { watched_last_failed self.new ≡ took_none result buf.now }
     {
         let answer = self.inner.write(buf);
@@ -83,7 +86,8 @@ impl<D: Write> Write for Watched<D> {
     }
 
     fn flush(&mut self) -> io::Result<()>
-        ensures bytes { Keeps (watched_bytes D.contents self.old) (watched_bytes D.contents self.new) }
+        ensures bytes { Keeps (watched_bytes D.contents self.old)
+            (watched_bytes D.contents self.new) }
         ensures failed { watched_failed self.new ≡ (watched_failed self.old || is_err result) }
         ensures last { watched_last_failed self.new ≡ is_err result }
     {

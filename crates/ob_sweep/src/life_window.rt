@@ -17,8 +17,9 @@ pub const NEVER: Life = Life {
 
 /// The seconds from a first one up to an end that a life holds, as the first of them and the second after the last; none where it
 /// holds none of them.
-fn held(life: Life, first: Second, end: Second) -> Option<(Second, Second)>
-    ensures { MatchOption result ((s : ℕ) → first ≤ s → s < end → is_alive life s ≡ false) (λ w. HoldsFrom (is_alive life) first end w.0 w.1) }
+fn seconds_held(life: Life, first: Second, end: Second) -> Option<(Second, Second)>
+    ensures { MatchOption result ((s : ℕ) → first ≤ s → s < end
+        → is_alive life s ≡ false) (λ w. HoldsFrom (is_alive life) first end w.0 w.1) }
 {
     let since = life.since.max(first);
     let until = match life.until {
@@ -34,10 +35,11 @@ fn held(life: Life, first: Second, end: Second) -> Option<(Second, Second)>
 
 /// The first second from a first one up to an end that exactly one of two lives holds, and the second after the last such one;
 /// none where both hold the same seconds.
-fn differing(old: Life, new: Life, first: Second, end: Second) -> Option<(Second, Second)>
-    ensures { MatchOption result ((s : ℕ) → first ≤ s → s < end → differ_at old new s ≡ false) (λ w. Bounds (differ_at old new) first end w.0 w.1) }
+fn differing_seconds(old: Life, new: Life, first: Second, end: Second) -> Option<(Second, Second)>
+    ensures { MatchOption result ((s : ℕ) → first ≤ s → s < end
+        → differ_at old new s ≡ false) (λ w. Bounds (differ_at old new) first end w.0 w.1) }
 {
-    match (held(old, first, end), held(new, first, end)) {
+    match (seconds_held(old, first, end), seconds_held(new, first, end)) {
         (None, None) => None,
         (Some(only), None) | (None, Some(only)) => Some(only),
         (Some((a, b)), Some((c, d))) => {
@@ -62,9 +64,12 @@ pub fn life_window(
     end: Second,
 ) -> Option<Window>
     requires some { first < end }
-    ensures { MatchOption result (first_differing old new first end ≡ None) (λ w. (first_differing old new first end ≡ Some w.first) × Spans w.first (last_lived old new first end) sheet.now.entries w × AreNumbered sheet.now.entries) }
+    ensures { MatchOption result (first_differing old new first end ≡ None)
+        (λ w. (first_differing old new first end ≡ Some w.first)
+        × Spans w.first (last_lived old new first end) sheet.now.entries w
+        × AreNumbered sheet.now.entries) }
 {
-    let (since, until) = differing(old, new, first, end)?;
+    let (since, until) = differing_seconds(old, new, first, end)?;
     let end = if until < end { until + 1 } else { end };
     Some(Window {
         first: since,

@@ -19,8 +19,12 @@ use std::alloc::Global;
 pub fn plan_section(alloc: Global, net: &Net, first: Second, end: Second) -> Result<Delta, Stop>
     requires some { first < end }
     requires nodes { 0 < length net.now.network.nodes }
-    ensures delta { (feeder : ℕ) (entries : List Entry) (lists : List (List ARun)) → IsLastNode net.now.network (Some feeder) → AreRuns (without_last_node net.now.network) entries first end lists → IfOk result (λ delta. IsDeltaTo net.now.network entries first end delta lists) }
-    ensures fits { (lists : List (List ARun)) → length lists ≡ 1_024 → IfOk result (λ delta. Fits lists delta) }
+    ensures delta { (feeder : ℕ) (entries : List Entry) (lists : List (List ARun))
+        → IsLastNode net.now.network (Some feeder)
+        → AreRuns (without_last_node net.now.network) entries first end lists
+        → IfOk result (λ delta. IsDeltaTo net.now.network entries first end delta lists) }
+    ensures fits { (lists : List (List ARun)) → length lists ≡ 1_024
+        → IfOk result (λ delta. Fits lists delta) }
     ensures err { IfErr result (λ stop. stop ≡ out_of_memory) }
 {
     let section = net.nodes() - 1;

@@ -58,13 +58,16 @@ pub fn change_of(
     ask: &Ask<'_>,
 ) -> Result<Change, Fail>
     requires devices { NameDevices (length net.old.network.devices) sheet.now.entries }
-    requires all { All (λ e. (first_second_of period.now ≤ e.second) × (e.second < end_second_of period.now)) sheet.now.entries }
+    requires all { All (λ e. (first_second_of period.now ≤ e.second)
+        × (e.second < end_second_of period.now)) sheet.now.entries }
     ensures before { IfOk result (λ c. net_before c net.new.network ≡ net.old.network) }
     ensures after { IfOk result (λ c. IsAfter c net.new.network) }
     ensures applies { IfOk result (λ c. Applies c sheet.now.entries) }
     ensures named { OnOk result (NameDevices (length net.new.network.devices) sheet.now.entries) }
-    ensures devices { IfOk result (λ c. NameDevices (length net.new.network.devices) (changed c sheet.now.entries)) }
-    ensures between { IfOk result (λ c. LieBetween (first_second_of period.now) (end_second_of period.now) (changed c sheet.now.entries)) }
+    ensures devices { IfOk result (λ c. NameDevices (length net.new.network.devices)
+        (changed c sheet.now.entries)) }
+    ensures between { IfOk result (λ c. LieBetween (first_second_of period.now)
+        (end_second_of period.now) (changed c sheet.now.entries)) }
 {
     if let Ask::Sheet(body) = *ask {
         let command = read_body(body.as_bytes()).ok_or("a command")?;
@@ -180,9 +183,11 @@ fn other_life(net: &mut Net, name: &str, life: Life) -> Result<Change, Fail>
 /// Makes the change of the sheet that is asked for.
 pub fn obey(sheet: &mut Sheet, net: &Net, period: &CivilDays, ask: &Ask<'_>) -> Result<(), Fail>
     requires devices { NameDevices (length net.now.network.devices) sheet.old.entries }
-    requires all { All (λ e. (first_second_of period.now ≤ e.second) × (e.second < end_second_of period.now)) sheet.old.entries }
+    requires all { All (λ e. (first_second_of period.now ≤ e.second)
+        × (e.second < end_second_of period.now)) sheet.old.entries }
     ensures devices { OnOk result (NameDevices (length net.now.network.devices) sheet.new.entries) }
-    ensures all { OnOk result (All (λ e. (first_second_of period.now ≤ e.second) × (e.second < end_second_of period.now)) sheet.new.entries) }
+    ensures all { OnOk result (All (λ e. (first_second_of period.now ≤ e.second)
+        × (e.second < end_second_of period.now)) sheet.new.entries) }
 {
     let Ask::Sheet(body) = *ask else {
         return Ok(());

@@ -24,12 +24,15 @@ struct Act {
 /// The change of a sheet by a command; None where it makes none.
 pub fn change_by(net: &Net, sheet: &Sheet, period: &CivilDays, command: &Command) -> Option<Change>
     requires devices { NameDevices (length net.now.network.devices) sheet.now.entries }
-    requires all { All (λ e. (first_second_of period.now ≤ e.second) × (e.second < end_second_of period.now)) sheet.now.entries }
+    requires all { All (λ e. (first_second_of period.now ≤ e.second)
+        × (e.second < end_second_of period.now)) sheet.now.entries }
     ensures before { IfSome result (λ c. net_before c net.now.network ≡ net.now.network) }
     ensures after { IfSome result (λ c. IsAfter c net.now.network) }
     ensures applies { IfSome result (λ c. Applies c sheet.now.entries) }
-    ensures devices { IfSome result (λ c. NameDevices (length net.now.network.devices) (changed c sheet.now.entries)) }
-    ensures between { IfSome result (λ c. LieBetween (first_second_of period.now) (end_second_of period.now) (changed c sheet.now.entries)) }
+    ensures devices { IfSome result (λ c. NameDevices (length net.now.network.devices)
+        (changed c sheet.now.entries)) }
+    ensures between { IfSome result (λ c. LieBetween (first_second_of period.now)
+        (end_second_of period.now) (changed c sheet.now.entries)) }
 {
     match command {
         Command::Switch {
@@ -69,7 +72,8 @@ pub fn change_by(net: &Net, sheet: &Sheet, period: &CivilDays, command: &Command
 }
 
 fn is_outside(period: &CivilDays, second: Second) -> bool
-    ensures inside { IsFalse result → (first_second_of period.now ≤ second) × (second < end_second_of period.now) }
+    ensures inside { IsFalse result → (first_second_of period.now ≤ second)
+        × (second < end_second_of period.now) }
 {
     second < period.first_second() || period.end_second() <= second
 }
@@ -77,12 +81,15 @@ fn is_outside(period: &CivilDays, second: Second) -> bool
 fn entered(net: &Net, sheet: &Sheet, period: &CivilDays, device: u16, act: &Act) -> Option<Change>
     requires device { device < length net.now.network.devices }
     requires devices { NameDevices (length net.now.network.devices) sheet.now.entries }
-    requires all { All (λ e. (first_second_of period.now ≤ e.second) × (e.second < end_second_of period.now)) sheet.now.entries }
+    requires all { All (λ e. (first_second_of period.now ≤ e.second)
+        × (e.second < end_second_of period.now)) sheet.now.entries }
     ensures before { IfSome result (λ c. net_before c net.now.network ≡ net.now.network) }
     ensures after { IfSome result (λ c. IsAfter c net.now.network) }
     ensures applies { IfSome result (λ c. Applies c sheet.now.entries) }
-    ensures devices { IfSome result (λ c. NameDevices (length net.now.network.devices) (changed c sheet.now.entries)) }
-    ensures between { IfSome result (λ c. LieBetween (first_second_of period.now) (end_second_of period.now) (changed c sheet.now.entries)) }
+    ensures devices { IfSome result (λ c. NameDevices (length net.now.network.devices)
+        (changed c sheet.now.entries)) }
+    ensures between { IfSome result (λ c. LieBetween (first_second_of period.now)
+        (end_second_of period.now) (changed c sheet.now.entries)) }
 {
     if is_outside(period, act.second) {
         return None;
@@ -101,12 +108,15 @@ fn entered(net: &Net, sheet: &Sheet, period: &CivilDays, device: u16, act: &Act)
 
 fn corrected(net: &Net, sheet: &Sheet, period: &CivilDays, no: u32, act: &Act) -> Option<Change>
     requires devices { NameDevices (length net.now.network.devices) sheet.now.entries }
-    requires all { All (λ e. (first_second_of period.now ≤ e.second) × (e.second < end_second_of period.now)) sheet.now.entries }
+    requires all { All (λ e. (first_second_of period.now ≤ e.second)
+        × (e.second < end_second_of period.now)) sheet.now.entries }
     ensures before { IfSome result (λ c. net_before c net.now.network ≡ net.now.network) }
     ensures after { IfSome result (λ c. IsAfter c net.now.network) }
     ensures applies { IfSome result (λ c. Applies c sheet.now.entries) }
-    ensures devices { IfSome result (λ c. NameDevices (length net.now.network.devices) (changed c sheet.now.entries)) }
-    ensures between { IfSome result (λ c. LieBetween (first_second_of period.now) (end_second_of period.now) (changed c sheet.now.entries)) }
+    ensures devices { IfSome result (λ c. NameDevices (length net.now.network.devices)
+        (changed c sheet.now.entries)) }
+    ensures between { IfSome result (λ c. LieBetween (first_second_of period.now)
+        (end_second_of period.now) (changed c sheet.now.entries)) }
 {
     let old = sheet.entry(no)?;
     if old.no != no || !old.kept || net.devices() <= old.device || is_outside(period, act.second) {
@@ -127,12 +137,15 @@ fn corrected(net: &Net, sheet: &Sheet, period: &CivilDays, no: u32, act: &Act) -
 
 fn withdrawn(net: &Net, sheet: &Sheet, period: &CivilDays, no: u32) -> Option<Change>
     requires devices { NameDevices (length net.now.network.devices) sheet.now.entries }
-    requires all { All (λ e. (first_second_of period.now ≤ e.second) × (e.second < end_second_of period.now)) sheet.now.entries }
+    requires all { All (λ e. (first_second_of period.now ≤ e.second)
+        × (e.second < end_second_of period.now)) sheet.now.entries }
     ensures before { IfSome result (λ c. net_before c net.now.network ≡ net.now.network) }
     ensures after { IfSome result (λ c. IsAfter c net.now.network) }
     ensures applies { IfSome result (λ c. Applies c sheet.now.entries) }
-    ensures devices { IfSome result (λ c. NameDevices (length net.now.network.devices) (changed c sheet.now.entries)) }
-    ensures between { IfSome result (λ c. LieBetween (first_second_of period.now) (end_second_of period.now) (changed c sheet.now.entries)) }
+    ensures devices { IfSome result (λ c. NameDevices (length net.now.network.devices)
+        (changed c sheet.now.entries)) }
+    ensures between { IfSome result (λ c. LieBetween (first_second_of period.now)
+        (end_second_of period.now) (changed c sheet.now.entries)) }
 {
     let old = sheet.entry(no)?;
     if old.no != no || !old.kept {

@@ -106,7 +106,8 @@ fn has_lines<T: Timeline>(
 // The network, the days and the sheet.
 fn days_of(alloc: Global, start: &Start<'_>) -> Result<(Net, Period, Sheet), Fail>
     ensures devices { IfOk result (λ d. NameDevices (length d.0.network.devices) d.2.entries) }
-    ensures all { IfOk result (λ d. All (λ e. (first_second_of d.1 ≤ e.second) × (e.second < end_second_of d.1)) d.2.entries) }
+    ensures all { IfOk result (λ d. All (λ e. (first_second_of d.1 ≤ e.second)
+        × (e.second < end_second_of d.1)) d.2.entries) }
 {
     let mut net = feeders(alloc)?;
     set_lives(&mut net, start.lives)?;
@@ -125,7 +126,8 @@ fn build_on<T: Timeline>(
     wanted: &str,
 ) -> Result<(), Fail>
     requires devices { NameDevices (length net.old.network.devices) sheet.now.entries }
-    requires all { All (λ e. (first_second_of period.now ≤ e.second) × (e.second < end_second_of period.now)) sheet.now.entries }
+    requires all { All (λ e. (first_second_of period.now ≤ e.second)
+        × (e.second < end_second_of period.now)) sheet.now.entries }
 {
     let timeline = T::build(alloc, net, sheet, period)?;
     assert!(rt; net.nodes() == 6 && net.searches() == searches);
@@ -196,7 +198,8 @@ pub fn planned<T: Timeline>(
     ask: &Ask<'_>,
 ) -> Result<(T, Delta, u128), Fail>
     requires devices { NameDevices (length net.old.network.devices) sheet.now.entries }
-    requires all { All (λ e. (first_second_of period.now ≤ e.second) × (e.second < end_second_of period.now)) sheet.now.entries }
+    requires all { All (λ e. (first_second_of period.now ≤ e.second)
+        × (e.second < end_second_of period.now)) sheet.now.entries }
     ensures count { IfOk result (λ p. length (T.content p.0) ≡ 1024) }
     ensures fits { IfOk result (λ p. Fits (T.content p.0) p.1) }
     ensures devices { OnOk result (NameDevices (length net.new.network.devices) sheet.now.entries) }
@@ -219,7 +222,8 @@ pub fn is_as_built<T: Timeline>(
     timeline: &T,
 ) -> Result<(), Fail>
     requires devices { NameDevices (length net.old.network.devices) sheet.now.entries }
-    requires all { All (λ e. (first_second_of period.now ≤ e.second) × (e.second < end_second_of period.now)) sheet.now.entries }
+    requires all { All (λ e. (first_second_of period.now ≤ e.second)
+        × (e.second < end_second_of period.now)) sheet.now.entries }
     requires count { length (T.content timeline.now) ≡ 1024 }
 {
     let anew = T::build(alloc, net, sheet, period)?;
@@ -243,7 +247,8 @@ fn alter_on<T: Timeline>(
     effect: &Effect,
 ) -> Result<(), Fail>
     requires devices { NameDevices (length net.old.network.devices) sheet.old.entries }
-    requires all { All (λ e. (first_second_of period.now ≤ e.second) × (e.second < end_second_of period.now)) sheet.old.entries }
+    requires all { All (λ e. (first_second_of period.now ≤ e.second)
+        × (e.second < end_second_of period.now)) sheet.old.entries }
 {
     let (mut timeline, delta, searches) = planned::<T>(alloc, net, sheet, period, ask)?;
     assert!(rt; searches == wanted);

@@ -187,9 +187,12 @@ fn step<T: Timeline>(
     period: &CivilDays,
 ) -> Result<(), Fail>
     requires devices { NameDevices (length world.old.net.network.devices) world.old.sheet.entries }
-    requires all { All (λ e. (first_second_of period.now ≤ e.second) × (e.second < end_second_of period.now)) world.old.sheet.entries }
-    ensures devices { OnOk result (NameDevices (length world.new.net.network.devices) world.new.sheet.entries) }
-    ensures all { OnOk result (All (λ e. (first_second_of period.now ≤ e.second) × (e.second < end_second_of period.now)) world.new.sheet.entries) }
+    requires all { All (λ e. (first_second_of period.now ≤ e.second)
+        × (e.second < end_second_of period.now)) world.old.sheet.entries }
+    ensures devices { OnOk result (NameDevices (length world.new.net.network.devices)
+        world.new.sheet.entries) }
+    ensures all { OnOk result (All (λ e. (first_second_of period.now ≤ e.second)
+        × (e.second < end_second_of period.now)) world.new.sheet.entries) }
 {
     let body = random.body(alloc, world)?;
     let ask = ask(random, &world.net, body.as_str())?;

@@ -14,7 +14,8 @@ use std::test::Fail;
 /// The sheet after the commands of a script's lines, one after another.
 pub fn sheet_of(alloc: Global, net: &Net, period: &CivilDays, script: &str) -> Result<Sheet, Fail>
     ensures devices { IfOk result (λ s. NameDevices (length net.now.network.devices) s.entries) }
-    ensures all { IfOk result (λ s. All (λ e. (first_second_of period.now ≤ e.second) × (e.second < end_second_of period.now)) s.entries) }
+    ensures all { IfOk result (λ s. All (λ e. (first_second_of period.now ≤ e.second)
+        × (e.second < end_second_of period.now)) s.entries) }
 {
     let mut sheet = Sheet::new(alloc);
     for line in script.lines() {
@@ -32,9 +33,11 @@ pub fn enter(
     command: &Command,
 ) -> Result<(), Fail>
     requires devices { NameDevices (length net.now.network.devices) sheet.old.entries }
-    requires all { All (λ e. (first_second_of period.now ≤ e.second) × (e.second < end_second_of period.now)) sheet.old.entries }
+    requires all { All (λ e. (first_second_of period.now ≤ e.second)
+        × (e.second < end_second_of period.now)) sheet.old.entries }
     ensures devices { OnOk result (NameDevices (length net.now.network.devices) sheet.new.entries) }
-    ensures all { OnOk result (All (λ e. (first_second_of period.now ≤ e.second) × (e.second < end_second_of period.now)) sheet.new.entries) }
+    ensures all { OnOk result (All (λ e. (first_second_of period.now ≤ e.second)
+        × (e.second < end_second_of period.now)) sheet.new.entries) }
 {
     match command {
         Command::Switch {

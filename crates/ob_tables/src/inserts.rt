@@ -4,7 +4,7 @@ ghost use Rattle.ob_tables.specs.Steps.{Changes};
 ghost use Rattle.ob_tables.specs.Rows.{Always, with_row, meta_row, cause_row, node_row, device_row, life_row, customer_row, entry_row, mark_row, command_row, moved_row, posting_row};
 ghost use Rattle.ob_tables.specs.declared.table.Table.{Table as ATable};
 
-use crate::run::{int, large, large_or_null, position, run, signed};
+use crate::run::{int, large, large_or_null, position, run, signed_value};
 use ob_base::{Pos, Stop};
 use sqlite::{Alter, Transaction};
 use sqlite_value::value::ValueRef;
@@ -200,7 +200,7 @@ pub fn add_moved<S: Alter>(
     run(
         tx,
         "INSERT INTO moved (cmd, dim, k, delta) VALUES (?1, ?2, ?3, ?4)",
-        &[int(no), int(dim), int(key), signed(delta)],
+        &[int(no), int(dim), int(key), signed_value(delta)],
     )
 }
 

@@ -25,6 +25,6 @@ pub use inserts::{
     add_moved, add_node, add_posting,
 };
 pub use reads::find_commands;
-pub use run::{int, signed, stop_of};
+pub use run::{int, signed_value, stop_of};
 pub use table::Table;
 pub use version::Version;

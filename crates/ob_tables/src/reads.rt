@@ -17,8 +17,9 @@ pub fn find_commands<S: Alter>(
     reference: &[u8],
 ) -> Result<Vec<Row>, Stop>
     ensures reads { Reads S.Store tx.old.conn tx.new.conn result }
-    ensures found { HasCleanDisk (state S.Store tx.new.conn.now) → IfOk result (λ rows.
-        Finds (state S.Store tx.old.conn.now) ATable.Command (is_reference reference.now) rows.items) }
+    ensures found { HasCleanDisk (state S.Store tx.new.conn.now)
+        → IfOk result (λ rows. Finds (state S.Store tx.old.conn.now) ATable.Command
+        (is_reference reference.now) rows.items) }
 {
     match tx.query_all(
         "SELECT id, ref, body FROM cmd WHERE ref = ?1",

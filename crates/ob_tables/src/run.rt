@@ -42,7 +42,7 @@ pub fn int(n: u32) -> ValueRef<'static>
 }
 
 /// A number that may be below 0 as a value.
-pub fn signed(n: i64) -> ValueRef<'static>
+pub fn signed_value(n: i64) -> ValueRef<'static>
     ensures { owned result ≡ Int n }
 {
     ValueRef::Int(n)

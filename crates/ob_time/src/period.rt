@@ -65,7 +65,7 @@ impl Period {
             ↔ HasNoPeriod (plain_zone zone.now) (epoch_day first) days }
         ensures errors { IfErr result (IsRefusedOrNoMemory Refusal.BadPeriod) }
     {
-        Period::named(alloc, first, days, zone, b"-")
+        Period::with_zone_text(alloc, first, days, zone, b"-")
     }
 
     /// The period of that many days from the date `YYYY-MM-DD` on, in the zone of a POSIX rule of
@@ -86,11 +86,11 @@ impl Period {
         let Some(rule) = read_zone(zone) else {
             return Err(BAD_PERIOD);
         };
-        Period::named(alloc, date, days, &rule, zone)
+        Period::with_zone_text(alloc, date, days, &rule, zone)
     }
 
     // The period with this text for its zone.
-    fn named(
+    fn with_zone_text(
         alloc: Global,
         first: Date,
         days: u16,

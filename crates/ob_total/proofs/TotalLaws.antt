@@ -8,8 +8,8 @@ use Rattle.ob_base.specs.declared.stop.Fault.TheVariants.{OutOfMemory}
 use Rattle.ob_base.specs.declared.stop.Stop.{Stop}
 use Rattle.ob_base.specs.declared.stop.Stop.TheVariants as stops
 use Rattle.ob_base.specs.Stop.{out_of_memory}
-use Rattle.ob_rows.specs.Rows.{Fields, TakesRow}
-use Rattle.ob_rows.specs.declared.TheConstants.{MOST_ROWS}
+use Rattle.ob_csv.specs.Rows.{Fields, TakesRow}
+use Rattle.ob_csv.specs.declared.TheConstants.{MOST_ROWS}
 use Rattle.ob_total.specs.Commands.{command_of, span_of}
 use Rattle.ob_total.specs.Outcomes.{AnswersKnown, SaysOn, StopsAs}
 use Rattle.ob_total.specs.Steps.{StopsAtRow}

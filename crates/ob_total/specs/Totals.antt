@@ -3,8 +3,8 @@ use Rattle.std.specs.Prelude.{ℕ, ◌+◌, List, [], ◌∷◌, ◌++◌, Resul
 use Rattle.std.specs.Fmt.{decimal}
 use Rattle.ob_base.specs.declared.stop.Refusal.{Refusal}
 use Rattle.ob_base.specs.declared.stop.Refusal.TheVariants.{BadField, Full}
-use Rattle.ob_rows.specs.Header.{is_header}
-use Rattle.ob_rows.specs.Rows.{Fields, rows_of}
+use Rattle.ob_csv.specs.Header.{is_header}
+use Rattle.ob_csv.specs.Rows.{Fields, rows_of}
 use Rattle.ob_total.specs.Commands.{command_of, span_of}
 use Rattle.ob_total.specs.declared.command.Command.{Command}
 use Rattle.ob_total.specs.declared.command.Span.{Span}

@@ -1,14 +1,14 @@
 //! What the rows of a text say. The leftmost bad column is refused.
 ghost use Rattle.std.specs.Prelude.{◌≡◌, ◌≢◌, ◌≤◌, ◌<◌, ◌+◌, [], ◌∷◌, length, map, IfOk, IfSome};
 ghost use Rattle.ob_base.specs.Fields.{unix_second_in, until_in};
-ghost use Rattle.ob_rows.specs.RowFields.{fields_in};
+ghost use Rattle.ob_csv.specs.RowFields.{fields_in};
 ghost use Rattle.ob_total.specs.Commands.{IsCommand, IsSpan, with_unused, span_end_in, span_of, cause_of, bus_of, section_of, device_of, other_node_in, since_in, life_of, connect_of, switch_of, kind_in, command_by, command_of};
 
 use ob_base::{
     Crew, LAST_SECOND, Life, Name, Pos, Ref, Refusal, Second, read_act, read_cause, read_feeder,
     read_normal, read_serial, read_unix_second, read_until,
 };
-use ob_rows::{Row, RowFields};
+use ob_csv::{Row, RowFields};
 
 /// The seconds from `first` up to `end`, `end` excluded.
 #[derive(Clone, Copy)]
@@ -140,7 +140,8 @@ fn read_span_end(first: Second, text: &[u8]) -> Option<Second>
 }
 
 fn read_cause_row(row: &RowFields<'_>) -> Result<Command, Refusal>
-    ensures command { result ≡ cause_of row.now.f1.now row.now.f2.now (row.now.f3.now ∷ row.now.f4.now ∷ row.now.f5.now ∷ row.now.f6.now ∷ []) }
+    ensures command { result ≡ cause_of row.now.f1.now row.now.f2.now
+        (row.now.f3.now ∷ row.now.f4.now ∷ row.now.f5.now ∷ row.now.f6.now ∷ []) }
     ensures valid { IfOk result IsCommand }
 {
     read_cause(row.f1).ok_or(Refusal::BadField(3))?;
@@ -149,7 +150,8 @@ fn read_cause_row(row: &RowFields<'_>) -> Result<Command, Refusal>
 }
 
 fn read_bus(row: &RowFields<'_>) -> Result<Command, Refusal>
-    ensures command { result ≡ bus_of row.now.f1.now (row.now.f2.now ∷ row.now.f3.now ∷ row.now.f4.now ∷ row.now.f5.now ∷ row.now.f6.now ∷ []) }
+    ensures command { result ≡ bus_of row.now.f1.now
+        (row.now.f2.now ∷ row.now.f3.now ∷ row.now.f4.now ∷ row.now.f5.now ∷ row.now.f6.now ∷ []) }
     ensures valid { IfOk result IsCommand }
 {
     let name = Name::read(row.f1).ok_or(Refusal::BadField(3))?;
@@ -161,7 +163,8 @@ fn read_bus(row: &RowFields<'_>) -> Result<Command, Refusal>
 }
 
 fn read_section(row: &RowFields<'_>) -> Result<Command, Refusal>
-    ensures command { result ≡ section_of row.now.f1.now row.now.f2.now (row.now.f3.now ∷ row.now.f4.now ∷ row.now.f5.now ∷ row.now.f6.now ∷ []) }
+    ensures command { result ≡ section_of row.now.f1.now row.now.f2.now
+        (row.now.f3.now ∷ row.now.f4.now ∷ row.now.f5.now ∷ row.now.f6.now ∷ []) }
     ensures valid { IfOk result IsCommand }
 {
     let name = Name::read(row.f1).ok_or(Refusal::BadField(3))?;
@@ -174,7 +177,8 @@ fn read_section(row: &RowFields<'_>) -> Result<Command, Refusal>
 }
 
 fn read_device(row: &RowFields<'_>) -> Result<Command, Refusal>
-    ensures command { result ≡ device_of row.now.f1.now row.now.f2.now row.now.f3.now row.now.f4.now row.now.f5.now row.now.f6.now }
+    ensures command { result ≡ device_of row.now.f1.now row.now.f2.now row.now.f3.now row.now.f4.now
+        row.now.f5.now row.now.f6.now }
     ensures valid { IfOk result IsCommand }
 {
     let name = Name::read(row.f1).ok_or(Refusal::BadField(3))?;
@@ -200,7 +204,8 @@ fn read_other_node(a: &Name, text: &[u8]) -> Option<Name>
 }
 
 fn read_life(row: &RowFields<'_>) -> Result<Command, Refusal>
-    ensures command { result ≡ life_of row.now.f1.now row.now.f2.now row.now.f3.now (row.now.f4.now ∷ row.now.f5.now ∷ row.now.f6.now ∷ []) }
+    ensures command { result ≡ life_of row.now.f1.now row.now.f2.now row.now.f3.now
+        (row.now.f4.now ∷ row.now.f5.now ∷ row.now.f6.now ∷ []) }
     ensures valid { IfOk result IsCommand }
 {
     let name = Name::read(row.f1).ok_or(Refusal::BadField(3))?;
@@ -225,7 +230,8 @@ fn read_since(text: &[u8]) -> Option<Second>
 }
 
 fn read_connect(row: &RowFields<'_>) -> Result<Command, Refusal>
-    ensures command { result ≡ connect_of row.now.f1.now row.now.f2.now row.now.f3.now row.now.f4.now (row.now.f5.now ∷ row.now.f6.now ∷ []) }
+    ensures command { result ≡ connect_of row.now.f1.now row.now.f2.now row.now.f3.now
+        row.now.f4.now (row.now.f5.now ∷ row.now.f6.now ∷ []) }
     ensures valid { IfOk result IsCommand }
 {
     let customer = read_serial(row.f1).ok_or(Refusal::BadField(3))?;
@@ -247,7 +253,8 @@ fn read_end(text: &[u8]) -> Option<Option<Second>>
 }
 
 fn read_switch(row: &RowFields<'_>) -> Result<Command, Refusal>
-    ensures command { result ≡ switch_of row.now.f1.now row.now.f2.now row.now.f3.now row.now.f4.now row.now.f5.now (row.now.f6.now ∷ []) }
+    ensures command { result ≡ switch_of row.now.f1.now row.now.f2.now row.now.f3.now row.now.f4.now
+        row.now.f5.now (row.now.f6.now ∷ []) }
     ensures valid { IfOk result IsCommand }
 {
     let device = Name::read(row.f1).ok_or(Refusal::BadField(3))?;

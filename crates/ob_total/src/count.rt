@@ -33,7 +33,9 @@ pub fn count_seconds(
     requires sections { All (λ c. c.section < length net.old.network.nodes) customers.now }
     requires few { length customers.now ≤ 100_000 }
     requires normal { entered.old ≡ entered_under net.old.network [] }
-    ensures total { IfOk result (λ n. n ≡ seconds_without_supply (is_deenergized net.old.network sheet.now.entries) (seconds span.first span.end) customers.now) }
+    ensures total { IfOk result (λ n. n ≡ seconds_without_supply
+        (is_deenergized net.old.network sheet.now.entries) (seconds span.first span.end)
+        customers.now) }
     ensures err { IfErr result (λ stop. stop ≡ out_of_memory) }
     ensures network { net.new.network ≡ net.old.network }
 {
@@ -57,7 +59,9 @@ fn count_second(
 ) -> Result<u64, Stop>
     requires positions { length entered.now ≡ length net.old.network.devices }
     requires sections { All (λ c. c.section < length net.old.network.nodes) customers.now }
-    ensures count { IfOk result (λ n. n ≡ count_by (λ c. is_without_supply (λ v s. not (is_supplied net.old.network (as_of net.old.network.devices second entered.now) v)) c second) customers.now) }
+    ensures count { IfOk result (λ n. n ≡ count_by
+        (λ c. is_without_supply (λ v s. not (is_supplied net.old.network
+        (as_of net.old.network.devices second entered.now) v)) c second) customers.now) }
     ensures few { IfOk result (λ n. n ≤ length customers.now) }
     ensures err { IfErr result (λ stop. stop ≡ out_of_memory) }
     ensures network { net.new.network ≡ net.old.network }
@@ -70,7 +74,8 @@ fn count_second(
 /// The positions entered, but open where the device isn't alive at a second.
 fn positions_at(alloc: Global, net: &Net, second: Second, entered: &[Pos]) -> Result<Vec<Pos>, Stop>
     requires { length entered.now ≡ length net.now.network.devices }
-    ensures positions { IfOk result (λ p. p.items ≡ as_of net.now.network.devices second entered.now) }
+    ensures positions { IfOk result (λ p. p.items
+        ≡ as_of net.now.network.devices second entered.now) }
     ensures long { IfOk result (λ p. length p.items ≡ length net.now.network.devices) }
     ensures err { IfErr result (λ stop. stop ≡ out_of_memory) }
 {
@@ -83,7 +88,8 @@ fn positions_at(alloc: Global, net: &Net, second: Second, entered: &[Pos]) -> Re
 /// How many customers are in service at a second, on a node that isn't supplied.
 fn count_without(customers: &[Customer], second: Second, supplied: &[bool]) -> u64
     requires { All (λ c. c.section < length supplied.now) customers.now }
-    ensures count { result ≡ count_by (λ c. is_without_supply (λ v s. not (slice_index_or supplied.now v false)) c second) customers.now }
+    ensures count { result ≡ count_by (λ c. is_without_supply
+        (λ v s. not (slice_index_or supplied.now v false)) c second) customers.now }
     ensures few { result ≤ length customers.now }
 {
     let mut count = 0;

@@ -4,8 +4,8 @@ ghost use Rattle.std.specs.Io.KnownBytes.{Appends, Keeps};
 ghost use Rattle.ob_base.specs.Stop.{out_of_memory};
 ghost use Rattle.ob_stream.specs.Streams.{Passes};
 ghost use Rattle.ob_stream.specs.Watching.{HasJustFailed, watched_bytes};
-ghost use Rattle.ob_rows.specs.Rows.{TakesRow};
-ghost use Rattle.ob_rows.specs.RowReading.{rows_left};
+ghost use Rattle.ob_csv.specs.Rows.{TakesRow};
+ghost use Rattle.ob_csv.specs.RowReading.{rows_left};
 ghost use Rattle.ob_total.specs.Commands.{command_of, span_of};
 ghost use Rattle.ob_total.specs.Outcomes.{Answers, AnswersKnown, BeginsLine, HasCause, IsWithin, SpeaksOfText};
 ghost use Rattle.ob_total.specs.Steps.{StopsAtRow};
@@ -15,7 +15,7 @@ ghost use Rattle.ob_total.specs.Worlds.{customer_seconds_of};
 use crate::command::{command_in, span_in};
 use crate::world::World;
 use ob_base::{Fault, Refusal, Stop};
-use ob_rows::{MOST_BYTES, MOST_ROWS, Row, RowReader};
+use ob_csv::{MOST_BYTES, MOST_ROWS, Row, RowReader};
 use ob_stream::{Retries, Watched, read_text, write_text};
 use std::alloc::{AllocError, Global};
 use std::io::{Read, Write};
@@ -31,7 +31,7 @@ pub struct TotalStop {
 /// Reads a text of a span, a network, customers and a switching sheet, and writes `W n` and LF, where
 /// n is the customer-seconds without supply in the span. It answers n.
 ///
-/// The text is CSV (RFC 4180) of at most `ob_rows::MOST_BYTES` bytes and `ob_rows::MOST_ROWS` rows after
+/// The text is CSV (RFC 4180) of at most `ob_csv::MOST_BYTES` bytes and `ob_csv::MOST_ROWS` rows after
 /// the header.
 ///
 /// # Errors
@@ -45,12 +45,16 @@ pub fn run_total<R: Read, W: Write>(
     writer: &mut Watched<W>,
 ) -> Result<u64, TotalStop>
     ensures said { AnswersKnown total_of (watched_bytes R.remaining reader.old) result }
-    ensures written { IfOk result (λ n. Appends (watched_bytes W.contents writer.old) (watched_bytes W.contents writer.new) (total_line n)) }
-    ensures nothing { IfErr result (λ e. e.stop ≢ Stop.Fault Fault.Output → Keeps (watched_bytes W.contents writer.old) (watched_bytes W.contents writer.new)) }
-    ensures front { IfErr result (λ e. e.stop ≡ Stop.Fault Fault.Output → BeginsLine (watched_bytes R.remaining reader.old) (watched_bytes W.contents writer.old) (watched_bytes W.contents writer.new)) }
+    ensures written { IfOk result (λ n. Appends (watched_bytes W.contents writer.old)
+        (watched_bytes W.contents writer.new) (total_line n)) }
+    ensures nothing { IfErr result (λ e. e.stop ≢ Stop.Fault Fault.Output
+        → Keeps (watched_bytes W.contents writer.old) (watched_bytes W.contents writer.new)) }
+    ensures front { IfErr result (λ e. e.stop ≡ Stop.Fault Fault.Output
+        → BeginsLine (watched_bytes R.remaining reader.old) (watched_bytes W.contents writer.old)
+        (watched_bytes W.contents writer.new)) }
     ensures length { SpeaksOfText result → IsWithin (watched_bytes R.remaining reader.old) 268435456 }
-    ensures cause { IfErr result (λ e. HasCause e.stop
-        (HasJustFailed reader.new ⊎ Passes (watched_bytes R.remaining reader.old) 268435456) (HasJustFailed writer.new)) }
+    ensures cause { IfErr result (λ e. HasCause e.stop (HasJustFailed reader.new
+        ⊎ Passes (watched_bytes R.remaining reader.old) 268435456) (HasJustFailed writer.new)) }
 {
     let mut retries = Retries::new();
     let text = match read_text(alloc, reader, &mut retries, MOST_BYTES) {
@@ -77,7 +81,7 @@ fn total_of_text(alloc: Global, text: &[u8]) -> Result<u64, TotalStop>
     let mut row = Row::new(alloc);
     let found = take_row(&mut rows, &mut row)?;
     if !found || !row.is_header() {
-        return Err(refused(Refusal::BadField(0), 0));
+        return Err(refused_stop(Refusal::BadField(0), 0));
     }
     total_of_rows(alloc, &mut rows, &mut row)
 }
@@ -93,7 +97,7 @@ fn total_of_rows<R: Read>(
 {
     let found = take_row(rows, row)?;
     if !found {
-        return Err(refused(Refusal::BadField(0), 0));
+        return Err(refused_stop(Refusal::BadField(0), 0));
     }
     let mut world = begin(alloc, row)?;
     total_after(rows, row, &mut world)
@@ -117,14 +121,15 @@ fn total_after<R: Read>(
     }
     let found = take_row(rows, row)?;
     if found {
-        return Err(refused(Refusal::Full(MOST_ROWS), MOST_ROWS + 1));
+        return Err(refused_stop(Refusal::Full(MOST_ROWS), MOST_ROWS + 1));
     }
     total_of_world(world)
 }
 
 /// The next row into `row`, and whether there was one.
 fn take_row<R: Read>(rows: &mut RowReader<R>, row: &mut Row) -> Result<bool, TotalStop>
-    ensures takes { IfOk result (λ found. TakesRow (rows_left R.remaining rows.old) (rows_left R.remaining rows.new) found row.new) }
+    ensures takes { IfOk result (λ found. TakesRow (rows_left R.remaining rows.old)
+        (rows_left R.remaining rows.new) found row.new) }
     ensures stop { IfErr result (λ e. (e.stop ≡ out_of_memory) × (e.row ≡ None)) }
 {
     match rows.next_row(row) {
@@ -140,7 +145,7 @@ fn begin(alloc: Global, row: &Row) -> Result<World, TotalStop>
 {
     let span = match span_in(row) {
         Ok(span) => span,
-        Err(refusal) => return Err(refused(refusal, 1)),
+        Err(refusal) => return Err(refused_stop(refusal, 1)),
     };
     match World::new(alloc, span) {
         Ok(world) => Ok(world),
@@ -151,15 +156,16 @@ fn begin(alloc: Global, row: &Row) -> Result<World, TotalStop>
 /// Makes the change of the command that a row says.
 fn act_row(world: &mut World, row: &Row, number: u32) -> Result<(), TotalStop>
     ensures ok { OnOk result (stepped world.old (command_of row.now) ≡ Ok world.new) }
-    ensures stop { IfErr result (λ e. StopsAtRow e.stop e.row number (stepped world.old (command_of row.now))) }
+    ensures stop { IfErr result (λ e. StopsAtRow e.stop e.row number
+        (stepped world.old (command_of row.now))) }
 {
     let command = match command_in(row) {
         Ok(command) => command,
-        Err(refusal) => return Err(refused(refusal, number)),
+        Err(refusal) => return Err(refused_stop(refusal, number)),
     };
     match world.act(&command) {
         Ok(()) => Ok(()),
-        Err(Stop::Refused(refusal)) => Err(refused(refusal, number)),
+        Err(Stop::Refused(refusal)) => Err(refused_stop(refusal, number)),
         Err(Stop::Fault(e)) => Err(fault(e)),
     }
 }
@@ -192,7 +198,7 @@ fn fault(fault: Fault) -> TotalStop
     }
 }
 
-fn refused(refusal: Refusal, row: u32) -> TotalStop
+fn refused_stop(refusal: Refusal, row: u32) -> TotalStop
     ensures stop { result.stop ≡ Stop.Refused refusal }
     ensures row { result.row ≡ Some row }
 {

@@ -26,7 +26,13 @@ impl Model for World {
 
     ghost view = { λ w. record { span = w.span; network = w.net.network; entries = w.sheet.entries; customers = w.roll.customers } };
 
-    ghost invariant = { λ w. IsWorld (record { span = w.span; network = w.net.network; entries = w.sheet.entries; customers = w.roll.customers }) };
+    ghost invariant = { λ w. IsWorld (record {
+      span = w.span;
+      network = w.net.network;
+      entries =
+          w.sheet.entries;
+      customers = w.roll.customers;
+    }) };
 }
 
 impl World {
@@ -156,7 +162,8 @@ impl World {
         since: Second,
         until: Option<Second>,
     ) -> Result<(), Stop>
-        ensures said { StepsAs result self.new (next self.old (Command.Connect number section since until)) }
+        ensures said { StepsAs result self.new (next self.old
+            (Command.Connect number section since until)) }
         ensures err { OnErr result (self.new ≡ self.old) }
     {
         let Some(section) = self.section_named(&section) else {
@@ -180,7 +187,8 @@ impl World {
         cause: u8,
         crew: Crew,
     ) -> Result<(), Stop>
-        ensures said { StepsAs result self.new (next self.old (Command.Switch device pos second cause crew)) }
+        ensures said { StepsAs result self.new (next self.old
+            (Command.Switch device pos second cause crew)) }
         ensures err { OnErr result (self.new ≡ self.old) }
     {
         let Some(device) = self.net.device_of(&device) else {

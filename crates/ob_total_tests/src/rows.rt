@@ -1,6 +1,6 @@
 //! The rows of texts, against RFC 4180 and the rules of `RowReader`, by hand.
+use ob_csv::{Row, RowReader};
 use ob_net::{Fault, Stop};
-use ob_rows::{Row, RowReader};
 use std::alloc::Global;
 use std::io;
 use std::io::{ErrorKind, Read};

@@ -1,7 +1,7 @@
 //! What runs over texts say, by scripts of lines.
+use ob_cli::complaint_of;
 use ob_net::Watched;
 use ob_total::{TotalStop, run_total};
-use ob_words::complaint_of;
 use std::alloc::{AllocError, Global};
 use std::process::Abort;
 use std::test::Fail;

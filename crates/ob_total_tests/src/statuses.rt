@@ -1,9 +1,9 @@
 //! The line that tells a stop, and the status of a run.
 use crate::streams::Source;
 use crate::texts::FIRST_RUN;
+use ob_cli::{Unfinished, WrongWords, complaint_of, status_of_run};
 use ob_net::{Fault, Refusal, Stop, Watched};
 use ob_total::run_total;
-use ob_words::{Unfinished, WrongWords, complaint_of, status_of_run};
 use std::alloc::{AllocError, Global};
 use std::io::Read;
 use std::process::Abort;

@@ -1,5 +1,5 @@
 //! The words of the command line.
-use ob_words::{Job, WrongWords, read_words};
+use ob_cli::{Job, WrongWords, read_words};
 use std::alloc::Global;
 
 // Whether words are refused, and this is told.

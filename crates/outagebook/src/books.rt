@@ -5,6 +5,7 @@
 use crate::desk::Server;
 use crate::progress::Telling;
 use ob_base::{Fault, Stop};
+use ob_cli::{Unfinished, Word};
 use ob_jobs::{
     OpenInput, OpenOutput, audit_book, export_from_book, import_into_book, make_book, migrate_book,
     print_book, serve_book,
@@ -13,7 +14,6 @@ use ob_store::Keeper;
 use ob_stream::Watched;
 use ob_sweep::{Timeline, Windowed};
 use ob_time::Period;
-use ob_words::{Unfinished, Word};
 use sqlite::{Alter, Connection, Error, ErrorCode, FileFrom, FileStore, Unknown};
 use std::fs::File;
 use std::io;

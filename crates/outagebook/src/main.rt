@@ -11,9 +11,9 @@ mod progress;
 
 use crate::books::{Task, look_at_period, run_on_book};
 use ob_base::{Fault, Stop};
+pub use ob_cli::{Job, Unfinished, Word, WrongWords, complaint_of, read_words, status_of_run};
 use ob_stream::Watched;
 pub use ob_total::{TotalStop, run_total};
-pub use ob_words::{Job, Unfinished, Word, WrongWords, complaint_of, read_words, status_of_run};
 use std::alloc::{AllocError, Global};
 use std::env::{self, Env};
 use std::io;
@@ -21,7 +21,7 @@ use std::process::ExitCode;
 
 fn main(rt: HostRuntime) -> ExitCode {
     let run = run(&rt);
-    ExitCode::from(status_of_run(&told(&rt, run)))
+    ExitCode::from(status_of_run(&tell_end(&rt, run)))
 }
 
 /// Runs the job that the words name.
@@ -107,7 +107,7 @@ fn total<R: Input + Print + AllocGlobal>(rt: &R) -> Result<(), Unfinished> {
 
 /// Tells help on standard output, or on standard error why the job wasn't done. It answers the run as it
 /// was, but help that can't be printed is a fault.
-fn told<R: Print + Eprint + AllocGlobal>(
+fn tell_end<R: Print + Eprint + AllocGlobal>(
     rt: &R,
     run: Result<(), Unfinished>,
 ) -> Result<(), Unfinished> {

@@ -72,7 +72,7 @@ impl Progress for Telling<'_> {
             Work::Rows => self.step = "row",
         }
         self.times = match Instant::now(self.rt) {
-            Ok(now) => Some(beginning(now)),
+            Ok(now) => Some(first_times(now)),
             Err(_) => None,
         };
     }
@@ -104,7 +104,7 @@ impl Progress for Telling<'_> {
 }
 
 // The times of a work that begins now.
-fn beginning(now: Instant) -> Times {
+fn first_times(now: Instant) -> Times {
     let mark = Mark { at: now, step: 0 };
     Times {
         written: now,

@@ -1,9 +1,9 @@
 //! The replies to requests in their order.
 use crate::answers::texts::{Asked, COMMANDS, FIRST, IMPORTS, LAST, NEEDS, ROUTES, VIEWS};
 use crate::desk::{Desk, Trial, over_a_book, over_a_store};
-use ob_answers::{ReplyText, Routes};
 use ob_base::Fault;
 use ob_requests::{Method, Request};
+use ob_routes::{ReplyText, Routes};
 use std::alloc::{AllocError, Global};
 use std::process::Abort;
 

@@ -2,6 +2,7 @@
 use crate::jobs::host::{Input, Output, Server, Sink, Source};
 use crate::texts::OUTAGE;
 use ob_base::{Fault, Stop};
+use ob_cli::{Unfinished, status_of_run};
 use ob_jobs::{
     Silent, audit_book, export_from_book, import_into_book, make_book, migrate_book, print_book,
     run_export, run_import, run_table, serve_book,
@@ -9,7 +10,6 @@ use ob_jobs::{
 use ob_store::Keeper;
 use ob_stream::Watched;
 use ob_sweep::Timeline;
-use ob_words::{Unfinished, status_of_run};
 use sqlite::{Alter, Connection};
 use std::alloc::Global;
 

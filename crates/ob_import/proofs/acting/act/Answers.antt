@@ -6,8 +6,8 @@ use Rattle.ob_import.proofs.acting.act.Goals as goal
 pub returns-clause-acted : goal.returns-clause-acted
 returns-clause-acted g c clean b ties =
     let made = c.in_ok-act.ensures.acted clean b ties c.requires in
-    adds_ok g.S.Store c.args.keeper.now c.act.new.self b (under c.args.reference c.args.command) (reply_as c.in_ok-act.field-0) c.accepted-before.result c.accepted.result
-    c.reached_law.ensures.counts c.requires ties c.accepted-before.ensures c.accepted.ensures made
+    adds_ok g.S.Store c.args.keeper.now c.act.new.self b (under c.args.reference c.args.command) (reply_as c.in_ok-act.field-0) c.accepted_count-before.result c.accepted_count.result
+    c.reached_law.ensures.counts c.requires ties c.accepted_count-before.ensures c.accepted_count.ensures made
 
 pub returns-in_err-act-clause-acted : goal.returns-in_err-act-clause-acted
 returns-in_err-act-clause-acted g c clean b ties =

@@ -1,7 +1,7 @@
 use Rattle.std.proofs.Common.{◌≡◌, ◌∙◌, sym, ap, refl, false, cond, Some, Ok}
 use Rattle.ob_base.specs.declared.stop.Refusal.TheVariants.{BadField}
-use Rattle.ob_rows.specs.Header.{is_header}
-use Rattle.ob_rows.specs.RowReading.{rows_left}
+use Rattle.ob_csv.specs.Header.{is_header}
+use Rattle.ob_csv.specs.RowReading.{rows_left}
 use Rattle.ob_import.specs.declared.report.ImportReport.{ImportReport}
 use Rattle.ob_import.proofs.Importing.{found_some, runs_after, runs_headless, runs_nothing, some_row}
 use Rattle.ob_import.proofs.rows.import_all.Goals.{then-not-found-via-then-not-found, then-not-found-via-else-not-found+then-not-is_header}

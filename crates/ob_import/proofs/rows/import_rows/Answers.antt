@@ -1,5 +1,5 @@
 use Rattle.std.proofs.Common.{◌≡◌, ◌≤◌, ap, arith, Ok}
-use Rattle.ob_rows.specs.RowReading.{rows_left}
+use Rattle.ob_csv.specs.RowReading.{rows_left}
 use Rattle.ob_import.proofs.Importing.{runs_fault_by, runs_full, runs_none, runs_refused_by, runs_unread_by, so_far_more, so_far_none}
 use Rattle.ob_import.proofs.rows.import_rows.Goals as goal
 
@@ -30,7 +30,7 @@ returns-in-Err g c =
     let left = rows_left g.R.Read.remaining in
     record {
       runs = runs_unread_by g.S.Store c.args.keeper.now c.loop-number.keeper (left c.args.rows.now) (left c.loop-number.rows) c.loop-number.tally.added c.loop-number.tally.again c.loop-number.number c.loop-number.invariant
-          c.in-Err.fault c.args.whole c.broken.result c.in-Err.ensures.fault c.in-Err.ensures.store c.in-Err.ensures.all c.broken.ensures.fault;
+          c.in-Err.fault c.args.whole c.fault_after.result c.in-Err.ensures.fault c.in-Err.ensures.store c.in-Err.ensures.all c.fault_after.ensures.fault;
     }
 
 pub returns-in-Err-Refused : goal.returns-in-Err-Refused
@@ -53,7 +53,7 @@ returns-in-Err-Fault g c =
     record {
       runs = runs_fault_by g.S.Store c.args.keeper.now c.loop-number.keeper (left c.args.rows.now) (left c.loop-number.rows) c.loop-number.tally.added c.loop-number.tally.again c.loop-number.number c.loop-number.invariant
           c.act_row.new.keeper (left c.take_row.new.rows) c.take_row.new.row takes within c.act_row.ensures.clean c.in-Err-Fault.field-0 c.in-Err-Fault.ensures.dropped c.in-Err-Fault.ensures.acted
-          c.in-Err-Fault.fault c.args.whole c.broken-in-Err-Fault.result c.in-Err-Fault.field-0-is c.in-Err-Fault.ensures.faults c.broken-in-Err-Fault.ensures.fault;
+          c.in-Err-Fault.fault c.args.whole c.fault_after-in-Err-Fault.result c.in-Err-Fault.field-0-is c.in-Err-Fault.ensures.faults c.fault_after-in-Err-Fault.ensures.fault;
     }
 
 pub returns-in-Ok-true-take_row : goal.returns-in-Ok-true-take_row
@@ -82,5 +82,5 @@ returns-in-Err-take_row g c =
     let left = rows_left g.R.Read.remaining in
     record {
       runs = runs_unread_by g.S.Store c.args.keeper.now c.loop-number.keeper (left c.args.rows.now) (left c.loop-number.rows) c.loop-number.tally.added c.loop-number.tally.again c.loop-number.number c.loop-number.invariant
-          c.in-Err-take_row.fault c.args.whole c.broken-in-Err-take_row.result c.in-Err-take_row.ensures.fault c.in-Err-take_row.ensures.store c.in-Err-take_row.ensures.all c.broken-in-Err-take_row.ensures.fault;
+          c.in-Err-take_row.fault c.args.whole c.fault_after-in-Err-take_row.result c.in-Err-take_row.ensures.fault c.in-Err-take_row.ensures.store c.in-Err-take_row.ensures.all c.fault_after-in-Err-take_row.ensures.fault;
     }

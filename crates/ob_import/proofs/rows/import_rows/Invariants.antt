@@ -1,5 +1,5 @@
 -- The rows before this one were taken.
-use Rattle.ob_rows.specs.RowReading.{rows_left}
+use Rattle.ob_csv.specs.RowReading.{rows_left}
 use Rattle.ob_import.proofs.Importing.{SoFar}
 use Rattle.ob_import.proofs.rows.import_rows.Given as goal
 

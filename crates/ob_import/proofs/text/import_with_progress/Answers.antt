@@ -1,7 +1,7 @@
 use Rattle.std.specs.Prelude.{◌≡◌, ◌⊎◌, false, option_map}
 use Rattle.ob_stream.specs.Streams.{Passes}
 use Rattle.ob_stream.specs.Watching.{HasJustFailed, watched_bytes}
-use Rattle.ob_rows.specs.Rows.{rows_of}
+use Rattle.ob_csv.specs.Rows.{rows_of}
 use Rattle.ob_import.proofs.Importing.{bound_by, broken_gathered, cause_by, imported_gathered, leaves_nothing}
 use Rattle.ob_import.proofs.text.import_with_progress.Goals as goal
 

@@ -6,7 +6,7 @@ use Rattle.ob_post.specs.declared.Dim.{Dim}
 use Rattle.ob_post.specs.declared.Moved.{Moved}
 use Rattle.ob_post.specs.Keys.{IsKey}
 use Rattle.ob_post.specs.Places.{place_of}
-use Rattle.ob_post.proofs.Differing.{AreMoves, difference, one_skipped, one_more, all_moves, keys_of_moves, difference_at}
+use Rattle.ob_post.proofs.DifferingRows.{AreMoves, difference, one_skipped, one_more, all_moves, keys_of_moves, difference_at}
 use Rattle.ob_post.proofs.Listed.{listed}
 use Rattle.ob_post.proofs.difference.moves.Goals as goal
 use Rattle.ob_post.proofs.difference.moves.Goals.{then-delta-ne0+in_ok-push, else-delta-ne0}

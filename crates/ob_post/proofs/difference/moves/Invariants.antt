@@ -1,4 +1,4 @@
-use Rattle.ob_post.proofs.Differing.{AreMoves}
+use Rattle.ob_post.proofs.DifferingRows.{AreMoves}
 use Rattle.ob_post.proofs.difference.moves.Given as goal
 
 abbrev pub invariant-loop-place : goal.invariant-loop-place

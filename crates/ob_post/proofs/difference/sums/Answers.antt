@@ -6,7 +6,7 @@ use Rattle.std.proofs.lemmas.List.Elements.{All-same, All-replicate}
 use Rattle.ob_post.specs.Places.{place_of}
 use Rattle.ob_post.proofs.Keying.{place_below}
 use Rattle.ob_post.proofs.Placed.{absent}
-use Rattle.ob_post.proofs.Differing.{AreSums, no_sums, one_sum}
+use Rattle.ob_post.proofs.DifferingRows.{AreSums, no_sums, one_sum}
 use Rattle.ob_post.proofs.difference.sums.Goals as goal
 
 pub loop-row-init : goal.loop-row-init

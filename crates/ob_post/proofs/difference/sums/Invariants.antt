@@ -1,4 +1,4 @@
-use Rattle.ob_post.proofs.Differing.{AreSums}
+use Rattle.ob_post.proofs.DifferingRows.{AreSums}
 use Rattle.ob_post.proofs.difference.sums.Given as goal
 
 abbrev pub invariant-loop-row : goal.invariant-loop-row

@@ -21,7 +21,7 @@ returns c = (
       (c.or_empty-7.ensures ∙ ap or_nothing c.text-f5.ensures)
       (c.or_empty-8.ensures ∙ ap or_nothing c.text-f6.ensures))
       c.read_row-row.ensures,
-  c.leftmost.ensures
+  c.take_leftmost.ensures
       ∙ ap (λ (column : Option ℕ). leftmost column c.read_row-row.result)
       (c.textless-column.ensures
       ∙ ap (λ (texts : List (Option (List ℕ))). first_textless 1 texts)

@@ -44,10 +44,10 @@ returns-in-Life-clause-searches g c =
     c.life_from-in-Life.ensures c.with_life.ensures.searches)
 
 pub returns-in-Switch-clause-searches : goal.returns-in-Switch-clause-searches
-returns-in-Switch-clause-searches g c = rw c.in-Switch.is c.entered.ensures.searches
+returns-in-Switch-clause-searches g c = rw c.in-Switch.is c.effect_of_switch.ensures.searches
 
 pub returns-in-Correct-clause-searches : goal.returns-in-Correct-clause-searches
-returns-in-Correct-clause-searches g c = rw c.in-Correct.is c.corrected.ensures.searches
+returns-in-Correct-clause-searches g c = rw c.in-Correct.is c.effect_of_correct.ensures.searches
 
 pub returns-in-Withdraw-clause-searches : goal.returns-in-Withdraw-clause-searches
-returns-in-Withdraw-clause-searches g c = rw c.in-Withdraw.is c.withdrawn.ensures.searches
+returns-in-Withdraw-clause-searches g c = rw c.in-Withdraw.is c.effect_of_withdraw.ensures.searches

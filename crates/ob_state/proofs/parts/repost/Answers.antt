@@ -7,10 +7,10 @@ use Rattle.ob_post.specs.SectionAmounts.{amount_of_runs}
 use Rattle.ob_post.specs.declared.Dim.{Dim}
 use Rattle.ob_state.specs.States.{BookValue}
 use Rattle.ob_state.specs.Retimings.{runs_in}
-use Rattle.ob_posting.specs.Balances.{together}
+use Rattle.ob_post.specs.Balances.{together}
 use Rattle.ob_state.specs.Effects.{amount_of_node, before_change}
 use Rattle.ob_state.proofs.Amounting.{feeder_from_one, is_section}
-use Rattle.ob_posting.proofs.Balancing.{balances_as}
+use Rattle.ob_post.proofs.Balancing.{balances_as}
 use Rattle.ob_state.proofs.NodeByNode.{section_amount}
 use Rattle.ob_state.proofs.NetworkChanges.{same_home}
 use Rattle.ob_state.proofs.Reposting.{Takes, Gives}

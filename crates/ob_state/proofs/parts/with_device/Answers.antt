@@ -15,8 +15,8 @@ use Rattle.ob_state.proofs.Leading.{effect_next}
 use Rattle.ob_state.proofs.NetworkChanges.{before_last, joined_after, taken_back}
 use Rattle.ob_state.proofs.parts.with_device.Goals as goal
 
-pub altered-effect-requires-clause-runs : goal.altered-effect-requires-clause-runs
-altered-effect-requires-clause-runs g c =
+pub effect_on_network-effect-requires-clause-runs : goal.effect_on_network-effect-requires-clause-runs
+effect_on_network-effect-requires-clause-runs g c =
     let b = c.args.state.now.state in
     let new = c.args.device in
     let lists = g.T.Timeline.content c.args.timeline.now in
@@ -25,8 +25,8 @@ altered-effect-requires-clause-runs g c =
     subst (λ (s : BookState). AreRunsOf (without_device s) lists) (sym added)
     (subst (λ (s : BookState). AreRunsOf s lists) (sym (taken_back b new.name new.ends.a new.ends.b new.normal new.life)) c.requires.runs)
 
-pub altered-effect-requires-clause-after : goal.altered-effect-requires-clause-after
-altered-effect-requires-clause-after g c =
+pub effect_on_network-effect-requires-clause-after : goal.effect_on_network-effect-requires-clause-after
+effect_on_network-effect-requires-clause-after g c =
     let b = c.args.state.now.state in
     let new = c.args.device in
     let added = c.add_device.ensures.state ∙ ap (λ (s : BookState). changed s (Device new.name new.ends new.normal new.life.since new.life.until)) c.in_ok-reserve_one.ensures.state in
@@ -41,16 +41,16 @@ take_back_device-requires-clause-entries g c =
     let new = c.args.device in
     let added = c.add_device.ensures.state ∙ ap (λ (s : BookState). changed s (Device new.name new.ends new.normal new.life.since new.life.until)) c.in_ok-reserve_one.ensures.state in
     let sound = subst IsSoundState c.in_ok-reserve_one.ensures.state c.accepted.ensures.sound in
-    subst (λ (s : BookState). All (λ (e : Entry). e.device < length s.network.devices - 1) s.entries) (sym (c.altered-effect.ensures.state ∙ added))
+    subst (λ (s : BookState). All (λ (e : Entry). e.device < length s.network.devices - 1) s.entries) (sym (c.effect_on_network-effect.ensures.state ∙ added))
     (before_last b new.name new.ends.a new.ends.b new.normal new.life sound.state.devices)
 
 pub returns-clause-effect : goal.returns-clause-effect
 returns-clause-effect g c =
     let b = c.args.state.now.state in
     let new = c.args.device in
-    let result = c.altered-effect.result in
+    let result = c.effect_on_network-effect.result in
     let d : BookState = with_network b (with_device b.network new.name new.ends.a new.ends.b new.normal new.life) in
     let added : c.add_device.new.self.state ≡ d = c.add_device.ensures.state ∙ ap (λ (s : BookState). changed s (Device new.name new.ends new.normal new.life.since new.life.until)) c.in_ok-reserve_one.ensures.state in
-    let here = subst (λ (s : BookState). IfOk result (IsEffect (without_device s) s)) added c.altered-effect.ensures.effect in
+    let here = subst (λ (s : BookState). IfOk result (IsEffect (without_device s) s)) added c.effect_on_network-effect.ensures.effect in
     let from = subst (λ (s : BookState). IfOk result (IsEffect s d)) (taken_back b new.name new.ends.a new.ends.b new.normal new.life) here in
     IfOk-weaker result _ _ (λ e h. effect_next b d (b.accepted + 1) e h) from

@@ -16,8 +16,8 @@ use Rattle.ob_state.proofs.Kept.{count_lived}
 use Rattle.ob_state.proofs.NetworkChanges.{lived_back, lived_now}
 use Rattle.ob_state.proofs.parts.with_life.Goals as goal
 
-pub altered-effect-requires-clause-runs : goal.altered-effect-requires-clause-runs
-altered-effect-requires-clause-runs g c =
+pub effect_on_network-effect-requires-clause-runs : goal.effect_on_network-effect-requires-clause-runs
+effect_on_network-effect-requires-clause-runs g c =
     let b = c.args.state.now.state in
     let k = c.in-Some.device in
     let lists = g.T.Timeline.content c.args.timeline.now in
@@ -27,8 +27,8 @@ altered-effect-requires-clause-runs g c =
     subst (λ (s : BookState). AreRunsOf (before_change (Lived k old life) s) lists) (sym c.set_life.ensures.state)
     (subst (λ (s : BookState). AreRunsOf s lists) (sym (lived_back b k old life has)) c.requires.runs)
 
-pub altered-effect-requires-clause-after : goal.altered-effect-requires-clause-after
-altered-effect-requires-clause-after g c =
+pub effect_on_network-effect-requires-clause-after : goal.effect_on_network-effect-requires-clause-after
+effect_on_network-effect-requires-clause-after g c =
     let b = c.args.state.now.state in
     let k = c.in-Some.device in
     let here : k < length c.state.inside.net.network.devices = rw c.in-Some.is at c.device_of.ensures.exists in
@@ -42,7 +42,7 @@ set_life-requires-2-clause-device g c =
     let here : k < length c.state.inside.net.network.devices = rw c.in-Some.is at c.device_of.ensures.exists in
     let within = subst (λ (s : BookValue). k < length s.state.network.devices) c.state.view_is here in
     let count = count_lived b.network.devices k c.args.life in
-    subst (λ (s : BookState). k < length s.network.devices) (sym (c.altered-effect.ensures.state ∙ c.set_life.ensures.state)) (omega (arith, within, count))
+    subst (λ (s : BookState). k < length s.network.devices) (sym (c.effect_on_network-effect.ensures.state ∙ c.set_life.ensures.state)) (omega (arith, within, count))
 
 pub returns-clause-state : goal.returns-clause-state
 returns-clause-state g c =
@@ -50,7 +50,7 @@ returns-clause-state g c =
     let k = c.in-Some.device in
     let old = c.life_of-old.result in
     let has : life_at b.network k ≡ Some old = ap (λ (s : BookValue). life_at s.state.network k) (sym c.state.view_is) ∙ c.life_of-old.ensures.life in
-    c.set_life-2.ensures.state ∙ ap (λ (s : BookState). with_network s (with_life s.network k old)) (c.altered-effect.ensures.state ∙ c.set_life.ensures.state)
+    c.set_life-2.ensures.state ∙ ap (λ (s : BookState). with_network s (with_life s.network k old)) (c.effect_on_network-effect.ensures.state ∙ c.set_life.ensures.state)
     ∙ lived_back b k old c.args.life has
 
 pub returns-clause-effect : goal.returns-clause-effect
@@ -59,11 +59,11 @@ returns-clause-effect g c =
     let k = c.in-Some.device in
     let old = c.life_of-old.result in
     let life = c.args.life in
-    let result = c.altered-effect.result in
+    let result = c.effect_on_network-effect.result in
     let found : device_of b.network c.args.device.now ≡ Some k = ap (λ (s : BookValue). device_of s.state.network c.args.device.now) (sym c.state.view_is) ∙ sym c.device_of.ensures.device ∙ c.in-Some.is in
     let has : life_at b.network k ≡ Some old = ap (λ (s : BookValue). life_at s.state.network k) (sym c.state.view_is) ∙ c.life_of-old.ensures.life in
     let d : BookState = with_network b (with_life b.network k life) in
-    let here = subst (λ (s : BookState). IfOk result (IsEffect (before_change (Lived k old life) s) s)) c.set_life.ensures.state c.altered-effect.ensures.effect in
+    let here = subst (λ (s : BookState). IfOk result (IsEffect (before_change (Lived k old life) s) s)) c.set_life.ensures.state c.effect_on_network-effect.ensures.effect in
     let from = subst (λ (s : BookState). IfOk result (IsEffect s d)) (lived_back b k old life has) here in
     let named : d ≡ changed b (Life c.args.device.now life.since life.until) = ap (λ (o : Option ℕ). with_network b (with_life b.network (unwrap_or o 0) life)) (sym found) in
     IfOk-weaker result _ _ (λ e h. effect_next b _ (b.accepted + 1) e (subst (λ (s : BookState). IsEffect b s e) named h)) from
@@ -79,6 +79,6 @@ returns-clause-searches g c =
     let is : change_of b (Life c.args.device.now life.since life.until) ≡ Some (Lived k old life) =
     ap (λ (o : Option ℕ). option_and_then (λ d. option_map (λ was. Lived d was life) (life_at b.network d)) o) found ∙ ap (λ (o : Option ALife). option_map (λ was. Lived k was life) o) has in
     let named : with_life b.network k life ≡ with_life b.network (unwrap_or (device_of b.network c.args.device.now) 0) life = ap (λ (o : Option ℕ). with_life b.network (unwrap_or o 0) life) (sym found) in
-    let made = subst (λ (s : BookState). c.altered-effect.new.state.searches ≤ c.set_life.new.self.searches + g.T.Timeline.bound s.network s.entries s.period (Lived k old life)) c.set_life.ensures.state c.altered-effect.ensures.searches in
-    let at = subst (λ (net : Network). c.altered-effect.new.state.searches ≤ c.set_life.new.self.searches + g.T.Timeline.bound net b.entries b.period (Lived k old life)) named made in
+    let made = subst (λ (s : BookState). c.effect_on_network-effect.new.state.searches ≤ c.set_life.new.self.searches + g.T.Timeline.bound s.network s.entries s.period (Lived k old life)) c.set_life.ensures.state c.effect_on_network-effect.ensures.searches in
+    let at = subst (λ (net : Network). c.effect_on_network-effect.new.state.searches ≤ c.set_life.new.self.searches + g.T.Timeline.bound net b.entries b.period (Lived k old life)) named made in
     rw is (omega (arith, at, c.set_life.ensures.searches, c.set_life-2.ensures.searches))

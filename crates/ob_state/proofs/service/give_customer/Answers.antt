@@ -6,10 +6,10 @@ use Rattle.ob_time.specs.Calendar.{day_count, days_of}
 use Rattle.ob_post.specs.SectionAmounts.{amount_of_runs}
 use Rattle.ob_post.specs.declared.Dim.{Dim}
 use Rattle.ob_state.specs.States.{BookValue}
-use Rattle.ob_posting.specs.Balances.{Balances, together}
+use Rattle.ob_post.specs.Balances.{Balances, together}
 use Rattle.ob_state.specs.Effects.{amount_of_customer}
 use Rattle.ob_state.proofs.Amounting.{feeder_from_one, one_customer}
-use Rattle.ob_posting.proofs.Balancing.{balances_as}
+use Rattle.ob_post.proofs.Balancing.{balances_as}
 use Rattle.ob_state.proofs.service.give_customer.Goals as goal
 
 pub give-requires-clause-feeder : goal.give-requires-clause-feeder

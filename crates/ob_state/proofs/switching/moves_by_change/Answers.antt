@@ -5,7 +5,7 @@ use Rattle.ob_time.specs.Calendar.{day_count}
 use Rattle.ob_post.specs.MoveLaws.{change_from}
 use Rattle.ob_post.specs.Moved.{moves_by}
 use Rattle.ob_state.specs.Amounts.{amount}
-use Rattle.ob_posting.specs.Balances.{Balances, IsOfSmall}
+use Rattle.ob_post.specs.Balances.{Balances, IsOfSmall}
 use Rattle.ob_state.specs.Effects.{with_entries}
 use Rattle.ob_state.specs.States.{BookValue}
 use Rattle.ob_state.proofs.Amounting.{small}

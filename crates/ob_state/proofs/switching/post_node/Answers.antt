@@ -8,7 +8,7 @@ use Rattle.ob_sweep.specs.Deltas.{new_runs}
 use Rattle.ob_time.specs.Calendar.{day_count}
 use Rattle.ob_state.specs.States.{BookValue}
 use Rattle.ob_state.specs.Effects.{amount_of_first, with_entries}
-use Rattle.ob_posting.specs.Causes.{BeginAtCutters}
+use Rattle.ob_post.specs.Causes.{BeginAtCutters}
 use Rattle.ob_state.specs.Retimings.{runs_in}
 use Rattle.ob_state.proofs.Amounting.{feeder_from_one, is_section}
 use Rattle.ob_state.proofs.NodeByNode.{no_section, node_more}

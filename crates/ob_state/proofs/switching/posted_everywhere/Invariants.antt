@@ -1,6 +1,6 @@
 use Rattle.ob_sweep.specs.Changed.{changed}
 use Rattle.ob_time.specs.Calendar.{day_count}
-use Rattle.ob_posting.specs.Balances.{Balances}
+use Rattle.ob_post.specs.Balances.{Balances}
 use Rattle.ob_state.specs.Effects.{amount_of_first, with_entries}
 use Rattle.ob_state.proofs.switching.posted_everywhere.Given as goal
 

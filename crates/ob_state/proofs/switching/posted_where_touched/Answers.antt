@@ -3,9 +3,9 @@ use Rattle.std.proofs.lemmas.List.{take_all}
 use Rattle.ob_sweep.specs.Changed.{changed}
 use Rattle.ob_time.specs.Calendar.{day_count}
 use Rattle.ob_state.specs.Retimings.{runs_in}
-use Rattle.ob_posting.specs.Balances.{Balances, together}
+use Rattle.ob_post.specs.Balances.{Balances, together}
 use Rattle.ob_state.specs.Effects.{amount_of_node, amount_of_nodes, with_entries}
-use Rattle.ob_posting.proofs.Balancing.{balances_as}
+use Rattle.ob_post.proofs.Balancing.{balances_as}
 use Rattle.ob_state.proofs.Reposting.{entries_balance}
 use Rattle.ob_state.proofs.Untouched.{nodes_more, touched_balance, touched_within}
 use Rattle.ob_state.proofs.switching.posted_where_touched.Goals as goal

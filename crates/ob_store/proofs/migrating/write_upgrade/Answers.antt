@@ -1,7 +1,7 @@
 use Rattle.sqlite.specs.Held.{state}
 use Rattle.ob_tables.specs.declared.version.Version.TheVariants.{One}
 use Rattle.ob_commit.specs.Keeps.{KeepsIn}
-use Rattle.ob_migrate.specs.OldTables.{old_tables_of}
+use Rattle.ob_parts.specs.OldTables.{old_tables_of}
 use Rattle.ob_store.proofs.Upgrading.{keeps_old, upgraded_or}
 use Rattle.ob_store.proofs.migrating.write_upgrade.Goals as goal
 

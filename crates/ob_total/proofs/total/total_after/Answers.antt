@@ -1,7 +1,7 @@
 use Rattle.std.proofs.Common.{◌≡◌, arith, true, false, nat_lt}
 use Rattle.std.proofs.lemmas.Bool.{lt-ltb, le-ltb}
 use Rattle.std.proofs.lemmas.Result.{err_from_is_err_and}
-use Rattle.ob_rows.specs.RowReading.{rows_left}
+use Rattle.ob_csv.specs.RowReading.{rows_left}
 use Rattle.ob_total.specs.Totals.{total_from}
 use Rattle.ob_total.proofs.TotalLaws.{says_done, says_more, says_stop, says_full}
 use Rattle.ob_total.proofs.total.total_after.Goals as goal
@@ -37,8 +37,8 @@ returns-then-found-clause-said g c =
     let takes = rw c.if-found.true at c.in_ok-found-2.ensures.takes in
     let at : c.loop-number.number ≡ 1000001 = omega arith in
     let past : nat_lt 1000000 c.loop-number.number ≡ true = lt-ltb 1000000 c.loop-number.number (omega arith) in
-    says_full (total_from 2 c.args.world.now) c.loop-number.number c.loop-number.world (left c.args.rows.now) (left c.loop-number.rows) (left c.take_row-2.new.rows) c.take_row-2.new.row c.refused.result
-    past c.loop-number.invariant takes c.refused.ensures.stop (rw at c.refused.ensures.row)
+    says_full (total_from 2 c.args.world.now) c.loop-number.number c.loop-number.world (left c.args.rows.now) (left c.loop-number.rows) (left c.take_row-2.new.rows) c.take_row-2.new.row c.refused_stop.result
+    past c.loop-number.invariant takes c.refused_stop.ensures.stop (rw at c.refused_stop.ensures.row)
 
 pub returns-clause-said : goal.returns-clause-said
 returns-clause-said g c =

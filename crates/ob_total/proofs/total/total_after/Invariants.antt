@@ -1,5 +1,5 @@
 -- The rows that are left say of the world so far what all of them said at first.
-use Rattle.ob_rows.specs.RowReading.{rows_left}
+use Rattle.ob_csv.specs.RowReading.{rows_left}
 use Rattle.ob_total.specs.Outcomes.{SaysOn}
 use Rattle.ob_total.specs.Totals.{total_from}
 use Rattle.ob_total.proofs.total.total_after.Given as goal

@@ -1,5 +1,5 @@
 use Rattle.std.proofs.lemmas.Result.{err_from_is_err_and}
-use Rattle.ob_rows.specs.RowReading.{rows_left}
+use Rattle.ob_csv.specs.RowReading.{rows_left}
 use Rattle.ob_total.proofs.TotalLaws.{says_body, says_no_span}
 use Rattle.ob_total.proofs.total.total_of_rows.Goals as goal
 

@@ -67,8 +67,8 @@ returns-in_err-lists-clause-searches c =
     let m = few c.args.sheet.now.entries x.2 c.args.first c.args.end c.requires.some c.args.old c.args.new c.in-Some.window x.0 x.1 c.args.net.now.network in
     omega (arith, c.sweep.ensures.searches, ap length (c.deref.ensures.value ∙ c.in_ok-steps.ensures.entries), m)
 
-pub returns-in_err-spliced-clause-searches : goal.returns-in_err-spliced-clause-searches
-returns-in_err-spliced-clause-searches c =
+pub returns-in_err-splice_runs-clause-searches : goal.returns-in_err-splice_runs-clause-searches
+returns-in_err-splice_runs-clause-searches c =
     let x = c.in-Some.ensures in
     let m = few c.args.sheet.now.entries x.2 c.args.first c.args.end c.requires.some c.args.old c.args.new c.in-Some.window x.0 x.1 c.args.net.now.network in
     omega (arith, c.sweep.ensures.searches, ap length (c.deref.ensures.value ∙ c.in_ok-steps.ensures.entries), m)
@@ -79,8 +79,8 @@ returns-clause-searches c =
     let m = few c.args.sheet.now.entries x.2 c.args.first c.args.end c.requires.some c.args.old c.args.new c.in-Some.window x.0 x.1 c.args.net.now.network in
     omega (arith, c.sweep.ensures.searches, ap length (c.deref.ensures.value ∙ c.in_ok-steps.ensures.entries), m)
 
-pub spliced-requires-clause-window : goal.spliced-requires-clause-window
-spliced-requires-clause-window c =
+pub splice_runs-requires-clause-window : goal.splice_runs-requires-clause-window
+splice_runs-requires-clause-window c =
     let w = c.in-Some.window in
     ap length c.deref-2.ensures.value
     ∙ sym (length-map c.in_ok-lists.lists.items (λ r. r.items))
@@ -88,13 +88,13 @@ spliced-requires-clause-window c =
     ∙ length-all_runs c.args.net.now.network (take w.from (in_order c.args.sheet.now.entries) ++ c.deref.result.now) w.first w.end
     ∙ ap (λ (n : Network). length n.nodes) (sym c.sweep.ensures.network)
 
-pub spliced-requires-clause-seconds : goal.spliced-requires-clause-seconds
-spliced-requires-clause-seconds c =
+pub splice_runs-requires-clause-seconds : goal.splice_runs-requires-clause-seconds
+splice_runs-requires-clause-seconds c =
     let x = c.in-Some.ensures in
     omega (arith, has_seconds c.args.sheet.now.entries x.2 c.args.first c.args.end c.requires.some c.args.old c.args.new c.in-Some.window x.0 x.1)
 
-pub spliced-requires-clause-of_nodes : goal.spliced-requires-clause-of_nodes
-spliced-requires-clause-of_nodes c = λ v section.
+pub splice_runs-requires-clause-of_nodes : goal.splice_runs-requires-clause-of_nodes
+splice_runs-requires-clause-of_nodes c = λ v section.
     let x = c.in-Some.ensures in
     let w = c.in-Some.window in
     let net = c.args.net.now.network in
@@ -121,8 +121,8 @@ returns-clause-delta c =
     let same : old ≡ c.args.self.now = c.lists.ensures.lists ∙ c.self.view_is in
     let found : window ≡ all_runs net (base ++ between w.from w.to (in_order entries)) w.first w.end =
     ap (map (λ r. r.items)) c.deref-2.ensures.value ∙ c.in_ok-lists.ensures.runs ∙ ap (λ es. all_runs net (base ++ es) w.first w.end) (c.deref.ensures.value ∙ c.in_ok-steps.ensures.entries) in
-    let delta = c.in_ok-spliced.field-0 in
+    let delta = c.in_ok-splice_runs.field-0 in
     let of_net : IsDelta net delta old (λ v. splice w.first w.end (runs_at old v) (runs_at window v)) =
-    subst (λ (n : Network). IsDelta n delta old (λ v. splice w.first w.end (runs_at old v) (runs_at window v))) c.sweep.ensures.network c.in_ok-spliced.ensures.delta in
+    subst (λ (n : Network). IsDelta n delta old (λ v. splice w.first w.end (runs_at old v) (runs_at window v))) c.sweep.ensures.network c.in_ok-splice_runs.ensures.delta in
     news_are entries x.2 c.args.first c.args.end c.requires.some c.args.old c.args.new w x.0 x.1 net c.args.device c.requires.new c.args.self.now window c.requires.runs found delta
     (subst (λ (ls : List (List Run)). IsDelta net delta ls (λ v. splice w.first w.end (runs_at ls v) (runs_at window v))) same of_net)

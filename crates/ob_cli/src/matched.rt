@@ -1,0 +1,143 @@
+//! The job that a subcommand's matches give.
+ghost use Rattle.std.specs.Prelude.{◌≡◌, IfOk, option_and_then};
+ghost use Rattle.clap.specs.Words.{first_of, found_of, rows_of, subcommand_rows_of};
+ghost use Rattle.ob_cli.specs.Jobs.{audit_job, export_job, import_job, init_job, job_named, migrate_job, serve_job, table_job};
+ghost use Rattle.ob_cli.specs.Values.{count_given, number_given};
+
+use crate::job::{Job, Word};
+use clap::ArgMatches;
+use std::alloc::{AllocError, Global};
+
+fn word_of(alloc: Global, matches: &ArgMatches<'_>, name: &str) -> Result<Option<Word>, AllocError>
+    ensures { IfOk result (λ r. r ≡ first_of name.now (rows_of (found_of matches.now))) }
+{
+    match matches.get_str(name) {
+        Some(text) => Ok(Some(Word::new(alloc, text)?)),
+        None => Ok(None),
+    }
+}
+
+fn number_of(matches: &ArgMatches<'_>, name: &str) -> Option<u16>
+    ensures { result ≡ number_given name.now (rows_of (found_of matches.now)) }
+{
+    matches.get_one::<u16>(name)
+}
+
+/// The number of 64 bits given for an option.
+fn count_of(matches: &ArgMatches<'_>, name: &str) -> Option<u64>
+    ensures { result ≡ count_given name.now (rows_of (found_of matches.now)) }
+{
+    matches.get_one::<u64>(name)
+}
+
+fn init_from(alloc: Global, matches: &ArgMatches<'_>) -> Result<Option<Job>, AllocError>
+    ensures { IfOk result (λ r. r ≡ init_job (rows_of (found_of matches.now))) }
+{
+    let book = word_of(alloc, matches, "book")?;
+    let first = word_of(alloc, matches, "first")?;
+    let days = number_of(matches, "days");
+    let zone = word_of(alloc, matches, "zone")?;
+    match (book, first, days, zone) {
+        (Some(book), Some(first), Some(days), Some(zone)) => Ok(Some(Job::Init {
+            book,
+            first,
+            days,
+            zone,
+        })),
+        _ => Ok(None),
+    }
+}
+
+fn import_from(alloc: Global, matches: &ArgMatches<'_>) -> Result<Option<Job>, AllocError>
+    ensures { IfOk result (λ r. r ≡ import_job (rows_of (found_of matches.now))) }
+{
+    let book = word_of(alloc, matches, "book")?;
+    let input = word_of(alloc, matches, "INPUT")?;
+    match (book, input) {
+        (Some(book), Some(input)) => Ok(Some(Job::Import { book, input })),
+        _ => Ok(None),
+    }
+}
+
+fn export_from(alloc: Global, matches: &ArgMatches<'_>) -> Result<Option<Job>, AllocError>
+    ensures { IfOk result (λ r. r ≡ export_job (rows_of (found_of matches.now))) }
+{
+    let book = word_of(alloc, matches, "book")?;
+    let output = word_of(alloc, matches, "OUTPUT")?;
+    match (book, output) {
+        (Some(book), Some(output)) => Ok(Some(Job::Export { book, output })),
+        _ => Ok(None),
+    }
+}
+
+fn table_from(alloc: Global, matches: &ArgMatches<'_>) -> Result<Option<Job>, AllocError>
+    ensures { IfOk result (λ r. r ≡ table_job (rows_of (found_of matches.now))) }
+{
+    match word_of(alloc, matches, "book")? {
+        Some(book) => Ok(Some(Job::Table { book })),
+        None => Ok(None),
+    }
+}
+
+fn audit_from(alloc: Global, matches: &ArgMatches<'_>) -> Result<Option<Job>, AllocError>
+    ensures { IfOk result (λ r. r ≡ audit_job (rows_of (found_of matches.now))) }
+{
+    match word_of(alloc, matches, "book")? {
+        Some(book) => Ok(Some(Job::Audit { book })),
+        None => Ok(None),
+    }
+}
+
+fn migrate_from(alloc: Global, matches: &ArgMatches<'_>) -> Result<Option<Job>, AllocError>
+    ensures { IfOk result (λ r. r ≡ migrate_job (rows_of (found_of matches.now))) }
+{
+    match word_of(alloc, matches, "book")? {
+        Some(book) => Ok(Some(Job::Migrate { book })),
+        None => Ok(None),
+    }
+}
+
+fn serve_from(alloc: Global, matches: &ArgMatches<'_>) -> Result<Option<Job>, AllocError>
+    ensures { IfOk result (λ r. r ≡ serve_job (rows_of (found_of matches.now))) }
+{
+    let book = word_of(alloc, matches, "book")?;
+    let port = number_of(matches, "port");
+    let streams = count_of(matches, "streams");
+    match (book, port, streams) {
+        (Some(book), Some(port), Some(streams)) => Ok(Some(Job::Serve {
+            book,
+            port,
+            streams,
+        })),
+        _ => Ok(None),
+    }
+}
+
+fn job_from(alloc: Global, name: &str, matches: &ArgMatches<'_>) -> Result<Option<Job>, AllocError>
+    ensures { IfOk result (λ r. r ≡ job_named (name.now, rows_of (found_of matches.now))) }
+{
+    match name {
+        "total" => Ok(Some(Job::Total)),
+        "init" => init_from(alloc, matches),
+        "import" => import_from(alloc, matches),
+        "export" => export_from(alloc, matches),
+        "table" => table_from(alloc, matches),
+        "audit" => audit_from(alloc, matches),
+        "migrate" => migrate_from(alloc, matches),
+        "serve" => serve_from(alloc, matches),
+        _ => Ok(None),
+    }
+}
+
+/// The job that the words name, where they are matched; None where no subcommand was matched.
+pub(crate) fn matched_job(
+    alloc: Global,
+    matches: &ArgMatches<'_>,
+) -> Result<Option<Job>, AllocError>
+    ensures { IfOk result (λ r. r ≡ option_and_then job_named (subcommand_rows_of matches.now)) }
+{
+    match matches.subcommand() {
+        Some((name, inner)) => job_from(alloc, name, inner),
+        None => Ok(None),
+    }
+}

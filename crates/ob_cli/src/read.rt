@@ -1,0 +1,81 @@
+//! The job that a list of words names.
+ghost use Rattle.std.specs.Prelude.{◌≡◌, IfErr, IfOk, Some, map};
+ghost use Rattle.clap.specs.Words.{kind_of};
+ghost use Rattle.ob_cli.specs.Jobs.{IsReason, IsReasonOf, job_of, status_of};
+
+use crate::command::outagebook_command;
+use crate::job::Job;
+use crate::matched::matched_job;
+use clap::Error;
+use clap::error::ErrorKind;
+use ob_base::Fault;
+use std::alloc::{AllocError, Global};
+
+/// Why the words name no job.
+#[derive(Debug, Drop)]
+pub enum WrongWords {
+    /// Help was asked for: this is its text. The program ends with status 0.
+    Help(String),
+    /// The words were refused, for this reason. The program ends with status 64.
+    Wrong(String),
+    /// Memory was refused. The program ends with status 1.
+    Fault(Fault),
+}
+
+impl WrongWords {
+    /// The status that the program ends with: 0, 64 or 1.
+    pub fn status(&self) -> u8
+        ensures { result ≡ status_of self.now }
+    {
+        match self {
+            WrongWords::Help(_) => 0,
+            WrongWords::Wrong(_) => 64,
+            WrongWords::Fault(_) => 1,
+        }
+    }
+}
+
+impl From<AllocError> for WrongWords {
+    ghost use Rattle.ob_cli.specs.Jobs.{out_of_memory};
+
+    ghost from_gives = { λ _ wrong. wrong ≡ out_of_memory };
+
+    fn from(_error: AllocError) -> WrongWords {
+        WrongWords::Fault(Fault::OutOfMemory)
+    }
+}
+
+fn reason_of(alloc: Global, error: &Error) -> WrongWords
+    ensures { IsReasonOf (kind_of error.now) result }
+{
+    let kind = error.kind();
+    if matches!(kind, ErrorKind::OutOfMemory) {
+        return WrongWords::Fault(Fault::OutOfMemory);
+    }
+    match error.to_string(alloc) {
+        Ok(text) if matches!(kind, ErrorKind::DisplayHelp) => WrongWords::Help(text),
+        Ok(text) => WrongWords::Wrong(text),
+        Err(_) => WrongWords::Fault(Fault::OutOfMemory),
+    }
+}
+
+/// The job that the words name; the first word is the program's name.
+///
+/// # Errors
+///
+/// `Help` where the words ask for it, `Wrong` where they name no job, and `Fault` where memory is
+/// refused.
+pub fn read_words(alloc: Global, words: &[&str]) -> Result<Job, WrongWords>
+    ensures job { IfOk result (λ j. job_of (map (λ word. word.now) words.now) ≡ Some j) }
+    ensures reason { IfErr result (λ e. IsReason (map (λ word. word.now) words.now) e) }
+{
+    let command = outagebook_command(alloc)?;
+    let matches = match command.try_get_matches_from(words) {
+        Ok(matches) => matches,
+        Err(error) => return Err(reason_of(alloc, &error)),
+    };
+    match matched_job(alloc, &matches)? {
+        Some(job) => Ok(job),
+        None => Err(WrongWords::Wrong(String::from_str(alloc, "no subcommand")?)),
+    }
+}

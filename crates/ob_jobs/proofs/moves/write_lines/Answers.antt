@@ -1,0 +1,27 @@
+use Rattle.std.proofs.Common.{◌≡◌, subst, subst₂, rules}
+use Rattle.ob_stream.specs.Watching.{HasJustFailed, watched_bytes}
+use Rattle.ob_store.specs.MovingOut.{HandsOver, all_moves}
+use Rattle.ob_jobs.specs.Text.{lines_of}
+use Rattle.ob_jobs.specs.Exporting.{Exports}
+use Rattle.ob_jobs.proofs.Written.{exported, has_failed, name_after, puts}
+use Rattle.ob_jobs.proofs.moves.write_lines.Goals as goal
+
+pub returns-clause-output : goal.returns-clause-output
+returns-clause-output g c is =
+    let was = c.new-lines.result in
+    let end = c.moves_out.new.sink in
+    let handed = c.moves_out.ensures.sink c.requires in
+    let name = name_after g.W.Write.contents was end c.moves_out.result handed in
+    let same : end.writer.now ≡ c.writer-1.given.0 = search rules in
+    subst HasJustFailed same (has_failed g.W.Write.contents was end (subst (HandsOver (puts g.W.Write.contents) was end) is handed))
+
+pub returns-clause-exports : goal.returns-clause-exports
+returns-clause-exports g c clean b ties =
+    let was = c.new-lines.result in
+    let end = c.moves_out.new.sink in
+    let old = c.args.keeper.now in
+    let new = c.moves_out.new.self in
+    let name = name_after g.W.Write.contents was end c.moves_out.result (c.moves_out.ensures.sink c.requires) in
+    let same : end.writer.now ≡ c.writer-1.given.0 = search rules in
+    subst₂ (λ v w. Exports g.W.Write.contents g.S.Store old new (watched_bytes g.W.Write.contents v) w b (lines_of (all_moves b)) c.moves_out.result) c.new-lines.ensures.writer same
+    (exported g.W.Write.contents g.S.Store old new b was end c.moves_out.result (c.moves_out.ensures.moves clean b ties c.requires))

@@ -1,0 +1,69 @@
+//! The line of an amount that a command moved, made in memory by `csv`.
+ghost use Rattle.std.specs.Prelude.{◌≡◌, map, string_bytes, IfOk};
+ghost use Rattle.std.specs.Fmt.{decimal, signed_decimal};
+ghost use Rattle.csv.specs.Writing.{default_writer, row_text};
+ghost use Rattle.ob_jobs.specs.Text.{dim_name, moved_line};
+
+use csv::{Error, WriterBuilder};
+use ob_post::{Dim, Moved};
+use std::alloc::Global;
+
+/// The name of a dimension.
+fn name_of(dim: Dim) -> &'static [u8]
+    ensures { result.now ≡ dim_name dim }
+{
+    match dim {
+        Dim::Cause => b"cause",
+        Dim::Feeder => b"feeder",
+        Dim::Day => b"day",
+    }
+}
+
+/// The text of one record.
+fn record_text(alloc: Global, fields: &[&[u8]]) -> Result<Vec<u8>, Error>
+    ensures { IfOk result (λ text. text.items ≡ row_text default_writer
+        (map (λ f. f.now) fields.now)) }
+{
+    let mut writer = WriterBuilder::new().from_writer(Vec::new(alloc));
+    writer.write_fields(fields)?;
+    match writer.into_inner() {
+        Ok(text) => Ok(text),
+        Err(e) => Err(e.into_error()),
+    }
+}
+
+/// A number in decimals.
+fn decimal_text(alloc: Global, number: u32) -> Result<String, Error>
+    ensures { IfOk result (λ text. string_bytes text ≡ decimal number) }
+{
+    match number.to_string(alloc) {
+        Ok(text) => Ok(text),
+        Err(_) => Err(Error::out_of_memory()),
+    }
+}
+
+/// A number in decimals, with a sign where it is below 0.
+fn signed_text(alloc: Global, number: i64) -> Result<String, Error>
+    ensures { IfOk result (λ text. string_bytes text ≡ signed_decimal number) }
+{
+    match number.to_string(alloc) {
+        Ok(text) => Ok(text),
+        Err(_) => Err(Error::out_of_memory()),
+    }
+}
+
+/// The line of an amount that a command moved.
+pub(crate) fn line_of(alloc: Global, cmd: u32, m: &Moved) -> Result<Vec<u8>, Error>
+    ensures { IfOk result (λ line. line.items ≡ moved_line cmd m.now) }
+{
+    let cmd = decimal_text(alloc, cmd)?;
+    let key = decimal_text(alloc, u32::from(m.key))?;
+    let delta = signed_text(alloc, m.delta)?;
+    let fields = [
+        cmd.as_bytes(),
+        name_of(m.dim),
+        key.as_bytes(),
+        delta.as_bytes(),
+    ];
+    record_text(alloc, fields.as_slice())
+}

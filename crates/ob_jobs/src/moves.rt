@@ -1,0 +1,69 @@
+//! The export of what accepted commands moved.
+ghost use Rattle.std.specs.Prelude.{◌≡◌, ◌≢◌, ◌↔◌, None, Err, IsSome};
+ghost use Rattle.sqlite.specs.Held.{state};
+ghost use Rattle.sqlite.specs.State.{HasCleanDisk, Survives};
+ghost use Rattle.ob_stream.specs.Watching.{HasJustFailed, watched_bytes};
+ghost use Rattle.ob_book.specs.Acts.{ActState};
+ghost use Rattle.ob_tables.specs.Schema.{book_schema};
+ghost use Rattle.ob_store.specs.Keeping.{Ties};
+ghost use Rattle.ob_store.specs.MovingOut.{all_moves};
+ghost use Rattle.ob_jobs.specs.Text.{lines_of, moves_text};
+ghost use Rattle.ob_jobs.specs.Exporting.{Exports};
+
+use crate::lines::Lines;
+use ob_base::{Fault, Stop};
+use ob_store::Keeper;
+use ob_stream::{Retries, Watched, write_text};
+use ob_sweep::Timeline;
+use sqlite::Alter;
+use std::alloc::Global;
+use std::io::Write;
+
+/// Writes a line for each amount that the accepted commands moved, and tells how many they are.
+fn write_lines<W: Write, S: Alter, T: Timeline>(
+    alloc: Global,
+    keeper: &mut Keeper<S, T>,
+    writer: &mut Watched<W>,
+    retries: Retries,
+) -> Result<u64, Stop>
+    requires { IsSome keeper.old.book }
+    ensures opened { result ≢ Err (Stop.Fault Fault.Reopen) }
+    ensures output { result ≡ Err (Stop.Fault Fault.Output) → HasJustFailed writer.new }
+    ensures survives { keeper.old.conn.schema ≡ book_schema
+        → Survives (state S.Store keeper.old.conn) (state S.Store keeper.new.conn) (λ _. ⊥) }
+    ensures exports { HasCleanDisk (state S.Store keeper.new.conn) → (b : ActState)
+        → Ties S.Store keeper.old b → Exports W.contents S.Store keeper.old keeper.new
+        (watched_bytes W.contents writer.old) writer.new b (lines_of (all_moves b)) result }
+{
+    let mut lines = Lines::new(alloc, writer, retries);
+    keeper.moves_out(&mut lines)
+}
+
+/// Writes what the accepted commands moved: the header `cmd,dim,key,delta`, and then a line for each amount, by number,
+/// dimension and key, as `26,cause,3,-1200`. Tells how many amounts they are. `Reopen` where there is no book, and then
+/// nothing is written; `Output` where the writer fails.
+pub fn export_moves<W: Write, S: Alter, T: Timeline>(
+    alloc: Global,
+    keeper: &mut Keeper<S, T>,
+    writer: &mut Watched<W>,
+) -> Result<u64, Stop>
+    ensures reopen { (keeper.old.book ≡ None) ↔ (result ≡ Err (Stop.Fault Fault.Reopen)) }
+    ensures unopened { keeper.old.book ≡ None → (keeper.new ≡ keeper.old)
+        × (writer.new ≡ writer.old) }
+    ensures output { result ≡ Err (Stop.Fault Fault.Output) → HasJustFailed writer.new }
+    ensures survives { keeper.old.conn.schema ≡ book_schema
+        → Survives (state S.Store keeper.old.conn) (state S.Store keeper.new.conn) (λ _. ⊥) }
+    ensures exports { HasCleanDisk (state S.Store keeper.new.conn) → (b : ActState)
+        → Ties S.Store keeper.old b → IsSome keeper.old.book
+        → Exports W.contents S.Store keeper.old keeper.new (watched_bytes W.contents writer.old)
+        writer.new b (moves_text b) result }
+{
+    if keeper.book().is_none() {
+        return Err(Stop::Fault(Fault::Reopen));
+    }
+    let mut retries = Retries::new();
+    match write_text(writer, &mut retries, b"cmd,dim,key,delta\n") {
+        Ok(()) => write_lines(alloc, keeper, writer, retries),
+        Err(fault) => Err(Stop::Fault(fault)),
+    }
+}

@@ -1,6 +1,0 @@
-mod Changed
-mod Examples
-mod Renewed
-mod Rowing
-mod Same
-mod Upgrades

@@ -1,2 +1,0 @@
-pub mod OldTables
-pub mod Laws

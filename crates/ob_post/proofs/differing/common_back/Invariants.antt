@@ -1,0 +1,5 @@
+use Rattle.std.proofs.Common.{◌≡◌, ◌-◌, drop, length}
+use Rattle.ob_post.proofs.differing.common_back.Given as goal
+
+abbrev pub invariant-loop-count : goal.invariant-loop-count
+invariant-loop-count l = drop (length l.old - l.count) l.old ≡ drop (length l.new - l.count) l.new

@@ -1,0 +1,117 @@
+//! The causes that runs are posted to: each is its cutter's.
+ghost use Rattle.std.specs.Prelude.{◌≡◌, ◌<◌, List, IfOk, IfErr, IfSome, length, map};
+ghost use Rattle.std.specs.List.{All, AllPairs};
+ghost use Rattle.ob_base.specs.Stop.{out_of_memory};
+ghost use Rattle.ob_sheet.specs.declared.Entry.{Entry as AnEntry};
+ghost use Rattle.ob_sheet.specs.Order.{cause_of as cause_under};
+ghost use Rattle.ob_sheet.specs.Sheet.{AreNumbered};
+ghost use Rattle.ob_sweep.specs.Changed.{changed, Applies};
+ghost use Rattle.ob_post.specs.CauseLaws.{cause_with as cause_of_run_with};
+ghost use Rattle.ob_post.specs.SectionAmounts.{run_cause};
+ghost use Rattle.ob_post.specs.Causes.{BeginAtCutters, StayBut};
+
+use crate::laws::cause_laws;
+use ob_base::Stop;
+use ob_sheet::{Entry, Sheet};
+use ob_sweep::{Change, Run};
+use std::alloc::Global;
+
+/// The cause that a run has under a sheet; 0 where no entry cut the section off, as where the end of a life did.
+pub fn cause_before(sheet: &Sheet, run: &Run) -> u8
+    ensures { result ≡ run_cause sheet.now.entries run.now }
+{
+    match run.cutter {
+        Some(number) => cause_of(sheet, number),
+        None => 0,
+    }
+}
+
+/// The cause that a run has after a change.
+pub fn cause_after(sheet: &Sheet, change: &Change, run: &Run) -> u8
+    requires applies { Applies change.now sheet.now.entries }
+    requires numbered { AreNumbered sheet.now.entries }
+    ensures { result ≡ run_cause (changed change.now sheet.now.entries) run.now }
+{
+    cause_laws();
+    match *change {
+        Change::Entered(entry) => cause_with(sheet, &entry, run),
+        Change::Corrected { new, .. } => cause_with(sheet, &new, run),
+        Change::Withdrawn(_) => cause_before(sheet, run),
+        Change::Bus | Change::Section { .. } | Change::Joined { .. } | Change::Lived { .. } => {
+            cause_before(sheet, run)
+        }
+    }
+}
+
+/// The place of the one run that may have another cause after a change: a corrected entry's
+/// run begins at the entry's second.
+pub fn place_recaused(runs: &[Run], change: &Change) -> Option<usize>
+    requires some { All (λ r. r.since < r.until) runs.now }
+    requires rising { AllPairs (λ r s. r.until < s.since) runs.now }
+    ensures within { IfSome result (λ place. place < length runs.now) }
+    ensures others { (entries : List AnEntry) → Applies change.now entries → AreNumbered entries
+        → BeginAtCutters entries runs.now → StayBut result entries (changed change.now entries)
+        runs.now }
+{
+    cause_laws();
+    match change {
+        Change::Corrected { old, .. } => runs
+            .binary_search_by_key(&old.second, |run| run.since)
+            .ok(),
+        _ => None,
+    }
+}
+
+/// The causes that runs have under a sheet.
+pub fn causes_before(alloc: Global, sheet: &Sheet, runs: &[Run]) -> Result<Vec<u8>, Stop>
+    ensures causes { IfOk result (λ causes. causes.items
+        ≡ map (run_cause sheet.now.entries) runs.now) }
+    ensures err { IfErr result (λ stop. stop ≡ out_of_memory) }
+{
+    let mut causes = Vec::with_capacity(alloc, runs.len())?;
+    for run in runs {
+        causes.push(cause_before(sheet, run))?;
+    }
+    Ok(causes)
+}
+
+/// The causes that runs have after a change.
+pub fn causes_after(
+    alloc: Global,
+    sheet: &Sheet,
+    change: &Change,
+    runs: &[Run],
+) -> Result<Vec<u8>, Stop>
+    requires applies { Applies change.now sheet.now.entries }
+    requires numbered { AreNumbered sheet.now.entries }
+    ensures causes { IfOk result (λ causes. causes.items
+        ≡ map (run_cause (changed change.now sheet.now.entries)) runs.now) }
+    ensures err { IfErr result (λ stop. stop ≡ out_of_memory) }
+{
+    let mut causes = Vec::with_capacity(alloc, runs.len())?;
+    for run in runs {
+        causes.push(cause_after(sheet, change, run))?;
+    }
+    Ok(causes)
+}
+
+// The cause of a run, where an entry has this cause and the others have theirs.
+fn cause_with(sheet: &Sheet, entry: &Entry, run: &Run) -> u8
+    ensures { result ≡ cause_of_run_with sheet.now.entries entry.now.«no» entry.now.cause run.now }
+{
+    if run.cutter == Some(entry.no) {
+        entry.cause
+    } else {
+        cause_before(sheet, run)
+    }
+}
+
+// The cause of the entry with a number; 0 where there is none.
+fn cause_of(sheet: &Sheet, number: u32) -> u8
+    ensures { result ≡ cause_under sheet.now.entries number }
+{
+    match sheet.entry(number) {
+        Some(entry) => entry.cause,
+        None => 0,
+    }
+}

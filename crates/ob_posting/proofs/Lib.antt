@@ -1,5 +1,0 @@
-pub mod Balancing
-pub mod Recaused
-pub mod RunLists
-pub mod SmallCauses
-pub mod Staying

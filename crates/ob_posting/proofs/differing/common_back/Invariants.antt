@@ -1,5 +1,0 @@
-use Rattle.std.proofs.Common.{◌≡◌, ◌-◌, drop, length}
-use Rattle.ob_posting.proofs.differing.common_back.Given as goal
-
-abbrev pub invariant-loop-count : goal.invariant-loop-count
-invariant-loop-count l = drop (length l.old - l.count) l.old ≡ drop (length l.new - l.count) l.new

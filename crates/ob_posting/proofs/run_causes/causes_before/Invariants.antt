@@ -1,6 +1,0 @@
-use Rattle.std.proofs.Common.{◌≡◌, map, take}
-use Rattle.ob_post.specs.SectionAmounts.{run_cause}
-use Rattle.ob_posting.proofs.run_causes.causes_before.Given as goal
-
-abbrev pub invariant-loop-run : goal.invariant-loop-run
-invariant-loop-run l = l.causes.items ≡ map (run_cause l.sheet.entries) (take l.run-index l.runs)

@@ -1,0 +1,113 @@
+//! The answer to one request.
+ghost use Rattle.std.specs.Prelude.{◌≡◌, ◌↔◌, Some, None, Err, IsSome, IfSome, IfErr};
+ghost use Rattle.sqlite.specs.Held.{state};
+ghost use Rattle.sqlite.specs.State.{HasCleanDisk};
+ghost use Rattle.ob_book.specs.Acts.{ActState};
+ghost use Rattle.ob_store.specs.Keeping.{Ties};
+ghost use Rattle.ob_requests.specs.Reading.{message_of};
+ghost use Rattle.ob_routes.specs.Answers.{bookless, bookless_at, got};
+ghost use Rattle.ob_routes.specs.Answering.{Answered, Gives, IsAnswerFault, IsReplyOf, RouteAnswered, Serves, Unopened};
+
+use crate::post::{post_command, post_import};
+use crate::reply::{ReplyText, bare_reply};
+use crate::routes::{Route, Routes};
+use crate::show::{show_command, show_view};
+use ob_base::Fault;
+use ob_replies::{Allow, Status};
+use ob_requests::{Method, Request};
+use ob_store::Keeper;
+use ob_sweep::Timeline;
+use sqlite::Alter;
+use std::alloc::Global;
+
+/// Answers a request over a keeper: acts it where it is a POST, and makes the bytes of the reply, which tells whether the
+/// stream ends after it. A path without a route is answered 404, and another method 405, whatever the keeper and the memory.
+///
+/// # Errors
+///
+/// `Fault::Reopen` where a route needs the book and there is none, `Fault::OutOfMemory`, `Fault::Store`. A command, or the rows
+/// of an import, may then stand without a reply.
+pub fn answer<S: Alter, T: Timeline>(
+    alloc: Global,
+    routes: &Routes,
+    keeper: &mut Keeper<S, T>,
+    request: &Request,
+    closes: bool,
+) -> Result<ReplyText, Fault>
+    ensures constant { IfSome (bookless (message_of request.now)) (λ a. IsReplyOf a closes result
+        × (keeper.new ≡ keeper.old)) }
+    ensures unopened { keeper.old.book ≡ None → (keeper.new ≡ keeper.old)
+        × Unopened (bookless (message_of request.now)) closes result }
+    ensures faults { IsSome keeper.old.book → IfErr result IsAnswerFault }
+    ensures dropped { IsSome keeper.old.book → (keeper.new.book ≡ None)
+        ↔ (result ≡ Err Fault.Store) }
+    ensures clean { HasCleanDisk (state S.Store keeper.new.conn)
+        → HasCleanDisk (state S.Store keeper.old.conn) }
+    ensures answered { HasCleanDisk (state S.Store keeper.new.conn) → (b : ActState)
+        → Ties S.Store keeper.old b → IsSome keeper.old.book
+        → Answered S.Store keeper.new b (message_of request.now) closes result }
+{
+    let route = routes.route_of(request.path());
+    answer_route(alloc, keeper, request.method, route, &request.body, closes)
+}
+
+/// Answers a method at a route, where there is one.
+fn answer_route<S: Alter, T: Timeline>(
+    alloc: Global,
+    keeper: &mut Keeper<S, T>,
+    method: Method,
+    route: Option<Route>,
+    body: &[u8],
+    closes: bool,
+) -> Result<ReplyText, Fault>
+    ensures { Serves S.Store keeper.old keeper.new
+        (λ b. RouteAnswered S.Store keeper.new b method route body.now closes result)
+        (bookless_at method route) closes result }
+{
+    match route {
+        None => Ok(bare_reply(Status::NotFound, closes)),
+        Some(route) => match method {
+            Method::Get => answer_get(alloc, keeper, route, closes),
+            Method::Post => answer_post(alloc, keeper, route, body, closes),
+        },
+    }
+}
+
+/// Answers a GET of a route.
+fn answer_get<S: Alter, T: Timeline>(
+    alloc: Global,
+    keeper: &mut Keeper<S, T>,
+    route: Route,
+    closes: bool,
+) -> Result<ReplyText, Fault>
+    ensures { Serves S.Store keeper.old keeper.new
+        (λ b. Gives S.Store keeper.new b (got b route) closes result)
+        (bookless_at Method.Get (Some route)) closes result }
+{
+    match route {
+        Route::View(view) => show_view(alloc, keeper, view, closes),
+        Route::Command(no) => show_command(alloc, keeper, no, closes),
+        Route::Commands => Ok(bare_reply(Status::MethodNotAllowed(Allow::Post), closes)),
+        Route::Import => Ok(bare_reply(Status::MethodNotAllowed(Allow::Post), closes)),
+    }
+}
+
+/// Answers a POST to a route.
+fn answer_post<S: Alter, T: Timeline>(
+    alloc: Global,
+    keeper: &mut Keeper<S, T>,
+    route: Route,
+    body: &[u8],
+    closes: bool,
+) -> Result<ReplyText, Fault>
+    ensures { Serves S.Store keeper.old keeper.new
+        (λ b. RouteAnswered S.Store keeper.new b Method.Post (Some route) body.now closes result)
+        (bookless_at Method.Post (Some route)) closes result }
+{
+    match route {
+        Route::Commands => post_command(alloc, keeper, body, closes),
+        Route::Import => post_import(alloc, keeper, body, closes),
+        Route::Command(_) => Ok(bare_reply(Status::MethodNotAllowed(Allow::Get), closes)),
+        Route::View(_) => Ok(bare_reply(Status::MethodNotAllowed(Allow::Get), closes)),
+    }
+}

@@ -1,0 +1,9 @@
+use Rattle.std.proofs.Common.{take}
+use Rattle.ob_time.specs.Calendar.{day_count}
+use Rattle.ob_post.specs.Balances.{Balances}
+use Rattle.ob_state.specs.Effects.{amount_of_nodes, before_change}
+use Rattle.ob_state.proofs.parts.post_sections.Given as goal
+
+abbrev pub invariant-loop-node : goal.invariant-loop-node
+invariant-loop-node g l =
+    Balances (day_count l.state.state.period) l.posting (amount_of_nodes (before_change l.change l.state.state) (take l.node-index l.touched)) (amount_of_nodes l.state.state (take l.node-index l.touched))

@@ -1,0 +1,83 @@
+"""Sums of all that the check of a crate's must-fail edits reads, over contents alone: no times, no places.
+
+Of the crate itself: src/, specs/, proofs/, c/ and must-fail/. Of each crate below it, whose statements the check reads:
+src/, specs/ and c/, and its lemmas (the files right in proofs/, and folders that proofs/Lib.antt makes public) where
+Lib.antt makes any public, since a proof above may cite them and a tactic may find them. A function's own proof below
+(proofs/F/) can't be cited from above, and is left out unless a lemma there takes something from one: that it holds is
+what the gate's proofs show each time. Then the lines of these
+crates in crates.txt, HANDLES, and the toolchain by its name.
+"""
+
+from __future__ import annotations
+
+import hashlib
+import re
+from collections.abc import Iterable, Iterator
+from pathlib import Path
+
+from crates import Crate, crates_below, edits_of, read_crates
+
+OWN = ("src", "specs", "proofs", "c", "must-fail")
+OF_BELOW = ("src", "specs", "c")
+PUBLIC = re.compile(r"^pub mod\s+(\S+)", re.MULTILINE)
+
+
+def sum_of_parts(parts: Iterable[bytes]) -> str:
+    """One sum over a list of texts, each under its length."""
+    total = hashlib.sha256()
+    for part in parts:
+        total.update(f"{len(part)}\n".encode())
+        total.update(part)
+    return total.hexdigest()
+
+
+def files_in(folder: Path) -> list[Path]:
+    """The files of a folder and of those in it, by path; none where there is no such folder."""
+    return sorted((file for file in folder.rglob("*") if file.is_file()), key=lambda file: file.as_posix())
+
+
+def sum_of_files(files: Iterable[Path], root: Path) -> str:
+    """One sum over files, by their paths below a folder and their contents."""
+
+    def parts() -> Iterator[bytes]:
+        for file in files:
+            yield file.relative_to(root).as_posix().encode()
+            yield file.read_bytes()
+
+    return sum_of_parts(parts())
+
+
+def public_lemmas(crate: Path) -> list[Path]:
+    """The lemmas of a crate that those above it may cite, with what these may stand on."""
+    listed = crate / "proofs/Lib.antt"
+    public = PUBLIC.findall(listed.read_text(encoding="utf-8")) if listed.exists() else []
+    if not public:
+        return []
+    files = sorted(crate.glob("proofs/*.antt"))
+    of_functions = re.compile(rf"\bRattle\.{crate.name}\.proofs\.[a-z]")
+    if any(of_functions.search(file.read_text(encoding="utf-8")) for file in files):
+        return files_in(crate / "proofs")
+    return files + [file for name in sorted(public) for file in files_in(crate / "proofs" / name)]
+
+
+def sum_below(root: Path, crate: Crate) -> str:
+    """The sum of what a check of a crate above reads of this one."""
+    folder = root / "crates" / crate.name
+    files = [file for part in OF_BELOW for file in files_in(folder / part)]
+    return sum_of_parts([" ".join(crate.line).encode(), sum_of_files(files + public_lemmas(folder), folder).encode()])
+
+
+def edit_sums(root: Path, kit: str) -> dict[str, str]:
+    """The sum of each crate that has edits, by name, under a toolchain of that name."""
+    crates = read_crates(root)
+    handles = root / "HANDLES"
+    house = [kit.encode(), handles.read_bytes() if handles.exists() else b""]
+    below = {name: sum_below(root, crate) for name, crate in crates.items()}
+    sums = {}
+    for name, crate in crates.items():
+        if edits_of(root, name):
+            folder = root / "crates" / name
+            own = sum_of_files((file for part in OWN for file in files_in(folder / part)), folder)
+            stands_on = [f"{other} {below[other]}".encode() for other in crates_below(crates, name)]
+            sums[name] = sum_of_parts([*house, " ".join(crate.line).encode(), own.encode(), *stands_on])
+    return sums

@@ -1,0 +1,500 @@
+"""Worked outages, by hand, against the plain model of oracle/model.py.
+
+    python3 oracle/test_model.py
+
+The network of most: a bus fed from the grid; a feeder 1 of two sections in a row, S1 behind breaker B1 and S2 behind
+switch W1; a feeder 2 of section S3 behind breaker B2; a tie T1 between the ends of both, normally open. Two customers
+are on S1, three on S2, five on S3.
+"""
+
+import contextlib
+import re
+import sqlite3
+import unittest
+from pathlib import Path
+
+from commands import KINDS, Refusal, RowRefusal, read_date, read_row, read_second
+from model import Book, quotient, quotient_text
+from state import Period, midnight_of
+
+T = 1_704_067_200  # 2024-01-01T00:00:00Z
+NETWORK = """\
+cause 3 STORM
+cause 4 PLANNED
+bus BUS-A
+section S1 1
+section S2 1
+section S3 2
+device I1 GRID BUS-A closed
+device B1 BUS-A S1 closed
+device W1 S1 S2 closed
+device B2 BUS-A S3 closed
+device T1 S2 S3 open
+"""
+SECTIONS = ["S1"] * 2 + ["S2"] * 3 + ["S3"] * 5
+CUSTOMERS = "".join(f"connect {number} {section} {T}\n" for number, section in enumerate(SECTIONS, 1))
+TIE_RESTORES = """\
+switch B1 open +3600 3 K1
+switch W1 open +4200 3 K1
+switch T1 close +4200 3 K1
+switch B1 close +7200 3 K1
+"""
+
+
+def row_of(line: str, ref: str) -> list[str]:
+    """The row of a command in words; +N is N seconds after T."""
+    kind, *fields = line.split()
+    fields = [str(T + int(field[1:])) if field[0] == "+" else field for field in fields]
+    return [kind, ref, *fields, *[""] * (6 - len(fields))]
+
+
+def act(book: Book, lines: str) -> list[list[tuple[int, int, int]]]:
+    """Acts commands: what each moves, as a list of triples of dimension, key and amount."""
+    answers = []
+    for line in lines.splitlines():
+        number = book.act(row_of(line, f"N{len(book.commands) + 1}"))
+        answers.append([move[1:] for move in book.moves if move[0] == number])
+    return answers
+
+
+def base(days: int = 1, lines: str = NETWORK + CUSTOMERS) -> Book:
+    book = Book(Period("2024-01-01", days, "UTC0"))
+    act(book, lines)
+    return book
+
+
+def everywhere(amount: int, cause: int = 3, feeder: int = 1, day: int = 0) -> list[tuple[int, int, int]]:
+    """The moves of an amount under one key of each dimension."""
+    return [(1, cause, amount), (2, feeder, amount), (3, day, amount)]
+
+
+def figures(book: Book, is_unmarked: bool = False) -> list[object]:
+    """W and the first seven lines of indices, without their decimals."""
+    word = "unmarked" if is_unmarked else "all"
+    lines = [line.split() for line in book.table_lines()]
+    w = next(int(line[5]) for line in lines if line[0] == "P")
+    return [w, *[line[2] for line in lines if line[1] == word][:7]]
+
+
+class Outages(unittest.TestCase):
+    def check(self, book: Book, *wanted: object) -> None:
+        """W, SAIFI, SAIDI, CAIDI, CAIFI, ASAI, CEMI-1, CEMI-2 or the first of them."""
+        self.assertEqual(figures(book)[: len(wanted)], list(wanted))
+
+    def test_empty_book(self) -> None:
+        book = Book(Period("2024-01-01", 1, "UTC0"))
+        self.check(book, 0, *["undefined"] * 7)
+        self.assertEqual(book.seconds_in_service(), 0)
+
+    def test_nobody_is_interrupted(self) -> None:
+        self.check(base(), 0, "0/1", "0/1", "undefined", "undefined", "1/1", "0/1", "0/1")
+
+    def test_tie_restores_a_section(self) -> None:
+        book = base()
+        moves = [everywhere(414_000), [], everywhere(-246_600), everywhere(-158_400)]
+        self.assertEqual(act(book, TIE_RESTORES), moves)
+        self.check(book, 9_000, "1/2", "15/1", "30/1", "1/1", "95/96", "1/2", "0/1")
+        self.assertEqual([*book.table_lines()][:13], TABLE.splitlines())
+        self.assertEqual(book.totals_text(), TOTALS)
+
+    def test_second_by_second(self) -> None:
+        """The same outage, with every second of the day looked at by itself, and so the tie that is taken down."""
+        book = base()
+        act(book, TIE_RESTORES)
+        self.assertEqual(self.seconds_one_by_one(book), 9_000)
+        act(book, "life T1 0 +6000")
+        self.assertEqual(self.seconds_one_by_one(book), 250_200)
+
+    def seconds_one_by_one(self, book: Book) -> int:
+        w = 0
+        for second in range(book.period.first, book.period.end):
+            positions = {device.name: device.normal for device in book.devices.values()}
+            for entry in sorted(book.entries, key=lambda entry: entry.second):
+                if entry.second <= second:
+                    positions[entry.device] = entry.position
+            supplied = book.supplied(positions, second)
+            w += sum(section not in supplied for section, since, _ in book.customers.values() if since <= second)
+        return w
+
+    def test_five_minutes_are_momentary(self) -> None:
+        book = base()
+        act(book, "switch B2 open +3600 3 K1\nswitch B2 close +3900 3 K1")
+        self.check(book, 1_500, "0/1", "0/1", "undefined", "undefined", "1/1")
+        self.assertEqual(book.indices(False)[1], {"SUSTAINED": 0, "MOMENTARY": 5})
+
+    def test_a_second_more_is_sustained(self) -> None:
+        book = base()
+        act(book, "switch B2 open +3600 3 K1\nswitch B2 close +3901 3 K1")
+        self.check(book, 1_505, "1/2", "301/120", "301/60", "1/1", "172499/172800")
+        lines = [*book.table_lines()]
+        self.assertIn("SAIDI     all      301/120 2.508", lines)
+        self.assertIn("CAIDI     all      301/60 5.017", lines)
+
+    def test_opened_and_closed_in_one_second(self) -> None:
+        book = base()
+        act(book, "switch B2 open +3600 3 K1\nswitch B2 close +3600 3 K1")
+        self.check(book, 0, "0/1")
+        book = base()
+        act(book, "switch B2 close +3600 3 K1\nswitch B2 open +3600 3 K1")
+        self.check(book, 414_000)
+
+    def test_two_causes_in_one_second(self) -> None:
+        book = base()
+        opened = "switch B1 open +3600 3 K1\nswitch B2 open +3600 4 K1\n"
+        act(book, opened + "switch B1 close +4200 3 K1\nswitch B2 close +4200 4 K1")
+        self.assertEqual(book.totals_text(), TWO_CAUSES)
+
+    def test_late_entry_before_an_earlier_opening(self) -> None:
+        book = base()
+        act(book, TIE_RESTORES)
+        moved = [(1, 3, -1_800), (1, 4, 3_600), (2, 1, 1_800), (3, 0, 1_800)]
+        self.assertEqual(act(book, "switch W1 open +3000 4 K1"), [moved])
+        self.check(book, 10_800)
+        [run] = [run for run in book.runs() if run.section == "S2"]
+        self.assertEqual((run.since, run.cutter), (T + 3_000, 5))
+
+    def test_correction_and_its_reference(self) -> None:
+        book = base()
+        act(book, TIE_RESTORES)
+        correction = row_of("correct 4 1 close +6600 3 K1", "FIX1")
+        self.assertEqual(book.act(correction), 26)
+        self.assertEqual([move for move in book.moves if move[0] == 26], [(26, *move) for move in everywhere(-1_200)])
+        self.assertEqual([*book.moves_lines()][-3], "26,cause,3,-1200")
+        self.check(book, 7_800)
+        self.assertIsNone(book.act(correction))
+        self.assertEqual(len(book.commands), 26)
+        self.refused(book, "correct 4 1 close +6600 3 K1", 7, 2)
+        self.refused(book, "correct 4 1 close +6000 3 K1", 11, 26, ref="FIX1")
+
+    def refused(self, book: Book, line: str, number: int, detail: int | None = None, ref: str = "NEW") -> None:
+        with self.assertRaises(Refusal) as raised:
+            book.act(row_of(line, ref))
+        self.assertEqual((raised.exception.number, raised.exception.detail), (number, detail))
+
+    def test_customer_is_connected_late(self) -> None:
+        book = base()
+        act(book, "switch B2 open +3600 4 K1\nswitch B2 close +7200 4 K1")
+        self.assertEqual(act(book, "connect 11 S3 +5400"), [everywhere(1_800, 4, 2)])
+        self.check(book, 19_800, "96/175", "1056/35", "55/1", "1/1", "514/525")
+        self.assertEqual((book.seconds_in_service(), book.indices(False)[1]["SUSTAINED"]), (945_000, 6))
+
+    def test_day_of_a_clock_change(self) -> None:
+        book = Book(Period("2024-03-10", 2, "EST5EDT,M3.2.0,M11.1.0"))
+        act(book, "cause 3 STORM\nsection S1 1\ndevice I1 GRID S1 closed\nconnect 1 S1 0")
+        self.assertEqual(book.period.bounds, [1_710_046_800, 1_710_129_600, 1_710_216_000])
+        act(book, "switch I1 open 1710046800 3 K1\nswitch I1 close 1710133200 3 K1")
+        self.assertEqual(book.amounts(), {(1, 3): 86_400, (2, 1): 86_400, (3, 0): 82_800, (3, 1): 3_600})
+        self.check(book, 86_400, "1/1", "1440/1", "1440/1", "1/1", "23/47")
+
+    def test_marked_days(self) -> None:
+        book = base(days=2)
+        act(book, "switch B2 open +85800 3 K1\nswitch B2 close +87600 3 K1")
+        self.assertEqual(act(book, "mark 2024-01-01 ENG"), [[]])
+        self.check(book, 9_000, "1/2", "15/1", "30/1")
+        self.assertEqual((book.amounts()[3, 0], book.amounts()[3, 1]), (3_000, 6_000))
+        unmarked = [9_000, "0/1", "0/1", "undefined", "undefined", "1/1"]
+        self.assertEqual(figures(book, True)[:6], unmarked)
+        act(book, "unmark 2024-01-01 ENG\nmark 2024-01-02 ENG")
+        self.assertEqual(figures(book, True), figures(book))
+
+    def test_first_and_last_second(self) -> None:
+        book = base()
+        act(book, "switch B2 open +86399 3 K1")
+        self.check(book, 5)
+        book = base()
+        self.refused(book, "switch B2 open +86400 3 K1", 5)
+        act(book, "switch B2 open +0 3 K1\nswitch B2 close +600 3 K1")
+        self.check(book, 3_000)
+        self.assertEqual([run.cutter for run in book.runs()], [1])
+
+    def test_whole_day(self) -> None:
+        book = base()
+        act(book, "switch I1 open +0 3 K1")
+        self.check(book, 864_000, "1/1", "1440/1", "1440/1", "1/1", "0/1", "1/1")
+        self.assertEqual((book.amounts()[2, 1], book.amounts()[2, 2]), (432_000, 432_000))
+
+    def test_greatest_figures(self) -> None:
+        """The fractions of the greatest counts, seconds and period that a book may have."""
+        most, period = 2**42 - 1, 2**25 - 1
+        self.assertEqual(quotient_text(quotient(most * period, most)), "33554431/1 33554431.000")
+        self.assertEqual(quotient_text(quotient(most * period, 60 * most)), "33554431/60 559240.517")
+        self.assertEqual(quotient_text(quotient(most, 60 * most)), "1/60 0.017")
+        self.assertEqual(quotient_text(quotient(most, 0)), "undefined")
+
+    def test_run_gets_another_cutter_past_the_window(self) -> None:
+        book = base()
+        act(book, "switch B1 open +3600 3 K1\nswitch W1 close +4000 3 K1\nswitch B1 close +7200 3 K1")
+        self.check(book, 18_000)
+        moved = [(1, 3, -10_800), (1, 4, 12_600), (2, 1, 1_800), (3, 0, 1_800)]
+        self.assertEqual(act(book, "switch W1 open +3000 4 K1"), [moved])
+        self.check(book, 19_800)
+
+    def test_section_without_a_device(self) -> None:
+        book = base()
+        act(book, "section S9 9")
+        self.assertEqual(act(book, "connect 11 S9 +0"), [everywhere(86_400, 0, 9)])
+
+    def test_closed_and_opened_in_one_second(self) -> None:
+        book = base()
+        opened = "switch B2 open +3600 3 K1\nswitch B2 close +4000 3 K1\n"
+        act(book, opened + "switch B2 open +4000 4 K1\nswitch B2 close +5000 4 K1")
+        self.assertEqual([run.cutter for run in book.runs()], [1])
+        self.assertEqual((book.amounts()[1, 3], book.indices(False)[1]["SUSTAINED"]), (7_000, 5))
+        self.assertNotIn((1, 4), book.amounts())
+
+    def test_withdrawal(self) -> None:
+        book = base()
+        act(book, TIE_RESTORES)
+        self.assertEqual(act(book, "withdraw 3 1"), [everywhere(246_600)])
+        self.check(book, 255_600)
+        self.refused(book, "withdraw 3 2", 8)
+
+    def test_refusals(self) -> None:
+        book = base()
+        act(book, TIE_RESTORES)
+        self.refused(book, "switch X9 open +0 3 K1", 2)
+        self.refused(book, "switch B1 open +0 9 K1", 15)
+        self.refused(book, "correct 9 1 open +0 3 K1", 6)
+        self.refused(book, "revise 1 +10 +10", 10)
+        self.refused(book, "revise 99 +10", 9)
+        self.refused(book, "unmark 2024-01-01 ENG", 14)
+        self.refused(book, "mark 2024-02-01 ENG", 5)
+        act(book, "mark 2024-01-01 ENG")
+        self.refused(book, "mark 2024-01-01 ENG", 13)
+
+    def test_tie_is_taken_down(self) -> None:
+        """The tie that supplies a section ends: nobody switched, so the seconds have no cause; a whole life undoes it."""
+        book = base()
+        act(book, TIE_RESTORES)
+        self.assertEqual(act(book, "life T1 0 +6000"), [everywhere(241_200, 0)])
+        self.check(book, 250_200)
+        self.assertEqual(book.act(["life", "WHOLE", "T1", "", "", "", "", ""]), 27)
+        self.assertEqual(
+            [move for move in book.moves if move[0] == 27], [(27, *move) for move in everywhere(-241_200, 0)]
+        )
+        self.check(book, 9_000)
+
+    def test_device_joins_during_an_outage(self) -> None:
+        book = base()
+        act(book, TIE_RESTORES)
+        self.assertEqual(act(book, "device X1 BUS-A S1 closed +5000"), [everywhere(-4_400)])
+        self.check(book, 4_600, "1/2", "23/3", "46/3")
+        self.assertEqual(book.commands[-1][1], f"device X1 BUS-A S1 closed {T + 5_000} -")
+
+    def test_switchings_at_the_end_of_a_life(self) -> None:
+        """Lives act before the second's entries: one at the end is late, one a second before is the cutter."""
+        book = base()
+        self.assertEqual(act(book, "life B2 0 +3600"), [everywhere(414_000, 0, 2)])
+        self.assertEqual(act(book, "switch B2 open +3600 4 K1"), [[]])
+        moved = [(1, 0, -414_000), (1, 4, 414_005), (2, 2, 5), (3, 0, 5)]
+        self.assertEqual(act(book, "switch B2 open +3599 4 K1"), [moved])
+
+    def test_lives_that_are_refused(self) -> None:
+        book = base()
+        self.refused(book, "life B2 +10 +10", 18)
+        self.refused(book, "life X9 0 +10", 2)
+        self.refused(book, "life X9 +10 +10", 2)
+        self.refused(book, "device I1 GRID BUS-A closed +10 +10", 3)
+        self.refused(book, "device X1 GRID BUS-B closed +10 +10", 2)
+        self.refused(book, "device X1 GRID BUS-A closed +10 +9", 18)
+
+    def test_parts_after_an_entry(self) -> None:
+        book = base()
+        act(book, TIE_RESTORES)
+        self.assertEqual(act(book, "bus BUS-B"), [[]])
+        self.refused(book, "bus BUS-B", 3)
+        whole = everywhere(86_400, 0, 9)
+        self.assertEqual(act(book, "section S9 9\nconnect 11 S9 +0"), [[], whole])
+        self.assertEqual(act(book, "device N1 BUS-B S9 closed\ndevice N2 BUS-A BUS-B closed +43200")[0], [])
+        self.check(book, 9_000 + 43_200)
+
+    def test_table_of_lives(self) -> None:
+        book = base()
+        act(book, "life T1 +10 +20\ndevice X1 BUS-A S1 open +5")
+        rows = [(number, 0, None) for number in range(4)] + [(4, T + 10, T + 20), (5, T + 5, None)]
+        self.assertEqual(book.tables()["life"], rows)
+        self.assertEqual([*book.tables()][3:5], ["device", "life"])
+        self.assertEqual(book.tables()["meta"], [(1, 2, "2024-01-01", 1, "UTC0")])
+
+
+class Imports(unittest.TestCase):
+    def check(self, text: str, added: int, again: int, refusal: RowRefusal | None, book: Book | None = None) -> Book:
+        book = book or Book(Period("2024-01-01", 1, "UTC0"))
+        answer = book.import_text(text.encode())
+        self.assertEqual(answer[:2], (added, again))
+        self.assertEqual(str(answer[2]), str(refusal))
+        return book
+
+    def test_stops_at_the_first_refusal(self) -> None:
+        text = "cause,A1,3,STORM,,,,\nbus,A2,BUS-A,,,,,\nsection,A3,S1,1,,,,\nsection,A4,S1,2,,,,\n"
+        book = self.check(HEADER + text, 3, 0, RowRefusal(4, Refusal(3)))
+        self.check(HEADER + text.replace("A4,S1,2", "A4,S2,1"), 1, 3, None, book)
+
+    def test_header(self) -> None:
+        self.check(HEADER, 0, 0, None)
+        self.check("\ufeff" + HEADER, 0, 0, None)
+        for text in ["", "kind,ref\n", "bus,A1,BUS-A,,,,,\n"]:
+            self.check(text, 0, 0, RowRefusal(0, Refusal(1, 0)))
+
+    def test_forms_of_rows(self) -> None:
+        self.check(HEADER + 'bus,A1,A,,,,,\r\n\r\n"bus",A2,B,,,,,\rbus,A3,C,,,,,', 3, 0, None)
+        self.check(HEADER + "bus,A1,A\n", 0, 0, RowRefusal(1, Refusal(1, 0)))
+        self.check(HEADER + '""\n', 0, 0, RowRefusal(1, Refusal(1, 0)))
+        self.check(HEADER + " \n", 0, 0, RowRefusal(1, Refusal(1, 0)))
+
+
+class Examples(unittest.TestCase):
+    def test_files_of_the_fortnight(self) -> None:
+        """The table and the moves that stand beside the sample fortnight, and its amounts by hand."""
+        examples = Path(__file__).resolve().parent.parent / "examples"
+        book = Book(Period("2025-03-24", 14, "CET-1CEST,M3.5.0,M10.5.0/3"))
+        for name, added in [("fortnight", 102), ("corrections", 3)]:
+            self.assertEqual(book.import_text((examples / f"{name}.csv").read_bytes()), (added, 0, None))
+            for lines, file in [(book.table_lines(), "table.txt"), (book.moves_lines(), "moves.csv")]:
+                self.assertEqual("".join(f"{line}\n" for line in lines), (examples / f"{name}.{file}").read_text())
+            if name == "fortnight":
+                self.assertEqual({key: amount for key, amount in book.amounts().items() if key[0] == 1}, BY_HAND)
+                self.assertEqual([counts["MOMENTARY"] for _, counts in map(book.indices, [False, True])], [16, 16])
+
+    def test_texts_of_the_tests(self) -> None:
+        """The crates' tests have the files of the sample fortnight as they stand in `examples/`."""
+        root = Path(__file__).resolve().parent.parent
+        sources = [root / f"crates/ob_office_tests/src/fortnight_{name}.rt" for name in ["texts", "moves"]]
+        source = "".join(file.read_text(encoding="ascii") for file in sources)
+        for name in ["fortnight", "corrections"]:
+            for file in [f"{name}.{end}" for end in ["csv", "table.txt", "moves.csv"]]:
+                text = (root / "examples" / file).read_text(encoding="ascii")
+                self.assertIn(f'"\\\n{text}";', source, file)
+        source = (root / "crates/ob_office_tests/src/old_fortnight.rt").read_text(encoding="ascii")
+        source = re.sub(r" \\\n +", " ", source)
+        for file in ["fortnight-version-1.sql", "fortnight-version-1.table.txt"]:
+            text = (root / "examples" / file).read_text(encoding="ascii")
+            self.assertIn(f'"\\\n{text}";', source, file)
+
+    def test_file_of_version_1(self) -> None:
+        """The fortnight as the program of version 1 left it: its commands have its table and its moves."""
+        examples = Path(__file__).resolve().parent.parent / "examples"
+        with contextlib.closing(sqlite3.connect(":memory:")) as database:
+            database.executescript((examples / "fortnight-version-1.sql").read_text(encoding="ascii"))
+            commands = database.execute("SELECT body, ref FROM cmd ORDER BY id").fetchall()
+            moves = database.execute("SELECT cmd, dim, k, delta FROM moved ORDER BY cmd, dim, k").fetchall()
+        book = Book(Period("2025-03-24", 14, "CET-1CEST,M3.5.0,M10.5.0/3"))
+        for number, (body, ref) in enumerate(commands, 1):
+            self.assertEqual(book.act(row_of(body.removesuffix(" -"), ref)), number)
+        table = (examples / "fortnight-version-1.table.txt").read_text(encoding="ascii")
+        self.assertEqual("".join(f"{line}\n" for line in book.table_lines()), table)
+        self.assertEqual(sorted(book.moves), moves)
+
+
+class Fields(unittest.TestCase):
+    def bad_column(self, row: list[str]) -> int | None:
+        with self.assertRaises(Refusal) as raised:
+            read_row(row)
+        self.assertEqual(raised.exception.number, 1)
+        return raised.exception.detail
+
+    def test_leftmost_bad_column(self) -> None:
+        self.assertEqual(self.bad_column(["buses", "", "", "", "", "", "", ""]), 1)
+        self.assertEqual(self.bad_column(["bus", "r", "b", "x", "", "", "", ""]), 2)
+        self.assertEqual(self.bad_column(["bus", "R", "b", "x", "", "", "", ""]), 3)
+        self.assertEqual(self.bad_column(["bus", "R", "B", "", "", "", "", "x"]), 8)
+        self.assertEqual(self.bad_column(["device", "R", "D", "A", "A", "shut", "", ""]), 5)
+        self.assertEqual(self.bad_column(["device", "R", "D", "a", "a", "shut", "", ""]), 4)
+
+    def test_lives(self) -> None:
+        device = ["device", "R", "D", "A", "B", "open", "", ""]
+        self.assertEqual(read_row(device)[2], ["D", "A", "B", "open", 0, "-"])
+        self.assertEqual(read_row([*device[:6], "1704070800", "2024-01-01T02:00:00Z"])[2][4:], [T + 3_600, T + 7_200])
+        self.assertEqual(read_row(["life", "R", "D", "", "", "", "", ""])[2], ["D", 0, "-"])
+        self.assertEqual(self.bad_column([*device[:6], "-", "-"]), 7)
+        self.assertEqual(self.bad_column([*device[:6], "", "-"]), 8)
+        self.assertEqual(self.bad_column(["life", "R", "D", "x", "x", "x", "", ""]), 4)
+        self.assertEqual(self.bad_column(["life", "R", "D", "", "", "x", "", ""]), 6)
+
+    def test_one_command_in_two_spellings(self) -> None:
+        one = read_row(["switch", "R", "B1", "open", "1704070800", "03", "K1", ""])
+        other = read_row(["switch", "R", "B1", "open", "2024-01-01T02:00:00+01:00", "3", "K1", ""])
+        self.assertEqual(one, other)
+
+    def test_moments(self) -> None:
+        moments = {
+            "0": 0,
+            "99999999999": 99_999_999_999,
+            "100000000000": None,
+            "": None,
+            "+1": None,
+            "1970-01-01T00:00:00Z": 0,
+            "1969-12-31T23:00:00-02:00": 3_600,
+            "1969-12-31T23:59:59Z": None,
+            "1970-01-01T00:00:00-00:00": 0,
+            "5138-11-16T09:46:39Z": 99_999_999_999,
+            "5138-11-16T09:46:40Z": None,
+            "2024-02-29T12:00:00Z": 1_709_208_000,
+            "2023-02-29T12:00:00Z": None,
+            "2024-01-01T24:00:00Z": None,
+            "2024-01-01T00:00:60Z": None,
+            "2024-01-01T00:00:00+24:00": None,
+            "2024-01-01t00:00:00Z": None,
+            "2024-01-01T00:00:00": None,
+        }
+        for text, second in moments.items():
+            self.assertEqual(read_second(text), second, text)
+
+    def test_dates(self) -> None:
+        self.assertEqual(read_date("0000-02-29"), "0000-02-29")
+        self.assertIsNone(read_date("2100-02-29"))
+        self.assertIsNone(read_date("2024-1-1"))
+
+    def test_kinds(self) -> None:
+        self.assertEqual(len(KINDS), 12)
+
+
+class Clocks(unittest.TestCase):
+    def test_lengths_of_days(self) -> None:
+        period = Period("2024-11-03", 1, "EST5EDT,M3.2.0,M11.1.0")
+        self.assertEqual(period.length, 90_000)
+
+    def test_midnight_in_a_gap(self) -> None:
+        """Clocks go forward at midnight of 2024-09-08: the offset before the gap counts."""
+        period = Period("2024-09-07", 2, "<-04>4<-03>,M9.1.6/24,M4.1.6/24")
+        self.assertEqual(period.bounds[1], read_second("2024-09-08T04:00:00Z"))
+
+    def test_midnight_in_a_fold(self) -> None:
+        """Clocks go back over midnight: the earlier instant counts."""
+        period = Period("2024-10-26", 2, "XXX-1YYY,M3.5.0,M10.5.0/0:30")
+        self.assertEqual(period.bounds[1], read_second("2024-10-26T22:00:00Z"))
+        self.assertEqual(midnight_of(period.days[1]), period.bounds[1])
+
+
+# Customers times seconds: 1 STORM, 2 TREE, 3 ANIMAL, 4 DIGGING, 5 EQUIPMENT, 6 PLANNED, 7 SUPPLIER, 8 UNKNOWN.
+BY_HAND = {
+    (1, 1): 2 * 31_500 + 14 * 6_300,
+    (1, 2): 13 * 1_880 + 5 * 11_390,
+    (1, 3): 13 * 40,
+    (1, 4): 2 * 2_190,
+    (1, 5): 3 * 4_500 + 3 * 2_400,
+    (1, 6): 8 * 9_000 + 3 * 240,
+    (1, 7): 15 * 680,
+    (1, 8): 8 * 3_120,
+}
+HEADER = "kind,ref,f1,f2,f3,f4,f5,f6\n"
+TABLE = """\
+OUTAGE BOOK 2024-01-01 days 1 zone UTC0
+P 86400 S 864000 W 9000
+cause   0 UNASSIGNED                             0
+cause   3 STORM                               9000
+cause   4 PLANNED                                0
+feeder   1                                    9000
+feeder   2                                       0
+day 2024-01-01                                9000
+SAIFI     all      1/2 0.500
+SAIDI     all      15/1 15.000
+CAIDI     all      30/1 30.000
+CAIFI     all      1/1 1.000
+ASAI      all      95/96 0.990
+"""
+TOTALS = '{"cause":[[3,9000]],"day":[[0,9000]],"feeder":[[1,9000]],"total":9000}'
+TWO_CAUSES = '{"cause":[[3,3000],[4,3000]],"day":[[0,6000]],"feeder":[[1,3000],[2,3000]],"total":6000}'
+
+if __name__ == "__main__":
+    unittest.main()
