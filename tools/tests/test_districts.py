@@ -19,12 +19,12 @@ from urllib.error import HTTPError
 from urllib.request import Request, urlopen
 
 from outagebook.counts import SETS, fraction_text, indices_of
-from outagebook.districts import CheckedCut, check_cut, write_check
+from outagebook.district_check import CheckedCut, check_cut, write_check
 from outagebook.errors import BookError
-from outagebook.sums import Sums, add_up, district_of, table_lines
+from outagebook.sums import Sums, add_up, district_of
 from tests import many_books
 from tests.many_books import books_of, district_rows, figures_of, opened, parts_of, run, table_of, with_tables
-from tests.support import EXAMPLES, PROGRAM, ROOT, needs_program
+from tests.support import EXAMPLES, PROGRAM, needs_program
 
 GIS_COLUMNS = ["type", "name", "feeder", "from", "to", "normal", "note"]
 NGINX = shutil.which("nginx") or "/usr/sbin/nginx"

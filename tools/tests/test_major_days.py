@@ -9,7 +9,6 @@ from array import array
 from collections import defaultdict
 from collections.abc import Sequence
 from datetime import date, timedelta
-from pathlib import Path
 
 from outagebook.counts import SETS, Counts
 from outagebook.errors import BookError

@@ -8,7 +8,7 @@ import time
 import unittest
 from collections import defaultdict
 from contextlib import ExitStack
-from datetime import date, timedelta
+from datetime import date
 from fractions import Fraction
 from pathlib import Path
 from typing import Any
