@@ -1,5 +1,5 @@
 #!/bin/sh
-# Installs the program, its tools, manual page, completions and pages under PREFIX (/usr/local).
+# Installs the program, its tools, the desk's screen, manual page, completions and pages under PREFIX (/usr/local).
 #
 #     ./install.sh [PREFIX]
 #
@@ -32,20 +32,27 @@ put 755 "$program" bin/outagebook
 (cd "$here/tools" && find outagebook -name '*.py' -o -name '*.sql') | sort | while read -r module; do
     put 644 "$here/tools/$module" "lib/outagebook/$module"
 done
-for tool in book figures report years next_year commands from_oms sum districts major_days warehouse; do
+for tool in book figures report years next_year commands from_oms check agree trial sum districts major_days warehouse; do
     case $tool in
         book) name=compare ;;
+        trial) name=try ;;
         *) name=$(echo "$tool" | tr _ -) ;;
     esac
     put 755 "$here/tools/$tool.py" "lib/outagebook/$tool.py"
     ln -sf "../lib/outagebook/$tool.py" "$to/bin/outagebook-$name"
 done
+(cd "$here/screen" && find outagebook_screen static -type f ! -name '*.pyc') | sort | while read -r file; do
+    put 644 "$here/screen/$file" "lib/outagebook/screen/$file"
+done
+put 755 "$here/screen/outagebook-screen" lib/outagebook/screen/outagebook-screen
+ln -sf ../lib/outagebook/screen/outagebook-screen "$to/bin/outagebook-screen"
 put 644 "$here/tools/installed/outagebook.1" share/man/man1/outagebook.1
 put 644 "$here/tools/installed/outagebook.bash" share/bash-completion/completions/outagebook
 put 644 "$here/tools/installed/_outagebook" share/zsh/site-functions/_outagebook
 put 644 "$here/tools/installed/outagebook.fish" share/fish/vendor_completions.d/outagebook.fish
 put 644 "$here/examples/outagebook.service" share/doc/outagebook/examples/outagebook.service
 put 644 "$here/examples/outagebook@.service" share/doc/outagebook/examples/outagebook@.service
+put 644 "$here/examples/outagebook-screen.service" share/doc/outagebook/examples/outagebook-screen.service
 put 644 "$here/examples/nginx.conf" share/doc/outagebook/examples/nginx.conf
 put 644 "$here/examples/nginx-districts.conf" share/doc/outagebook/examples/nginx-districts.conf
 for page in "$here"/docs/*.md; do

@@ -12,7 +12,11 @@ from parts import Part, Ran, run, say
 
 Counts = tuple[int, int, str]
 LONGEST = "1800"  # seconds of a suite
-MADE_BOOKS = ("tools/tests/made_books.py", "tools/tests/made_districts.py")  # programs over the oracle's modules
+OVER_ORACLE = (  # programs over the oracle's modules
+    "tools/tests/made_books.py",
+    "tools/tests/made_districts.py",
+    "tools/tests/taken_rows.py",
+)
 WAREHOUSE_PAGE = "docs/WAREHOUSE.md"  # its blocks want a PostgreSQL server
 TYPED = ("oracle", "benches", "gate", "tools", "screen")
 RAN = re.compile(r"^Ran ([0-9]+) tests? in ", re.MULTILINE)
@@ -67,7 +71,7 @@ def typed(root: Path) -> list[Suite]:
     found = []
     for folder in TYPED:
         if (root / folder).is_dir():
-            beside = [name for name in MADE_BOOKS if folder == "oracle" and (root / name).exists()]
+            beside = [path for path in OVER_ORACLE if folder == "oracle" and (root / path).exists()]
             found.append(Suite(f"mypy {folder}", ("mypy", folder, *beside), as_one))
     return found
 

@@ -11,7 +11,7 @@ import sqlite3
 import sys
 from collections.abc import Iterable, Iterator
 from dataclasses import dataclass
-from typing import TextIO
+from typing import IO
 
 from outagebook.cli import Parser, add_table_arguments, run_job
 from outagebook.compare import open_book
@@ -63,7 +63,7 @@ def read_commands(database: sqlite3.Connection) -> Iterator[Command]:
         yield Command(number, ref, kind, fields, entry)
 
 
-def write_rows(rows: Iterable[list[str]], out: TextIO) -> None:
+def write_rows(rows: Iterable[list[str]], out: IO[str]) -> None:
     """Writes rows of commands behind their header."""
     writer = csv.writer(out, lineterminator="\n")
     writer.writerow(HEADER)

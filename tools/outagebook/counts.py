@@ -71,12 +71,13 @@ def indices_of(counts: Counts, served_seconds: int, length: int) -> dict[str, Fr
     return indices
 
 
-def decimal_text(value: Fraction | None) -> str:
-    """Three decimals, rounded half up; empty where there is no value."""
+def decimal_text(value: Fraction | None, places: int = 3) -> str:
+    """Three decimals, or as many as are asked for, rounded half up; empty where there is no value."""
     if value is None:
         return ""
-    thousandths = (2_000 * value.numerator + value.denominator) // (2 * value.denominator)
-    return f"{thousandths // 1_000}.{thousandths % 1_000:03}"
+    scale = 10**places
+    parts = (2 * scale * value.numerator + value.denominator) // (2 * value.denominator)
+    return f"{parts // scale}.{parts % scale:0{places}}"
 
 
 def fraction_text(value: Fraction | None) -> str:

@@ -305,7 +305,7 @@ def main() -> int:
             from outagebook.many_pages import major_days_page
             from outagebook.report import write
 
-            write(args.page, major_days_page(years, answer, args.name))
+            write(args.page, major_days_page(years, args.name))
         args.write(years, answer)
 
     return run_job(job)

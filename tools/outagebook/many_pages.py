@@ -1,17 +1,13 @@
 """Pages of many books: the sums of all districts, and the days of a year against the threshold of the years before it."""
 
-import math
 from collections.abc import Sequence
 from html import escape
 
 from outagebook import charts, figures, report
 from outagebook.counts import SETS, decimal_text, quotient, quotient_text
-from outagebook.major_days import Answer, Threshold, answer_of, facts, read_years
-from outagebook.major_days import about as about_major_days
 from outagebook.report import Column, TableRow
-from outagebook.sums import DISTRICT_COLUMNS, District, Sums, about, district_rows, marks_that_differ
+from outagebook.sums import DISTRICT_COLUMNS, Sums, about, district_rows, marks_that_differ
 
-BINS = 40  # of a histogram, at most
 ADDED = (
     "Each district's book was compared with its program's annual table before anything was added up; the sums, and the"
     " indices as quotients of the sums, are computed here and exact."
@@ -79,18 +75,12 @@ def tiles(sums: Sums) -> str:
 
 def index_part(sums: Sums) -> str:
     """Both sets of the fifteen quotients."""
-    words = figures_of_sums(sums)
-    names = [which[: -len(" all")] for which in words if which.endswith(" all")]
-    heads = [Column("index"), Column("all", "code"), Column("unmarked", "code"), Column("unit and quotient", "long")]
-    rows = [
-        TableRow([name, words[f"{name} all"], words[f"{name} unmarked"], report.meaning_text(name)]) for name in names
-    ]
     return f"""
 <h2>Indices of all districts {report.COMPUTED}</h2>
-<p>Exact fractions in lowest terms and their three decimals. <i>Unmarked</i> leaves out each interruption that begins on a
-day that its own book marks. By IEEE Std 1366-2012; an interruption of more than 300 seconds is sustained.
-{figures.TERMS}</p>
-{report.table(heads, rows)}"""
+<p>Three decimals, and behind them the exact fraction in lowest terms; of ASAI five decimals. <i>Unmarked</i> leaves out
+each interruption that begins on a day that its own book marks. By IEEE Std 1366-2012; an interruption of more than 300
+seconds is sustained. {figures.TERMS}</p>
+{report.index_table(figures_of_sums(sums))}"""
 
 
 def district_part(sums: Sums) -> str:
@@ -145,12 +135,11 @@ def day_part(sums: Sums) -> str:
     return f"""
 <h2>Days</h2>
 {charts.legend(["a day", "a day that a book marks"])}
-{report.figure(charts.columns(posted, "Customer-hours without supply, day by day", "customer-hours"),
-               "Customer-hours without supply in each day: each second in the day in which it lies.", "columns",
-               report.COMPUTED)}
-{report.figure(charts.columns(standard, "Daily SAIDI, day by day", "minutes per customer"),
-               "Daily SAIDI: a sustained interruption whole on the day on which it begins, per customer served.", "columns",
-               report.COMPUTED)}
+{report.drawn(posted, "Customer-hours without supply, day by day", "customer-hours",
+              "Customer-hours without supply in each day: each second in the day in which it lies.", report.COMPUTED)}
+{report.drawn(standard, "Daily SAIDI, day by day", "minutes per customer",
+              "Daily SAIDI: a sustained interruption whole on the day on which it begins, per customer served.",
+              report.COMPUTED)}
 {report.behind(f"The {len(cells)} days with interruptions or a mark", report.table(heads, cells), len(cells))}"""
 
 
@@ -193,73 +182,9 @@ def feeder_part(sums: Sums) -> str:
 # Major event days.
 
 
-def major_days_page(years: Sequence[Sums], answer: Answer, name: str) -> str:
+def major_days_page(years: Sequence[Sums], name: str) -> str:
     """The page of a year's days against the threshold of the years before it."""
-    period = answer.year.period
+    period = years[-1].period
     title = f"""
 <h1>{escape(name)}: <span class="whole">{period.first}</span> to <span class="whole">{period.last}</span></h1>"""
-    return page_of(f"{name} {period.first} to {period.last}", [title, answer_part(years, answer)])
-
-
-def major_days_part(districts: Sequence[District]) -> str:
-    """The same of a book and of those before it, as a part of the book's report."""
-    years = read_years(districts, own_numbers=False)
-    return answer_part(years, answer_of(years))
-
-
-def answer_part(years: Sequence[Sums], answer: Answer) -> str:
-    said = "".join(f"<li>{escape(line)}</li>" for line in about_major_days(years, answer))
-    return f"""
-<h2>Major event days {report.COMPUTED}</h2>
-<p>The threshold T_MED by IEEE Std 1366-2012, clause 3.5, and the days above it. It marks nothing: an engineer decides.</p>
-<ul class="soft">{said}</ul>
-{threshold_part(answer)}
-{histogram_part(answer.threshold)}"""
-
-
-def threshold_part(answer: Answer) -> str:
-    values = [TableRow([which, value]) for which, value in facts(answer).items()]
-    rows = [
-        TableRow([each.day.date, decimal_text(each.day.saidi), ", ".join(each.marked_in) or "nowhere"])
-        for each in answer.above
-    ]
-    heads = [Column("day"), *report.numbers("daily SAIDI, min"), Column("marked in", "long")]
-    return f"""
-{report.table([Column(""), Column("value", "code")], values)}
-<p>T_MED = exp(alpha + 2.5 beta), in minutes; alpha is the mean and beta the standard deviation of the logarithms of the
-{len(answer.threshold.days)} daily SAIDI of the periods before.</p>
-<h3>Days above it</h3>
-{report.table(heads, rows)}"""
-
-
-def histogram_part(threshold: Threshold) -> str:
-    """How many days have which logarithm; the columns at or above the threshold are set apart."""
-    bars = histogram(threshold.logarithms, threshold.logarithm if threshold.is_defined else None)
-    note = (
-        "Days before the year by the natural logarithm of their daily SAIDI in minutes. The columns set apart lie above the"
-        " threshold."
-    )
-    return f"""
-<h3>Daily SAIDI of the periods before</h3>
-{charts.legend(["days", "days above the threshold"])}
-{report.figure(charts.columns(bars, "Days by the logarithm of their daily SAIDI", "days"), note, "columns")}"""
-
-
-def histogram(logarithms: Sequence[float], threshold: float | None) -> list[charts.Bar]:
-    """Columns of equal width, one of whose bounds is the threshold, so that no column lies on both sides of it."""
-    if not logarithms:
-        return []
-    least, most = min(logarithms), max([*logarithms, threshold if threshold is not None else -math.inf])
-    width = max((most - least) / (BINS - 1), 1e-9)
-    start = least if threshold is None else threshold - width * math.ceil((threshold - least) / width)
-    count = math.floor((most - start) / width) + 1
-    days = [0] * count
-    for logarithm in logarithms:
-        days[min(count - 1, math.floor((logarithm - start) / width))] += 1
-    bars = []
-    for place, number in enumerate(days):
-        low = start + place * width
-        is_above = threshold is not None and low >= threshold - width / 2
-        title = f"{math.exp(low):.4g} to {math.exp(low + width):.4g} minutes: {number} days"
-        bars.append(charts.Bar(f"{low:.1f}", number, title, is_above))
-    return bars
+    return page_of(f"{name} {period.first} to {period.last}", [title, report.major_days_part(years).text])

@@ -6,19 +6,24 @@ FIRST_SECOND is the first second of the new book, in digits or as `2026-01-01T00
 the network, the customers whose service goes on or begins later, and at the first second a switching for each device
 that isn't in its normal position at the old book's end, with the cause and the crew of the entry that left it there. These
 come in the order of those entries, so that what was cut off at the end is cut off by the same cause where one can be told.
+A switching that came from a ticket of an outage management system keeps its reference, so that the ticket's next export
+finds it in the new book (docs/DATA.md).
 
 A device whose life is over by then is left out. A customer keeps its number and the beginning of its service.
 """
 
+import re
 import sys
-from collections.abc import Iterator
+from collections.abc import Iterator, Mapping
 from datetime import datetime
 
 from outagebook.cli import Parser, add_table_arguments, run_job
-from outagebook.commands import row_of, write_rows
+from outagebook.commands import read_commands, row_of, write_rows
 from outagebook.compare import Checked, open_book
 from outagebook.errors import BookError
 from outagebook.rows import GRID, Book, Entry
+
+PREFIX = "OMS-"
 
 
 def last_entries(book: Book) -> list[Entry]:
@@ -60,16 +65,25 @@ def customer_rows(found: Checked, first: int) -> Iterator[list[str]]:
         yield row_of("connect", f"NEXT-CUSTOMER-{number}", number, found.book.nodes[section], since, until)
 
 
-def switching_rows(book: Book, first: int) -> Iterator[list[str]]:
-    """A switching at the first second for each device that isn't in its normal position."""
+def ticket_refs(found: Checked, prefix: str) -> dict[int, str]:
+    """The references of the entries that came from tickets."""
+    ticket = re.compile(f"{re.escape(prefix)}.+-[OC]")
+    switches = (command for command in read_commands(found.database) if command.kind == "switch")
+    return {each.entry: each.ref for each in switches if each.entry and ticket.fullmatch(each.ref)}
+
+
+def switching_rows(book: Book, first: int, refs: Mapping[int, str] = {}) -> Iterator[list[str]]:
+    """A switching at the first second for each device that isn't in its normal position, under the reference that its entry
+    keeps, if any."""
     for entry in last_entries(book):
         device = book.devices[entry.device]
         if entry.closes != device.is_closed and (device.until is None or device.until > first):
             act = "close" if entry.closes else "open"
-            yield row_of("switch", f"NEXT-SWITCH-{device.number}", device.name, act, first, entry.cause, entry.crew)
+            ref = refs.get(entry.number, f"NEXT-SWITCH-{device.number}")
+            yield row_of("switch", ref, device.name, act, first, entry.cause, entry.crew)
 
 
-def rows_of(found: Checked, first: int) -> Iterator[list[str]]:
+def rows_of(found: Checked, first: int, prefix: str = PREFIX) -> Iterator[list[str]]:
     """All rows of the next book's beginning."""
     book = found.book
     for code, name in book.causes.items():
@@ -77,7 +91,7 @@ def rows_of(found: Checked, first: int) -> Iterator[list[str]]:
             yield row_of("cause", f"NEXT-CAUSE-{code}", code, name)
     yield from network_rows(book, first)
     yield from customer_rows(found, first)
-    yield from switching_rows(book, first)
+    yield from switching_rows(book, first, ticket_refs(found, prefix))
 
 
 def read_second(text: str) -> int:
@@ -94,6 +108,9 @@ def main() -> int:
     parser = Parser(description="Writes the beginning of the next period's book as CSV.")
     parser.add_argument("book", help="the old book's file")
     parser.add_argument("first", type=read_second, metavar="FIRST_SECOND", help="the first second of the new book")
+    parser.add_argument(
+        "--prefix", default=PREFIX, help="what the references of tickets begin with, which are kept (OMS-)"
+    )
     add_table_arguments(parser)
     args = parser.parse_args()
 
@@ -104,6 +121,6 @@ def main() -> int:
                 raise BookError(f"the new book's first second {args.first} lies before the old one's end {end}")
             if args.first > end:
                 print(f"note: {args.first - end} seconds lie between the two books", file=sys.stderr)
-            write_rows(rows_of(found, args.first), sys.stdout)
+            write_rows(rows_of(found, args.first, args.prefix), sys.stdout)
 
     return run_job(job)

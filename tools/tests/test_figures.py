@@ -7,20 +7,18 @@ import json
 import unittest
 from collections.abc import Callable, Iterator
 from fractions import Fraction
-from html.parser import HTMLParser
 from typing import Any
 
 from outagebook import figures
 from outagebook.compare import Checked
 from outagebook.counts import SETS
-from outagebook.report import page
+from outagebook.forms import Figures, write_csv, write_json, write_text
 from tests import support
 
-Attributes = list[tuple[str, str | None]]
 Row = dict[str, Any]  # a figure's values by their columns
 
 
-def rows_of(shown: figures.Figures) -> list[Row]:
+def rows_of(shown: Figures) -> list[Row]:
     return [dict(zip(shown.columns, row)) for row in shown.rows]
 
 
@@ -103,11 +101,15 @@ class Sums(unittest.TestCase):
             causes = rows_of(figures.causes(found))
             self.assertEqual(sum(row["customer_seconds"] for row in causes), total)
             self.assertEqual(sum(fraction(row["saidi"]) for row in causes), saidi)
+            unmarked = sum(
+                each.customer_seconds for each in found.interruptions if not found.book.is_marked(each.since)
+            )
             for name in ["months", "feeders", "sections"]:
                 rows = rows_of(figures.FIGURES[name](found))
-                self.assertEqual(sum(row["customer_seconds"] for row in rows), 2 * total)
                 for which in SETS:
                     mine = [row for row in rows if row["set"] == which]
+                    seconds = sum(row["customer_seconds"] for row in mine)
+                    self.assertEqual(seconds, total if which == "all" else unmarked)
                     self.assertEqual(sum(row["sustained"] for row in mine), found.counts[which].sustained)
                     self.assertEqual(sum(row["momentary"] for row in mine), found.counts[which].momentary)
                 if name != "months":
@@ -145,7 +147,7 @@ class Forms(unittest.TestCase):
     def test_csv_json_and_text_say_the_same(self) -> None:
         for name, figures_of in figures.FIGURES.items():
             shown = figures_of(support.opened(support.fortnight()))
-            texts = [printed(write, shown) for write in (figures.write_csv, figures.write_json, figures.write_text)]
+            texts = [printed(write, shown) for write in (write_csv, write_json, write_text)]
             rows = list(csv.DictReader(io.StringIO(texts[0])))
             whole = json.loads(texts[1])
             self.assertEqual([{key: str(value) for key, value in row.items()} for row in whole["rows"]], rows)
@@ -160,69 +162,9 @@ class Forms(unittest.TestCase):
             self.assertEqual((done.returncode, done.stdout[: len(begin)]), (0, begin))
 
 
-def printed(write: Callable[[figures.Figures], None], shown: figures.Figures) -> str:
+def printed(write: Callable[[Figures], None], shown: Figures) -> str:
     """What a writer prints."""
     out = io.StringIO()
     with contextlib.redirect_stdout(out):
         write(shown)
     return out.getvalue()
-
-
-class Tags(HTMLParser):
-    """Whether each tag that opens is closed, in order."""
-
-    VOID = {"meta", "rect", "line", "path", "br"}
-
-    def __init__(self) -> None:
-        super().__init__()
-        self.open: list[str] = []
-        self.seen: dict[str, int] = {}
-        self.text: list[str] = []
-
-    def handle_starttag(self, tag: str, attrs: Attributes) -> None:
-        self.seen[tag] = self.seen.get(tag, 0) + 1
-        if tag not in self.VOID:
-            self.open.append(tag)
-        for name, value in attrs:
-            if name in ("src", "href") or (value and "url(" in value):
-                raise AssertionError(f"{tag} {name}={value} leads outside")
-
-    def handle_startendtag(self, tag: str, attrs: Attributes) -> None:
-        self.seen[tag] = self.seen.get(tag, 0) + 1
-
-    def handle_endtag(self, tag: str) -> None:
-        if self.open.pop() != tag:
-            raise AssertionError(f"{tag} closes another")
-
-    def handle_data(self, data: str) -> None:
-        self.text.append(data)
-
-
-class Page(unittest.TestCase):
-    def test_pages_are_whole_and_need_nothing(self) -> None:
-        for made in support.books():
-            with self.subTest(made.name):
-                text = page(support.opened(made), "The <utility> & sons")
-                tags = Tags()
-                tags.feed(text)
-                self.assertEqual(tags.open, [])
-                self.assertNotIn("script", tags.seen)
-                self.assertNotRegex(text, "https?:|@import|url\\(")
-                self.assertIn("The <utility> & sons", "".join(tags.text))
-
-    def test_the_indices_are_word_for_word_those_of_the_program(self) -> None:
-        made = support.fortnight()
-        text = page(support.opened(made), "Outage book")
-        for line in made.table.read_text().splitlines()[-34:]:
-            self.assertIn(f'<td class="code">{line[19:]}</td>', text)
-
-    def test_a_page_is_written_by_the_program_or_not_at_all(self) -> None:
-        made, out = support.fortnight(), support.folder() / "page.html"
-        self.assertEqual(support.run_tool("report", made.book, "-o", out, table=made).returncode, 0)
-        self.assertTrue(out.read_text(encoding="utf-8").startswith("<!DOCTYPE html>"))
-        out.unlink()
-        other = support.books()[1]
-        self.assertEqual(support.run_tool("report", made.book, "-o", out, table=other).returncode, 2)
-        self.assertFalse(out.exists())
-        done = support.run_tool("report", made.book, "-o", support.folder() / "nowhere/page.html", table=made)
-        self.assertEqual(done.returncode, 1)

@@ -126,11 +126,11 @@ class Install(unittest.TestCase):
         for _ in range(2):
             done = self.install(prefix, PROGRAM=program)
             self.assertEqual((done.returncode, done.stderr), (0, ""))
-        tools = ["commands", "compare", "districts", "figures", "from-oms", "major-days", "next-year", "report", "sum"]
-        tools += ["warehouse", "years"]
+        tools = ["agree", "check", "commands", "compare", "districts", "figures", "from-oms", "major-days", "next-year"]
+        tools += ["report", "sum", "try", "warehouse", "years"]
         self.assertEqual(
             sorted(path.name for path in (prefix / "bin").iterdir()),
-            ["outagebook", *(f"outagebook-{tool}" for tool in tools)],
+            sorted(["outagebook", "outagebook-screen", *(f"outagebook-{tool}" for tool in tools)]),
         )
         for tool in tools:
             command = [sys.executable, str(prefix / "bin" / f"outagebook-{tool}"), "--help"]
@@ -142,6 +142,7 @@ class Install(unittest.TestCase):
         self.assertEqual(subprocess.run(command, capture_output=True, check=False).returncode, 0)
         library = prefix / "lib/outagebook"
         installed = {path.relative_to(library).as_posix() for path in library.rglob("*.py")}
+        installed = {path for path in installed if not path.startswith("screen/")}
         package = {path.relative_to(support.TOOLS).as_posix() for path in support.TOOLS.glob("outagebook/**/*.py")}
         commands = {path.name for path in support.TOOLS.glob("*.py")}
         self.assertEqual(installed, package | commands)

@@ -14,7 +14,8 @@ from outagebook.counts import SETS, Counts
 from outagebook.errors import BookError
 from outagebook.indices import FurtherCounts
 from outagebook.major_days import Answer, answer_of, about, by_period, facts, mark_rows, read_years
-from outagebook.many_pages import histogram, major_days_page
+from outagebook.many_pages import major_days_page
+from outagebook.report.major_days import histogram
 from outagebook.sums import District, PeriodKey, Sums
 from tests import many_books
 from tests.many_books import books_of, district_rows, run, with_tables
@@ -178,7 +179,7 @@ class Pages(unittest.TestCase):
 
     def test_the_page_is_whole(self) -> None:
         years, found = answer([district("all", number, *each) for number, each in series()["five"].items()])
-        text = major_days_page(years, found, "A & B")
+        text = major_days_page(years, "A & B")
         self.assertIn("A &amp; B", text)
         self.assertIn(facts(found)["T_MED"], text)
         self.assertIn(str(found.above[0].day.date), text)

@@ -9,6 +9,7 @@ from tests import support
 from tests.support import written
 
 ZONE = "CET-1CEST,M3.5.0,M10.5.0/3"
+PERIOD = ["--zone", ZONE, "--first", "2025-10-20", "--days", "14"]
 
 
 class FromOms(unittest.TestCase):
@@ -36,7 +37,7 @@ class FromOms(unittest.TestCase):
         return written(f"{name}-changed.csv", text)
 
     def sample(self) -> support.Made:
-        return self.made("oms-sample", self.converted(*self.FILES, "--zone", ZONE))
+        return self.made("oms-sample", self.converted(*self.FILES, *PERIOD))
 
     def test_the_sample_by_hand(self) -> None:
         """T-2041: from 08:14:05 OAK-STREET's three wait 6,475 seconds, and ELM-STREET's three until the tie at 08:45, 1,855.
@@ -63,17 +64,17 @@ class FromOms(unittest.TestCase):
     def test_lives(self) -> None:
         """A device that joins, and one that a GIS tells to have been taken down since; what it doesn't tell stays."""
         row = "device,TIE-78,,ELM-STREET,DEPOT,open"
-        gis = (support.EXAMPLES / "gis.csv").read_text().replace("normal\n", "normal,since,until\n")
-        joins = written("gis-joins.csv", gis.replace(row, f"{row},2025-10-20 09:00:00,"))
+        gis = (support.EXAMPLES / "gis.csv").read_text().replace("\n", ",,\n").replace("normal,,", "normal,since,until")
+        joins = written("gis-joins.csv", gis.replace(f"{row},,", f"{row},2025-10-20 09:00:00,"))
         files = [joins if argument == support.EXAMPLES / "gis.csv" else argument for argument in self.FILES]
-        text = self.converted(*files, "--zone", ZONE)
+        text = self.converted(*files, *PERIOD)
         self.assertIn("device,GIS-DEVICE-TIE-78,TIE-78,ELM-STREET,DEPOT,open,2025-10-20T09:00:00+02:00,\n", text)
         made = self.made("oms-sample", text)
         arguments = ["--book", made.book, "--table", made.table]
         header = "kind,ref,f1,f2,f3,f4,f5,f6\n"
         self.assertEqual(self.converted("--gis", joins, *arguments), header)
         self.assertEqual(self.converted("--gis", support.EXAMPLES / "gis.csv", *arguments), header)
-        leaves = written("gis-leaves.csv", gis.replace(row, f"{row},,2025-11-01 12:00:00"))
+        leaves = written("gis-leaves.csv", gis.replace(f"{row},,", f"{row},,2025-11-01 12:00:00"))
         rows = "life,GIS-LIFE-TIE-78,TIE-78,,2025-11-01T12:00:00+01:00,,,\n"
         self.assertEqual(self.converted("--gis", leaves, *arguments), header + rows)
         later = self.made("oms-later", text + rows)
@@ -138,14 +139,8 @@ class FromOms(unittest.TestCase):
         ]
         for change, reason in cases:
             with self.subTest(reason):
-                arguments = [
-                    "--causes",
-                    support.EXAMPLES / "causes.csv",
-                    "--oms",
-                    self.changed("oms", change),
-                    "--zone",
-                    ZONE,
-                ]
+                arguments = ["--causes", support.EXAMPLES / "causes.csv", "--gis", support.EXAMPLES / "gis.csv"]
+                arguments += ["--oms", self.changed("oms", change), *PERIOD]
                 self.assertIn(reason, self.converted(*arguments, status=1))
         self.assertIn(
             "no zone",

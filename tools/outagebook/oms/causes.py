@@ -1,31 +1,53 @@
 """Causes: the book's codes and names, and the other system's words for them."""
 
-from collections.abc import Iterable
+from collections.abc import Iterable, Iterator
 from dataclasses import dataclass, field
 
-from outagebook.oms.files import Complaints, Row, command_row, identifier, number
-from outagebook.oms.known import Known
+from outagebook.oms.complaints import BadRow, Notes
+from outagebook.oms.conversion import MOST_NAME, Conversion, note_small_letters
+from outagebook.oms.fields import identifier, number, shown
+from outagebook.oms.files import Row
 
 COLUMNS = ("code", "name", "oms")
+REQUIRED = ("code", "name")
+UNASSIGNED = "UNASSIGNED"
 
 
 @dataclass
 class Causes:
-    """The commands of the causes that the book doesn't have, and each cause's code by its name and by the other words."""
+    """Each cause's name by its code, and its code by its name and by the other system's words."""
 
-    commands: list[list[str]] = field(default_factory=list)
+    conversion: Conversion
+    names: dict[int, str] = field(default_factory=dict)
     codes: dict[str, int] = field(default_factory=dict)
+    is_whole: bool = True  # each row could be read
 
+    def __post_init__(self) -> None:
+        book = self.conversion.known.book
+        self.names = {0: UNASSIGNED, **(book.causes if book else {})}
+        self.codes = {name: code for code, name in self.names.items() if code}
 
-def read_causes(rows: Iterable[Row], known: Known, complaints: Complaints) -> Causes:
-    """The causes of the rows and of the book."""
-    names = known.book.causes if known.book else {}
-    causes = Causes(codes={name: code for code, name in names.items() if code})
-    for row in rows:
-        with complaints.about(row):
-            code = number(row["code"], 63, "the code")
-            causes.codes.update((word, code) for word in (row["name"], row["oms"]) if word)
-            name = identifier(row["name"], 24, "the name")
-            if names.get(code) != name:
-                causes.commands.append(command_row("cause", f"CAUSE-{code}", code, name))
-    return causes
+    def read(self, rows: Iterable[Row], notes: Notes) -> Iterator[list[str]]:
+        """The commands of the causes that the book doesn't have."""
+        complaints = self.conversion.complaints.found
+        before = len(complaints)
+        for row in rows:
+            with self.conversion.complaints.about(row):
+                yield from self.commands(row, notes)
+        self.is_whole = len(complaints) == before
+
+    def commands(self, row: Row, notes: Notes) -> Iterator[list[str]]:
+        code, name = number(row["code"], 63, "the code"), identifier(row["name"], MOST_NAME, "the name")
+        note_small_letters(row, ("name",), notes)
+        if self.names.get(code, name) != name:
+            raise BadRow(f"code {code} is {self.names[code]} already, not {name}: no command changes a cause's name")
+        other = next((each for each, taken in self.names.items() if taken == name and each != code), None)
+        if other is not None:
+            raise BadRow(f"{name} is the name of code {other} already")
+        for word in {row["name"], name, row["oms"]} - {""}:
+            if self.codes.setdefault(word, code) != code:
+                raise BadRow(f"{shown(word)} stands for code {self.codes[word]} already")
+        if code not in self.names:
+            self.names[code] = name
+            ref = self.conversion.known.unused(f"CAUSE-{code}")
+            yield self.conversion.command(notes, "cause", ref, code, name)

@@ -1,142 +1,234 @@
-"""Rows of exports, the fields in them, and the complaints about rows that can't be read."""
+"""Rows of exports: how a file of them is read, and the words by which it may be told how."""
 
+import argparse
 import csv
+import difflib
 import re
-from collections.abc import Iterator
-from contextlib import contextmanager
-from dataclasses import dataclass, field
-from datetime import datetime
+import sys
+from collections.abc import Iterable, Iterator
+from dataclasses import dataclass
+from itertools import chain
 
-from outagebook.commands import row_of
 from outagebook.errors import BookError
-from outagebook.zone import Zone
+from outagebook.oms.complaints import HEADER as HEADER
+from outagebook.oms.complaints import BadRow as BadRow
+from outagebook.oms.complaints import Complaint as Complaint
+from outagebook.oms.complaints import Complaints as Complaints
+from outagebook.oms.complaints import Notes as Notes
+from outagebook.oms.decoding import ENCODINGS, LONGEST_LINE, UNREADABLE, open_lines
+from outagebook.oms.fields import check_format
+from outagebook.oms.fields import identifier as identifier
+from outagebook.oms.fields import life_texts as life_texts
+from outagebook.oms.fields import moment_text as moment_text
+from outagebook.oms.fields import number as number
+from outagebook.oms.fields import read_moment as read_moment
+from outagebook.oms.fields import read_zone as read_zone
 
-LONGEST_REF = 40
-
-
-class BadRow(Exception):
-    """What is wrong with a row."""
+DELIMITERS = {",": ",", ";": ";", "tab": "\t"}
+CONTROL = re.compile("[\0-\x08\x0b\x0c\x0e-\x1f\x7f]")
+ALIKE = 0.8  # how much alike two columns are of which one may be meant for the other
+ROWS_BETWEEN_WORDS = 20_000
 
 
 @dataclass(frozen=True)
 class Row:
-    """A row of an export: its file, its number, and its fields by their columns."""
+    """A row of an export: its file, its number, and its fields by their columns; a column that isn't there is empty."""
 
     file: str
     number: int
     fields: dict[str, str]
 
     def __getitem__(self, column: str) -> str:
-        return self.fields[column]
+        return self.fields.get(column, "")
 
 
 @dataclass(frozen=True)
-class Complaint:
-    """A row that can't be read, and why."""
+class Format:
+    """How the files are written: None is what a file tells by itself. `dates` are the user's formats beside ISO 8601."""
 
-    file: str
-    row: int
-    text: str
-
-    def __str__(self) -> str:
-        return f"{self.file}: row {self.row}: {self.text}"
+    delimiter: str | None = None
+    encoding: str | None = None
+    dates: tuple[str, ...] = ()
 
 
-@dataclass
-class Complaints:
-    """All rows of a run that can't be read, in the order in which they were found."""
-
-    found: list[Complaint] = field(default_factory=list)
-
-    @contextmanager
-    def about(self, row: Row) -> Iterator[None]:
-        """What is wrong with the row is kept, and the next one can be read."""
-        try:
-            yield
-        except BadRow as error:
-            self.found.append(Complaint(row.file, row.number, str(error)))
-
-
-def read_file(path: str | None, columns: tuple[str, ...]) -> list[Row]:
-    """The rows of a CSV; columns that a file lacks are empty, others than these are left out. No file has no rows."""
-    if not path:
-        return []
+def date_format(text: str) -> str:
+    """A format of dates on the command line."""
     try:
-        with open(path, newline="", encoding="utf-8-sig") as file:
-            rows = csv.DictReader(file)
-            if not set(columns) & set(rows.fieldnames or ()):
-                raise BookError(f"{path} has none of the columns {', '.join(columns)}")
-            return [
-                Row(path, number, {column: (row.get(column) or "").strip() for column in columns})
-                for number, row in enumerate(rows, 1)
-            ]
-    except (OSError, UnicodeDecodeError, csv.Error) as error:
-        raise BookError(f"{path} can't be read: {error}") from None
-
-
-def identifier(text: str, most: int, what: str) -> str:
-    """A name in capitals: letters, digits, - and _."""
-    name = text.upper()
-    if not re.fullmatch(f"[A-Z0-9_-]{{1,{most}}}", name):
-        raise BadRow(f"{what} {text!r} isn't 1 to {most} of A-Z, 0-9, - and _")
-    return name
-
-
-def number(text: str, most: int, what: str) -> int:
-    """A whole number in digits, from 1 on."""
-    if not re.fullmatch("[0-9]{1,10}", text) or not 1 <= int(text) <= most:
-        raise BadRow(f"{what} {text!r} isn't a number from 1 to {most}")
-    return int(text)
-
-
-def read_zone(text: str) -> Zone:
-    """The clock of a POSIX rule."""
-    try:
-        return Zone(text)
+        return check_format(text)
     except ValueError as error:
-        raise BadRow(str(error)) from None
+        raise argparse.ArgumentTypeError(str(error)) from None
 
 
-def read_moment(text: str, hour: str, zone: Zone | None, what: str) -> int:
-    """The second of a local time, or of a time with its offset. `hour` is A for the first, B for the second reading of
-    the hour that comes twice in autumn; without it such a time is refused, and so is one that no clock showed."""
-    try:
-        moment = datetime.fromisoformat(text.replace("Z", "+00:00"))
-    except ValueError:
-        raise BadRow(f"{what} {text!r} is no time") from None
-    if moment.microsecond:
-        raise BadRow(f"{what} {text!r} has a fraction of a second")
-    if moment.tzinfo is not None:
-        return int(moment.timestamp())
-    if zone is None:
-        raise BadRow(f"{what} {text!r} has no zone: give the column zone, --zone or --book")
-    seconds = zone.instants(moment)
-    if not seconds:
-        raise BadRow(f"{what} {text} was shown by no clock: the hour was left out")
-    if len(seconds) == 1:
-        return seconds[0]
-    if hour.upper() not in ("A", "B"):
-        raise BadRow(f"{what} {text} came twice: its hour is A (the first) or B (the second)")
-    return seconds["AB".index(hour.upper())]
-
-
-def moment_text(second: int, zone: Zone | None) -> str:
-    """A moment with its offset written, which a book reads."""
-    if zone is None or zone.offset_at(second) % 60:
-        zone = Zone("UTC0")
-    return zone.text_of(second)
-
-
-def life_texts(since: int | None, until: int | None, zone: Zone | None) -> tuple[str | None, str | None]:
-    """The two ends of a life or a service as a book reads them; None where there is none."""
-    return (
-        None if since is None else moment_text(since, zone),
-        None if until is None else moment_text(until, zone),
+def add_format_arguments(parser: argparse.ArgumentParser) -> None:
+    """The words that say how the exports are written."""
+    parser.add_argument(
+        "--delimiter", choices=DELIMITERS, help="what stands between fields (found by the line of column names)"
+    )
+    parser.add_argument(
+        "--encoding", choices=ENCODINGS, help="the encoding of files without a mark of it at their beginning (utf-8)"
+    )
+    parser.add_argument(
+        "--date-format",
+        dest="dates",
+        metavar="FORMAT",
+        action="append",
+        default=[],
+        type=date_format,
+        help="another spelling of dates and times, in strptime's words, as %%d.%%m.%%Y %%H:%%M; may be told several times",
     )
 
 
-def command_row(kind: str, ref: str, *fields: object) -> list[str]:
-    """A row of commands; the reference has room."""
-    if len(ref) > LONGEST_REF:
-        raise BadRow(f"the reference {ref} is longer than {LONGEST_REF}: take a shorter ticket or --prefix")
-    return row_of(kind, ref, *fields)
+def format_of(args: argparse.Namespace) -> Format:
+    return Format(DELIMITERS.get(args.delimiter), args.encoding, tuple(args.dates))
+
+
+class Progress:
+    """A line on a terminal that tells how many rows were read; nothing anywhere else."""
+
+    def __init__(self, file: str) -> None:
+        self.file = file
+        self.is_shown = sys.stderr.isatty()
+
+    def at(self, rows: int) -> None:
+        if self.is_shown and rows % ROWS_BETWEEN_WORDS == 0:
+            print(f"\r{self.file}: {rows:,} rows", end="", file=sys.stderr, flush=True)
+
+    def end(self, rows: int) -> None:
+        if self.is_shown and rows >= ROWS_BETWEEN_WORDS:
+            print(f"\r{self.file}: {rows:,} rows", file=sys.stderr, flush=True)
+
+
+@dataclass(frozen=True)
+class Spot:
+    """A row by its file and its number alone."""
+
+    file: str
+    number: int
+
+
+@dataclass
+class Export:
+    """A file of rows. Columns that it lacks are empty, others than these are left out; a row that has more fields or fewer than
+    there are columns is complained about, and so is one with bytes that aren't of the file's encoding."""
+
+    path: str
+    columns: tuple[str, ...]
+    required: tuple[str, ...]
+    format: Format
+    complaints: Complaints
+    notes: Notes
+
+    def rows(self) -> Iterator[Row]:
+        """The rows that can be read, one after another."""
+        with open_lines(self.path, self.format.encoding) as (encoding, lines):
+            first = next((line for line in lines if line.strip()), "")
+            delimiter = self.format.delimiter or self.delimiter_of(first)
+            self.notes.encoding, self.notes.delimiter = encoding, delimiter
+            fields = csv.reader(self.checked(chain([first], lines)), delimiter=delimiter, strict=True)
+            names = next(self.records(fields, HEADER), list[str]())
+            places = self.places_of(names)
+            if places:
+                yield from self.rows_of(fields, places, len(names))
+
+    def delimiter_of(self, line: str) -> str:
+        """The delimiter by which a line of column names has most of the columns."""
+
+        def known(delimiter: str) -> int:
+            try:
+                names = next(csv.reader([line], delimiter=delimiter), list[str]())
+            except csv.Error:
+                return 0
+            return len({name.strip().lower() for name in names} & set(self.columns))
+
+        return max(DELIMITERS.values(), key=known)
+
+    def checked(self, lines: Iterable[str]) -> Iterator[str]:
+        for line in lines:
+            if len(line) >= LONGEST_LINE:
+                raise csv.Error(f"a line has {LONGEST_LINE} characters or more")
+            yield line
+
+    def records(self, fields: Iterator[list[str]], before: int) -> Iterator[list[str]]:
+        """The records that aren't empty lines, up to the first that is no CSV, behind which nothing can be read."""
+        count = before
+        while True:
+            try:
+                record = next(fields, None)
+            except csv.Error as error:
+                self.complaints.add(
+                    Spot(self.path, count), f"it is no CSV, and what comes behind it isn't read: {error}"
+                )
+                return
+            if record is None:
+                return
+            if record:
+                yield record
+                count += 1
+
+    def places_of(self, names: list[str]) -> dict[str, int]:
+        """Where each column stands; nothing where they can't be told."""
+        found = [name.strip().lower() for name in names]
+        wrong = list(self.wrong_in_header(found, names))
+        for text in wrong:
+            self.complaints.add(Spot(self.path, HEADER), text)
+        self.notes.columns = [name for name in found if name in self.columns]
+        self.notes.unread = [name for name in found if name not in self.columns]
+        return {} if wrong else {name: place for place, name in enumerate(found) if name in self.columns}
+
+    def wrong_in_header(self, found: list[str], names: list[str]) -> Iterator[str]:
+        """What is wrong with the columns."""
+        if any(UNREADABLE in name or CONTROL.search(name) for name in names):
+            yield f"it isn't of the encoding {self.notes.encoding} (--encoding tells another)"
+            return
+        if not set(self.columns) & set(found):
+            yield f"it has none of the columns {', '.join(self.columns)}"
+            return
+        yield from (f"it has two columns {name}" for name in self.columns if found.count(name) > 1)
+        for name in self.columns:
+            if name not in found:
+                others = [other for other in found if other not in self.columns]
+                alike = difflib.get_close_matches(name, others, 1, ALIKE)
+                if alike:
+                    yield f"it has {alike[0]!r}, which isn't read, and no column {name}: is it meant? Rename it"
+                elif name in self.required:
+                    yield f"it has no column {name}"
+
+    def rows_of(self, fields: Iterator[list[str]], places: dict[str, int], width: int) -> Iterator[Row]:
+        progress = Progress(self.path)
+        count = 0
+        for count, record in enumerate(self.records(fields, HEADER + 1), HEADER + 1):
+            progress.at(count)
+            spot = Spot(self.path, count)
+            wrong = self.wrong_in(record, width)
+            if wrong:
+                self.complaints.add(spot, wrong)
+            elif not any(record):
+                self.notes.left_out("rows that are empty", spot)
+            else:
+                yield Row(self.path, count, {column: record[place].strip() for column, place in places.items()})
+        self.notes.rows = count
+        progress.end(count)
+
+    def wrong_in(self, record: list[str], width: int) -> str | None:
+        """What is wrong with a row as such."""
+        if len(record) != width:
+            return f"it has {len(record)} fields, and there are {width} columns"
+        whole = "".join(record)
+        if UNREADABLE in whole:
+            return f"it has bytes that aren't of the encoding {self.notes.encoding} (--encoding tells another)"
+        if CONTROL.search(whole):
+            return "it has control characters"
+        return None
+
+
+def read_file(
+    path: str | None, columns: tuple[str, ...], required: tuple[str, ...] = (), format: Format = Format()
+) -> list[Row]:
+    """The rows of a whole file, or an error that tells every row that is none. No file has no rows."""
+    if not path:
+        return []
+    complaints = Complaints()
+    rows = list(Export(path, columns, required, format, complaints, Notes("", path)).rows())
+    if complaints.found:
+        raise BookError("\n".join(map(str, complaints.found)))
+    return rows

@@ -1,0 +1,79 @@
+#!/usr/bin/python3
+"""Makes the pictures of docs/SCREEN.md: a screen over the sample fortnight in headless Chromium.
+
+    OUTAGEBOOK=FILE python3 screen/make_pictures.py          # writes docs/pictures/
+
+Wants what the screen's tests want, and ImageMagick's `convert`, which makes the pictures small.
+"""
+
+from __future__ import annotations
+
+import subprocess
+import sys
+from pathlib import Path
+
+sys.path.insert(0, str(Path(__file__).resolve().parent / "tests"))
+
+import browser  # noqa: E402
+import support  # noqa: E402
+
+PICTURES = support.ROOT / "docs/pictures"
+
+
+def now(page: browser.Browser, url: str) -> None:
+    page.open(f"{url}/")
+    page.fill("Another second", "2025-03-27 15:00:00")
+    page.says("main", "2025-03-27 14:22:10")
+    page.wait(lambda: len(page.all(".diagram .node.by_tie")) == 3, "the sections on the tie")
+
+
+def enter(page: browser.Browser, url: str) -> None:
+    page.open(f"{url}/enter?device=LBS-21&at=2025-04-06T20:52:00%2B02:00")
+    page.fill("Cause", "5")
+    page.says(".forecast", "W moves by")
+
+
+def sent(page: browser.Browser, url: str) -> None:
+    page.open(f"{url}/enter?device=LBS-22&at=2025-04-06T23:52:00%2B02:00", "CREW-3")
+    page.wait(lambda: page.find(".send").is_enabled(), "the button")
+    page.click(".send")
+    page.says(".outcome .equal", "equal")
+    page.driver.execute_script("document.querySelector('.said').remove()")
+    page.driver.execute_script("document.querySelector('.outcome').scrollIntoView()")
+
+
+def year(page: browser.Browser, url: str) -> None:
+    page.open(f"{url}/year")
+    page.says("main", "194.126")
+
+
+SHOTS = {
+    "screen-now": (now, 1280, 860, False),
+    "screen-enter": (enter, 1280, 840, False),
+    "screen-year": (year, 1280, 900, True),
+    "screen-sent-phone": (sent, 390, 780, False),
+}
+
+
+def main() -> int:
+    PICTURES.mkdir(exist_ok=True)
+    screen = support.Screen(support.fortnight("pictures"))
+    try:
+        for name, (shown, width, height, dark) in SHOTS.items():
+            page = browser.Browser(width, height, dark)
+            try:
+                shown(page, screen.url)
+                raw = support.folder() / f"{name}.png"
+                page.picture(str(raw), whole=False)
+            finally:
+                page.end()
+            small = ["convert", str(raw), "-strip", "+dither", "-colors", "48", f"PNG8:{PICTURES / name}.png"]
+            subprocess.run(small, check=True)
+            print(PICTURES / f"{name}.png")
+    finally:
+        screen.end()
+    return 0
+
+
+if __name__ == "__main__":
+    sys.exit(main())

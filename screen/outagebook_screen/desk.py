@@ -1,0 +1,138 @@
+"""The desk as the screen's server speaks to it: one request at a time, each over a connection of its own that is closed."""
+
+from __future__ import annotations
+
+import asyncio
+import ctypes
+import json
+import signal
+from dataclasses import dataclass
+from pathlib import Path
+from typing import Any
+
+import aiohttp
+
+ANSWER_SECONDS = 10.0
+IMPORT_SECONDS = 300.0
+SEND_SECONDS = 25.0  # for all tries of a command
+BETWEEN_TRIES = 0.25
+SHOWN_ERROR = 300
+
+
+class Away(Exception):
+    """The desk gave no answer: nothing is known of what it did."""
+
+
+@dataclass(frozen=True)
+class Answer:
+    """A reply of the desk, its body word for word."""
+
+    status: int
+    body: bytes
+
+    def json(self) -> Any:
+        return json.loads(self.body)
+
+
+class Desk:
+    """A desk at an address. Requests wait for each other, so the desk has one connection of this screen at most."""
+
+    def __init__(self, url: str | None):
+        self.url = url
+        self.why_away: str | None = None if url else "no desk has been started yet"
+        self.order = asyncio.Lock()
+
+    async def ask(self, method: str, route: str, body: bytes | None = None, seconds: float = ANSWER_SECONDS) -> Answer:
+        """One request, once. A 503 counts as no answer: the desk had a fault and doesn't know its book."""
+        async with self.order:
+            if self.url is None:
+                raise Away(self.why_away or "there is no desk")
+            try:
+                answer = await self._once(method, self.url + route, body, seconds)
+            except (aiohttp.ClientError, asyncio.TimeoutError, OSError) as error:
+                self.why_away = f"{type(error).__name__}: {error}"[:SHOWN_ERROR]
+                raise Away(self.why_away) from None
+            if answer.status == 503:
+                self.why_away = "the desk had a fault (503)"
+                raise Away(self.why_away)
+            self.why_away = None
+            return answer
+
+    async def _once(self, method: str, url: str, body: bytes | None, seconds: float) -> Answer:
+        limit = aiohttp.ClientTimeout(total=seconds)
+        connector = aiohttp.TCPConnector(force_close=True, limit=1)
+        async with aiohttp.ClientSession(connector=connector, timeout=limit, auto_decompress=False) as session:
+            headers = {"Connection": "close"}
+            async with session.request(method, url, data=body, headers=headers, allow_redirects=False) as reply:
+                return Answer(reply.status, await reply.read())
+
+    async def send(self, command: dict[str, str], seconds: float = SEND_SECONDS) -> tuple[Answer, int]:
+        """Sends a command until it is answered, always under its reference: the answer, and how many tries it took."""
+        body = json.dumps(command).encode()
+        end = asyncio.get_running_loop().time() + seconds
+        tries = 0
+        while True:
+            tries += 1
+            try:
+                return await self.ask("POST", "/commands", body), tries
+            except Away:
+                if asyncio.get_running_loop().time() + BETWEEN_TRIES > end:
+                    raise
+                await asyncio.sleep(BETWEEN_TRIES)
+
+
+def end_with_parent() -> None:
+    """The child is told to end when the screen's process does, however that ends."""
+    parent_death_signal = 1
+    ctypes.CDLL(None).prctl(parent_death_signal, signal.SIGTERM)
+
+
+class OwnDesk:
+    """A desk that the screen starts over its book, starts again where it was killed, and ends with itself."""
+
+    FINAL = (2, 64)  # the file is no book, or the words are wrong: starting again doesn't help
+    BETWEEN_STARTS = 0.5
+
+    def __init__(self, desk: Desk, program: str, book: Path):
+        self.desk, self.program, self.book = desk, program, book
+        self.process: asyncio.subprocess.Process | None = None
+        self.first_start: asyncio.Future[str | None] = asyncio.get_running_loop().create_future()
+
+    async def keep(self) -> None:
+        """Starts the desk, and again each time it has ended."""
+        while True:
+            why = await self._run_once()
+            self.desk.url, self.desk.why_away = None, why
+            if not self.first_start.done():
+                self.first_start.set_result(why)
+            if self.process is None or self.process.returncode in self.FINAL:
+                return
+            await asyncio.sleep(self.BETWEEN_STARTS)
+
+    async def _run_once(self) -> str:
+        """Runs the desk until it ends: why it did."""
+        words = [self.program, "serve", "--book", str(self.book), "--port", "0"]
+        pipe = asyncio.subprocess.PIPE
+        self.process = None
+        try:
+            self.process = await asyncio.create_subprocess_exec(
+                *words, stdout=pipe, stderr=pipe, preexec_fn=end_with_parent
+            )
+        except OSError as error:
+            return f"the program {self.program} can't be run: {error.strerror}"
+        assert self.process.stdout is not None and self.process.stderr is not None
+        line = (await self.process.stdout.readline()).decode(errors="replace").strip()
+        if line.startswith("listening 127.0.0.1:"):
+            self.desk.url, self.desk.why_away = f"http://{line.split()[1]}", None
+            if not self.first_start.done():
+                self.first_start.set_result(None)
+        last = b""
+        async for said in self.process.stderr:
+            last = said
+        status = await self.process.wait()
+        return f"the desk ended with status {status}: {last.decode(errors='replace').strip()}"
+
+    async def end(self) -> None:
+        if self.process is not None and self.process.returncode is None:
+            self.process.terminate()
+            await self.process.wait()

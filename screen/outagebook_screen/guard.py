@@ -1,0 +1,135 @@
+"""What stands between a socket and the web server: limits of a head, of a body, and of the time that both may take.
+
+Each connection has one request. A connection that says nothing, or half of something, is closed in time; one whose head
+is too long is told so. The web server behind it sees whole heads alone.
+"""
+
+from __future__ import annotations
+
+import asyncio
+import re
+from typing import cast
+
+HEAD_BYTES = 16_384
+BODY_BYTES = 4_194_304
+HEAD_SECONDS = 10.0
+BODY_SECONDS = 30.0
+MOST_CONNECTIONS = 2_000
+END_OF_HEAD = b"\r\n\r\n"
+FIRST_LINE = re.compile(rb"[A-Z]{1,20} /[!-~]{0,8000} HTTP/1\.[01]\r\n")
+MOST_FIELDS = 100
+
+
+def refusal(status: str) -> bytes:
+    return f"HTTP/1.1 {status}\r\nContent-Length: 0\r\nConnection: close\r\n\r\n".encode()
+
+
+class Guard(asyncio.Protocol):
+    """A connection: its head is gathered, then handed on with what follows."""
+
+    open_connections = 0
+
+    def __init__(self, inner: asyncio.Protocol, head_seconds: float = HEAD_SECONDS, body_seconds: float = BODY_SECONDS):
+        self.inner = inner
+        self.seconds = head_seconds, body_seconds
+        self.head = b""
+        self.is_whole = False
+        self.left = 0
+        self.timer: asyncio.TimerHandle | None = None
+        self.transport: asyncio.Transport | None = None
+        self.is_connected = False
+
+    def connection_made(self, transport: asyncio.BaseTransport) -> None:
+        self.transport = cast(asyncio.Transport, transport)
+        Guard.open_connections += 1
+        if Guard.open_connections > MOST_CONNECTIONS:
+            self._close(refusal("503 Service Unavailable"))
+            return
+        self._wait(self.seconds[0])
+
+    def _wait(self, seconds: float) -> None:
+        if self.timer is not None:
+            self.timer.cancel()
+        self.timer = asyncio.get_running_loop().call_later(seconds, self._too_late)
+
+    def _too_late(self) -> None:
+        self._close(refusal("408 Request Timeout") if self.head or self.is_whole else b"")
+
+    def _close(self, last: bytes) -> None:
+        if self.transport is not None and not self.transport.is_closing():
+            self.transport.write(last)
+            self.transport.close()
+
+    def data_received(self, data: bytes) -> None:
+        if self.transport is None or self.transport.is_closing():
+            return
+        if self.is_whole:
+            self._hand_on(data)
+            return
+        self.head += data
+        end = self.head.find(END_OF_HEAD)
+        if end > HEAD_BYTES or (end < 0 and len(self.head) > HEAD_BYTES):
+            self._close(refusal("431 Request Header Fields Too Large"))
+        elif end >= 0:
+            self._begin(end + len(END_OF_HEAD))
+
+    def _begin(self, length: int) -> None:
+        """The head is whole: what the body may have is counted from here on."""
+        head, rest, self.head = self.head[:length], self.head[length:], b""
+        told = self._told_length(head)
+        if told is None:
+            self._close(refusal("400 Bad Request"))
+            return
+        if told > BODY_BYTES:
+            self._close(refusal("413 Payload Too Large"))
+            return
+        self.is_whole, self.left = True, told
+        assert self.transport is not None
+        self.inner.connection_made(self.transport)
+        self.is_connected = True
+        self.inner.data_received(head)
+        if told:
+            self._wait(self.seconds[1])
+        elif self.timer is not None:
+            self.timer.cancel()
+        if rest:
+            self._hand_on(rest)
+
+    def _told_length(self, head: bytes) -> int | None:
+        """The length of the body by Content-Length; None where the head isn't one that is taken."""
+        fields = [line.partition(b":") for line in head.split(b"\r\n")[1:] if line]
+        if not FIRST_LINE.match(head) or len(fields) > MOST_FIELDS:
+            return None
+        names = [name.strip().lower() for name, _, _ in fields]
+        lengths = [value.strip() for name, _, value in fields if name.strip().lower() == b"content-length"]
+        if b"transfer-encoding" in names or len(lengths) > 1 or names.count(b"host") > 1:
+            return None
+        if not lengths:
+            return 0
+        return int(lengths[0]) if lengths[0].isdigit() and len(lengths[0]) <= 15 else None
+
+    def _hand_on(self, data: bytes) -> None:
+        """Hands on what belongs to the one request; what follows it is not read."""
+        part, self.left = data[: self.left], self.left - min(len(data), self.left)
+        if part:
+            self.inner.data_received(part)
+            if self.left == 0 and self.timer is not None:
+                self.timer.cancel()
+
+    def eof_received(self) -> bool | None:
+        return self.inner.eof_received() if self.is_connected else False
+
+    def connection_lost(self, error: Exception | None) -> None:
+        Guard.open_connections -= 1
+        if self.timer is not None:
+            self.timer.cancel()
+        if self.is_connected:
+            self.inner.connection_lost(error)
+
+    def pause_writing(self) -> None:
+        if self.is_connected:
+            self.inner.pause_writing()
+
+    def resume_writing(self) -> None:
+        if self.is_connected:
+            self.inner.resume_writing()

@@ -1,0 +1,141 @@
+"""The command `outagebook-screen`: its words, and the run of the server."""
+
+from __future__ import annotations
+
+import argparse
+import asyncio
+import logging
+import resource
+import signal
+import sys
+from pathlib import Path
+
+from aiohttp import web
+
+from .desk import Away, Desk, OwnDesk
+from .guard import Guard
+from .journal import Journal
+from .office import Office, new_state
+from .reader import BookError, Differs, Parser
+from .web import Settings, application
+
+FIRST_ANSWER_SECONDS = 600
+BETWEEN_TRIES = 0.5
+OPEN_FILES = 8_192
+
+
+def read_words() -> argparse.Namespace:
+    words = Parser(
+        prog="outagebook-screen", description="The screen of an outage book's desk, for browsers on 127.0.0.1."
+    )
+    words.add_argument("--book", metavar="FILE", type=Path, required=True, help="the book that the desk serves")
+    words.add_argument("--port", type=int, default=8081, help="the port of 127.0.0.1 (8081); 0 takes one that is free")
+    words.add_argument(
+        "--desk", metavar="URL", help="a desk that is there; without it the screen starts one of its own"
+    )
+    words.add_argument("--no-desk", action="store_true", help="look at a copy of a book, without any desk")
+    words.add_argument("--program", metavar="PATH", default="outagebook", help="the program (outagebook on the path)")
+    words.add_argument("--read-only", action="store_true", help="nobody may send commands")
+    words.add_argument("--proxy", metavar="ADDRESS", help="the address whose X-Remote-User is the login, as 127.0.0.1")
+    words.add_argument("--senders", metavar="PREFIX", default="", help="only logins that begin so may send commands")
+    words.add_argument("--host", metavar="NAME", action="append", default=[], help="a name by which browsers call it")
+    words.add_argument(
+        "--log", metavar="FILE", type=Path, help="the screen's own log (the book's name and -screen.jsonl)"
+    )
+    given = words.parse_args()
+    if given.desk and given.no_desk:
+        words.error("--desk and --no-desk exclude each other")
+    if not 0 <= given.port <= 65_535:
+        words.error("there is no such port")
+    return given
+
+
+async def wait_for(desk: Desk) -> None:
+    """Waits until a desk answers: a large book takes its time to load."""
+    end = asyncio.get_running_loop().time() + FIRST_ANSWER_SECONDS
+    while True:
+        try:
+            await desk.ask("GET", "/commands/0")
+            return
+        except Away as away:
+            if asyncio.get_running_loop().time() > end:
+                raise BookError(f"the desk gives no answer: {away}") from None
+            await asyncio.sleep(BETWEEN_TRIES)
+
+
+async def start_desk(given: argparse.Namespace, tasks: list[asyncio.Task[None]]) -> tuple[Desk | None, OwnDesk | None]:
+    """The desk that is asked for, at work."""
+    if given.no_desk:
+        return None, None
+    if given.desk:
+        desk = Desk(given.desk.rstrip("/"))
+        await wait_for(desk)
+        return desk, None
+    desk = Desk(None)
+    own = OwnDesk(desk, given.program, given.book.resolve())
+    tasks.append(asyncio.create_task(own.keep()))
+    why = await own.first_start
+    if why:
+        raise BookError(why)
+    return desk, own
+
+
+async def serve(given: argparse.Namespace) -> None:
+    ended = asyncio.Event()
+    for each in (signal.SIGTERM, signal.SIGINT):
+        asyncio.get_running_loop().add_signal_handler(each, ended.set)
+    tasks: list[asyncio.Task[None]] = []
+    desk, own = await start_desk(given, tasks)
+    try:
+        log = given.log or given.book.with_name(f"{given.book.name}-screen.jsonl")
+        office = Office(
+            given.book.resolve(), new_state(given.book.resolve()), desk, Journal(None if given.no_desk else log)
+        )
+        if desk is not None:
+            tasks.append(asyncio.create_task(office.watch()))
+        await listen(given, office, ended)
+    finally:
+        for task in tasks:
+            task.cancel()
+        await asyncio.gather(*tasks, return_exceptions=True)
+        if own is not None:
+            await own.end()
+
+
+async def listen(given: argparse.Namespace, office: Office, ended: asyncio.Event) -> None:
+    settings = Settings(given.program, set(given.host), given.proxy, given.read_only, given.senders)
+    runner = web.AppRunner(application(office, settings), access_log=None, handle_signals=False)
+    await runner.setup()
+    loop = asyncio.get_running_loop()
+    assert runner.server is not None
+    web_server: web.Server = runner.server
+    try:
+        server = await loop.create_server(lambda: Guard(web_server()), "127.0.0.1", given.port, backlog=1_024)
+    except OSError as error:
+        raise BookError(f"port {given.port} can't be bound: {error.strerror}") from None
+    port = server.sockets[0].getsockname()[1]
+    settings.hosts |= {f"127.0.0.1:{port}", f"localhost:{port}"}
+    print(f"listening 127.0.0.1:{port}", flush=True)
+    try:
+        await ended.wait()
+    finally:
+        server.close()
+        await runner.shutdown()
+        await web_server.shutdown(1.0)
+        await runner.cleanup()
+
+
+def main() -> int:
+    given = read_words()
+    most = resource.getrlimit(resource.RLIMIT_NOFILE)[1]
+    resource.setrlimit(resource.RLIMIT_NOFILE, (most if most < OPEN_FILES else OPEN_FILES, most))
+    logging.basicConfig(level=logging.ERROR)
+    try:
+        asyncio.run(serve(given))
+    except Differs as differs:
+        print(f"differs: {differs}", file=sys.stderr)
+        return 2
+    except BookError as error:
+        print(f"error: {error}", file=sys.stderr)
+        return 1
+    return 0

@@ -1,0 +1,45 @@
+"""Moments as people type them: by the clock of the book's zone, with the offset where that clock shows an hour twice."""
+
+from __future__ import annotations
+
+import re
+from dataclasses import dataclass
+from datetime import datetime
+
+from .reader import Zone
+from .state import Refused
+
+TYPED = re.compile(r"(\d{4}-\d\d-\d\d)[ T](\d\d:\d\d)(:\d\d)?(Z|[+-]\d\d:\d\d)?")
+UNIX = re.compile(r"\d{1,11}")
+LAST = 99_999_999_999
+
+
+@dataclass(frozen=True)
+class Moment:
+    second: int
+    text: str
+
+
+def moment_of(zone: Zone, second: int) -> Moment:
+    return Moment(second, zone.text_of(second))
+
+
+def read_moment(zone: Zone, text: str) -> list[Moment]:
+    """The seconds that a typed moment may mean: one, or two where the clock shows it twice."""
+    text = text.strip()
+    if UNIX.fullmatch(text):
+        return [moment_of(zone, int(text))]
+    match = TYPED.fullmatch(text)
+    if match is None:
+        raise Refused("a moment is typed as 2025-04-05 06:10:00, by the clock of the book's zone")
+    day, minute, second, offset = match.groups()
+    try:
+        shown = datetime.fromisoformat(f"{day}T{minute}{second or ':00'}{offset or ''}")
+        seconds = [int(shown.timestamp())] if offset else zone.instants(shown)
+    except (ValueError, OverflowError):
+        raise Refused(f"{text} is no date and time") from None
+    if not seconds:
+        raise Refused(f"the clock of the book's zone never shows {text}: it is set forward over that hour")
+    if not all(0 <= each <= LAST for each in seconds):
+        raise Refused(f"{text} lies outside of what a book can hold")
+    return [moment_of(zone, each) for each in seconds]

@@ -1,0 +1,87 @@
+"""The desk's refusals in a person's words, beside their number."""
+
+from __future__ import annotations
+
+from typing import Any
+
+from .state import State
+from .views import entry_view, text
+
+FIELDS: dict[str, tuple[str, ...]] = {
+    "cause": ("code", "name"),
+    "bus": ("name",),
+    "section": ("name", "home feeder"),
+    "device": ("name", "first node", "second node", "normal position", "beginning", "end"),
+    "life": ("device", "beginning", "end"),
+    "connect": ("customer", "section", "since", "until"),
+    "revise": ("customer", "since", "until"),
+    "switch": ("device", "position", "second", "cause", "crew"),
+    "correct": ("entry", "revision", "position", "second", "cause", "crew"),
+    "withdraw": ("entry", "revision"),
+    "mark": ("day", "engineer"),
+    "unmark": ("day", "engineer"),
+}
+FIRST_FIELD = 3
+PLAIN = {
+    3: "The name, the code or the customer's number is in use already.",
+    6: "No entry of the sheet has this number.",
+    8: "The entry was withdrawn: it stays on the sheet and acts no more.",
+    9: "No customer has this number.",
+    10: "The end of the service has to lie after its beginning.",
+    13: "The day is marked already.",
+    14: "The day isn't marked.",
+    15: "No cause has this code.",
+    18: "The end of the life has to lie after its beginning: look at the field of the end.",
+}
+
+
+def names_of(command: dict[str, str]) -> dict[str, str]:
+    """The fields of a command by their names."""
+    names = FIELDS.get(command["kind"], ())
+    return {name: command.get(f"f{place}", "") for place, name in enumerate(names, 1)}
+
+
+def words_of(state: State, command: dict[str, str], reply: dict[str, Any]) -> str:
+    """What a refusal means for the command that was refused."""
+    number, detail = reply.get("refused"), reply.get("detail")
+    if number == 1:
+        return bad_field(command, detail)
+    if number == 2:
+        return unknown_name(state, command)
+    if number == 5:
+        first, last = text(state, state.period.first), text(state, state.period.end - 1)
+        return f"The second or the day lies outside the book's period, which goes from {first} to {last}."
+    if number == 7:
+        return f"Somebody told this entry anew: it has revision {detail} by now. Look at what it is, and correct that if need be."
+    if number == 11:
+        return f"This reference was used for another command, number {detail}. Nothing was done."
+    if number == 12:
+        return f"The book is full here: it takes {detail} of these."
+    return PLAIN.get(number if isinstance(number, int) else 0, "The desk refused this command.")
+
+
+def bad_field(command: dict[str, str], column: object) -> str:
+    names = FIELDS.get(command["kind"], ())
+    place = column - FIRST_FIELD if isinstance(column, int) else -1
+    which = names[place] if 0 <= place < len(names) else "reference" if column == 2 else "command"
+    return f"The {which} can't be read: names are of A-Z, 0-9, - and _, at most 24 of them (a crew: 16)."
+
+
+def unknown_name(state: State, command: dict[str, str]) -> str:
+    """The field whose name the book doesn't know: its refusal doesn't say which."""
+    for field, value in names_of(command).items():
+        is_device = field == "device"
+        is_node = field in ("first node", "second node", "section")
+        if (is_device and value not in state.device_numbers) or (is_node and value not in state.node_numbers):
+            return f"The book knows no {field} {value}."
+        if field == "section" and not state.is_section(state.node_numbers[value]):
+            return f"{value} is a bus: customers are on sections."
+    return "The book knows no such name."
+
+
+def stale_entry(state: State, command: dict[str, str]) -> dict[str, Any] | None:
+    """What the entry of a correction or a withdrawal is now."""
+    number = command.get("f1", "")
+    if command["kind"] in ("correct", "withdraw") and number.isdigit() and 1 <= int(number) <= len(state.sheet.entries):
+        return entry_view(state, state.sheet.entries[int(number) - 1])
+    return None

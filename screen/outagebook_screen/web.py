@@ -1,0 +1,445 @@
+"""The routes of the screen, and what each request has to bring: its host, its origin, its token, its login."""
+
+from __future__ import annotations
+
+import asyncio
+import base64
+import hashlib
+import hmac
+import json
+import re
+import secrets
+import time
+from collections.abc import Awaitable, Callable
+from dataclasses import dataclass, field
+from functools import partial
+from pathlib import Path
+from typing import Any
+from urllib.parse import urlsplit
+
+from aiohttp import web
+
+from . import moments, refusals, views, year
+from .desk import Away
+from .guard import BODY_BYTES
+from .office import NAME, REFERENCE, Office, name_of_login
+from .reader import BookError
+from .state import Refused
+
+STATIC = Path(__file__).resolve().parent.parent / "static"
+PAGES = {"/": "now", "/sheet": "sheet", "/enter": "enter", "/network": "network", "/year": "year"}
+COMMAND_BYTES = 16_384
+MOST_PAGES = 500
+HEARTBEAT_SECONDS = 10.0
+SLOW_SECONDS = 20.0
+COOKIE = "screen_name"
+POLICY = (
+    "default-src 'none'; script-src 'self'; style-src 'self'; img-src 'self'; connect-src 'self'; form-action 'self'; "
+    "base-uri 'none'; frame-ancestors 'none'"
+)
+Handler = Callable[[web.Request], Awaitable[web.StreamResponse]]
+
+
+@dataclass
+class Settings:
+    """How the screen was started."""
+
+    program: str
+    hosts: set[str]
+    proxy: str | None = None
+    read_only: bool = False
+    senders: str = ""  # logins that begin with this may send commands
+    secret: bytes = field(default_factory=lambda: secrets.token_bytes(32))
+
+
+OFFICE = "office"
+SETTINGS = "settings"
+
+
+def office_of(request: web.Request) -> Office:
+    found: Office = request.app[OFFICE]
+    return found
+
+
+def settings_of(request: web.Request) -> Settings:
+    found: Settings = request.app[SETTINGS]
+    return found
+
+
+def answer(status: int, shown: Any) -> web.Response:
+    return web.Response(status=status, text=json.dumps(shown), content_type="application/json")
+
+
+def complaint(status: int, error: str, words: str) -> web.Response:
+    return answer(status, {"error": error, "words": words})
+
+
+# Who asks.
+
+
+def login_of(request: web.Request) -> str | None:
+    """The login of a request: the proxy's where there is one; else the name that was given, "" where none was. None: the
+    proxy named nobody."""
+    settings = settings_of(request)
+    if settings.proxy is not None:
+        if request.remote != settings.proxy:
+            return None
+        return request.headers.get("X-Remote-User") or None
+    name = request.cookies.get(COOKIE, "")
+    return name if NAME.fullmatch(name) else ""
+
+
+def may_send(request: web.Request, login: str) -> bool:
+    settings, office = settings_of(request), office_of(request)
+    return not settings.read_only and office.desk is not None and bool(login) and login.startswith(settings.senders)
+
+
+def token_of(settings: Settings, login: str) -> str:
+    return hmac.new(settings.secret, login.encode(errors="replace"), "sha256").hexdigest()
+
+
+# What each request has to bring.
+
+
+@web.middleware
+async def check(request: web.Request, handler: Handler) -> web.StreamResponse:
+    try:
+        refusal = refusal_of(request)
+        return await handler(request) if refusal is None else refusal
+    except web.HTTPException as error:
+        headers = {"Allow": error.headers["Allow"]} if "Allow" in error.headers else None
+        reply = complaint(error.status, "http", error.reason)
+        reply.headers.update(headers or {})
+        return reply
+    except Refused as refused:
+        return complaint(422, "refused here", str(refused))
+    except Away as away:
+        return answer(503, {"error": "away", "words": "The desk gives no answer.", "why": str(away)})
+    except BookError as error:
+        return complaint(500, "book", str(error))
+    except OSError as error:
+        return complaint(500, "files", f"the screen can't write or read its files: {error.strerror}")
+
+
+def refusal_of(request: web.Request) -> web.Response | None:
+    """Why a request isn't looked at, if so."""
+    hosts = settings_of(request).hosts
+    if request.headers.get("Host", "") not in hosts:
+        return complaint(403, "host", "this name isn't the screen's: --host tells it another")
+    if request.method not in ("GET", "HEAD", "POST"):
+        reply = complaint(405, "method", "the screen knows GET and POST")
+        reply.headers["Allow"] = "GET, HEAD, POST"
+        return reply
+    site, is_visit = request.headers.get("Sec-Fetch-Site", "none"), request.headers.get("Sec-Fetch-Mode") == "navigate"
+    if site not in ("same-origin", "none") and not (is_visit and request.method == "GET" and request.path in PAGES):
+        return complaint(403, "origin", "asked by a page from elsewhere")
+    if request.path == "/health":
+        return None
+    login = login_of(request)
+    if login is None:
+        return complaint(401, "login", "the proxy names nobody")
+    return refusal_of_post(request, login) if request.method == "POST" else None
+
+
+def refusal_of_post(request: web.Request, login: str) -> web.Response | None:
+    origin = request.headers.get("Origin")
+    if origin is not None and urlsplit(origin).netloc != request.headers.get("Host"):
+        return complaint(403, "origin", "sent by a page from elsewhere")
+    wanted = "text/csv" if request.path == "/api/import" else "application/json"
+    if request.content_type != wanted:
+        return complaint(415, "type", f"the body has to be {wanted}")
+    if not hmac.compare_digest(request.headers.get("X-Screen-Token", ""), token_of(settings_of(request), login)):
+        return complaint(403, "token", "the page's token is missing or an old one: load the page again")
+    if request.path != "/api/name" and not may_send(request, login):
+        return complaint(403, "look only", "this login may look, and not send")
+    return None
+
+
+async def secure(request: web.Request, response: web.StreamResponse) -> None:
+    """Fields that every reply has, and its connection's end."""
+    response.headers.setdefault("Content-Security-Policy", POLICY)
+    response.headers["X-Content-Type-Options"] = "nosniff"
+    response.headers["X-Frame-Options"] = "DENY"
+    response.headers["Referrer-Policy"] = "same-origin"
+    response.headers["Cross-Origin-Resource-Policy"] = "same-origin"
+    response.headers["Cross-Origin-Opener-Policy"] = "same-origin"
+    response.headers["Cache-Control"] = "no-store" if not request.path.startswith("/static/") else "no-cache"
+    response.headers.pop("Server", None)
+    response.headers["Connection"] = "close"
+    response.force_close()
+
+
+async def json_body(request: web.Request) -> dict[str, str]:
+    """An object of texts."""
+    data = await request.read()
+    if len(data) > COMMAND_BYTES:
+        raise web.HTTPRequestEntityTooLarge(COMMAND_BYTES, len(data))
+    try:
+        found = json.loads(data)
+    except (ValueError, RecursionError):
+        raise Refused("the body is no JSON") from None
+    if not isinstance(found, dict) or not all(isinstance(value, str) for value in found.values()):
+        raise Refused("the body is no object of texts")
+    return found
+
+
+# Pages and what they read.
+
+
+async def page(request: web.Request) -> web.StreamResponse:
+    name = PAGES[request.path]
+    data = (STATIC / f"{name}.html").read_bytes()
+    return web.Response(body=data, content_type="text/html", charset="utf-8")
+
+
+TYPES = {".js": "text/javascript", ".css": "text/css", ".svg": "image/svg+xml"}
+
+
+async def static(request: web.Request) -> web.StreamResponse:
+    name = request.match_info["name"]
+    place = STATIC / name
+    if not re.fullmatch(r"[a-z]+\.(js|css|svg)", name) or not place.is_file():
+        raise web.HTTPNotFound()
+    return web.Response(body=place.read_bytes(), content_type=TYPES[place.suffix], charset="utf-8")
+
+
+async def icon(request: web.Request) -> web.StreamResponse:
+    return web.Response(body=(STATIC / "icon.svg").read_bytes(), content_type=TYPES[".svg"], charset="utf-8")
+
+
+async def health(request: web.Request) -> web.StreamResponse:
+    shown = office_of(request).desk_view()
+    return answer(503 if shown["desk"] == "away" else 200, shown)
+
+
+async def me(request: web.Request) -> web.StreamResponse:
+    """Who the screen takes the reader for, and what that login may do."""
+    login, settings, office = login_of(request) or "", settings_of(request), office_of(request)
+    return answer(
+        200,
+        {
+            "login": login,
+            "name": name_of_login(login),
+            "asks_name": settings.proxy is None,
+            "may_send": may_send(request, login),
+            "could_send": not settings.read_only and office.desk is not None,
+            "token": token_of(settings, login),
+            **office.desk_view(),
+        },
+    )
+
+
+async def give_name(request: web.Request) -> web.StreamResponse:
+    if settings_of(request).proxy is not None:
+        raise web.HTTPForbidden()
+    name = name_of_login((await json_body(request)).get("name", "").strip())
+    if not NAME.fullmatch(name):
+        raise Refused("a name has 1 to 16 of A-Z, 0-9, - and _")
+    reply = answer(200, {"name": name})
+    reply.set_cookie(COOKIE, name, httponly=True, samesite="Strict", max_age=90 * 86_400, path="/")
+    return reply
+
+
+async def book(request: web.Request) -> web.StreamResponse:
+    return answer(200, views.book_view(office_of(request).state))
+
+
+def second_within(request: web.Request) -> int:
+    """The second that is asked for: now by the server's clock where none is, brought into the period."""
+    office, typed = office_of(request), request.query.get("at", "")
+    period = office.state.period
+    if not typed:
+        return min(max(int(time.time()), period.first), period.end - 1)
+    found = moments.read_moment(period.zone, typed)
+    at = found[int(request.query.get("which") == "1") % len(found)].second
+    if not period.first <= at < period.end:
+        raise Refused("the second lies outside the book's period")
+    return at
+
+
+async def now(request: web.Request) -> web.StreamResponse:
+    at = second_within(request)
+    return answer(200, views.now_view(office_of(request).state, at))
+
+
+async def sheet(request: web.Request) -> web.StreamResponse:
+    return answer(200, views.sheet_view(office_of(request).state, dict(request.query)))
+
+
+async def entry(request: web.Request) -> web.StreamResponse:
+    """An entry with its commands and the moves of each, in the desk's own words."""
+    office, number = office_of(request), int(request.match_info["no"])
+    if not 1 <= number <= len(office.state.sheet.entries):
+        raise web.HTTPNotFound()
+    shown = views.entry_view(office.state, office.state.sheet.entries[number - 1])
+    shown["history"] = []
+    for command in office.state.histories[number]:
+        status, text = await office.moves_of(command.number)
+        shown["history"].append({**views.history_view(office.state, command), "text": text if status == 200 else None})
+    return answer(200, shown)
+
+
+async def moment(request: web.Request) -> web.StreamResponse:
+    zone = office_of(request).state.period.zone
+    found = moments.read_moment(zone, request.query.get("text", ""))
+    return answer(200, [{"second": each.second, "text": each.text} for each in found])
+
+
+async def position(request: web.Request) -> web.StreamResponse:
+    """How a device stands at a second."""
+    state, name = office_of(request).state, request.query.get("device", "")
+    if name not in state.device_numbers:
+        raise web.HTTPNotFound()
+    device, at = state.sheet.devices[state.device_numbers[name]], second_within(request)
+    holds = state.sheet.holds(device, at + 1)
+    closed = holds.closes if holds else device.is_closed
+    return answer(200, {"closed": closed, "alive": device.is_alive(at), "cause": holds.cause if holds else 0})
+
+
+async def forecast(request: web.Request) -> web.StreamResponse:
+    kind = request.query.get("kind", "")
+    names = refusals.FIELDS.get(kind, ())
+    fields = [request.query.get(f"f{place}", "") for place in range(1, len(names) + 1)]
+    return answer(200, office_of(request).forecast(kind, fields))
+
+
+async def command(request: web.Request) -> web.StreamResponse:
+    """Sends a command under the page's reference, which has to be the login's own."""
+    login, body = login_of(request) or "", await json_body(request)
+    names = {"kind", "ref", *(f"f{place}" for place in range(1, 7))}
+    if not {"kind", "ref"} <= body.keys() <= names or body["kind"] not in refusals.FIELDS:
+        raise Refused("a command has kind, ref and f1 to f6")
+    if not REFERENCE.fullmatch(body["ref"]) or not body["ref"].startswith(f"SCR-{name_of_login(login)}-"):
+        raise Refused(f"the reference has to begin with SCR-{name_of_login(login)}-")
+    if body["kind"] in ("mark", "unmark") and body.get("f2") != name_of_login(login):
+        raise Refused("a day is marked by the login's own name")
+    return answer(*await asyncio.shield(office_of(request).send(login, body)))
+
+
+async def rows(request: web.Request) -> web.StreamResponse:
+    login, data = login_of(request) or "", await request.read()
+    return answer(*await asyncio.shield(office_of(request).import_rows(login, data)))
+
+
+async def customers(request: web.Request) -> web.StreamResponse:
+    return answer(200, views.customers_view(office_of(request).state, request.query.get("section", "")))
+
+
+async def journal(request: web.Request) -> web.StreamResponse:
+    return answer(200, list(office_of(request).journal.latest)[::-1])
+
+
+# The year.
+
+
+async def apart(work: Callable[[], Any]) -> Any:
+    """Work that takes its time, off the loop."""
+    return await asyncio.get_running_loop().run_in_executor(None, work)
+
+
+async def table_text(request: web.Request) -> str:
+    office = office_of(request)
+    if office.desk is None:
+        return str(await apart(partial(year.table_of_copy, settings_of(request).program, office.book)))
+    return (await office.desk.ask("GET", "/table")).body.decode()
+
+
+async def table(request: web.Request) -> web.StreamResponse:
+    return answer(200, year.table_view(await table_text(request)))
+
+
+async def totals(request: web.Request) -> web.StreamResponse:
+    office = office_of(request)
+    if office.desk is None:
+        raise web.HTTPNotFound()
+    return web.Response(body=(await office.desk.ask("GET", "/totals")).body, content_type="application/json")
+
+
+async def download(request: web.Request) -> web.StreamResponse:
+    office, program, name = office_of(request), settings_of(request).program, request.match_info["name"]
+    if name == "table.txt":
+        data = (await table_text(request)).encode()
+    elif name == "commands.csv":
+        data = await apart(partial(year.commands_csv, program, office.book))
+    elif name == "moves.csv":
+        data = await apart(partial(year.moves_csv, program, office.book))
+    else:
+        raise web.HTTPNotFound()
+    kind = "text/csv" if name.endswith(".csv") else "text/plain"
+    headers = {"Content-Disposition": f"attachment; filename={name}"}
+    return web.Response(body=data, content_type=kind, charset="utf-8", headers=headers)
+
+
+async def report(request: web.Request) -> web.StreamResponse:
+    """The printed report. Its style stands in the page, so the policy names just that by its hash."""
+    data = await apart(partial(year.report_page, settings_of(request).program, office_of(request).book))
+    styles = re.findall(rb"<style>(.*?)</style>", data, re.S)
+    hashes = " ".join(f"'sha256-{base64.b64encode(hashlib.sha256(style).digest()).decode()}'" for style in styles)
+    headers = {"Content-Security-Policy": f"default-src 'none'; style-src {hashes}; frame-ancestors 'none'"}
+    return web.Response(body=data, content_type="text/html", charset="utf-8", headers=headers)
+
+
+# Events.
+
+
+async def events(request: web.Request) -> web.StreamResponse:
+    """Tells a page of each accepted command, and where the desk goes or comes."""
+    office = office_of(request)
+    if len(office.hub.pages) >= MOST_PAGES:
+        raise web.HTTPServiceUnavailable()
+    stream = web.StreamResponse(headers={"Content-Type": "text/event-stream", "X-Accel-Buffering": "no"})
+    queue = office.hub.join()
+    try:
+        await stream.prepare(request)
+        await write_event(stream, {"what": "hello", **office.desk_view()})
+        while True:
+            try:
+                event = await asyncio.wait_for(queue.get(), HEARTBEAT_SECONDS)
+            except asyncio.TimeoutError:
+                event = {"what": "beat", **office.desk_view()}
+            await write_event(stream, event)
+    except (ConnectionError, asyncio.TimeoutError):
+        pass
+    finally:
+        office.hub.leave(queue)
+    return stream
+
+
+async def write_event(stream: web.StreamResponse, event: dict[str, Any]) -> None:
+    await asyncio.wait_for(stream.write(f"data: {json.dumps(event)}\n\n".encode()), SLOW_SECONDS)
+
+
+GETS: dict[str, Handler] = {
+    "/health": health,
+    "/favicon.ico": icon,
+    "/static/{name}": static,
+    "/events": events,
+    "/report": report,
+    "/download/{name}": download,
+    "/api/me": me,
+    "/api/book": book,
+    "/api/now": now,
+    "/api/sheet": sheet,
+    r"/api/entries/{no:\d{1,6}}": entry,
+    "/api/moment": moment,
+    "/api/position": position,
+    "/api/forecast": forecast,
+    "/api/customers": customers,
+    "/api/log": journal,
+    "/api/year": table,
+    "/api/totals": totals,
+}
+POSTS: dict[str, Handler] = {"/api/name": give_name, "/api/command": command, "/api/import": rows}
+
+
+def application(office: Office, settings: Settings) -> web.Application:
+    app = web.Application(middlewares=[check], client_max_size=BODY_BYTES)
+    app[OFFICE], app[SETTINGS] = office, settings
+    app.on_response_prepare.append(secure)
+    for route in PAGES:
+        app.router.add_get(route, page)
+    for route, handler in GETS.items():
+        app.router.add_get(route, handler)
+    for route, handler in POSTS.items():
+        app.router.add_post(route, handler)
+    return app

@@ -1,0 +1,265 @@
+// What all pages share: the head, requests with the page's token, the events, and elements whose texts are set as text.
+
+export const known = { me: null, book: null };
+const listeners = [];
+
+/** An element: attributes, listeners where a value is a function, and children, which are texts or elements. */
+export function el(tag, attributes = {}, ...children) {
+  const made = document.createElement(tag);
+  fill(made, attributes, children);
+  return made;
+}
+
+export function svg(tag, attributes = {}, ...children) {
+  const made = document.createElementNS("http://www.w3.org/2000/svg", tag);
+  fill(made, attributes, children);
+  return made;
+}
+
+function fill(made, attributes, children) {
+  for (const [name, value] of Object.entries(attributes)) {
+    if (typeof value === "function") made.addEventListener(name, value);
+    else if (value === true) made.setAttribute(name, "");
+    else if (value !== false && value !== null && value !== undefined) made.setAttribute(name, value);
+  }
+  made.append(...children.flat().filter((child) => child !== null && child !== undefined && child !== ""));
+}
+
+/** What went wrong with a request: its status (0 where nothing was answered) and the server's words. */
+export class Trouble extends Error {
+  constructor(status, shown) {
+    super(shown.words || "the screen's server gives no answer");
+    this.status = status;
+    this.shown = shown;
+  }
+}
+
+async function answerOf(request) {
+  let reply;
+  let shown;
+  try {
+    reply = await request();
+    shown = await reply.json();
+  } catch {
+    throw new Trouble(0, {});
+  }
+  if (!reply.ok) throw new Trouble(reply.status, shown);
+  return shown;
+}
+
+export function get(route, query = {}) {
+  const words = new URLSearchParams(query).toString();
+  return answerOf(() => fetch(words ? `${route}?${words}` : route));
+}
+
+/** Posts with the page's token; where the server was started anew, once more with the new one. */
+export async function post(route, body, type = "application/json") {
+  const send = () =>
+    answerOf(() =>
+      fetch(route, { method: "POST", body, headers: { "Content-Type": type, "X-Screen-Token": known.me.token } }),
+    );
+  try {
+    return await send();
+  } catch (trouble) {
+    if (trouble.shown?.error !== "token") throw trouble;
+    known.me = await get("/api/me");
+    return send();
+  }
+}
+
+/** A reference for one intent, made before its first try. */
+export function newReference() {
+  const letters = "ABCDEFGHJKLMNPQRSTUVWXYZ23456789";
+  const random = crypto.getRandomValues(new Uint8Array(12));
+  return `SCR-${known.me.name}-${Array.from(random, (byte) => letters[byte % 32]).join("")}`;
+}
+
+export function number(value) {
+  return Number(value).toLocaleString("en-US").replaceAll(",", "\u2009");
+}
+
+export function signed(value) {
+  return (value > 0 ? "+" : value < 0 ? "\u2212" : "") + number(Math.abs(value));
+}
+
+/** A moment as the server wrote it by the clock of the book's zone: date, time and offset. */
+export function moment(value) {
+  const text = typeof value === "string" ? value : value.text;
+  if (!text) return "";
+  return el("time", { datetime: text }, `${text.slice(0, 10)} ${text.slice(11, 19)} ${text.slice(19)}`);
+}
+
+export function duration(seconds) {
+  const parts = [
+    [Math.floor(seconds / 86400), "d"],
+    [Math.floor(seconds / 3600) % 24, "h"],
+    [Math.floor(seconds / 60) % 60, "min"],
+    [seconds % 60, "s"],
+  ].filter(([count]) => count);
+  return parts.map(([count, unit]) => `${count} ${unit}`).join(" ") || "0 s";
+}
+
+/** A table of rows of cells; heads that begin with # are of numbers. On a narrow page each row is a card. */
+export function table(heads, rows, caption = null, rowClasses = []) {
+  const names = heads.map((head) => head.replace(/^#/, ""));
+  const cells = (row, at) =>
+    row.map((cell, place) =>
+      el("td", { class: heads[place].startsWith("#") ? "n" : null, "data-label": names[place] }, cell),
+    );
+  const head = heads.map((name, place) => el("th", { scope: "col", class: name.startsWith("#") ? "n" : null }, names[place]));
+  return el(
+    "div",
+    { class: "scroll" },
+    el(
+      "table",
+      { class: heads.length > 3 ? "cards" : null },
+      caption ? el("caption", {}, caption) : "",
+      el("thead", {}, el("tr", {}, head)),
+      el("tbody", {}, rows.map((row, at) => el("tr", { class: rowClasses[at] || null }, cells(row, at)))),
+    ),
+  );
+}
+
+/** A label with its field. */
+export function field(label, input, note = null) {
+  input.id ||= `f-${label.toLowerCase().replace(/[^a-z0-9]+/g, "-")}-${(field.count = (field.count || 0) + 1)}`;
+  return el("div", { class: "field" }, el("label", { for: input.id }, label), input, note ? el("div", { class: "note" }, note) : "");
+}
+
+export function choice(options, chosen = "") {
+  return el("select", {}, options.map(([value, text]) => el("option", { value, selected: value === chosen }, text)));
+}
+
+export function list(id, values) {
+  return el("datalist", { id }, values.map((value) => el("option", { value })));
+}
+
+export function text(attributes = {}) {
+  return el("input", { type: "text", autocomplete: "off", spellcheck: "false", ...attributes });
+}
+
+/** Runs a function when nothing has called again for a moment. */
+export function settled(work, milliseconds = 150) {
+  let timer = null;
+  return () => {
+    clearTimeout(timer);
+    timer = setTimeout(work, milliseconds);
+  };
+}
+
+// The head of each page.
+
+const PAGES = [
+  ["/", "Now"],
+  ["/sheet", "Sheet"],
+  ["/enter", "Enter"],
+  ["/network", "Network"],
+  ["/year", "Year"],
+];
+const state = el("span", { role: "status", class: "state" });
+const banner = el("div", { role: "alert" });
+export const said = el("div", { class: "said", role: "status" });
+
+function head() {
+  const links = PAGES.map(([href, name]) =>
+    el("a", { href, "aria-current": location.pathname === href ? "page" : null }, name),
+  );
+  const me = known.me;
+  const rename = me.asks_name ? el("button", { type: "button", class: "small", click: () => askName(true) }, "Change name") : "";
+  const who = el("span", {}, me.name ? `You are ${me.name}${me.may_send ? "" : ", looking only"}` : "No name yet");
+  document.getElementById("head").replaceChildren(
+    el("nav", { "aria-label": "Pages" }, links),
+    el("div", { class: "who" }, state, who, rename),
+  );
+  document.querySelector("main h1").after(banner);
+  document.body.append(said);
+}
+
+export function showDesk(shown) {
+  const words = { here: "Desk: here", away: "Desk: AWAY", none: "No desk: a copy" };
+  state.replaceChildren(`${words[shown.desk]}, ${number(shown.number)} commands`);
+  const parts = [];
+  if (shown.desk === "away") {
+    parts.push(el("p", { class: "bad" }, `The desk is away; the screen tries again each second. What is shown is as of command ${shown.number}. (${shown.why})`));
+  }
+  if (shown.differs) parts.push(el("p", { class: "bad" }, `The screen's own count differs from the desk: ${shown.differs}. Believe the desk.`));
+  banner.replaceChildren(...parts);
+}
+
+function askName(again = false) {
+  const given = text({ maxlength: 16, required: true, value: known.me.name });
+  const trouble = el("p", {});
+  const form = el(
+    "form",
+    {
+      class: "card",
+      submit: async (event) => {
+        event.preventDefault();
+        try {
+          await post("/api/name", JSON.stringify({ name: given.value }));
+          location.reload();
+        } catch (error) {
+          trouble.replaceChildren(el("span", { class: "bad" }, error.message));
+        }
+      },
+    },
+    field("Your name, for what you enter (upper case; 1 to 16 of A-Z, 0-9, - and _)", given),
+    trouble,
+    el("div", { class: "buttons" }, el("button", { class: "main" }, "This is my name")),
+  );
+  document.querySelector("main h1").after(form);
+  if (again) given.focus();
+}
+
+// Events.
+
+export function onCommands(work) {
+  listeners.push(work);
+}
+
+function listen() {
+  const source = new EventSource("/events");
+  let heard = false;
+  source.addEventListener("message", (message) => {
+    const event = JSON.parse(message.data);
+    showDesk(event);
+    if (event.what === "commands") tell(event);
+    if (event.what === "commands" || (event.what === "hello" && heard)) listeners.forEach((work) => work(event));
+    heard = true;
+  });
+  source.addEventListener("error", () => state.replaceChildren("The screen's server is away"));
+}
+
+let hush = null;
+
+function tell(event) {
+  const command = event.command;
+  const words = event.count > 1 ? `${event.count} commands, the last one ${command.no}` : `Command ${command.no}`;
+  said.replaceChildren(`${words}: ${command.kind} ${command.fields.slice(0, 2).join(" ")} (${command.ref}) moved W by ${signed(event.moved)}`);
+  clearTimeout(hush);
+  hush = setTimeout(() => said.replaceChildren(), 12000);
+}
+
+/** Begins a page: who asks, the book's names, the head, the events. */
+export async function begin(work) {
+  try {
+    [known.me, known.book] = await Promise.all([get("/api/me"), get("/api/book")]);
+  } catch (trouble) {
+    document.getElementById("main").append(el("p", { class: "bad" }, trouble.message));
+    return;
+  }
+  head();
+  showDesk(known.me);
+  if (known.me.asks_name && !known.me.name && known.me.could_send) askName();
+  await work();
+  document.body.dataset.ready = "yes";
+  listen();
+}
+
+export function reloadBook() {
+  return get("/api/book").then((book) => (known.book = book));
+}
+
+export const causes = () => known.book.causes.filter(([code]) => code > 0).map(([code, name]) => [String(code), `${code} ${name}`]);
+export const HERE = () => el("span", { class: "from" }, "computed here");
+export const PROGRAM = () => el("span", { class: "from" }, "from the desk");

@@ -1,0 +1,83 @@
+// The one-line diagram: GRID at the left, each layer of normally closed devices a column further, ties as arcs.
+import { el, svg } from "./common.js";
+
+const COLUMN = 224, ROW = 62, WIDTH = 122, HEIGHT = 36, EDGE = 14;
+
+const place = (node) => ({ x: EDGE + node.layer * COLUMN, y: EDGE + 14 + node.row * ROW });
+
+function nodeShape(node) {
+  const { x, y } = place(node);
+  const words = [["bus", node.kind < 2], ["out", !node.supplied], ["by_tie", node.by_tie]].filter(([, is]) => is).map(([name]) => name);
+  const group = svg("g", { class: `node ${words.join(" ")}` });
+  if (node.kind < 2) group.append(svg("rect", { x: x + WIDTH / 2 - 5, y, width: 10, height: HEIGHT }), svg("text", { x: x + WIDTH / 2, y: y - 4, "text-anchor": "middle" }, node.name));
+  else group.append(svg("rect", { x, y, width: WIDTH, height: HEIGHT, rx: 4 }), svg("text", { x: x + 6, y: y + 15 }, node.name));
+  if (node.kind >= 2 && node.by_tie) group.append(svg("rect", { class: "second", x: x + 3, y: y + 3, width: WIDTH - 6, height: HEIGHT - 6, rx: 3 }));
+  const told = !node.supplied ? `OUT \u00d7 ${node.customers} cust.` : node.by_tie ? `by a tie, ${node.customers} cust.` : `${node.customers} cust., feeder ${node.feeder}`;
+  if (node.kind >= 2) group.append(svg("text", { x: x + 6, y: y + 30, class: "sub" }, told));
+  else if (!node.supplied) group.append(svg("text", { x: x + WIDTH / 2, y: y + HEIGHT + 12, class: "sub", "text-anchor": "middle" }, "OUT"));
+  return group;
+}
+
+function ends(a, b) {
+  const [left, right] = a.layer <= b.layer ? [a, b] : [b, a];
+  const from = place(left), to = place(right);
+  const inset = (node) => (node.kind < 2 ? WIDTH / 2 - 5 : 0);
+  return { x1: from.x + WIDTH - inset(left), y1: from.y + HEIGHT / 2, x2: to.x + inset(right), y2: to.y + HEIGHT / 2, left, right, from, to };
+}
+
+/** The way of a device and the point at which its sign stands. */
+function wayOf(device, a, b) {
+  const { x1, y1, x2, y2, from, to, left, right } = ends(a, b);
+  if (device.tree) {
+    const turn = x1 + 22;
+    return { d: `M${x1} ${y1}H${turn}V${y2}H${x2}`, x: (turn + x2) / 2, y: y2 };
+  }
+  const out = (node, at) => at.x + WIDTH - (node.kind < 2 ? WIDTH / 2 - 5 : 0);
+  const sx = out(left, from), ex = out(right, to);
+  const reach = Math.max(sx, ex) + 40 + Math.min(60, Math.abs(y2 - y1) / 6);
+  return { d: `M${sx} ${y1 + 7}C${reach} ${y1 + 7} ${reach} ${y2 - 7} ${ex} ${y2 - 7}`, x: (sx + ex) / 8 + (reach * 6) / 8, y: (y1 + y2) / 2 };
+}
+
+function deviceShapes(device, nodes, link) {
+  const a = nodes[device.a], b = nodes[device.b];
+  const way = wayOf(device, a, b);
+  const dead = device.tree && !(a.supplied && b.supplied) && device.closed;
+  const kinds = ["way", dead && "dead", !device.tree && "tie", !device.closed && "open", !device.alive && "gone"].filter(Boolean);
+  const odd = device.alive && device.closed !== device.normal;
+  const words = [device.closed && "closed", odd && "odd", !device.alive && "gone"].filter(Boolean);
+  const state = !device.alive ? "not in the network" : `${device.closed ? "closed" : "open"}${odd ? ", not its normal position" : ""}`;
+  const mark = odd ? [svg("path", { class: "ring", d: `M${way.x} ${way.y - 13}l13 13l-13 13l-13 -13z` })] : [];
+  const shown = svg(
+    "a",
+    { href: link(device), class: words.join(" "), "aria-label": `${device.name}: ${state}. Enter a switching.` },
+    svg("rect", { class: "hit", x: way.x - 15, y: way.y - 15, width: 30, height: 30 }),
+    ...mark,
+    svg("rect", { class: "box", x: way.x - 6, y: way.y - 6, width: 12, height: 12 }),
+    svg("text", device.tree ? { x: way.x, y: way.y - 16, "text-anchor": "middle" } : { x: way.x + 17, y: way.y + 4 }, `${device.name}${odd ? (device.closed ? " closed!" : " open!") : ""}`),
+  );
+  return [svg("path", { class: kinds.join(" "), d: way.d }), shown];
+}
+
+/** The diagram of a network; where there is room it is drawn larger. */
+export function diagram(shown, link, room) {
+  const layers = Math.max(...shown.nodes.map((node) => node.layer)) + 1;
+  const rows = Math.max(...shown.nodes.map((node) => node.row)) + 1;
+  const width = EDGE * 2 + layers * COLUMN + 130, height = EDGE * 2 + rows * ROW + 24;
+  const scale = Math.min(1.5, Math.max(1, room / width));
+  const parts = shown.devices.map((device) => deviceShapes(device, shown.nodes, link));
+  const picture = svg(
+    "svg",
+    { class: "diagram", width: width * scale, height: height * scale, viewBox: `0 0 ${width} ${height}`, role: "group", "aria-label": "One-line diagram" },
+    parts.map(([way]) => way),
+    shown.nodes.map(nodeShape),
+    parts.map(([, device]) => device),
+  );
+  return el("div", { class: "scroll tall", tabindex: "0", "aria-label": "One-line diagram, scrolls" }, picture);
+}
+
+export function legend() {
+  return el("ul", { class: "legend" }, [
+    "\u25a0 closed", "\u25a1 open", "\u25c7 around it and ! : not its normal position", "dashed red frame, OUT: without supply",
+    "double frame, by a tie: supplied another way than normal", "arc: normally open or second way", "thick bar: bus",
+  ].map((words) => el("li", {}, words)));
+}

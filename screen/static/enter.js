@@ -1,0 +1,66 @@
+// A switching: what was switched, at the second at which it was.
+import { begin, causes, choice, el, field, get, known, list, onCommands, reloadBook, settled, text } from "./common.js";
+import { MomentField } from "./moments.js";
+import { Sender } from "./sender.js";
+
+const main = document.getElementById("main");
+const wanted = new URLSearchParams(location.search);
+
+begin(async () => {
+  const device = text({ list: "devices", maxlength: 24, required: true, value: wanted.get("device") || "" });
+  const position = choice([["open", "open"], ["close", "close"]]);
+  const cause = choice([["", "choose a cause"], ...causes()]);
+  const crew = text({ list: "crews", maxlength: 16, value: known.me.name });
+  const stands = el("div", { class: "note", role: "status" });
+  const read = () => {
+    const command = { kind: "switch", f1: device.value.trim().toUpperCase(), f2: position.value, f3: second.second, f4: cause.value, f5: crew.value.trim().toUpperCase() };
+    return command.f1 && command.f3 && command.f4 && command.f5 ? command : null;
+  };
+  const second = new MomentField("Second, by the clock of the book's zone", "", () => look());
+  const inputs = [device, position, cause, crew, second.input];
+  const sender = new Sender({
+    read,
+    label: "Send to the desk",
+    lock: (locked) => inputs.forEach((input) => (input.disabled = locked)),
+  });
+  const offerOther = async () => {
+    const name = device.value.trim().toUpperCase();
+    if (!known.book.devices.some((each) => each.name === name) || !second.second) {
+      stands.replaceChildren(name ? "The book knows no such device yet." : "");
+      return;
+    }
+    const found = await get("/api/position", { device: name, at: second.second }).catch(() => null);
+    if (!found) return;
+    stands.replaceChildren(`${name} is ${found.closed ? "closed" : "open"} then${found.alive ? "" : ", and not in the network"}.`);
+    position.value = found.closed ? "open" : "close";
+    if (!found.closed && found.cause && !cause.value) cause.value = String(found.cause);
+  };
+  const look = settled(async () => {
+    if (!sender.intent) await offerOther();
+    sender.update();
+  }, 60);
+  device.addEventListener("input", look);
+  for (const input of [position, cause, crew]) input.addEventListener("input", sender.update);
+  const now = el("button", { type: "button", click: () => get("/api/now").then((shown) => second.set(shown.at.text)) }, "Now");
+  const form = el(
+    "form",
+    { class: "card", submit: (event) => { event.preventDefault(); sender.send(); } },
+    list("devices", known.book.devices.map((each) => each.name)),
+    list("crews", known.book.crews),
+    field("Device", device),
+    stands,
+    el("div", { class: "row" }, second.element, now),
+    field("From that second on it is", position, "The other position than its own is offered first."),
+    field("Cause", cause, "An outage counts under the cause of the opening that began it."),
+    field("Crew, who switched", crew),
+  );
+  main.append(
+    known.me.may_send ? "" : el("p", { class: "warn" }, "This login may look: a forecast is shown, and nothing can be sent."),
+    el("div", { class: "two wide" }, form, el("div", { class: "card" }, sender.element)),
+  );
+  onCommands(() => reloadBook());
+  const at = wanted.get("at");
+  await second.set(at || (await get("/api/now")).at.text);
+  sender.resume();
+  device.focus();
+});

@@ -1,0 +1,100 @@
+// The network: nodes, devices with their lives, customers by section; and the commands that change them.
+import { begin, choice, el, field, get, HERE, known, list, number, onCommands, reloadBook, settled, table, text } from "./common.js";
+import { MomentField } from "./moments.js";
+import { Sender } from "./sender.js";
+
+const main = document.getElementById("main");
+const nodes = el("section", { "aria-label": "Nodes" });
+const devices = el("section", { "aria-label": "Devices" });
+const customers = el("section", { "aria-label": "Customers" });
+const words = el("div", {});
+let searched = "";
+
+// The fields of each kind: name, and what it is.
+const KINDS = {
+  device: ["A device joins: a tie, a line", ["name", "node", "node", "normal", "since", "until"], ["Name of the new device", "From node", "To node", "Normal position", "In the network from", "Until"]],
+  life: ["The life of a device is set anew", ["device", "since", "until"], ["Device", "In the network from", "Until before"]],
+  bus: ["A new bus", ["name"], ["Name of the bus"]],
+  section: ["A new section", ["name", "number"], ["Name of the section", "Home feeder, 1 to 255"]],
+  connect: ["A customer is connected", ["number", "section", "moment", "until"], ["Customer's number", "Section", "In service from", "Until before"]],
+  revise: ["A customer's service is set anew", ["number", "moment", "until"], ["Customer's number", "In service from", "Until before"]],
+};
+
+function inputOf(type, label, changed) {
+  if (type === "since" || type === "until" || type === "moment") {
+    const note = type === "since" ? " (empty: always)" : type === "until" ? " (empty: without end)" : "";
+    const made = new MomentField(label + note, "", changed, { may_be_empty: type !== "moment" });
+    if (type !== "moment") made.second = "";
+    return { element: made.element, input: made.input, value: () => made.second, needed: type === "moment" };
+  }
+  const lists = { node: "nodes", section: "sections", device: "devices" };
+  const input = type === "normal" ? choice([["open", "open: a tie"], ["closed", "closed"]]) : text({ list: lists[type], maxlength: 24 });
+  input.addEventListener("input", changed);
+  return { element: field(label, input), input, value: () => input.value.trim().toUpperCase().replace(/^(OPEN|CLOSED)$/, (word) => (type === "normal" ? word.toLowerCase() : word)), needed: true };
+}
+
+function commandForm() {
+  const kind = choice(Object.entries(KINDS).map(([name, [label]]) => [name, label]), "device");
+  const place = el("div", {});
+  let inputs = [];
+  const read = () => {
+    const values = inputs.map((input) => input.value());
+    if (inputs.some((input, at) => values[at] === null || (input.needed && !values[at]))) return null;
+    return { kind: kind.value, ...Object.fromEntries(values.map((value, at) => [`f${at + 1}`, value])) };
+  };
+  const sender = new Sender({ read, lock: (locked) => [kind, ...inputs.map((each) => each.input)].forEach((input) => (input.disabled = locked)) });
+  const build = () => {
+    const [, types, labels] = KINDS[kind.value];
+    inputs = types.map((type, at) => inputOf(type, labels[at], () => sender.update()));
+    place.replaceChildren(...inputs.map((input) => input.element));
+    sender.update();
+  };
+  kind.addEventListener("input", build);
+  build();
+  return { element: el("div", { class: "two no-print" }, el("form", { class: "card", submit: (event) => { event.preventDefault(); sender.send(); } }, el("h2", {}, "Change the network"), field("What", kind), place), el("div", { class: "card" }, sender.element)), choose: (name, ...values) => { kind.value = name; build(); values.forEach((value, at) => (inputs[at].input.value = value)); sender.update(); inputs[0].input.focus(); }, sender };
+}
+
+let form = null;
+
+function showNodes() {
+  const seen = known.book.nodes.filter((node) => node.name.includes(searched));
+  const rows = seen.map((node) => [
+    node.name, ["source", "bus", "section"][node.kind], node.feeder ? String(node.feeder) : "",
+    node.kind === 2 ? el("button", { type: "button", class: "small", click: () => showCustomers(node.name) }, "Customers") : "",
+  ]);
+  nodes.replaceChildren(el("h2", {}, `${number(seen.length)} nodes `, HERE()), el("div", { class: "tall scroll", tabindex: "0", "aria-label": "Nodes, scrolls" }, table(["node", "kind", "#feeder", "customers"], rows)));
+}
+
+function showDevices() {
+  const seen = known.book.devices.filter((device) => device.name.includes(searched));
+  const name = (node) => known.book.nodes[node].name;
+  const rows = seen.map((device) => [
+    device.name, `${name(device.a)} \u2013 ${name(device.b)}`, device.normal, device.since || "always", device.until || "without end",
+    form ? el("button", { type: "button", class: "small", click: () => form.choose("life", device.name, device.since, device.until) }, "Set its life") : "",
+  ]);
+  devices.replaceChildren(el("h2", {}, `${number(seen.length)} devices `, HERE()), el("div", { class: "tall scroll", tabindex: "0", "aria-label": "Devices, scrolls" }, table(["device", "between", "normal", "in the network from", "until before", "life"], rows)));
+}
+
+async function showCustomers(section) {
+  const shown = await get("/api/customers", { section });
+  const rows = shown.customers.map((row) => [String(row.no), row.since, row.until || "without end"]);
+  const more = shown.found > shown.customers.length ? ` The first ${shown.customers.length} are shown.` : "";
+  customers.replaceChildren(el("div", { class: "card", tabindex: "-1" }, el("h2", {}, `${number(shown.found)} customers of ${section} `, HERE()), el("p", {}, more), el("div", { class: "tall scroll" }, table(["#customer", "in service from", "until before"], rows))));
+  customers.firstElementChild.focus();
+}
+
+function show() {
+  words.replaceChildren(list("devices", known.book.devices.map((each) => each.name)), list("nodes", known.book.nodes.map((each) => each.name)), list("sections", known.book.nodes.filter((node) => node.kind === 2).map((each) => each.name)));
+  showNodes();
+  showDevices();
+  document.body.dataset.number = known.book.number;
+}
+
+begin(async () => {
+  const search = text({ input: settled(() => { searched = search.value.trim().toUpperCase(); show(); }) });
+  form = known.me.may_send ? commandForm() : null;
+  main.append(words, form ? form.element : "", el("div", { class: "card short no-print" }, field("Search nodes and devices", search)), customers, el("div", { class: "two" }, devices, nodes));
+  onCommands(async () => { await reloadBook(); show(); });
+  show();
+  form?.sender.resume();
+});

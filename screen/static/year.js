@@ -1,0 +1,86 @@
+// The year as the desk answers it: indices, totals, days, causes, feeders; marks, imports, downloads.
+import { begin, choice, el, field, get, known, list, number, onCommands, post, PROGRAM, reloadBook, table, text } from "./common.js";
+import { Sender } from "./sender.js";
+
+const main = document.getElementById("main");
+const figures = el("div", {});
+
+const indexText = (value) => (value ? value.join(" ") : "");
+const bar = (amount, most) => el("meter", { min: 0, max: Math.max(1, most), value: amount, "aria-hidden": "true" });
+
+function amounts(rows, nameOf, heads) {
+  const most = Math.max(0, ...rows.map((row) => Number(row[row.length - 1])));
+  return table(heads, rows.map((row) => [...nameOf(row), number(row[row.length - 1]), bar(Number(row[row.length - 1]), most)]));
+}
+
+async function show() {
+  let shown;
+  try {
+    shown = await get("/api/year");
+  } catch (trouble) {
+    figures.replaceChildren(el("p", { class: "bad" }, trouble.message));
+    return;
+  }
+  const indices = Object.entries(shown.indices).map(([name, sets]) => [name, indexText(sets.all), indexText(sets.unmarked)]);
+  const days = shown.days.map((row) => (row[row.length - 1] === "marked" ? [`${row[0]} marked`, row[1]] : row));
+  const tile = (name, words, unit) => el("div", { class: "tile" }, name, el("b", {}, words), unit);
+  const decimal = (name) => shown.indices[name].all[1] || shown.indices[name].all[0];
+  figures.replaceChildren(
+    el("p", { class: "mono" }, shown.heading),
+    el("div", { class: "tiles" }, tile("SAIDI", decimal("SAIDI"), "minutes, all"), tile("SAIFI", decimal("SAIFI"), "interruptions, all"), tile("CAIDI", decimal("CAIDI"), "minutes, all"), tile("W", number(shown.totals.W), "customer-seconds"), tile("S", number(shown.totals.S), "customer-seconds in service"), tile("P", number(shown.totals.P), "seconds of the period")),
+    el("div", { class: "two" },
+      el("section", {}, el("h2", {}, "Indices ", PROGRAM()), table(["index", "#all", "#unmarked"], indices), el("p", { class: "note" }, "The fraction is the figure; the three decimals behind it are rounded. SAIDI and CAIDI in minutes.")),
+      el("section", {}, el("h2", {}, "Causes ", PROGRAM()), amounts(shown.causes, (row) => [`${row[0]} ${row[1]}`], ["cause", "#customer-seconds", "share"]), el("h2", {}, "Feeders ", PROGRAM()), amounts(shown.feeders, (row) => [`feeder ${row[0]}`], ["feeder", "#customer-seconds", "share"])),
+    ),
+    el("section", {}, el("h2", {}, "Days ", PROGRAM()), el("p", { class: "note" }, "Customer-seconds that fall on a day: not the standard's daily SAIDI. Days without any aren't listed."), el("div", { class: "tall scroll", tabindex: "0", "aria-label": "Days, scrolls" }, amounts(days, (row) => [row[0]], ["day", "#customer-seconds", "share"]))),
+  );
+}
+
+function markForm() {
+  const kind = choice([["mark", "Mark as a major event day"], ["unmark", "Take the mark away"]]);
+  const day = text({ list: "days", placeholder: known.book.days[0] });
+  const read = () => (/^\d{4}-\d\d-\d\d$/.test(day.value.trim()) ? { kind: kind.value, f1: day.value.trim(), f2: known.me.name } : null);
+  const sender = new Sender({ read, lock: (locked) => [kind, day].forEach((input) => (input.disabled = locked)) });
+  for (const input of [kind, day]) input.addEventListener("input", sender.update);
+  sender.update();
+  return { element: el("form", { class: "card", submit: (event) => { event.preventDefault(); sender.send(); } }, el("h2", {}, "Mark a day"), list("days", known.book.days), field("What", kind), field("Day", day, `Marked by ${known.me.name}.`), sender.element), sender };
+}
+
+function importForm() {
+  const file = el("input", { type: "file", accept: ".csv,text/csv" });
+  const report = el("div", { role: "status" });
+  const button = el("button", { class: "main" }, "Import");
+  const send = async (event) => {
+    event.preventDefault();
+    if (!file.files.length) return;
+    button.disabled = true;
+    report.replaceChildren(el("p", { class: "ask" }, "On its way to the desk."));
+    try {
+      report.replaceChildren(reportOf(await post("/api/import", await file.files[0].arrayBuffer(), "text/csv")));
+    } catch (trouble) {
+      report.replaceChildren(trouble.shown.reply ? reportOf(trouble.shown) : el("p", { class: "bad" }, `${trouble.message} The same file may be sent again: what is known counts once.`));
+    }
+    button.disabled = false;
+  };
+  return el("form", { class: "card", submit: send }, el("h2", {}, "Import a CSV of commands"), field("File, up to 4 MB", file), el("div", { class: "buttons" }, button), report);
+}
+
+function reportOf(shown) {
+  const { added, again, stopped } = shown.reply;
+  const words = `Added ${added}, known before ${again}.`;
+  if (!stopped) return el("p", { class: "good imported" }, words, " ", PROGRAM());
+  return el("div", { class: "bad imported" }, el("p", {}, `${words} Stopped at row ${stopped.row}: refused ${stopped.refused} ${stopped.name} ${stopped.detail ?? ""}. The rows before it stand.`), el("p", { class: "mono" }, shown.text));
+}
+
+begin(async () => {
+  const links = [["/report", "The printed report"], ["/download/table.txt", "Annual table"], ["/download/commands.csv", "Commands as CSV"], ["/download/moves.csv", "Moves as CSV"]];
+  const mark = known.me.may_send ? markForm() : null;
+  main.append(
+    el("div", { class: "buttons no-print" }, links.map(([href, words]) => el("a", { href, target: href === "/report" ? "_blank" : null, rel: "noopener" }, words))),
+    figures,
+    mark ? el("div", { class: "two no-print" }, mark.element, importForm()) : "",
+  );
+  onCommands(() => { show(); reloadBook(); });
+  await show();
+  mark?.sender.resume();
+});

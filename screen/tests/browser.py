@@ -1,0 +1,129 @@
+"""Headless Chromium for the screen's tests."""
+
+from __future__ import annotations
+
+import tempfile
+from collections.abc import Callable
+from typing import Any
+
+import support
+from selenium import webdriver
+from selenium.webdriver.chrome.service import Service
+from selenium.webdriver.common.by import By
+from selenium.webdriver.common.keys import Keys
+from selenium.webdriver.remote.webelement import WebElement
+
+CHROMIUM, DRIVER = "/usr/bin/chromium", "/usr/bin/chromedriver"
+
+
+class Browser:
+    """A browser with one page; its size is that of the page's content."""
+
+    def __init__(self, width: int = 1280, height: int = 900, dark: bool = False, words: tuple[str, ...] = ()):
+        options: Any = webdriver.ChromeOptions()
+        options.binary_location = CHROMIUM
+        self.profile = tempfile.TemporaryDirectory(prefix="screen-browser-")
+        for word in (
+            "--headless=new",
+            "--no-sandbox",
+            "--disable-gpu",
+            "--disable-dev-shm-usage",
+            "--hide-scrollbars",
+            *words,
+        ):
+            options.add_argument(word)
+        options.add_argument(f"--user-data-dir={self.profile.name}")
+        options.set_capability("goog:loggingPrefs", {"browser": "ALL"})
+        self.driver: Any = webdriver.Chrome(service=Service(DRIVER), options=options)
+        self.resize(width, height)
+        scheme = [{"name": "prefers-color-scheme", "value": "dark" if dark else "light"}]
+        self.driver.execute_cdp_cmd("Emulation.setEmulatedMedia", {"features": scheme})
+        self.driver.execute_cdp_cmd("Emulation.setTimezoneOverride", {"timezoneId": "Pacific/Kiritimati"})
+
+    def resize(self, width: int, height: int) -> None:
+        metrics = {"width": width, "height": height, "deviceScaleFactor": 1, "mobile": width < 500}
+        self.driver.execute_cdp_cmd("Emulation.setDeviceMetricsOverride", metrics)
+
+    def end(self) -> None:
+        self.driver.quit()
+        self.profile.cleanup()
+
+    def open(self, url: str, name: str | None = "ANNA") -> None:
+        """Opens a page, with a name given where one is."""
+        if name is not None:
+            base = "/".join(url.split("/")[:3])
+            self.driver.get(f"{base}/static/icon.svg")
+            self.driver.add_cookie({"name": "screen_name", "value": name, "path": "/"})
+        self.driver.get_log("browser")
+        self.driver.get(url)
+        self.ready()
+
+    def ready(self) -> None:
+        support.until(
+            lambda: self.driver.execute_script("return document.body.dataset.ready") == "yes", what="the page"
+        )
+
+    def all(self, selector: str) -> list[WebElement]:
+        found: list[WebElement] = self.driver.find_elements(By.CSS_SELECTOR, selector)
+        return found
+
+    def find(self, selector: str) -> WebElement:
+        found: WebElement = support.until(lambda: self.all(selector), what=selector)[0]
+        return found
+
+    def field(self, label: str) -> WebElement:
+        """The field of a label."""
+        script = (
+            "const label = [...document.querySelectorAll('label')].find((each) => each.textContent.startsWith(arguments[0]));"
+            "return label && (label.control || label.querySelector('input'));"
+        )
+        found: WebElement = support.until(lambda: self.driver.execute_script(script, label), what=label)
+        return found
+
+    def fill(self, label: str, value: str) -> None:
+        """Types into a field, or chooses what begins so; selects take the value by the keyboard as well."""
+        field = self.field(label)
+        if field.tag_name == "select":
+            script = (
+                "const [field, value] = arguments;"
+                "field.value = [...field.options].find((each) => each.text.startsWith(value) || each.value === value).value;"
+                "field.dispatchEvent(new Event('input', { bubbles: true }));"
+            )
+            self.driver.execute_script(script, field, value)
+        else:
+            field.send_keys(Keys.CONTROL, "a")
+            field.send_keys(Keys.DELETE)
+            field.send_keys(value)
+
+    def text(self, selector: str) -> str:
+        found: Any = self.driver.execute_script(
+            "return [...document.querySelectorAll(arguments[0])].map((each) => each.innerText).join('\\n')", selector
+        )
+        return str(found)
+
+    def says(self, selector: str, words: str, seconds: float = 20) -> str:
+        """Waits until an element says some words: all that it says."""
+        support.until(lambda: words in self.text(selector), seconds, f"{words!r} in {selector}")
+        return self.text(selector)
+
+    def click(self, selector: str) -> None:
+        support.until(
+            lambda: self.all(selector) and self.all(selector)[0].is_enabled(), what=f"{selector} to be clicked"
+        )
+        self.driver.execute_script("arguments[0].scrollIntoView({block: 'center'})", self.find(selector))
+        self.find(selector).click()
+
+    def wait(self, seen: Callable[[], Any], what: str) -> Any:
+        return support.until(seen, what=what)
+
+    def complaints(self) -> list[str]:
+        """What the browser's console complains of since the page was opened: scripts that failed, what the policy forbids."""
+        rows = [row["message"] for row in self.driver.get_log("browser") if row["level"] == "SEVERE"]
+        return [row for row in rows if "Failed to load resource" not in row]
+
+    def picture(self, path: str, whole: bool = True) -> None:
+        if whole:
+            height = self.driver.execute_script("return document.documentElement.scrollHeight")
+            width = self.driver.execute_script("return window.innerWidth")
+            self.resize(width, min(6_000, int(height)))
+        self.driver.save_screenshot(path)

@@ -1,0 +1,158 @@
+"""For the screen's tests: books, desks and screens in folders that go away."""
+
+from __future__ import annotations
+
+import atexit
+import json
+import os
+import shutil
+import subprocess
+import sys
+import tempfile
+import time
+import urllib.error
+import urllib.request
+from collections.abc import Callable
+from functools import lru_cache
+from pathlib import Path
+from typing import Any
+
+SCREEN = Path(__file__).resolve().parent.parent
+ROOT = SCREEN.parent
+EXAMPLES = ROOT / "examples"
+PROGRAM = Path(os.environ.get("OUTAGEBOOK", ROOT / "crates/outagebook/out/outagebook"))
+sys.path.insert(0, str(SCREEN))
+FORTNIGHT = ("2025-03-24", "14", "CET-1CEST,M3.5.0,M10.5.0/3")
+
+
+@lru_cache(maxsize=None)
+def folder() -> Path:
+    path = Path(tempfile.mkdtemp(prefix="screen-tests-"))
+    atexit.register(shutil.rmtree, path, ignore_errors=True)
+    return path
+
+
+def run(*words: object) -> str:
+    done = subprocess.run([str(PROGRAM), *map(str, words)], capture_output=True, text=True, check=False)
+    if done.returncode != 0:
+        raise AssertionError(f"{words}: {done.stdout}{done.stderr}")
+    return done.stdout
+
+
+def new_book(name: str, text: Path | None = None, period: tuple[str, str, str] = FORTNIGHT) -> Path:
+    """A book of a text in a folder of its own."""
+    place = folder() / name
+    place.mkdir()
+    book = place / "book.db"
+    first, days, zone = period
+    run("init", "--book", book, "--first", first, "--days", days, "--zone", zone)
+    if text is not None:
+        run("import", "--book", book, text)
+    return book
+
+
+def fortnight(name: str) -> Path:
+    return new_book(name, EXAMPLES / "fortnight.csv")
+
+
+def until(seen: Callable[[], Any], seconds: float = 20, what: str = "it") -> Any:
+    """What is seen at last; a failure where it isn't seen in time."""
+    end = time.monotonic() + seconds
+    while True:
+        found = seen()
+        if found:
+            return found
+        if time.monotonic() > end:
+            raise AssertionError(f"{what} wasn't seen within {seconds} seconds")
+        time.sleep(0.02)
+
+
+class Desk:
+    """A desk of its own port."""
+
+    def __init__(self, book: Path, port: int = 0):
+        self.book = book
+        command = [str(PROGRAM), "serve", "--book", str(book), "--port", str(port)]
+        self.process = subprocess.Popen(command, stdout=subprocess.PIPE, stderr=subprocess.DEVNULL, text=True)
+        assert self.process.stdout is not None
+        line = self.process.stdout.readline()
+        self.port = int(line.rpartition(":")[2])
+        self.url = f"http://127.0.0.1:{self.port}"
+
+    def kill(self) -> None:
+        self.process.kill()
+        self.process.wait()
+        assert self.process.stdout is not None
+        self.process.stdout.close()
+
+    def get(self, route: str) -> Any:
+        return json.loads(call(self.url + route)[1])
+
+    def post(self, command: dict[str, str]) -> tuple[int, Any]:
+        status, body = call(f"{self.url}/commands", json.dumps(command).encode())
+        return status, json.loads(body)
+
+
+def call(url: str, body: bytes | None = None, headers: dict[str, str] | None = None) -> tuple[int, bytes]:
+    """The status and the body of a request."""
+    request = urllib.request.Request(url, data=body, headers={"Connection": "close", **(headers or {})})
+    try:
+        with urllib.request.urlopen(request, timeout=60) as reply:
+            return reply.status, reply.read()
+    except urllib.error.HTTPError as error:
+        with error:
+            return error.code, error.read()
+
+
+class Screen:
+    """A screen over a book, on a port of its own."""
+
+    def __init__(
+        self,
+        book: Path,
+        *words: str,
+        desk: Desk | None = None,
+        command: Path = SCREEN / "outagebook-screen",
+        program: Path = PROGRAM,
+    ):
+        started = [str(command), "--book", str(book), "--port", "0", "--program", str(program)]
+        started += ["--desk", desk.url] if desk else []
+        self.book = book
+        self.process = subprocess.Popen([*started, *words], stdout=subprocess.PIPE, stderr=subprocess.PIPE, text=True)
+        assert self.process.stdout is not None and self.process.stderr is not None
+        line = self.process.stdout.readline()
+        if not line:
+            raise AssertionError(self.process.stderr.read())
+        self.port = int(line.rpartition(":")[2])
+        self.url = f"http://127.0.0.1:{self.port}"
+        self.headers: dict[str, str] = {}
+
+    def end(self) -> None:
+        self.process.terminate()
+        self.process.wait(20)
+        for pipe in (self.process.stdout, self.process.stderr):
+            assert pipe is not None
+            pipe.close()
+
+    def call(self, route: str, body: bytes | None = None, headers: dict[str, str] | None = None) -> tuple[int, Any]:
+        """The status and the JSON of a request."""
+        status, data = call(self.url + route, body, {**self.headers, **(headers or {})})
+        return status, json.loads(data) if data else None
+
+    def log_in(self, name: str) -> None:
+        """Gives a name, and keeps its cookie and its token."""
+        self.headers = {"Cookie": f"screen_name={name}"}
+        self.headers["X-Screen-Token"] = self.call("/api/me")[1]["token"]
+
+    def post(self, command: dict[str, str]) -> tuple[int, Any]:
+        return self.call("/api/command", json.dumps(command).encode(), {"Content-Type": "application/json"})
+
+    def number(self) -> int:
+        """The last command that the screen knows."""
+        found: int = self.call("/health")[1]["number"]
+        return found
+
+    def desk_process(self) -> int:
+        """The process of the desk that this screen started."""
+        children = Path(f"/proc/{self.process.pid}/task/{self.process.pid}/children").read_text().split()
+        return int(children[0])

@@ -1,0 +1,409 @@
+"""The pages in headless Chromium, over a real desk: what an operator sees and does."""
+
+import os
+import random
+import signal
+import threading
+import time
+import unittest
+
+import browser
+import support
+from selenium.webdriver.common.keys import Keys
+from test_server import Cutter
+
+COMMANDS = int(os.environ.get("SCREEN_COMMANDS", "24"))
+LATE = "/enter?device=LBS-22&at=2025-04-06T23:52:00%2B02:00"
+
+
+class Case(unittest.TestCase):
+    browsers: list[browser.Browser] = []
+
+    @classmethod
+    def setUpClass(cls) -> None:
+        cls.browsers = [browser.Browser(), browser.Browser(390, 844, dark=True)]
+        for each in cls.browsers:
+            cls.addClassCleanup(each.end)
+        cls.one, cls.other = cls.browsers
+
+    def screen(self, *words: str, desk: support.Desk | None = None, book: str = "") -> support.Screen:
+        found = support.Screen(
+            desk.book if desk else support.fortnight(book or self._testMethodName), *words, desk=desk
+        )
+        self.addCleanup(found.end)
+        return found
+
+    def desk(self) -> support.Desk:
+        found = support.Desk(support.fortnight(self._testMethodName))
+        self.addCleanup(found.kill)
+        return found
+
+    one: browser.Browser
+    other: browser.Browser
+
+
+class Operators(Case):
+    def test_two_operators_and_a_double_click(self) -> None:
+        screen = self.screen()
+        self.other.open(f"{screen.url}/", "BERT")
+        self.other.says("main", "LIGHTHOUSE")
+        self.one.open(screen.url + LATE)
+        self.one.says(".forecast", "gets back supply")
+        self.one.says(".forecast", "W moves by \u22121\u2009440")
+        self.one.find(".send")
+        begun = time.monotonic()
+        self.one.driver.execute_script("const b = document.querySelector('.send'); b.click(); b.click(); b.click();")
+        self.other.says("main", "All sections are supplied", 5)
+        self.assertLess(time.monotonic() - begun, 1.0)
+        self.one.says(".outcome", "Command 103 stands")
+        self.one.says(".outcome .equal", "equal to the desk's reply")
+        self.assertEqual(screen.number(), 103)
+        self.assertIn('"no":103', self.one.text(".reply"))
+        self.assertEqual(self.one.complaints() + self.other.complaints(), [])
+
+    def test_the_keyboard_alone(self) -> None:
+        self.enter_correct_withdraw(self.one)
+
+    def test_the_keyboard_alone_on_a_phone(self) -> None:
+        self.enter_correct_withdraw(self.other)
+
+    def enter_correct_withdraw(self, page: browser.Browser) -> None:
+        """A late outage is entered, corrected and withdrawn without a mouse, from the first page on."""
+        screen = self.screen()
+        page.open(f"{screen.url}/")
+        keys = page.driver.switch_to
+        while keys.active_element.text != "Enter":
+            keys.active_element.send_keys(Keys.TAB)
+        self.assertNotEqual(keys.active_element.value_of_css_property("outline-style"), "none")
+        keys.active_element.send_keys(Keys.ENTER)
+        page.find(".sender")
+        page.ready()
+        page.wait(lambda: keys.active_element.get_attribute("list") == "devices", "the focus on the device")
+        keys.active_element.send_keys("lbs-22")
+        keys.active_element.send_keys(Keys.TAB)
+        self.assertEqual(keys.active_element.get_attribute("placeholder"), "2025-04-05 06:10:00")
+        keys.active_element.send_keys(Keys.CONTROL, "a")
+        keys.active_element.send_keys("2025-03-27 10:00:00")
+        page.says(".moment", "+01:00 from UTC")
+        page.says("form", "LBS-22 is closed then")
+        self.tab_to(page, "cause")
+        keys.active_element.send_keys("5")
+        page.says(".hint", "late entry")
+        page.says(".forecast", "LOSES supply")
+        keys.active_element.send_keys(Keys.TAB, Keys.TAB)
+        page.wait(lambda: page.find(".send").is_enabled(), "the button")
+        self.tab_to(page, "Send to the desk")
+        keys.active_element.send_keys(Keys.ENTER)
+        page.says(".outcome .equal", "equal")
+        page.open(f"{screen.url}/sheet?entry=36")
+        self.tab_to(page, "Position", "close")
+        self.tab_to(page, "Send")
+        page.wait(lambda: page.find(".send").is_enabled(), "the button")
+        keys.active_element.send_keys(Keys.ENTER)
+        page.says(".outcome .equal", "equal")
+        page.open(f"{screen.url}/sheet?entry=36")
+        page.says("#detail", "revision 2")
+        self.tab_to(page, "What", "Withdraw")
+        self.tab_to(page, "Send")
+        keys.active_element.send_keys(Keys.ENTER)
+        page.says(".outcome .equal", "equal")
+        page.says("tr.gone", "36")
+        self.assertEqual(screen.call("/api/year")[1]["totals"]["W"], "366070")
+
+    def tab_to(self, page: browser.Browser, name: str, typed: str = "") -> None:
+        """Goes on by the tabulator to a field by its label, or to a button by its words; types, where that is asked for."""
+        script = (
+            "const at = document.activeElement;"
+            "return ((at.labels && at.labels[0] ? at.labels[0].textContent : '') + ' ' + at.textContent).toLowerCase();"
+        )
+        for _ in range(200):
+            if page.driver.execute_script(script).strip().startswith(name.lower()):
+                break
+            page.driver.switch_to.active_element.send_keys(Keys.TAB)
+            time.sleep(0.02)
+        else:
+            raise AssertionError(f"the tabulator doesn't come to {name}")
+        if typed:
+            page.driver.switch_to.active_element.send_keys(typed)
+
+    def test_a_stale_correction(self) -> None:
+        """Somebody corrects the entry first, in the moment before the page knows of it."""
+        desk = self.desk()
+        screen = self.screen(desk=desk)
+        page = self.one
+        page.open(f"{screen.url}/sheet?entry=29")
+        page.says("#detail", "revision 1")
+        page.fill("Second", "2025-04-05 06:45:00")
+        page.wait(lambda: page.find(".send").is_enabled(), "the button")
+        button = page.find(".send")
+        fields = {"f1": "29", "f2": "1", "f3": "close", "f4": "1743828450", "f5": "3", "f6": "CREW-3"}
+        self.assertEqual(desk.post({"kind": "correct", "ref": "OTHER-1", **fields})[0], 200)
+        page.driver.execute_script("arguments[0].click()", button)
+        told = page.says("#detail", "revision 2")
+        self.assertIn("06:47:30", told)
+        page.click(".anew")
+        page.says("#detail", "29, revision 2")
+        page.wait(lambda: not page.all(".anew"), "the entry as it is now")
+        page.fill("Second", "2025-04-05 06:45:00")
+        page.wait(lambda: page.find(".send").is_enabled() and "W moves by" in page.text(".forecast"), "the button")
+        page.click(".send")
+        page.says(".outcome .equal", "equal")
+        self.assertEqual(screen.call("/api/entries/29")[1]["revision"], 3)
+
+    def test_refusals_and_texts_as_text(self) -> None:
+        screen = self.screen()
+        page = self.one
+        page.open(screen.url + LATE)
+        page.says(".forecast", "W moves by")
+        page.fill("Crew", "<b>x</b>\"'&")
+        page.wait(lambda: page.find(".send").is_enabled(), "the button")
+        time.sleep(0.4)
+        page.click(".send")
+        page.says(".refusal", "1 BadField 7")
+        page.says(".refusal", "The crew can't be read")
+        self.assertEqual(page.all("main b b, .outcome b b"), [])
+        page.fill("Device", "<img src=x onerror=alert(1)>" + "X" * 64)
+        page.says("form", "knows no such device")
+        self.assertEqual(page.all("main img"), [])
+        self.assertEqual(screen.number(), 102)
+        self.assertEqual(page.complaints(), [])
+
+    def test_hours_of_the_books_zone(self) -> None:
+        book = support.new_book("autumn", None, ("2025-10-20", "14", "CET-1CEST,M3.5.0,M10.5.0/3"))
+        for row in (
+            "section,N1,S1,1,,,,",
+            "device,N2,B1,GRID,S1,closed,,",
+            "connect,N3,1,S1,0,,,",
+            "cause,N4,1,TREE,,,,",
+        ):
+            text = support.folder() / "row.csv"
+            text.write_text(f"kind,ref,f1,f2,f3,f4,f5,f6\n{row}\n")
+            support.run("import", "--book", book, text)
+        screen = support.Screen(book)
+        self.addCleanup(screen.end)
+        page = self.one
+        page.open(f"{screen.url}/enter?device=B1")
+        page.fill("Second", "2025-10-26 02:30:00")
+        page.says(".moment", "shows this hour twice")
+        self.assertFalse(page.find(".send").is_enabled())
+        page.all(".moment input[type=radio]")[1].click()
+        page.fill("Cause", "1")
+        page.says(".forecast", "2025-10-26 02:30:00 +01:00")
+        page.fill("Second", "2025-03-30 02:30:00")
+        page.says(".moment", "never shows")
+        page.fill("Second", "2025-10-26 03:30:00")
+        page.says(".moment", "+01:00 from UTC")
+        page.says(".forecast", "2025-10-26 03:30:00 +01:00")
+        page.wait(lambda: page.find(".send").is_enabled(), "the button")
+        page.click(".send")
+        page.says(".outcome .equal", "equal")
+        self.assertIn("03:30:00+01:00", screen.call("/api/entries/1")[1]["second"]["text"])
+
+
+class Breaks(Case):
+    def test_a_reply_that_was_lost(self) -> None:
+        desk = self.desk()
+        proxy = Cutter(desk.port)
+        self.addCleanup(proxy.end)
+        screen = support.Screen(desk.book, "--desk", f"http://127.0.0.1:{proxy.port}")
+        self.addCleanup(screen.end)
+        self.one.open(screen.url + LATE)
+        self.one.wait(lambda: self.one.find(".send").is_enabled(), "the button")
+        proxy.cuts = 2
+        self.one.click(".send")
+        self.one.says(".outcome", "It took 3 tries under one reference")
+        self.one.says(".outcome .equal", "equal")
+        self.assertEqual(desk.get("/commands/103")["no"], 103)
+        self.assertEqual(support.call(f"{desk.url}/commands/104")[0], 404)
+
+    def test_the_desk_is_killed_while_a_command_waits(self) -> None:
+        screen = self.screen()
+        page = self.one
+        page.open(screen.url + LATE)
+        page.wait(lambda: page.find(".send").is_enabled(), "the button")
+        os.kill(screen.desk_process(), signal.SIGKILL)
+        page.click(".send")
+        page.says(".outcome", "Command 103 stands")
+        page.says(".outcome .equal", "equal")
+        page.says(".state", "Desk: here")
+
+    def test_the_screen_is_killed_while_a_command_is_in_work(self) -> None:
+        desk = self.desk()
+        proxy = Cutter(desk.port)
+        self.addCleanup(proxy.end)
+        words = ("--desk", f"http://127.0.0.1:{proxy.port}")
+        first = support.Screen(desk.book, *words)
+        page = self.one
+        page.open(first.url + LATE)
+        page.wait(lambda: page.find(".send").is_enabled(), "the button")
+        proxy.cuts = 1_000
+        page.click(".send")
+        support.until(lambda: support.call(f"{desk.url}/commands/103")[0] == 200, what="the commit")
+        first.process.kill()
+        page.says(".outcome", "Send again")
+        first.end()
+        proxy.cuts = 0
+        second = support.Screen(desk.book, *words, "--port", str(first.port))
+        self.addCleanup(second.end)
+        page.driver.refresh()
+        page.ready()
+        page.says(".outcome", "was loaded again before it knew the answer")
+        page.click(".again")
+        page.says(".outcome", "This is the stored reply")
+        self.assertEqual(second.number(), 103)
+
+    def test_a_desk_away_is_told(self) -> None:
+        desk = self.desk()
+        screen = support.Screen(desk.book, desk=desk)
+        self.addCleanup(screen.end)
+        self.one.open(f"{screen.url}/")
+        desk.kill()
+        self.one.says("main", "The desk is away")
+        again = support.Desk(desk.book, desk.port)
+        self.addCleanup(again.kill)
+        self.one.says(".state", "Desk: here")
+        self.one.wait(lambda: "The desk is away" not in self.one.text("main"), "the page without it")
+
+
+class Pages(Case):
+    def test_no_page_is_cut_off(self) -> None:
+        screen = self.screen()
+        for page in self.browsers:
+            for route in ("/", "/sheet", "/sheet?entry=10", LATE, "/network", "/year"):
+                page.open(screen.url + route)
+                page.find("main table")
+                wide, room = page.driver.execute_script(
+                    "return [document.documentElement.scrollWidth, window.innerWidth]"
+                )
+                self.assertLessEqual(wide, room, route)
+                self.assertEqual(page.complaints(), [], route)
+
+    def test_now_at_another_second(self) -> None:
+        screen = self.screen()
+        self.one.open(f"{screen.url}/")
+        self.one.fill("Another second", "2025-03-27 14:50:00")
+        told = self.one.says("main", "2025-03-27 14:22:10 +01:00")
+        for words in ("CHURCH-ROW", "CB-1", "2 TREE", "OUT-0327-1", "27 min 50 s"):
+            self.assertIn(words, told)
+        self.assertEqual(len(self.one.all(".diagram .node.out")), 4)
+        self.one.fill("Another second", "2025-03-27 15:00:00")
+        self.one.wait(lambda: len(self.one.all(".diagram .node.by_tie")) == 3, "the sections on the tie")
+        link = self.one.driver.execute_script(
+            "return document.querySelector('.diagram a[aria-label^=TIE-1]').href.baseVal || ''"
+        )
+        self.assertIn("device=TIE-1", link)
+
+    def test_a_tie_joins_and_a_day_is_marked(self) -> None:
+        screen = self.screen()
+        page = self.one
+        page.open(f"{screen.url}/network")
+        page.fill("Name of the new device", "TIE-3")
+        page.fill("From node", "MILL-LANE")
+        page.fill("To node", "LIGHTHOUSE")
+        page.fill("Normal position", "closed")
+        page.fill("In the network from", "2025-04-06 23:30:00")
+        page.says(".forecast", "gets back supply")
+        page.click(".send")
+        page.says(".outcome .equal", "equal")
+        page.says("main", "13 devices")
+        page.open(f"{screen.url}/year")
+        page.fill("Day", "2025-03-25")
+        page.wait(lambda: page.find(".send").is_enabled(), "the button")
+        page.click(".send")
+        page.says(".outcome .equal", "equal")
+        page.says("main", "2025-03-25 marked")
+        page.field("File").send_keys(str(support.EXAMPLES / "corrections.csv"))
+        page.driver.execute_script(
+            "[...document.querySelectorAll('button')].find((each) => each.textContent === 'Import').click()"
+        )
+        page.says(".imported", "Added 3, known before 0")
+
+    def test_a_login_that_may_only_look(self) -> None:
+        screen = self.screen("--read-only")
+        for route in (LATE, "/sheet?entry=10", "/network", "/year", "/"):
+            self.one.open(screen.url + route)
+            self.assertFalse([each for each in self.one.all("button.send, button.main") if each.is_enabled()], route)
+        copy = support.Screen(support.fortnight("a-copy"), "--no-desk")
+        self.addCleanup(copy.end)
+        self.one.open(f"{copy.url}/year", None)
+        self.one.says("main", "194.126")
+        self.one.says(".state", "No desk: a copy")
+
+
+class Crowd(Case):
+    def test_random_commands_by_two_browsers_and_a_third_client(self) -> None:
+        desk = self.desk()
+        screen = support.Screen(desk.book, desk=desk)
+        self.addCleanup(screen.end)
+        failures: list[str] = []
+
+        def enter(page: browser.Browser, name: str, seed: int) -> None:
+            chance = random.Random(seed)
+            try:
+                page.open(f"{screen.url}/enter?device=CB-1", name)
+                page.fill("Cause", str(chance.randint(1, 8)))
+                for number in range(COMMANDS // 2):
+                    self.enter_one(page, chance, number)
+            except Exception as error:  # told by the test itself, in its own thread
+                failures.append(f"{name}: {error}")
+
+        threads = [
+            threading.Thread(target=enter, args=each) for each in ((self.one, "ANNA", 1), (self.other, "BERT", 2))
+        ]
+        for thread in threads:
+            thread.start()
+        chance = random.Random(3)
+        for number in range(COMMANDS // 4):
+            second = str(chance.randrange(1_742_770_800, 1_743_976_800))
+            fields = {
+                "f1": chance.choice(["CB-2", "TIE-1", "LBS-11"]),
+                "f2": chance.choice(["open", "close"]),
+                "f3": second,
+            }
+            desk.post({"kind": "switch", "ref": f"CURL-{number}", **fields, "f4": "2", "f5": "CREW-9"})
+            if number == COMMANDS // 8:
+                rows = (support.EXAMPLES / "corrections.csv").read_bytes()
+                support.call(f"{desk.url}/import", rows)
+            time.sleep(0.2)
+        for thread in threads:
+            thread.join()
+        self.assertEqual(failures, [])
+        last = 102 + COMMANDS // 2 * 2 + COMMANDS // 4 + 3
+        support.until(lambda: screen.number() == last, what="all commands")
+        self.assertIsNone(screen.call("/health")[1]["differs"])
+        totals = desk.get("/totals")
+        third = browser.Browser()
+        self.addCleanup(third.end)
+        for page, name in ((self.one, "ANNA"), (self.other, "BERT"), (third, "CLEO")):
+            page.open(f"{screen.url}/year", name)
+            shown = page.text("main").replace("\u2009", "")
+            self.assertIn(str(totals["total"]), shown)
+            for _, amount in totals["cause"]:
+                self.assertIn(str(amount), shown)
+        desk.kill()
+        self.assertEqual(support.run("audit", "--book", desk.book), "audit ok\n")
+
+    def enter_one(self, page: browser.Browser, chance: random.Random, number: int) -> None:
+        """Enters one switching in the form, and looks that the forecast was the reply."""
+        page.fill(
+            "Device", chance.choice(["CB-1", "CB-2", "LBS-11", "LBS-12", "LBS-21", "LBS-22", "TIE-1", "TIE-2", "INC-1"])
+        )
+        page.fill("Second", str(chance.randrange(1_742_770_800, 1_743_976_800)))
+        page.wait(lambda: "from UTC" in page.text(".moment"), "the moment")
+        time.sleep(0.35)
+        page.fill("From that second", chance.choice(["open", "close"]))
+        before = page.text(".outcome .reply")
+        support.until(
+            lambda: "W moves by" in page.text(".forecast") and page.find(".send").is_enabled(), what="the forecast"
+        )
+        page.click(".send")
+        try:
+            support.until(lambda: page.text(".outcome .reply") not in ("", before), what="the reply")
+        except AssertionError:
+            raise AssertionError(f"no reply: {page.text('main')}") from None
+        if "The forecast is equal" not in page.text(".outcome"):
+            raise AssertionError(page.text(".outcome"))
+
+
+if __name__ == "__main__":
+    unittest.main()

@@ -1,0 +1,133 @@
+"""The screen behind nginx, with the configuration of examples/nginx.conf: TLS, logins, who may send, a proxy that breaks."""
+
+import base64
+import http.client
+import json
+import os
+import shutil
+import signal
+import socket
+import ssl
+import subprocess
+import unittest
+from pathlib import Path
+
+import browser
+import support
+from test_server import LIGHTHOUSE
+
+NGINX = shutil.which("nginx") or "/usr/sbin/nginx"
+NAME = "screen.example.org"
+
+
+def free_port() -> int:
+    with socket.create_server(("127.0.0.1", 0)) as found:
+        return int(found.getsockname()[1])
+
+
+class Nginx:
+    """The proxy with the configuration that is shipped: its ports and the places of its files are put in."""
+
+    def __init__(self, place: Path, screen: int, port: int):
+        self.port, self.place = port, place
+        place.mkdir()
+        words = ["openssl", "req", "-x509", "-newkey", "rsa:2048", "-nodes", "-days", "2", "-subj", f"/CN={NAME}"]
+        words += ["-keyout", str(place / "outagebook.key"), "-out", str(place / "outagebook.pem")]
+        subprocess.run(words, check=True, capture_output=True)
+        lines = []
+        for login in ("desk-anna", "reader"):
+            secret = subprocess.run(["openssl", "passwd", "-apr1", "word"], check=True, capture_output=True, text=True)
+            lines.append(f"{login}:{secret.stdout}")
+        (place / "outagebook.passwd").write_text("".join(lines))
+        text = (support.EXAMPLES / "nginx.conf").read_text()
+        text = text.replace("/etc/nginx/", f"{place}/").replace("listen 443", f"listen 127.0.0.1:{port}")
+        text = text.replace("127.0.0.1:8081", f"127.0.0.1:{screen}")
+        temporary = "".join(
+            f"{name}_temp_path {place}/{name};\n" for name in ("client_body", "proxy", "fastcgi", "uwsgi", "scgi")
+        )
+        config = f"daemon off; user root; pid {place}/pid; error_log {place}/error.log;\nevents {{}}\nhttp {{ access_log off;\n"
+        (place / "nginx.conf").write_text(f"{config}{temporary}{text}\n}}\n")
+        self.process = self.start()
+
+    def start(self) -> subprocess.Popen[bytes]:
+        words = [NGINX, "-c", str(self.place / "nginx.conf"), "-e", str(self.place / "error.log")]
+        process = subprocess.Popen(words, stderr=subprocess.DEVNULL)
+        support.until(self.answers, what="nginx")
+        return process
+
+    def answers(self) -> bool:
+        try:
+            socket.create_connection(("127.0.0.1", self.port), timeout=1).close()
+        except OSError:
+            return False
+        return True
+
+    def end(self) -> None:
+        self.process.terminate()
+        self.process.wait()
+
+    def ask(
+        self, method: str, route: str, login: str = "", body: str | None = None, **headers: str
+    ) -> tuple[int, bytes]:
+        """A request by TLS."""
+        unchecked = ssl._create_unverified_context()
+        connection = http.client.HTTPSConnection("127.0.0.1", self.port, context=unchecked, timeout=30)
+        told = {"Host": NAME, **{name.replace("_", "-"): value for name, value in headers.items()}}
+        if login:
+            told["Authorization"] = "Basic " + base64.b64encode(f"{login}:word".encode()).decode()
+        try:
+            connection.request(method, route, body, told)
+            reply = connection.getresponse()
+            return reply.status, reply.read()
+        finally:
+            connection.close()
+
+
+@unittest.skipUnless(Path(NGINX).exists(), "nginx isn't installed")
+class BehindNginx(unittest.TestCase):
+    def setUp(self) -> None:
+        self.port = free_port()
+        words = ("--proxy", "127.0.0.1", "--senders", "desk-", "--host", NAME, "--host", f"{NAME}:{self.port}")
+        self.screen = support.Screen(support.fortnight(self._testMethodName), *words)
+        self.addCleanup(self.screen.end)
+        self.nginx = Nginx(support.folder() / f"nginx-{self._testMethodName}", self.screen.port, self.port)
+        self.addCleanup(lambda: self.nginx.end())
+
+    def test_logins_and_who_may_send(self) -> None:
+        self.assertEqual(self.nginx.ask("GET", "/")[0], 401)
+        self.assertEqual(self.nginx.ask("GET", "/", "reader")[0], 200)
+        me = json.loads(self.nginx.ask("GET", "/api/me", "desk-anna", X_Remote_User="desk-bert")[1])
+        self.assertEqual((me["login"], me["name"], me["may_send"]), ("desk-anna", "DESK-ANNA", True))
+        reader = json.loads(self.nginx.ask("GET", "/api/me", "reader", X_Remote_User="desk-anna")[1])
+        self.assertEqual((reader["name"], reader["may_send"]), ("READER", False))
+        for login, token, status in (("desk-anna", me["token"], 200), ("reader", reader["token"], 403)):
+            command = json.dumps({**LIGHTHOUSE, "ref": f"SCR-{login.upper()}-1"})
+            told = {"Content_Type": "application/json", "X_Screen_Token": token}
+            self.assertEqual(self.nginx.ask("POST", "/api/command", login, command, **told)[0], status)
+            self.assertEqual(
+                self.nginx.ask("POST", "/api/command", login, command, **told, Origin="https://evil.example")[0], 403
+            )
+
+    def test_a_browser_through_tls_and_a_proxy_that_dies(self) -> None:
+        rules = (f"--host-resolver-rules=MAP {NAME} 127.0.0.1", "--ignore-certificate-errors")
+        page = browser.Browser(words=rules)
+        self.addCleanup(page.end)
+        headers = {"Authorization": "Basic " + base64.b64encode(b"desk-anna:word").decode()}
+        page.driver.execute_cdp_cmd("Network.enable", {})
+        page.driver.execute_cdp_cmd("Network.setExtraHTTPHeaders", {"headers": headers})
+        page.open(f"https://{NAME}:{self.port}/enter?device=LBS-22&at=2025-04-06T23:52:00%2B02:00", None)
+        page.says("header", "You are DESK-ANNA")
+        page.wait(lambda: page.find(".send").is_enabled(), "the button")
+        os.kill(self.nginx.process.pid, signal.SIGTERM)
+        self.nginx.process.wait()
+        page.click(".send")
+        page.says(".outcome", "It isn't known whether this stands")
+        self.nginx.process = self.nginx.start()
+        page.click(".again")
+        page.says(".outcome .equal", "equal")
+        self.assertEqual(self.screen.call("/health")[1]["number"], 103)
+        self.assertEqual(page.complaints(), [])
+
+
+if __name__ == "__main__":
+    unittest.main()

@@ -1,0 +1,388 @@
+"""The screen's server without a browser: a real program, desk and screen, requests by sockets."""
+
+import json
+import os
+import random
+import signal
+import socket
+import threading
+import time
+import unittest
+from pathlib import Path
+
+import support
+from outagebook_screen import moments, reader
+from outagebook_screen.state import Refused
+
+LIGHTHOUSE = {"kind": "switch", "f1": "LBS-22", "f2": "close", "f3": "1743976320", "f4": "5", "f5": "CREW-3"}
+
+
+def talk(port: int, data: bytes, seconds: float = 20) -> bytes:
+    """What a connection answers to some bytes until it is closed."""
+    with socket.create_connection(("127.0.0.1", port), timeout=seconds) as connection:
+        connection.sendall(data)
+        parts = []
+        try:
+            while part := connection.recv(65_536):
+                parts.append(part)
+        except ConnectionResetError:
+            pass
+        return b"".join(parts)
+
+
+def is_running(process: int) -> bool:
+    try:
+        return Path(f"/proc/{process}/stat").read_text().rpartition(")")[2].split()[0] != "Z"
+    except OSError:
+        return False
+
+
+class Case(unittest.TestCase):
+    def screen(self, name: str, *words: str, desk: support.Desk | None = None) -> support.Screen:
+        book = desk.book if desk else support.fortnight(name)
+        found = support.Screen(book, *words, desk=desk)
+        self.addCleanup(found.end)
+        return found
+
+    def desk(self, name: str) -> support.Desk:
+        found = support.Desk(support.fortnight(name))
+        self.addCleanup(found.kill)
+        return found
+
+
+class Commands(Case):
+    def test_a_switching_acts_once_and_is_as_forecast(self) -> None:
+        screen = self.screen("one-switching")
+        screen.log_in("ANNA")
+        query = "&".join(f"{name}={value}" for name, value in LIGHTHOUSE.items())
+        forecast = screen.call(f"/api/forecast?{query}")[1]
+        self.assertEqual([row["section"] for row in forecast["sections"]], ["LIGHTHOUSE"])
+        first = screen.post({**LIGHTHOUSE, "ref": "SCR-ANNA-1"})
+        self.assertEqual(first[0], 200)
+        self.assertEqual(first[1]["reply"]["moved"], forecast["moved"])
+        self.assertEqual((first[1]["equal"], first[1]["again"]), (True, False))
+        again = screen.post({**LIGHTHOUSE, "ref": "SCR-ANNA-1"})
+        self.assertEqual((again[0], again[1]["again"], again[1]["text"]), (200, True, first[1]["text"]))
+        self.assertEqual(screen.number(), 103)
+        self.assertEqual(screen.call("/api/now")[1]["outages"], [])
+
+    def test_refusals_in_words(self) -> None:
+        screen = self.screen("refusals")
+        screen.log_in("ANNA")
+        wrong = [
+            (
+                {"kind": "correct", "f1": "10", "f2": "1", "f3": "close", "f4": "1743093000", "f5": "2", "f6": "A"},
+                7,
+                "revision 2",
+            ),
+            ({**LIGHTHOUSE, "f3": "1"}, 5, "2025-03-24T00:00:00+01:00"),
+            ({**LIGHTHOUSE, "f1": "NOSUCH"}, 2, "no device NOSUCH"),
+            ({**LIGHTHOUSE, "f5": "<b>"}, 1, "crew"),
+            ({**LIGHTHOUSE, "f1": "X" * 88}, 1, "device"),
+            ({"kind": "life", "f1": "CB-1", "f2": "1743000000", "f3": "1742900000"}, 18, "end of the life"),
+            ({"kind": "mark", "f1": "2025-03-30", "f2": "ANNA"}, 13, "marked already"),
+        ]
+        for number, (command, refused, words) in enumerate(wrong):
+            status, shown = screen.post({**command, "ref": f"SCR-ANNA-R{number}"})
+            self.assertIn(status, (409, 422), command)
+            self.assertEqual(shown["reply"]["refused"], refused, command)
+            self.assertIn(words, shown["words"])
+        stale = screen.post({**wrong[0][0], "ref": "SCR-ANNA-S"})[1]
+        self.assertEqual((stale["entry"]["no"], stale["entry"]["revision"]), (10, 2))
+        screen.post({**LIGHTHOUSE, "ref": "SCR-ANNA-C"})
+        conflict = screen.post({**LIGHTHOUSE, "f5": "CREW-1", "ref": "SCR-ANNA-C"})[1]
+        self.assertEqual((conflict["reply"]["refused"], conflict["reply"]["detail"]), (11, 103))
+        self.assertIn("number 103", conflict["words"])
+
+    def test_commands_that_come_another_way(self) -> None:
+        desk = self.desk("another-way")
+        screen = self.screen("", desk=desk)
+        desk.post({**LIGHTHOUSE, "ref": "CURL-1"})
+        support.until(lambda: screen.number() == 103, what="the command of another client")
+        rows = (support.EXAMPLES / "corrections.csv").read_bytes().splitlines(keepends=True)[:3]
+        support.call(f"{desk.url}/import", b"".join(rows))
+        support.until(lambda: screen.number() == 105, what="the import of another client")
+        self.assertIsNone(screen.call("/health")[1]["differs"])
+        self.assertTrue(screen.call("/api/entries/28")[1]["corrected"])
+
+    def test_other_spellings_of_a_command(self) -> None:
+        """A command is kept in the book's own spelling, however a client of the screen spelled it."""
+        screen = self.screen("spellings")
+        screen.log_in("ANNA")
+        spelled = {**LIGHTHOUSE, "f3": "2025-04-06T23:52:00+02:00", "f4": "05"}
+        self.assertEqual(screen.post({**spelled, "ref": "SCR-ANNA-1"})[1]["equal"], True)
+        self.assertEqual(screen.call("/api/entries/36")[1]["second"]["second"], 1_743_976_320)
+        withdrawn = screen.post({"kind": "withdraw", "f1": "036", "f2": "1", "ref": "SCR-ANNA-2"})[1]
+        self.assertEqual((withdrawn["equal"], screen.number()), (True, 104))
+        self.assertIsNone(screen.call("/health")[1]["differs"])
+
+    def test_the_log_has_login_reference_and_answer(self) -> None:
+        screen = self.screen("log")
+        screen.log_in("ANNA")
+        screen.post({**LIGHTHOUSE, "ref": "SCR-ANNA-1"})
+        lines = [json.loads(line) for line in screen.book.with_name("book.db-screen.jsonl").read_text().splitlines()]
+        self.assertEqual([line["reference"] for line in lines], ["SCR-ANNA-1", "SCR-ANNA-1"])
+        self.assertEqual({line["login"] for line in lines}, {"ANNA"})
+        self.assertEqual(lines[0]["sent"]["f1"], "LBS-22")
+        self.assertEqual((lines[1]["status"], lines[1]["answer"]["no"]), (200, 103))
+        self.assertEqual([row["reference"] for row in screen.call("/api/log")[1]], ["SCR-ANNA-1", "SCR-ANNA-1"])
+
+    def test_import_with_its_report(self) -> None:
+        screen = self.screen("import")
+        screen.log_in("ANNA")
+        rows = (support.EXAMPLES / "corrections.csv").read_bytes()
+        status, shown = screen.call("/api/import", rows, {"Content-Type": "text/csv"})
+        self.assertEqual((status, shown["reply"]), (200, {"added": 3, "again": 0, "stopped": None}))
+        self.assertEqual(screen.number(), 105)
+        self.assertEqual(screen.call("/api/year")[1]["totals"]["W"], "357670")
+
+    def test_the_whole_year_and_its_texts(self) -> None:
+        screen = self.screen("year")
+        table = (support.EXAMPLES / "fortnight.table.txt").read_text()
+        self.assertEqual(screen.call("/api/year")[1]["text"], table)
+        self.assertEqual(support.call(f"{screen.url}/download/table.txt")[1].decode(), table)
+        moves = support.call(f"{screen.url}/download/moves.csv")[1]
+        self.assertEqual(moves, (support.EXAMPLES / "fortnight.moves.csv").read_bytes())
+        self.assertEqual(support.call(f"{screen.url}/download/commands.csv")[1].count(b"\n"), 103)
+        self.assertIn(b"SAIDI", support.call(f"{screen.url}/report")[1])
+
+    def test_a_copy_without_a_desk(self) -> None:
+        screen = self.screen("copy", "--no-desk")
+        screen.log_in("ANNA")
+        self.assertEqual(screen.call("/health")[1]["desk"], "none")
+        self.assertEqual(screen.call("/api/year")[1]["totals"]["W"], "366070")
+        self.assertEqual(json.loads(screen.call("/api/entries/35")[1]["history"][0]["text"])["no"], 102)
+        self.assertEqual(screen.post({**LIGHTHOUSE, "ref": "SCR-ANNA-1"})[0], 403)
+
+
+class Faults(Case):
+    def test_own_desk_is_killed_again_and_again(self) -> None:
+        """The desk is killed at random moments while commands are sent: none is lost, none acts twice."""
+        times = int(os.environ.get("SCREEN_KILLS", "8"))
+        screen = self.screen("killed")
+        screen.log_in("ANNA")
+        ended = threading.Event()
+
+        def kill() -> None:
+            chance = random.Random(7)
+            for _ in range(times):
+                time.sleep(chance.uniform(0.0, 0.3))
+                try:
+                    os.kill(screen.desk_process(), signal.SIGKILL)
+                except (OSError, IndexError):
+                    pass
+                support.until(lambda: ended.is_set() or self.has_desk(screen), what="the next desk")
+            ended.set()
+
+        killer = threading.Thread(target=kill)
+        killer.start()
+        sent = tries = 0
+        while not ended.is_set() or sent < 20:
+            command = {**LIGHTHOUSE, "f2": ("close", "open")[sent % 2], "f3": str(1_743_974_500 + sent)}
+            status, shown = screen.post({**command, "ref": f"SCR-ANNA-{sent}"})
+            self.assertEqual(status, 200, shown)
+            self.assertEqual((shown["reply"]["no"], shown["equal"]), (103 + sent, True))
+            sent, tries = sent + 1, tries + shown["tries"]
+        killer.join()
+        self.assertGreater(tries, sent)
+        screen.end()
+        self.assertEqual(support.run("audit", "--book", screen.book), "audit ok\n")
+        anew = reader.read_later(screen.book, 102)
+        self.assertEqual([command.ref for command, _ in anew], [f"SCR-ANNA-{number}" for number in range(sent)])
+
+    def has_desk(self, screen: support.Screen) -> bool:
+        try:
+            screen.desk_process()
+        except (OSError, IndexError):
+            return False
+        return bool(screen.call("/health")[1]["desk"] == "here")
+
+    def test_a_lost_reply(self) -> None:
+        """The connection is cut after the desk has committed: the screen sends the command again, and it acted once."""
+        desk = self.desk("lost")
+        proxy = Cutter(desk.port)
+        self.addCleanup(proxy.end)
+        screen = support.Screen(desk.book, "--desk", f"http://127.0.0.1:{proxy.port}")
+        self.addCleanup(screen.end)
+        screen.log_in("ANNA")
+        proxy.cuts = 2
+        status, shown = screen.post({**LIGHTHOUSE, "ref": "SCR-ANNA-1"})
+        self.assertEqual((status, shown["reply"]["no"], shown["tries"], shown["equal"]), (200, 103, 3, True))
+        self.assertEqual(screen.number(), 103)
+
+    def test_a_desk_that_is_away(self) -> None:
+        desk = self.desk("away")
+        screen = self.screen("", desk=desk)
+        screen.log_in("ANNA")
+        desk.kill()
+        support.until(lambda: screen.call("/health")[1]["desk"] == "away", what="the desk away")
+        self.assertEqual(screen.call("/health")[0], 503)
+        self.assertEqual(screen.call("/api/now")[0], 200)
+        again = support.Desk(desk.book, desk.port)
+        self.addCleanup(again.kill)
+        support.until(lambda: screen.call("/health")[1]["desk"] == "here", what="the desk here")
+
+    def test_the_screen_takes_its_desk_with_it(self) -> None:
+        screen = self.screen("with-it")
+        desk = screen.desk_process()
+        screen.process.kill()
+        support.until(lambda: not is_running(desk), what="its end")
+
+
+class Cutter:
+    """A proxy that hands requests to the desk, and cuts some replies of POSTs off."""
+
+    def __init__(self, desk: int):
+        self.desk, self.cuts = desk, 0
+        self.socket = socket.create_server(("127.0.0.1", 0))
+        self.port = self.socket.getsockname()[1]
+        threading.Thread(target=self.run, daemon=True).start()
+
+    def run(self) -> None:
+        while True:
+            try:
+                client, _ = self.socket.accept()
+            except OSError:
+                return
+            with client:
+                data = client.recv(65_536)
+                while data.startswith(b"POST") and b"}" not in data:
+                    data += client.recv(65_536)
+                reply = talk(self.desk, data)
+                if data.startswith(b"POST") and self.cuts > 0:
+                    self.cuts -= 1
+                    continue
+                client.sendall(reply)
+
+    def end(self) -> None:
+        self.socket.close()
+
+
+class Hostile(Case):
+    """Bad requests: a named answer or a closed connection, and the desk isn't touched."""
+
+    def setUp(self) -> None:
+        self.seen = self.screen(f"hostile-{self._testMethodName}")
+        self.seen.log_in("ANNA")
+
+    def command(self, **headers: str | None) -> int:
+        body = json.dumps({**LIGHTHOUSE, "ref": "SCR-ANNA-1"}).encode()
+        told: dict[str, str | None] = {"Content-Type": "application/json", **headers}
+        return self.seen.call(
+            "/api/command", body, {name.replace("_", "-"): value for name, value in told.items() if value}
+        )[0]
+
+    def test_origins_hosts_tokens_methods(self) -> None:
+        self.assertEqual(self.command(X_Screen_Token="0" * 64), 403)
+        self.assertEqual(self.command(Origin="https://evil.example"), 403)
+        self.assertEqual(self.command(Origin="null"), 403)
+        self.assertEqual(self.command(Host="evil.example"), 403)
+        self.assertEqual(self.command(Sec_Fetch_Site="cross-site"), 403)
+        self.assertEqual(self.command(Content_Type="text/plain"), 415)
+        self.assertEqual(self.seen.call("/api/now", headers={"Sec-Fetch-Site": "cross-site"})[0], 403)
+        for method, status in (("DELETE", b"405"), ("HEAD", b"200"), ("PUT", b"405"), ("TRACE", b"405")):
+            request = f"{method} /health HTTP/1.1\r\nHost: 127.0.0.1:{self.seen.port}\r\n\r\n".encode()
+            self.assertEqual(talk(self.seen.port, request).split(b" ")[1], status, method)
+        self.assertEqual(self.seen.number(), 102)
+
+    def test_others_references_and_fields(self) -> None:
+        for change in ({"ref": "SCR-BERT-1"}, {"ref": "X" * 41}, {"kind": "drop"}, {"f7": "1"}):
+            self.assertEqual(self.seen.post({**LIGHTHOUSE, "ref": "SCR-ANNA-1", **change})[0], 422, change)
+        for body in (b"", b"[1]", b"{", b'{"kind":1}', b"\xff\xfe", b"[" * 16_000):
+            status, _ = self.seen.call("/api/command", body, {"Content-Type": "application/json"})
+            self.assertEqual(status, 422, body[:20])
+        self.assertEqual(self.seen.post({"kind": "switch", "ref": "SCR-ANNA-1", "f1": "X" * 20_000})[0], 413)
+        self.assertEqual(
+            self.seen.post({"kind": "mark", "ref": "SCR-ANNA-1", "f1": "2025-03-25", "f2": "BERT"})[0], 422
+        )
+        self.assertEqual(self.seen.number(), 102)
+
+    def test_bytes_that_are_no_request(self) -> None:
+        chance = random.Random(3)
+        host = f"Host: 127.0.0.1:{self.seen.port}\r\n".encode()
+        texts = [b"\r\n\r\n", b"GET\r\n\r\n", b"\x16\x03\x01\x02\x00\x01\r\n\r\n", b"GET / HTTP/9.9\r\n\r\n"]
+        texts += [bytes(chance.randrange(256) for _ in range(300)) + b"\r\n\r\n" for _ in range(20)]
+        texts += [
+            b"POST /api/command HTTP/1.1\r\n" + host + b"Transfer-Encoding: chunked\r\n\r\n5\r\nhello\r\n0\r\n\r\n"
+        ]
+        texts += [b"POST /api/command HTTP/1.1\r\n" + host + b"Content-Length: x\r\n\r\n"]
+        texts += [b"POST /api/import HTTP/1.1\r\n" + host + b"Content-Length: 99999999\r\n\r\n"]
+        texts += [b"GET / HTTP/1.1\r\n" + host + b"X: " + b"y" * 20_000 + b"\r\n\r\n"]
+        texts += [b"GET / HTTP/1.1\r\n" + host + b"A: b\r\n" * 4_000 + b"\r\n"]
+        texts += [
+            b"GET /../../etc/passwd HTTP/1.1\r\n" + host + b"\r\n",
+            b"GET /static/..%2fscreen HTTP/1.1\r\n" + host + b"\r\n",
+        ]
+        for text in texts:
+            reply = talk(self.seen.port, text)
+            self.assertTrue(reply == b"" or reply.split(b" ")[1][:1] in (b"4", b"5"), (text[:60], reply[:60]))
+        self.assertEqual(self.seen.call("/health")[1]["desk"], "here")
+
+    def test_half_sent_and_silent_connections(self) -> None:
+        silent = [socket.create_connection(("127.0.0.1", self.seen.port)) for _ in range(1_000)]
+        half = socket.create_connection(("127.0.0.1", self.seen.port), timeout=60)
+        half.sendall(b"GET / HTTP/1.1\r\nHo")
+        try:
+            begun = time.monotonic()
+            self.assertEqual(self.seen.post({**LIGHTHOUSE, "ref": "SCR-ANNA-1"})[0], 200)
+            self.assertLess(time.monotonic() - begun, 2)
+            self.assertIn(b"408", half.recv(1_000))
+            silent[0].settimeout(30)
+            self.assertEqual(silent[0].recv(10), b"")
+        finally:
+            for connection in (*silent, half):
+                connection.close()
+
+    def test_every_reply_has_its_policy(self) -> None:
+        for route in ("/", "/api/me", "/static/screen.css", "/nowhere", "/report"):
+            request = f"GET {route} HTTP/1.1\r\nHost: 127.0.0.1:{self.seen.port}\r\n\r\n".encode()
+            head = talk(self.seen.port, request, 60).partition(b"\r\n\r\n")[0].decode()
+            self.assertIn("Content-Security-Policy: default-src 'none'", head, route)
+            self.assertNotIn("unsafe", head)
+            self.assertIn("X-Content-Type-Options: nosniff", head)
+            self.assertIn("Connection: close", head)
+
+
+class Logins(Case):
+    def test_the_proxys_login(self) -> None:
+        screen = self.screen("proxy", "--proxy", "127.0.0.1", "--senders", "desk-")
+        self.assertEqual(screen.call("/api/me")[0], 401)
+        screen.headers = {"X-Remote-User": "desk-anna.b"}
+        me = screen.call("/api/me")[1]
+        self.assertEqual((me["name"], me["may_send"]), ("DESK-ANNA-B", True))
+        screen.headers["X-Screen-Token"] = me["token"]
+        self.assertEqual(screen.post({**LIGHTHOUSE, "ref": "SCR-DESK-ANNA-B-1"})[0], 200)
+        screen.headers["X-Remote-User"] = "reader"
+        self.assertEqual(screen.post({**LIGHTHOUSE, "ref": "SCR-READER-1"})[0], 403)
+        screen.headers["X-Screen-Token"] = screen.call("/api/me")[1]["token"]
+        self.assertEqual(screen.post({**LIGHTHOUSE, "ref": "SCR-READER-1"})[0], 403)
+
+    def test_a_login_of_a_browser_is_no_proxys(self) -> None:
+        screen = self.screen("no-proxy")
+        self.assertEqual(screen.call("/api/me", headers={"X-Remote-User": "desk-anna"})[1]["login"], "")
+        elsewhere = self.screen("proxy-elsewhere", "--proxy", "10.0.7.1")
+        self.assertEqual(elsewhere.call("/api/me", headers={"X-Remote-User": "desk-anna"})[0], 401)
+
+    def test_read_only(self) -> None:
+        screen = self.screen("read-only", "--read-only")
+        screen.log_in("ANNA")
+        self.assertEqual(screen.post({**LIGHTHOUSE, "ref": "SCR-ANNA-1"})[0], 403)
+        self.assertFalse(screen.call("/api/me")[1]["may_send"])
+
+
+class Moments(unittest.TestCase):
+    def test_hours_that_come_twice_or_never(self) -> None:
+        zone = reader.Zone("CET-1CEST,M3.5.0,M10.5.0/3")
+        both = moments.read_moment(zone, "2025-10-26 02:30:00")
+        self.assertEqual([each.text for each in both], ["2025-10-26T02:30:00+02:00", "2025-10-26T02:30:00+01:00"])
+        self.assertEqual(
+            [each.second for each in moments.read_moment(zone, "2025-10-26T02:30:00+01:00")], [both[1].second]
+        )
+        self.assertEqual(len(moments.read_moment(zone, "2025-04-05 06:10")), 1)
+        for wrong in ("2025-03-30 02:30:00", "tomorrow", "2025-02-30 10:00:00", "1900-01-01 00:00:00", ""):
+            with self.assertRaises(Refused, msg=wrong):
+                moments.read_moment(zone, wrong)
+
+
+if __name__ == "__main__":
+    unittest.main()

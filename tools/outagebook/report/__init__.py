@@ -1,0 +1,26 @@
+"""A page of a book's period as one HTML file: what it is made of, and what pages of other tools take from it."""
+
+from outagebook.report.head import index_table, tiles
+from outagebook.report.major_days import major_days_part
+from outagebook.report.page import Asked, main, page, write
+from outagebook.report.pictures import LONG, drawn, picture
+from outagebook.report.pieces import (
+    COMPUTED,
+    PROVED,
+    Column,
+    Part,
+    TableRow,
+    behind,
+    duration,
+    figure,
+    hours,
+    number,
+    numbers,
+    table,
+)
+from outagebook.report.rankings import WORST
+from outagebook.report.style import STYLE
+
+__all__ = ["COMPUTED", "LONG", "PROVED", "STYLE", "WORST", "Asked", "Column", "Part", "TableRow", "behind"]
+__all__ += ["drawn", "duration", "figure", "hours", "index_table", "main", "major_days_part", "number", "numbers"]
+__all__ += ["page", "picture", "table", "tiles", "write"]
