@@ -29,10 +29,10 @@ put() { # MODE FILE PLACE
 }
 
 put 755 "$program" bin/outagebook
-(cd "$here/tools" && find outagebook -name '*.py') | sort | while read -r module; do
+(cd "$here/tools" && find outagebook -name '*.py' -o -name '*.sql') | sort | while read -r module; do
     put 644 "$here/tools/$module" "lib/outagebook/$module"
 done
-for tool in book figures report years next_year commands from_oms check agree trial; do
+for tool in book figures report years next_year commands from_oms check agree trial sum districts major_days warehouse; do
     case $tool in
         book) name=compare ;;
         trial) name=try ;;
@@ -51,8 +51,10 @@ put 644 "$here/tools/installed/outagebook.bash" share/bash-completion/completion
 put 644 "$here/tools/installed/_outagebook" share/zsh/site-functions/_outagebook
 put 644 "$here/tools/installed/outagebook.fish" share/fish/vendor_completions.d/outagebook.fish
 put 644 "$here/examples/outagebook.service" share/doc/outagebook/examples/outagebook.service
+put 644 "$here/examples/outagebook@.service" share/doc/outagebook/examples/outagebook@.service
 put 644 "$here/examples/outagebook-screen.service" share/doc/outagebook/examples/outagebook-screen.service
 put 644 "$here/examples/nginx.conf" share/doc/outagebook/examples/nginx.conf
+put 644 "$here/examples/nginx-districts.conf" share/doc/outagebook/examples/nginx-districts.conf
 for page in "$here"/docs/*.md; do
     put 644 "$page" "share/doc/outagebook/$(basename "$page")"
 done

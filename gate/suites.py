@@ -12,7 +12,12 @@ from parts import Part, Ran, run, say
 
 Counts = tuple[int, int, str]
 LONGEST = "1800"  # seconds of a suite
-OVER_ORACLE = ("tools/tests/made_books.py", "tools/tests/taken_rows.py")  # programs over the oracle's modules
+OVER_ORACLE = (  # programs over the oracle's modules
+    "tools/tests/made_books.py",
+    "tools/tests/made_districts.py",
+    "tools/tests/taken_rows.py",
+)
+WAREHOUSE_PAGE = "docs/WAREHOUSE.md"  # its blocks want a PostgreSQL server
 TYPED = ("oracle", "benches", "gate", "tools", "screen")
 RAN = re.compile(r"^Ran ([0-9]+) tests? in ", re.MULTILINE)
 ENDED = re.compile(r"^(?:OK|FAILED)(?: \((.*)\))?$", re.MULTILINE)
@@ -82,12 +87,18 @@ def before_proofs(root: Path) -> list[Suite]:
 
 def with_program(root: Path) -> list[Suite]:
     """What is run against the program (OUTAGEBOOK) that the proofs ended with."""
-    pages = ("README.md", *sorted(page.relative_to(root).as_posix() for page in root.glob("docs/*.md")))
-    return [
+    pages = ["README.md", *sorted(page.relative_to(root).as_posix() for page in root.glob("docs/*.md"))]
+    with_server = [page for page in pages if page == WAREHOUSE_PAGE]
+    paste = (sys.executable, "benches/paste_pages.py")
+    found = [
         Suite("tools' tests", tests_in("tools/tests", "tools"), by_tests),
         Suite("program and oracle", (sys.executable, "oracle/compare.py"), as_one),
-        Suite("pages", (sys.executable, "benches/paste_pages.py", *pages), by_commands),
+        Suite("pages", (*paste, *(page for page in pages if page not in with_server)), by_commands),
     ]
+    if with_server:
+        server = (sys.executable, "tools/tests/own_postgres.py")
+        found.append(Suite("the warehouse's page", (*server, *paste, *with_server), by_commands))
+    return found
 
 
 def screen(root: Path) -> list[Suite]:

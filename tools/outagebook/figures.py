@@ -3,6 +3,7 @@
     python3 tools/figures.py BOOK interruptions|days|months|feeders|causes|sections|switchings|lives|indices|customers
                              [--csv | --json] [--late] [--names FILE] [--table FILE | --program PATH]
     python3 tools/figures.py BOOK events [--ticket RULE] ..
+    python3 tools/figures.py BOOK indices [--hours H ..] [--kva FILE] ..
     python3 tools/figures.py BOOK groups --by FILE ..
     python3 tools/figures.py BOOK cause-groups --causes FILE ..
 
@@ -12,8 +13,10 @@ zone, with their offset. docs/FIGURES.md says what each figure means.
 """
 
 from argparse import Namespace
-from collections.abc import Callable
+from collections.abc import Callable, Sequence
+from fractions import Fraction
 
+from outagebook import indices as further
 from outagebook.causes import cause_groups, causes
 from outagebook.cli import Parser, add_table_arguments, run_job
 from outagebook.compare import Checked, open_book
@@ -57,8 +60,8 @@ def meaning_of(index: str) -> tuple[str, str]:
     return INDEX_MEANINGS[index]
 
 
-def indices(found: Checked) -> Figures:
-    """Both sets of indices and counts, with units and definitions."""
+def indices(found: Checked, hours: Sequence[Fraction] = further.HOURS, loads: further.Loads | None = None) -> Figures:
+    """Both sets of indices and counts, with units and definitions: the program's, and further ones of the standard."""
     columns = {
         "index": "its name",
         "set": "all interruptions, or the unmarked ones, which don't begin on a marked day",
@@ -66,15 +69,22 @@ def indices(found: Checked) -> Figures:
         "decimal": "three decimals, rounded half up",
         "unit": "its unit",
         "definition": "its quotient",
+        "from": "program: equal to the annual table; computed here: no program prints it",
     }
     rows: list[list[Value]] = []
+    more = further.computed(found, hours, loads)
     for name in SETS:
         counts = found.counts[name]
         values = indices_of(counts, found.book.served_seconds(), found.book.period.length)
-        rows += [[index, name, *both(value), *meaning_of(index)] for index, value in values.items()]
-        rows.append(["SUSTAINED", name, counts.sustained, "", *meaning_of("SUSTAINED")])
-        rows.append(["MOMENTARY", name, counts.momentary, "", *meaning_of("MOMENTARY")])
-    return Figures("indices", ["Equal to the program's annual table, figure by figure.", TERMS], columns, rows)
+        rows += [[index, name, *both(value), *meaning_of(index), "program"] for index, value in values.items()]
+        rows.append(["SUSTAINED", name, counts.sustained, "", *meaning_of("SUSTAINED"), "program"])
+        rows.append(["MOMENTARY", name, counts.momentary, "", *meaning_of("MOMENTARY"), "program"])
+        rows += [
+            [index, name, *both(value), *further.meaning_of(index), "computed here"]
+            for index, value in more[name].items()
+        ]
+    about = ["Those from the program are equal to its annual table, figure by figure.", TERMS, further.TERMS]
+    return Figures("indices", about + ([loads.about] if loads else []), columns, rows)
 
 
 FIGURES: dict[str, Callable[[Checked], Figures]] = {
@@ -91,16 +101,31 @@ FIGURES: dict[str, Callable[[Checked], Figures]] = {
     "indices": indices,
 }
 
+
+def indices_by(found: Checked, args: Namespace) -> Figures:
+    """The indices with the hours and the connected kVA that the words of the command line give."""
+    loads = further.loads_of(args.kva, found.book, found.database) if args.kva else None
+    return indices(found, args.hours or further.HOURS, loads)
+
+
 # Figures that words of the command line change, and those that can't be shown without a list.
 WITH_WORDS: dict[str, Callable[[Checked, Namespace], Figures]] = {
     "events": lambda found, args: events(found, args.ticket or DEFAULT_RULE),
+    "indices": indices_by,
     "switchings": lambda found, args: switchings(found, args.late),
     "groups": lambda found, args: groups(found, read_section_groups(args.by, found.book)),
     "cause-groups": lambda found, args: cause_groups(found, read_cause_groups(args.causes, found.book)),
 }
 
 # The figure that each of these words goes with, and the word that each of these figures wants.
-WORDS = {"late": "switchings", "ticket": "events", "by": "groups", "causes": "cause-groups"}
+WORDS = {
+    "late": "switchings",
+    "ticket": "events",
+    "by": "groups",
+    "causes": "cause-groups",
+    "hours": "indices",
+    "kva": "indices",
+}
 WANTED = {"groups": "by", "cause-groups": "causes"}
 
 
@@ -148,6 +173,10 @@ def main() -> int:
     )
     add_list_arguments(parser)
     parser.add_argument("--by", metavar="FILE", help="of groups: a CSV of section and group")
+    parser.add_argument("--hours", nargs="+", type=further.read_hours, metavar="H", help="of indices: those of CELID")
+    parser.add_argument(
+        "--kva", metavar="FILE", help="of indices: connected kVA by section or customer, for ASIFI, ASIDI"
+    )
     add_table_arguments(parser)
     args = parser.parse_args()
     check_words(parser, args)

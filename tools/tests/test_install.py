@@ -126,7 +126,8 @@ class Install(unittest.TestCase):
         for _ in range(2):
             done = self.install(prefix, PROGRAM=program)
             self.assertEqual((done.returncode, done.stderr), (0, ""))
-        tools = ["agree", "check", "commands", "compare", "figures", "from-oms", "next-year", "report", "try", "years"]
+        tools = ["agree", "check", "commands", "compare", "districts", "figures", "from-oms", "major-days", "next-year"]
+        tools += ["report", "sum", "try", "warehouse", "years"]
         self.assertEqual(
             sorted(path.name for path in (prefix / "bin").iterdir()),
             sorted(["outagebook", "outagebook-screen", *(f"outagebook-{tool}" for tool in tools)]),
@@ -145,6 +146,7 @@ class Install(unittest.TestCase):
         package = {path.relative_to(support.TOOLS).as_posix() for path in support.TOOLS.glob("outagebook/**/*.py")}
         commands = {path.name for path in support.TOOLS.glob("*.py")}
         self.assertEqual(installed, package | commands)
+        self.assertTrue((library / "outagebook/warehouse.sql").exists())
 
     def test_what_is_refused(self) -> None:
         self.assertEqual(self.install(support.folder() / "none", PROGRAM="/nowhere/outagebook").returncode, 1)

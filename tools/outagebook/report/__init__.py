@@ -1,8 +1,9 @@
 """A page of a book's period as one HTML file: what it is made of, and what pages of other tools take from it."""
 
-from outagebook.report.head import meaning_text, tiles
-from outagebook.report.page import Asked, main, page
-from outagebook.report.pictures import LONG, picture
+from outagebook.report.head import index_table, meaning_text, tiles
+from outagebook.report.major_days import major_days_part
+from outagebook.report.page import Asked, main, page, write
+from outagebook.report.pictures import LONG, drawn, picture
 from outagebook.report.pieces import (
     COMPUTED,
     PROVED,
@@ -20,18 +21,6 @@ from outagebook.report.pieces import (
 from outagebook.report.rankings import WORST
 from outagebook.report.style import STYLE, paper_style
 
-__all__ = [
-    "COMPUTED",
-    "LONG",
-    "PROVED",
-    "STYLE",
-    "WORST",
-    "Asked",
-    "Column",
-    "Part",
-    "TableRow",
-    "behind",
-    "duration",
-    "figure",
-]
-__all__ += ["hours", "main", "meaning_text", "number", "numbers", "page", "paper_style", "picture", "table", "tiles"]
+__all__ = ["COMPUTED", "LONG", "PROVED", "STYLE", "WORST", "Asked", "Column", "Part", "TableRow", "behind"]
+__all__ += ["drawn", "duration", "figure", "hours", "index_table", "main", "major_days_part", "meaning_text", "number"]
+__all__ += ["numbers", "page", "paper_style", "picture", "table", "tiles", "write"]

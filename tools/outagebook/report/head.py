@@ -100,15 +100,20 @@ def index_row(index: str, table_words: dict[str, str]) -> str:
     return f'<tr><td><strong>{index}</strong></td>{cells}<td class="long">{escape(meaning_text(index))}</td></tr>'
 
 
-def index_part(table_words: dict[str, str]) -> Part:
-    """Both sets, as the program's table has them."""
+def index_table(table_words: dict[str, str]) -> str:
+    """Both sets by the words of a table: each figure before its fraction."""
     names = [which.removesuffix(" all") for which in table_words if which.endswith(" all")]
     rows = "\n".join(index_row(index, table_words) for index in names)
     heads = "".join(f'<th scope="col">{head}</th>' for head in ("index", *SETS, "unit and definition"))
+    return f"""<table class="indices"><thead><tr>{heads}</tr></thead><tbody>
+{rows}</tbody></table>"""
+
+
+def index_part(table_words: dict[str, str]) -> Part:
+    """Both sets, as the program's table has them."""
     content = f"""
 <p>The figures of the program's annual table: three decimals, and behind them the exact fraction in lowest terms; of ASAI
 five decimals. <i>Unmarked</i> leaves out each interruption that begins on a marked day. By IEEE Std 1366-2012; an
 interruption of more than 300 seconds is sustained. {TERMS}</p>
-<table class="indices"><thead><tr>{heads}</tr></thead><tbody>
-{rows}</tbody></table>"""
+{index_table(table_words)}"""
     return Part("indices", "Indices", PROVED, content)

@@ -1,14 +1,15 @@
 """A page of a book's period: indices, days, months, causes, feeders, worst interruptions, what late work moved.
 
     python3 tools/report.py BOOK -o year.html [--name NAME] [--names FILE] [--causes FILE] [--by FILE]
-                            [--events | --ticket RULE] [--customers] [--oms FILE] [--picture days.svg] [--date DATE]
-                            [--table FILE | --program PATH]
+                            [--events | --ticket RULE] [--customers] [--oms FILE] [--earlier BOOK ..] [--picture days.svg]
+                            [--date DATE] [--table FILE | --program PATH]
 
 One HTML file that needs no network and no script. Its indices are the words of the program's annual table; what is
 computed here says so, and was compared with the book's postings and that table first (compare.py).
 """
 
 import argparse
+from collections.abc import Sequence
 from dataclasses import dataclass
 from datetime import date
 from html import escape
@@ -22,12 +23,15 @@ from outagebook.errors import BookError
 from outagebook.events import DEFAULT_RULE, Rule
 from outagebook.figures import add_list_arguments
 from outagebook.lists import Groups, Names, read_cause_groups, read_names, read_section_groups
+from outagebook.major_days import read_years
 from outagebook.report.agreement import agreement_part
 from outagebook.report.head import heading, index_part, state_of, tiles
+from outagebook.report.major_days import major_days_part
 from outagebook.report.pictures import cause_group_part, cause_part, day_part, feeder_part, month_part, picture
 from outagebook.report.pieces import COMPUTED, PROVED, Part
 from outagebook.report.rankings import customer_part, event_part, group_part, late_part, worst_part
 from outagebook.report.style import STYLE, paper_style
+from outagebook.sums import Sums, district_of, read_districts
 
 FOOT = f"""
 <footer><p>{PROVED} are the words and amounts that the proved program printed and keeps: the indices of both sets, and the
@@ -48,6 +52,7 @@ class Asked:
     rule: Rule | None = None
     has_customers: bool = False
     agreement: Agreement | None = None
+    years: Sequence[Sums] | None = None  # the book's period and those before it
 
 
 def parts_of(found: Checked, table_words: dict[str, str], asked: Asked) -> list[Part]:
@@ -58,7 +63,10 @@ def parts_of(found: Checked, table_words: dict[str, str], asked: Asked) -> list[
         parts.append(cause_group_part(found, asked.cause_groups))
     if asked.section_groups is not None:
         parts.append(group_part(found, asked.section_groups))
-    parts += [day_part(found), month_part(found), cause_part(found), feeder_part(found, names)]
+    parts.append(day_part(found))
+    if asked.years is not None:
+        parts.append(major_days_part(asked.years))
+    parts += [month_part(found), cause_part(found), feeder_part(found, names)]
     if asked.rule is not None:
         parts.append(event_part(found, asked.rule))
     if asked.has_customers:
@@ -96,6 +104,12 @@ def page(found: Checked, asked: Asked = Asked()) -> str:
     )
 
 
+def years_until(found: Checked, args: argparse.Namespace) -> list[Sums]:
+    """The book's period and those of the books before it."""
+    earlier = read_districts(args.earlier, [None] * len(args.earlier), args.program)
+    return read_years([*earlier, district_of(args.book, found)], own_numbers=False)
+
+
 def asked_for(found: Checked, args: argparse.Namespace) -> Asked:
     """What the words of the command line ask for, with the lists read."""
     book = found.book
@@ -108,6 +122,7 @@ def asked_for(found: Checked, args: argparse.Namespace) -> Asked:
         rule=args.ticket or (DEFAULT_RULE if args.events else None),
         has_customers=args.customers,
         agreement=agreement_of(found, read_counts(args.oms)) if args.oms else None,
+        years=years_until(found, args) if args.earlier else None,
     )
 
 
@@ -142,6 +157,9 @@ def parser_of_report() -> Parser:
     parser.add_argument("--customers", action="store_true", help="the worst served customers too")
     parser.add_argument(
         "--oms", metavar="FILE", help="the OMS's own counts by ticket: the tickets that differ most too"
+    )
+    parser.add_argument(
+        "--earlier", metavar="BOOK", nargs="+", help="books of the years before: the part on major event days"
     )
     add_table_arguments(parser)
     return parser

@@ -1,0 +1,9 @@
+#!/usr/bin/env python3
+"""See outagebook/major_days.py."""
+
+import sys
+
+from outagebook.major_days import main
+
+if __name__ == "__main__":
+    sys.exit(main())

@@ -1,0 +1,9 @@
+#!/usr/bin/env python3
+"""See outagebook/sums.py."""
+
+import sys
+
+from outagebook.sums import main
+
+if __name__ == "__main__":
+    sys.exit(main())

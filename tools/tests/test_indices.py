@@ -1,0 +1,160 @@
+"""The standard's further indices: against a count customer by customer over the made books, and worked by hand."""
+
+import unittest
+from collections import defaultdict
+from fractions import Fraction
+from pathlib import Path
+
+from outagebook import figures
+from outagebook.compare import Checked
+from outagebook.counts import SETS, fraction_text
+from outagebook.errors import BookError
+from outagebook.indices import Loads, computed, loads_of, meaning_of, read_hours
+from outagebook.sums import add_up, district_of
+from tests import many_books, support
+from tests.many_books import books_of, district_rows, opened, parts_of, run, table_of
+
+HOURS = [Fraction(1, 2), Fraction(1), Fraction(8), Fraction(24)]
+
+
+def lengths_of_customers(found: Checked, unmarked: bool) -> list[list[int]]:
+    """The seconds of each interruption of each customer, found one customer after another."""
+    runs = defaultdict(list)
+    for run in found.runs:
+        runs[run.section].append(run)
+    customers = []
+    for section, since, until in found.database.execute("SELECT section, since, until FROM customer"):
+        parts = [(max(run.since, since), min(run.until, until or run.until)) for run in runs[section]]
+        customers.append([e - b for b, e in parts if b < e and not (unmarked and found.book.is_marked(b))])
+    return customers
+
+
+def share(count: int, found: Checked) -> Fraction | None:
+    """So many per customer served."""
+    served = found.book.served_seconds()
+    return Fraction(count * found.book.period.length, served) if served else None
+
+
+class MadeBooks(unittest.TestCase):
+    def test_customer_by_customer(self) -> None:
+        several = 0
+        for made in support.books():
+            found = support.opened(made)
+            for name, indices in computed(found, HOURS, None).items():
+                customers = lengths_of_customers(found, name == "unmarked")
+                sustained = [[length for length in lengths if length > 300] for lengths in customers]
+                several += any(len(lengths) > 2 for lengths in customers)
+                with self.subTest(made.name, set=name):
+                    momentary = sum(length <= 300 for lengths in customers for length in lengths)
+                    self.assertEqual(indices["MAIFI"], share(momentary, found))
+                    interrupted = sum(bool(lengths) for lengths in sustained)
+                    total = sum(sum(lengths) for lengths in sustained)
+                    self.assertEqual(indices["CTAIDI"], Fraction(total, 60 * interrupted) if interrupted else None)
+                    for n in range(1, 11):
+                        some = sum(len(lengths) >= n for lengths in customers)
+                        self.assertEqual(indices[f"CEMSMI-{n}"], share(some, found))
+                    for text, seconds in (("0.5", 1_800), ("1", 3_600), ("8", 28_800), ("24", 86_400)):
+                        single = sum(any(length >= seconds for length in lengths) for lengths in sustained)
+                        self.assertEqual(indices[f"CELID-S-{text}"], share(single, found))
+                        in_all = sum(sum(lengths) >= seconds for lengths in sustained)
+                        self.assertEqual(indices[f"CELID-T-{text}"], share(in_all, found))
+        self.assertGreater(several, 3)
+
+    def test_equal_loads_give_saifi_and_saidi(self) -> None:
+        """One kVA for each customer: ASIFI is SAIFI, and ASIDI SAIDI."""
+        file = many_books.folder() / "equal.csv"
+        for made in support.books():
+            found = support.opened(made)
+            numbers = [number for number, in found.database.execute("SELECT id FROM customer")]
+            file.write_text("customer,kva\n" + "".join(f"{number},2.5\n" for number in numbers))
+            indices = computed(found, HOURS, loads_of(str(file), found.book, found.database))
+            rows = figures.indices(found).rows
+            for name in SETS:
+                values = {row[0]: row[2] for row in rows if row[1] == name}
+                for load_index, index in (("ASIFI", "SAIFI"), ("ASIDI", "SAIDI")):
+                    value = indices[name][load_index]
+                    self.assertEqual(fraction_text(value), values[index], (made.name, name, index))
+
+    def test_the_sum_of_parts_is_the_whole(self) -> None:
+        where = many_books.cut_networks()
+        for seed in many_books.SEEDS:
+            whole = computed(opened(where / f"{seed}-whole.db"), HOURS, None)
+            parts = [district_of(str(book), opened(book), HOURS) for book in parts_of(where, seed)]
+            sums = add_up(parts)
+            for name in SETS:
+                self.assertEqual(sums.further_indices(name), whole[name], seed)
+
+
+class Worked(unittest.TestCase):
+    """Three customers of a fortnight: an hour without supply of all, five minutes of two."""
+
+    book = Path()
+
+    @classmethod
+    def setUpClass(cls) -> None:
+        cls.book = books_of("worked-indices", {"north": district_rows("N", 1)})["north"]
+
+    def of(self, loads: Loads | None = None) -> dict[str, Fraction | None]:
+        return computed(opened(self.book), [Fraction(1), Fraction(2)], loads)["all"]
+
+    def test_by_hand(self) -> None:
+        found = self.of()
+        wanted = {"MAIFI": Fraction(2, 3), "CTAIDI": Fraction(60), "CELID-S-1": Fraction(1), "CELID-S-2": Fraction(0)}
+        wanted |= {
+            "CELID-T-1": Fraction(1),
+            "CEMSMI-1": Fraction(1),
+            "CEMSMI-2": Fraction(2, 3),
+            "CEMSMI-3": Fraction(0),
+        }
+        self.assertEqual({name: found[name] for name in wanted}, wanted)
+
+    def kva(self, text: str) -> Loads:
+        file = many_books.folder() / "kva.csv"
+        file.write_text(text)
+        return loads_of(str(file), opened(self.book).book, opened(self.book).database)
+
+    def test_connected_load_by_hand(self) -> None:
+        """100 kVA on S1 and 300 on S2 for an hour: each kVA once, 60 minutes; the five minutes are momentary."""
+        loads = self.kva("section,kva\nN-S1,100\nN-S2,300\n")
+        self.assertEqual((self.of(loads)["ASIFI"], self.of(loads)["ASIDI"]), (Fraction(1), Fraction(60)))
+
+    def test_rows_of_others_are_told(self) -> None:
+        self.assertIn("1 of its rows are of no section", self.kva("section,kva\nN-S1,1\nN-S2,0.5\nZ,9\n").about)
+
+    def test_files_that_are_refused(self) -> None:
+        cases = {
+            "section,kva\nN-S1,1\n": "hasn't the section N-S2",
+            "customer,kva\n1,1\n": "hasn't the customer 2, and 2",
+            "section,kva\nN-S1,1\nN-S1,2\n": "row 2: section N-S1 comes twice",
+            "section,kva\nN-S1,-1\n": "row 1: kva '-1' is no number",
+            "section,kva\n,1\n": "row 1: the section is empty",
+            "name,kva\nN-S1,1\n": "either section or customer",
+        }
+        for text, told in cases.items():
+            with self.subTest(text), self.assertRaisesRegex(BookError, told):
+                self.kva(text)
+
+    def test_the_figures_say_where_each_index_is_from(self) -> None:
+        done = run("figures", self.book, "indices", "--csv", "--table", table_of(self.book), "--hours", "1", "2.5")
+        self.assertEqual((done.returncode, done.stderr), (0, ""))
+        lines = done.stdout.splitlines()
+        self.assertIn("SAIDI,all,60/1,60.000,minutes per customer served,CSI x P / (60 x S),program", lines)
+        self.assertTrue(
+            [line for line in lines if line.startswith("CELID-T-2.5,all,0/1,0.000,") and "computed here" in line]
+        )
+        for arguments in ("days --hours 1", "indices --hours 0", "indices --hours x", "causes --kva x"):
+            self.assertEqual(run("figures", self.book, *arguments.split()).returncode, 64, arguments)
+
+    def test_each_index_has_its_unit_and_quotient(self) -> None:
+        for index in [*self.of(), "ASIFI", "ASIDI"]:
+            unit, quotient = meaning_of(index)
+            self.assertTrue(unit and "/" in quotient, index)
+
+    def test_hours(self) -> None:
+        self.assertEqual(read_hours("2.5"), Fraction(5, 2))
+        for text in ("0", "-1", "1e3", "", "1.2345"):
+            self.assertRaises(ValueError, read_hours, text)
+
+
+if __name__ == "__main__":
+    unittest.main()

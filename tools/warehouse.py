@@ -1,0 +1,9 @@
+#!/usr/bin/env python3
+"""See outagebook/warehouse.py."""
+
+import sys
+
+from outagebook.warehouse import main
+
+if __name__ == "__main__":
+    sys.exit(main())
