@@ -207,7 +207,8 @@ CROSS JOIN LATERAL outagebook.whole_indices(
 -- Parts of books: SAIFI, SAIDI and CAIDI over the customers served of the part.
 
 CREATE VIEW outagebook.feeders AS
-SELECT p.first_day, p.days, p.zone, s.district, s.feeder, k."set", f.customer_seconds,
+SELECT p.first_day, p.days, p.zone, s.district, s.feeder, k."set",
+    CASE k."set" WHEN 'all' THEN f.customer_seconds ELSE coalesce(t.customer_seconds, 0) END AS customer_seconds,
     outagebook.fraction(s.served_seconds, p.seconds) AS customers_served,
     outagebook.decimals(s.served_seconds, p.seconds) AS customers_served_3,
     coalesce(t.sustained, 0) AS sustained, coalesce(t.momentary, 0) AS momentary,
@@ -221,7 +222,7 @@ JOIN outagebook.feeder AS f USING (period_id, district, feeder)
 CROSS JOIN (VALUES ('all'), ('unmarked')) AS k ("set")
 LEFT JOIN (
     SELECT c.period_id, c.district, n.feeder, c."set", sum(c.sustained) AS sustained, sum(c.momentary) AS momentary,
-        sum(c.sustained_seconds) AS sustained_seconds
+        sum(c.sustained_seconds) AS sustained_seconds, sum(c.customer_seconds) AS customer_seconds
     FROM outagebook.counted AS c JOIN outagebook.section AS n USING (period_id, district, section)
     GROUP BY c.period_id, c.district, n.feeder, c."set"
 ) AS t ON t.period_id = s.period_id AND t.district = s.district AND t.feeder = s.feeder AND t."set" = k."set"
@@ -250,7 +251,8 @@ CROSS JOIN LATERAL outagebook.indices(
     coalesce(t.sustained, 0), coalesce(t.sustained_seconds, 0), s.served_seconds, p.seconds) AS i;
 
 CREATE VIEW outagebook.district_months AS
-SELECT p.first_day, p.days, p.zone, d.district, d.month, k."set", d.customer_seconds,
+SELECT p.first_day, p.days, p.zone, d.district, d.month, k."set",
+    CASE k."set" WHEN 'all' THEN d.customer_seconds ELSE coalesce(t.customer_seconds, 0) END AS customer_seconds,
     outagebook.fraction(d.served_seconds, d.seconds) AS customers_served,
     outagebook.decimals(d.served_seconds, d.seconds) AS customers_served_3,
     coalesce(t.sustained, 0) AS sustained, coalesce(t.momentary, 0) AS momentary,
@@ -264,7 +266,8 @@ JOIN outagebook.period AS p USING (period_id)
 CROSS JOIN (VALUES ('all'), ('unmarked')) AS k ("set")
 LEFT JOIN (
     SELECT period_id, district, date_trunc('month', day)::date AS month, "set", sum(sustained) AS sustained,
-        sum(momentary) AS momentary, sum(sustained_seconds) AS sustained_seconds
+        sum(momentary) AS momentary, sum(sustained_seconds) AS sustained_seconds,
+        sum(customer_seconds) AS customer_seconds
     FROM outagebook.counted GROUP BY 1, 2, 3, 4
 ) AS t ON t.period_id = d.period_id AND t.district = d.district AND t.month = d.month AND t."set" = k."set"
 CROSS JOIN LATERAL outagebook.indices(
@@ -272,7 +275,8 @@ CROSS JOIN LATERAL outagebook.indices(
 
 -- Months of all districts: an interruption counts whole in the month in which it begins.
 CREATE VIEW outagebook.months AS
-SELECT p.first_day, p.days, p.zone, d.month, k."set", d.districts, d.customer_seconds,
+SELECT p.first_day, p.days, p.zone, d.month, k."set", d.districts,
+    CASE k."set" WHEN 'all' THEN d.customer_seconds ELSE coalesce(t.customer_seconds, 0) END AS customer_seconds,
     outagebook.fraction(d.served_seconds, d.seconds) AS customers_served,
     outagebook.decimals(d.served_seconds, d.seconds) AS customers_served_3,
     coalesce(t.sustained, 0) AS sustained, coalesce(t.momentary, 0) AS momentary,
@@ -290,7 +294,8 @@ JOIN outagebook.period AS p USING (period_id)
 CROSS JOIN (VALUES ('all'), ('unmarked')) AS k ("set")
 LEFT JOIN (
     SELECT period_id, date_trunc('month', day)::date AS month, "set", sum(sustained) AS sustained,
-        sum(momentary) AS momentary, sum(sustained_seconds) AS sustained_seconds
+        sum(momentary) AS momentary, sum(sustained_seconds) AS sustained_seconds,
+        sum(customer_seconds) AS customer_seconds
     FROM outagebook.counted GROUP BY 1, 2, 3
 ) AS t ON t.period_id = d.period_id AND t.month = d.month AND t."set" = k."set"
 CROSS JOIN LATERAL outagebook.indices(

@@ -355,13 +355,14 @@ def book_by_program(path: Path, exports: Path, causes: Path) -> Path:
     """A book that the program made of exports."""
     rows = path.with_suffix(".csv")
     files = ["--gis", exports / "gis.csv", "--customers", exports / "customers.csv", "--oms", exports / "oms.csv"]
-    done = run("from_oms", "--causes", causes, *files, "--zone", many_books.FORTNIGHT[2])
+    first, days, zone = map(str, many_books.FORTNIGHT)
+    period = ["--first", first, "--days", days, "--zone", zone]
+    done = run("from_oms", "--causes", causes, *files, *period)
     if done.returncode:
         raise AssertionError(done.stderr)
     rows.write_text(done.stdout)
-    first, days, zone = map(str, many_books.FORTNIGHT)
     for arguments in (
-        ["init", "--book", path, "--first", first, "--days", days, "--zone", zone],
+        ["init", "--book", path, *period],
         ["import", "--book", path, rows],
     ):
         subprocess.run([str(PROGRAM), *map(str, arguments)], check=True, capture_output=True)
