@@ -97,18 +97,30 @@ class Operators(Case):
         page.says(".outcome .equal", "equal")
         page.open(f"{screen.url}/sheet?entry=36")
         self.tab_to(page, "Position", "close")
+        self.forecast_is_there(page)
         self.tab_to(page, "Send")
-        page.wait(lambda: page.find(".send").is_enabled(), "the button")
         keys.active_element.send_keys(Keys.ENTER)
         page.says(".outcome .equal", "equal")
         page.open(f"{screen.url}/sheet?entry=36")
         page.says("#detail", "revision 2")
         self.tab_to(page, "What", "Withdraw")
+        self.forecast_is_there(page)
         self.tab_to(page, "Send")
         keys.active_element.send_keys(Keys.ENTER)
         page.says(".outcome .equal", "equal")
         page.says("tr.gone", "36")
         self.assertEqual(screen.call("/api/year")[1]["totals"]["W"], "366070")
+
+    def forecast_is_there(self, page: browser.Browser) -> None:
+        """Waits until the button could be pressed for a second: no forecast of what was chosen is on its way."""
+        begun = time.monotonic()
+        since = begun
+        while time.monotonic() - since < 1.0:
+            if not page.find(".send").is_enabled():
+                since = time.monotonic()
+            if time.monotonic() - begun > 20:
+                raise AssertionError("the button can't be pressed")
+            time.sleep(0.05)
 
     def tab_to(self, page: browser.Browser, name: str, typed: str = "") -> None:
         """Goes on by the tabulator to a field by its label, or to a button by its words; types, where that is asked for."""
