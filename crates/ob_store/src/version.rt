@@ -22,7 +22,7 @@ pub(crate) const OLD: u32 = 1;
 pub(crate) const NEW: u32 = 2;
 
 /// Whether the database has a table with the name of that of lives.
-pub(crate) fn has_lives<S: Alter>(conn: &Connection<S>) -> bool
+fn has_lives<S: Alter>(conn: &Connection<S>) -> bool
     ensures { result ≡ is_some (table_named (state S.Store conn.now).now.schema (codes "life")) }
 {
     conn.schema().table_named(b"life").is_some()
