@@ -14,6 +14,7 @@ use Rattle.ob_base.specs.declared.stop.Fault.TheVariants.{OutOfMemory, Store}
 use Rattle.ob_book.specs.Acts.{ActState}
 use Rattle.ob_tables.specs.Creation.{old_schema}
 use Rattle.ob_tables.specs.Rows.{table_name}
+use Rattle.ob_tables.specs.Schema.{no_schema}
 use Rattle.ob_tables.specs.declared.table.Table.{Table}
 use Rattle.ob_tables.specs.declared.table.Table.TheVariants.{Meta, Cause, Node, Device, Customer, Entry, Mark, Command, Moved, Posting}
 use Rattle.ob_tables.specs.declared.version.Version.TheVariants.{One}
@@ -21,6 +22,7 @@ use Rattle.ob_commit.specs.Keeps.{KeepsIn, Leaves}
 use Rattle.ob_commit.specs.Upgrade.{KeepsOldOr}
 use Rattle.ob_record.specs.Naming.{IsReferenced}
 use Rattle.ob_record.specs.Tables.{tables_of}
+use Rattle.ob_compare.specs.Reading.{IsMissed}
 use Rattle.ob_compare.specs.Version.{HasVersion}
 use Rattle.ob_parts.specs.OldTables.{HasOldBook, IsOldReached, old_tables_of}
 use Rattle.ob_store.specs.Finding.{OnlyReads, ShowsTheSame}
@@ -105,10 +107,12 @@ module _ {S : Type 0} (g : Ghosts S) where
   MigratesKept new b (Err (Fault fault)) = ⊥
 
   -- an answer or a refusal comes of an open store alone. A book of version 2 that the store kept it keeps on, and so it does either
-  -- of two; and where there is no answer, a book in the tables of either version
+  -- of two; and where there is no answer, a book in the tables of either version. An empty database is told as that of no book,
+  -- unless other trouble came before
   pub record MigratesOn (old new : Held S) (result : Result Bool Stop) : Type 0 where
     pub live : HasCleanDisk (state g new) → IsAnswer result → IsTrue (state g old).is_open
     pub book : (b : ActState) → KeepsBook (state g old) b → KeepsBook (state g new) b
     pub either : (b c : ActState) → KeepsEitherBook (state g old) b c → KeepsEitherBook (state g new) b c
     pub version : HasCleanDisk (state g new) → IfErr result (λ stop. (b : ActState) → KeepsEitherVersion (state g old) b
         → KeepsEitherVersion (state g new) b)
+    pub empty : HasCleanDisk (state g new) → old.schema ≡ no_schema → IsMissed (state g old) (state g new) result

@@ -9,7 +9,7 @@ ghost use Rattle.ob_compare.specs.Moves.{ends_of};
 ghost use Rattle.ob_parts.specs.OldTables.{HasOldBook, new_texts, texts_of};
 ghost use Rattle.ob_tables.specs.Creation.{old_schema};
 ghost use Rattle.ob_commit.specs.Keeps.{KeepsEitherIn, KeepsIn};
-ghost use Rattle.ob_tables.specs.Rows.{AreApart, Tables, table_name};
+ghost use Rattle.ob_tables.specs.Rows.{AreApart, Tables};
 ghost use Rattle.ob_tables.specs.Steps.{IsStoreFault};
 ghost use Rattle.ob_tables.specs.declared.version.Version.{Version as AVersion};
 ghost use Rattle.ob_store.specs.Differing.{NoneSo};
@@ -22,7 +22,7 @@ ghost use Rattle.ob_store.specs.Versions.{Asks};
 
 use crate::led::{Led, follow};
 use crate::named::{BAD_BOOK, Named, read_named};
-use crate::version::{NEW, OLD, look_at};
+use crate::version::{NEW, OLD, has_old_shape, look_at};
 use ob_base::{Fault, Stop};
 use ob_book::next_law;
 use ob_commit::{NewBody, commit_upgrade};
@@ -33,7 +33,6 @@ use ob_sweep::Timeline;
 use ob_tables::{Table, Version};
 use ob_upgrade::version_law;
 use sqlite::{Alter, Connection};
-use sqlite_schema::schema;
 use std::alloc::Global;
 
 /// The tables of version 1 but for that of commands and that of what they moved.
@@ -45,20 +44,6 @@ const OLD_PARTS: [Table; 8] = [
     Table::Customer,
     Table::Entry,
     Table::Mark,
-    Table::Posting,
-];
-
-/// The tables of version 1, in the order in which they are made.
-const OLD_TABLES: [Table; 10] = [
-    Table::Meta,
-    Table::Cause,
-    Table::Node,
-    Table::Device,
-    Table::Customer,
-    Table::Entry,
-    Table::Mark,
-    Table::Command,
-    Table::Moved,
     Table::Posting,
 ];
 
@@ -80,31 +65,6 @@ fn old_books_law()
     reaching_law();
     version_law();
     upgrade_law();
-}
-
-/// Whether the tables have the names of these, in this order, and there is no other one.
-fn are_named(tables: &[schema::Table], known: &[Table]) -> bool
-    ensures { IsTrue result ↔ (map (λ t. t.name) tables.now ≡ map table_name known.now) }
-{
-    if tables.len() != known.len() {
-        return false;
-    }
-    'names: for at in 0..known.len() {
-        if tables[at].name.as_slice() != known[at].name().as_bytes() {
-            return false;
-        }
-    }
-    true
-}
-
-/// Whether the tables have the names of those of version 1, and there is no other one, no index and no view.
-fn has_old_shape<S: Alter>(conn: &Connection<S>) -> bool
-    ensures { IsTrue result ↔ IsOldShape (state S.Store conn.now).now.schema }
-{
-    let schema = conn.schema();
-    are_named(schema.tables.as_slice(), &OLD_TABLES)
-        && schema.indexes.is_empty()
-        && schema.views.is_empty()
 }
 
 /// Whether the heading tells version 2. If not it tells version 1, and the tables have the names of that version, or they are

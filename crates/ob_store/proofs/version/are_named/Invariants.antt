@@ -1,6 +1,6 @@
 use Rattle.std.proofs.Common.{◌≡◌, map, take}
 use Rattle.ob_tables.specs.Rows.{table_name}
-use Rattle.ob_store.proofs.migrating.are_named.Given as goal
+use Rattle.ob_store.proofs.version.are_named.Given as goal
 
 -- the names so far are these
 abbrev pub invariant-names : goal.invariant-names
