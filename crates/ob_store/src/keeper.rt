@@ -1,4 +1,7 @@
 //! The keeper: a book, and the connection to the store that keeps its tables.
+ghost use Rattle.std.specs.Option.{option_map};
+ghost use Rattle.ob_store.specs.Keeping.{IsBookAfter};
+
 use crate::acting::act_on;
 use crate::crash::{crash_law, old_crash_law};
 use crate::creating::create_on;
@@ -41,18 +44,28 @@ impl<S: Alter, T: Timeline> Model for Keeper<S, T> {
     ghost invariant = { λ k. k.conn.in_transaction ≡ false };
 }
 
+/// Drops the book after a fault of the store.
+fn settle<T: Timeline>(book: &mut Option<Book<T>>, stop: Stop)
+    ensures { IsBookAfter (option_map (λ b. b.state) book.old) (option_map (λ b. b.state) book.new)
+        stop }
+{
+    if stop == Stop::Fault(Fault::Store) {
+        *book = None;
+    }
+}
+
 impl<S: Alter, T: Timeline> Keeper<S, T> {
     ghost use Rattle.std.specs.Prelude.{◌≡◌, ◌↔◌, false, None, Some, Err, IsSome, IsTrue, IfErr, OnOk};
     ghost use Rattle.sqlite.specs.Held.{state};
     ghost use Rattle.sqlite.specs.State.{HasCleanDisk, Survives};
     ghost use Rattle.ob_book.specs.Acts.{ActState};
-    ghost use Rattle.ob_store.specs.Keeping.{IsBookAfter, Ties};
-    ghost use Rattle.ob_store.specs.Crashing.{CrashLaw};
+    ghost use Rattle.ob_store.specs.Keeping.{Answers, IsBookAfter, Ties};
+    ghost use Rattle.ob_store.specs.Crashing.{Loads};
     ghost use Rattle.ob_store.specs.Acting.{Acted, IsActStop, under};
     ghost use Rattle.ob_store.specs.Replying.{Replied};
     ghost use Rattle.ob_store.specs.Creating.{Created};
     ghost use Rattle.ob_store.specs.Loading.{Audited, Loaded};
-    ghost use Rattle.ob_store.specs.Migrating.{KeepsOldBook, LeavesKept, LeftAsItWas, Migrated, MigratesKept};
+    ghost use Rattle.ob_store.specs.Migrating.{KeepsOldBook, LeavesKept, LeftAsItWas, Migrated, MigratesKept, MigratesOn};
     ghost use Rattle.ob_store.specs.OldCrashing.{OldCrashLaw};
     ghost use Rattle.ob_upgrade.specs.Laws.{AcceptedByBoth, SameFigures};
     ghost use Rattle.ob_store.specs.MovingOut.{HandsOver, IsBookAfterMoves, MovesAreRows, MovesOut};
@@ -81,6 +94,8 @@ impl<S: Alter, T: Timeline> Keeper<S, T> {
     /// holds a table.
     pub fn create(&mut self, first: &[u8], days: u16, zone: &[u8]) -> Result<(), Stop>
         ensures lost { result ≡ Err (Stop.Fault Fault.Store) → self.new.book ≡ None }
+        ensures clean { HasCleanDisk (state S.Store self.new.conn)
+            → HasCleanDisk (state S.Store self.old.conn) }
         ensures created { Created S.Store self.old self.new first.now days zone.now result }
     {
         match create_on(self.alloc, &mut self.conn, first, days, zone) {
@@ -88,11 +103,10 @@ impl<S: Alter, T: Timeline> Keeper<S, T> {
                 self.book = Some(book);
                 Ok(())
             }
-            Err(Stop::Fault(Fault::Store)) => {
-                self.book = None;
-                Err(Stop::Fault(Fault::Store))
+            Err(stop) => {
+                settle(&mut self.book, stop);
+                Err(stop)
             }
-            Err(stop) => Err(stop),
         }
     }
 
@@ -116,11 +130,10 @@ impl<S: Alter, T: Timeline> Keeper<S, T> {
         };
         match act_on(self.alloc, &mut self.conn, book, &reference, &command) {
             Ok(reply) => Ok(reply),
-            Err(Stop::Fault(Fault::Store)) => {
-                self.book = None;
-                Err(Stop::Fault(Fault::Store))
+            Err(stop) => {
+                settle(&mut self.book, stop);
+                Err(stop)
             }
-            Err(stop) => Err(stop),
         }
     }
 
@@ -145,11 +158,10 @@ impl<S: Alter, T: Timeline> Keeper<S, T> {
         };
         match reply_at(self.alloc, &mut self.conn, book, no) {
             Ok(reply) => Ok(reply),
-            Err(Stop::Fault(Fault::Store)) => {
-                self.book = None;
-                Err(Stop::Fault(Fault::Store))
+            Err(stop) => {
+                settle(&mut self.book, stop);
+                Err(stop)
             }
-            Err(stop) => Err(stop),
         }
     }
 
@@ -157,24 +169,21 @@ impl<S: Alter, T: Timeline> Keeper<S, T> {
     /// looked at first. The tables are those of its accepted commands, all eleven of them, or it is refused as `BadBook`; a
     /// book that the keeper had goes then on as before. Nothing is written.
     pub fn load(&mut self) -> Result<(), Stop>
-        ensures found { OnOk result (IsSome self.new.book) }
-        ensures dropped { IfErr result (IsBookAfter self.old.book self.new.book) }
-        ensures stops { IfErr result IsLoadFault }
-        ensures clean { HasCleanDisk (state S.Store self.new.conn)
-            → HasCleanDisk (state S.Store self.old.conn) }
-        ensures survives { Survives (state S.Store self.old.conn) (state S.Store self.new.conn)
-            (λ _. ⊥) }
-        ensures loaded { HasCleanDisk (state S.Store self.new.conn)
-            → self.old.conn.schema ≡ book_schema → Loaded S.Store self.old self.new result }
-        ensures outdated { HasCleanDisk (state S.Store self.new.conn)
-            → self.old.conn.schema ≡ old_schema → Outdated S.Store self.old self.new result }
-        ensures crash { CrashLaw S.Store S.Store }
+        ensures { Loads S.Store self.old self.new result }
     {
         self.load_with_progress(&mut Silent)
     }
 
     /// Reads the book that the tables hold, as [`Keeper::load`], and tells one who listens how far it is.
     pub fn load_with_progress<P: Progress>(&mut self, progress: &mut P) -> Result<(), Stop>
+        ensures { Loads S.Store self.old self.new result }
+    {
+        crash_law::<S, S>();
+        self.read_book(progress)
+    }
+
+    /// Reads the book that the tables hold, and tells one who listens how far it is.
+    fn read_book<P: Progress>(&mut self, progress: &mut P) -> Result<(), Stop>
         ensures found { OnOk result (IsSome self.new.book) }
         ensures dropped { IfErr result (IsBookAfter self.old.book self.new.book) }
         ensures stops { IfErr result IsLoadFault }
@@ -182,13 +191,12 @@ impl<S: Alter, T: Timeline> Keeper<S, T> {
             → HasCleanDisk (state S.Store self.old.conn) }
         ensures survives { Survives (state S.Store self.old.conn) (state S.Store self.new.conn)
             (λ _. ⊥) }
+        ensures answers { Answers S.Store self.old.conn self.new.conn result }
         ensures loaded { HasCleanDisk (state S.Store self.new.conn)
             → self.old.conn.schema ≡ book_schema → Loaded S.Store self.old self.new result }
         ensures outdated { HasCleanDisk (state S.Store self.new.conn)
             → self.old.conn.schema ≡ old_schema → Outdated S.Store self.old self.new result }
-        ensures crash { CrashLaw S.Store S.Store }
     {
-        crash_law::<S, S>();
         prove!(self.conn.is_autocommit());
         // what is open is a whole database
         let _schema = self.conn.schema();
@@ -200,11 +208,10 @@ impl<S: Alter, T: Timeline> Keeper<S, T> {
                 self.book = Some(book);
                 Ok(())
             }
-            Err(Stop::Fault(Fault::Store)) => {
-                self.book = None;
-                Err(Stop::Fault(Fault::Store))
+            Err(stop) => {
+                settle(&mut self.book, stop);
+                Err(stop)
             }
-            Err(stop) => Err(stop),
         }
     }
 
@@ -220,6 +227,8 @@ impl<S: Alter, T: Timeline> Keeper<S, T> {
             → HasCleanDisk (state S.Store self.old.conn) }
         ensures survives { Survives (state S.Store self.old.conn) (state S.Store self.new.conn)
             (λ _. ⊥) }
+        // whatever the schema
+        ensures answers { Answers S.Store self.old.conn self.new.conn result }
         ensures audited { HasCleanDisk (state S.Store self.new.conn)
             → self.old.conn.schema ≡ book_schema → Audited S.Store self.old self.new result }
         ensures outdated { HasCleanDisk (state S.Store self.new.conn)
@@ -227,11 +236,10 @@ impl<S: Alter, T: Timeline> Keeper<S, T> {
     {
         match audit_on::<S, T>(self.alloc, &mut self.conn) {
             Ok(found) => Ok(found),
-            Err(Stop::Fault(Fault::Store)) => {
-                self.book = None;
-                Err(Stop::Fault(Fault::Store))
+            Err(stop) => {
+                settle(&mut self.book, stop);
+                Err(stop)
             }
-            Err(stop) => Err(stop),
         }
     }
 
@@ -244,7 +252,9 @@ impl<S: Alter, T: Timeline> Keeper<S, T> {
         ensures stops { IfErr result IsReadFault }
         ensures clean { HasCleanDisk (state S.Store self.new.conn)
             → HasCleanDisk (state S.Store self.old.conn) }
-        // a crash leaves no more than before, but for the tables of version 2 of the book of version 1 that the store kept
+        // whatever the schema
+        ensures goes_on { MigratesOn S.Store self.old.conn self.new.conn result }
+        // a crash leaves no more than before, but for the tables of version 2 of the one book of version 1 that stood there
         ensures survives { Survives (state S.Store self.old.conn) (state S.Store self.new.conn)
             (LeavesKept (state S.Store self.old.conn)) }
         ensures migrated { HasCleanDisk (state S.Store self.new.conn)
@@ -266,11 +276,10 @@ impl<S: Alter, T: Timeline> Keeper<S, T> {
         old_crash_law::<S, S>();
         match migrate_on::<S, T>(self.alloc, &mut self.conn) {
             Ok(done) => Ok(done),
-            Err(Stop::Fault(Fault::Store)) => {
-                self.book = None;
-                Err(Stop::Fault(Fault::Store))
+            Err(stop) => {
+                settle(&mut self.book, stop);
+                Err(stop)
             }
-            Err(stop) => Err(stop),
         }
     }
 
@@ -299,11 +308,10 @@ impl<S: Alter, T: Timeline> Keeper<S, T> {
         match hand_out(&mut self.conn, sink) {
             Ok(count) => Ok(count),
             Err(Halt::Sink(fault)) => Err(Stop::Fault(fault)),
-            Err(Halt::Store(Stop::Fault(Fault::Store))) => {
-                self.book = None;
-                Err(Stop::Fault(Fault::Store))
+            Err(Halt::Store(stop)) => {
+                settle(&mut self.book, stop);
+                Err(stop)
             }
-            Err(Halt::Store(stop)) => Err(stop),
         }
     }
 
