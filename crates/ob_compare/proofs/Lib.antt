@@ -1,6 +1,7 @@
 pub mod Asking
 pub mod Filing
 pub mod Headings
+mod Asked
 mod Kept
 mod Passing
 pub mod Listing
@@ -20,4 +21,5 @@ pub mod NoWrite
 mod RowNumbers
 mod NumberQuery
 mod SameEnds
+mod Joining
 mod Versions
