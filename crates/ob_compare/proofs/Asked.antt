@@ -1,5 +1,5 @@
 -- A listing whose text was prepared and asked, and whose rows were then read.
-use Rattle.std.proofs.Common.{◌≡◌, ℕ, List, [], inl, sym, ap, subst, ◌∙◌, arith, IsTrue, OnOk}
+use Rattle.std.proofs.Common.{◌≡◌, ℕ, List, [], inl, arith, IsTrue, OnOk}
 use Rattle.std.specs.Prelude.{Result}
 use Rattle.sqlite.specs.Held.{Held, state}
 use Rattle.sqlite.specs.Given.{HasBegun, HasGiven}

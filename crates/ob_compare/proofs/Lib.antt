@@ -21,5 +21,4 @@ pub mod NoWrite
 mod RowNumbers
 mod NumberQuery
 mod SameEnds
-mod Joining
 mod Versions

@@ -35,13 +35,18 @@ pub(crate) fn decide_noting_ends<T: Timeline>(
         Err(Stop::Refused(_)) => return Ok(None),
         Err(fault) => return Err(fault),
     };
-    if let Command::Device { ends, .. } = command {
-        let net = book.net();
-        let (Some(a), Some(b)) = (net.node_of(ends.a()), net.node_of(ends.b())) else {
-            unreachable!();
-        };
-        noted.push(EndNodes { a, b })?;
-    }
+    let Command::Device { ends, .. } = command else {
+        return Ok(Some(plan));
+    };
+    // Both ends are nodes, since the command is accepted.
+    let net = book.net();
+    let Some(a) = net.node_of(ends.a()) else {
+        unreachable!();
+    };
+    let Some(b) = net.node_of(ends.b()) else {
+        unreachable!();
+    };
+    noted.push(EndNodes { a, b })?;
     Ok(Some(plan))
 }
 

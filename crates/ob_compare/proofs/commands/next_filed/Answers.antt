@@ -33,7 +33,7 @@ returns-in_default-higher_in-clause-stands g c clean v has given it =
 pub returns-clause-valid : goal.returns-clause-valid
 returns-clause-valid g c =
     let fits : FitsSigned w64 c.in-Some-higher_in.number = search rules in
-    rw (to_z-of_z fits) (((c.in-Some-higher_in.ensures c.in-Some-higher_in.number).0 refl).1, ((c.in_ok-filed_in.ensures.filed c.in-Some-filed_in.filed).0 c.in-Some-filed_in.is).0)
+    rw (to_z-of_z fits) (((c.in-Some-higher_in.ensures c.in-Some-higher_in.number).0 refl).1, ((c.in_ok-filed.ensures.filed c.in-Some-2.filed).0 c.in-Some-2.is).0)
 
 pub returns-clause-stands : goal.returns-clause-stands
 returns-clause-stands g c clean v has given it =
@@ -43,14 +43,14 @@ returns-clause-stands g c clean v has given it =
     let more = subst (GivesOn g.S.Store command_listing.text [] old new given) at (c.in_ok-advance.ensures.goes clean command_listing.text [] given it) in
     let fits : FitsSigned w64 c.in-Some-higher_in.number = search rules in
     let number = ((c.in-Some-higher_in.ensures c.in-Some-higher_in.number).0 refl).0 in
-    let row = ((c.in_ok-filed_in.ensures.filed c.in-Some-filed_in.filed).0 c.in-Some-filed_in.is).1 in
-    rw (to_z-of_z fits) (subst (λ (r : Columns). HasGiven g.S.Store command_listing.text [] new (given ++ r ∷ [])) (row ∙ ap (λ w. row_with c.args.version w (referenced c.in-Some-filed_in.filed)) number) more)
+    let row = ((c.in_ok-filed.ensures.filed c.in-Some-2.filed).0 c.in-Some-2.is).1 in
+    rw (to_z-of_z fits) (subst (λ (r : Columns). HasGiven g.S.Store command_listing.text [] new (given ++ r ∷ [])) (row ∙ ap (λ w. row_with c.args.version w (referenced c.in-Some-2.filed)) number) more)
 
-pub returns-in_default-filed_in-clause-stands : goal.returns-in_default-filed_in-clause-stands
-returns-in_default-filed_in-clause-stands g c clean v has given it =
+pub returns-in_default-2-clause-stands : goal.returns-in_default-2-clause-stands
+returns-in_default-2-clause-stands g c clean v has given it =
     let old = c.args.rows.now.conn.now in
     let new = c.advance.new.rows.conn.now in
     let at : row_if c.advance.new.rows.has_row new ≡ Some c.in-Some.row.now = sym (rw c.in-Some.is at c.get.ensures) in
     let more = subst (GivesOn g.S.Store command_listing.text [] old new given) at (c.in_ok-advance.ensures.goes clean command_listing.text [] given it) in
     let one = one_stands g.S.Store v old new has (c.in_ok-advance.ensures.same clean) given c.in-Some.row.now more in
-    (c.in-Some.row.now, one.0, one.1, λ n f above filed is. none_some c.in_ok-filed_in.field-0 f c.in_default-filed_in.is ((c.in_ok-filed_in.ensures.filed f).1 (filed, is ∙ ap (λ w. row_with c.args.version w (referenced f)) (sym (ap rowid is)))))
+    (c.in-Some.row.now, one.0, one.1, λ n f above filed is. none_some c.in_ok-filed.field-0 f c.in_default-2.is ((c.in_ok-filed.ensures.filed f).1 (filed, is ∙ ap (λ w. row_with c.args.version w (referenced f)) (sym (ap rowid is)))))

@@ -1,20 +1,17 @@
 use Rattle.std.proofs.Common.{◌≡◌, [], inl, sym, ap, subst, ◌∙◌, arith, rules, Bool, false, Err, IsTrue, OnOk}
 use Rattle.sqlite.specs.Effect.{Database}
-use Rattle.sqlite.specs.State.{HasCleanDisk, IsUnchanged, Survives}
+use Rattle.sqlite.specs.State.{HasCleanDisk, IsUnchanged}
 use Rattle.sqlite.specs.Held.{Held, state}
-use Rattle.sqlite.proofs.Callers.{begun_plain, unchanged_then}
 use Rattle.ob_tables.specs.declared.table.Table.TheVariants.{Command}
 use Rattle.ob_record.specs.Tables.{Shows}
 use Rattle.ob_commit.specs.Keeps.{KeepsIn}
-use Rattle.ob_compare.specs.Faults.{HasNoMeaning, IsMissed}
-use Rattle.ob_commit.proofs.Steps.{on_ok}
+use Rattle.ob_compare.specs.Faults.{HasNoMeaning}
 use Rattle.ob_compare.specs.Reading.{command_listing}
 use Rattle.ob_tables.specs.declared.version.Version.TheVariants.{Two}
 use Rattle.ob_compare.proofs.Asked.{IsRead, begun_read, clean_read, kept_read, missed_read, same_read, survives_read}
 use Rattle.ob_compare.proofs.Asking.{faults_alone, faults_read, foreign_tables, listing_quiet, never_clean}
 use Rattle.ob_compare.proofs.Passing.{clean_before}
 use Rattle.ob_compare.proofs.Kept.{kept_asked, unread}
-use Rattle.ob_compare.proofs.Listing.{begins, still_then}
 use Rattle.ob_compare.proofs.Rowing.{if_ok}
 use Rattle.ob_compare.proofs.Selects.{lists_commands}
 use Rattle.ob_compare.proofs.commands.read_commands.Given.{Over}

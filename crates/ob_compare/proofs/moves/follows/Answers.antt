@@ -14,12 +14,12 @@ use Rattle.ob_compare.specs.Moves.{moved_listing}
 use Rattle.ob_compare.specs.Versioned.{accepts_in}
 use Rattle.ob_commit.proofs.Steps.{on_ok}
 use Rattle.ob_compare.proofs.Listing.{still_then, goes_off, goes_given}
-use Rattle.ob_compare.proofs.Passing.{clean_before, error_is_no_value, no_is_no, unchanged_after}
+use Rattle.ob_compare.proofs.Passing.{clean_before, no_is_no, unchanged_after}
 use Rattle.ob_compare.proofs.Rowing.{leads, expected, leads_on, front_more, leads_here, all_given, off_all, over, if_ok_and, moved_is}
 use Rattle.ob_compare.proofs.moves.follows.Goals as goal
 
-pub overflow_cast-at : goal.overflow_cast-at
-overflow_cast-at g c = omega (arith, c.commands.invariant.3, c.accepted.ensures.few, c.accepted.ensures.accepted)
+pub overflow_cast-no : goal.overflow_cast-no
+overflow_cast-no g c = omega (arith, c.commands.invariant.3, c.accepted.ensures.few, c.accepted.ensures.accepted)
 
 pub commands-preserved : goal.commands-preserved
 commands-preserved g c =

@@ -1,15 +1,13 @@
 use Rattle.std.proofs.Common.{◌≡◌, [], inl, sym, ap, subst, ◌∙◌, arith, rules, Bool, false, Err, IsTrue, OnOk}
 use Rattle.sqlite.specs.Effect.{Database}
-use Rattle.sqlite.specs.State.{HasCleanDisk, IsUnchanged, Survives}
+use Rattle.sqlite.specs.State.{HasCleanDisk, IsUnchanged}
 use Rattle.sqlite.specs.Held.{Held, state}
-use Rattle.sqlite.proofs.Callers.{begun_plain, unchanged_then}
 use Rattle.ob_record.specs.Tables.{Shows}
 use Rattle.ob_tables.specs.declared.table.Table.TheVariants.{Moved as MovedTable}
 use Rattle.ob_compare.specs.Moves.{moved_listing}
-use Rattle.ob_compare.proofs.Listing.{still_then, quiet, begins}
+use Rattle.ob_compare.proofs.Listing.{still_then, quiet}
 use Rattle.ob_commit.specs.Keeps.{KeepsIn}
-use Rattle.ob_compare.specs.Faults.{HasNoMeaning, IsMissed}
-use Rattle.ob_commit.proofs.Steps.{on_ok}
+use Rattle.ob_compare.specs.Faults.{HasNoMeaning}
 use Rattle.ob_tables.specs.declared.version.Version.TheVariants.{Two}
 use Rattle.ob_compare.proofs.Asked.{IsRead, begun_read, clean_read, kept_read, missed_read, same_read, survives_read}
 use Rattle.ob_compare.proofs.Asking.{faults_alone, faults_read, foreign_tables, never_clean}

@@ -1,4 +1,4 @@
-use Rattle.std.proofs.Common.{◌≡◌, List, [], ◌++◌, Some, Ok, is_some, sym, ap, ap₂, subst, ◌∙◌, true≢false}
+use Rattle.std.proofs.Common.{◌≡◌, List, [], ◌++◌, Ok, is_some, sym, ap, ap₂, subst, ◌∙◌, true≢false}
 use Rattle.sqlite.specs.Held.{state}
 use Rattle.sqlite.specs.Given.{HasGiven}
 use Rattle.ob_book.specs.Plans.{PlanState}
@@ -12,7 +12,7 @@ use Rattle.ob_record.specs.Tables.{rows_of_moves}
 use Rattle.ob_compare.specs.Listing.{IsOff}
 use Rattle.ob_compare.specs.Moves.{moved_listing, ends_of}
 use Rattle.ob_compare.proofs.Listing.{still, goes_off, goes_given}
-use Rattle.ob_compare.proofs.Passing.{error_is_no_value, no_is_no}
+use Rattle.ob_compare.proofs.Passing.{no_is_no}
 use Rattle.ob_compare.proofs.Texts.{same_state}
 use Rattle.ob_compare.proofs.Versions.{accepted, unfit, unrefused}
 use Rattle.ob_compare.proofs.moves.takes_on.Goals as goal
@@ -49,7 +49,7 @@ returns-then-not-branch-clause-goes g c late live v has given it so =
     let b = c.args.book.now.state in
     let x = c.args.command.now in
     let new = c.matches.new.rows.conn.now in
-    let is = rw c.in-Some.is at c.in_ok-decide_noting_ends.ensures in
+    let is = rw c.in-Some.is at c.in_ok-plan.ensures in
     let moved_is : c.moves.result.now ≡ moves b (next b x) = moved_by c.moves.result.now c.in-Some.plan b x c.decide_noting_ends.new.book.state c.moves.ensures is.plan.moved c.decide_noting_ends.ensures.state is.command in
     let off = goes_off g.S.Store moved_listing new given (rows_of_moves c.args.no c.moves.result.now) c.in_ok-matches.field-0 (c.in_ok-matches.ensures.goes late live v has given it) c.if-not-branch.true in
     subst (λ ms. IsOff moved_listing (state g.S.Store new).now given (rows_of_moves c.args.no ms)) moved_is off
@@ -95,7 +95,7 @@ returns-clause-goes g c late live v has given it so =
     let b = c.args.book.now.state in
     let x = c.args.command.now in
     let new = c.matches.new.rows.conn.now in
-    let is = rw c.in-Some.is at c.in_ok-decide_noting_ends.ensures in
+    let is = rw c.in-Some.is at c.in_ok-plan.ensures in
     let moved_is : c.moves.result.now ≡ moves b (next b x) = moved_by c.moves.result.now c.in-Some.plan b x c.decide_noting_ends.new.book.state c.moves.ensures is.plan.moved c.decide_noting_ends.ensures.state is.command in
     let rows = rows_of_moves c.args.no c.moves.result.now in
     let on = goes_given g.S.Store moved_listing new given rows c.in_ok-matches.field-0 (c.in_ok-matches.ensures.goes late live v has given it) c.if-not-branch.false in
@@ -103,7 +103,7 @@ returns-clause-goes g c late live v has given it so =
 
 pub returns-clause-book : goal.returns-clause-book
 returns-clause-book g c e =
-    let is = rw c.in-Some.is at c.in_ok-decide_noting_ends.ensures in
+    let is = rw c.in-Some.is at c.in_ok-plan.ensures in
     let state = c.decide_noting_ends.ensures.state in (
       accepted _ c.fits.result (refusal c.args.book.now.state c.args.command.now) c.fits.ensures c.if-not-fits.false (sym (ap₂ refusal state is.command) ∙ is.plan.accepted),
       c.adopt.ensures.state ∙ ap₂ next state is.command,
@@ -111,19 +111,19 @@ returns-clause-book g c e =
 
 pub returns-clause-noted : goal.returns-clause-noted
 returns-clause-noted g c e noted =
-    let is = rw c.in-Some.is at c.in_ok-decide_noting_ends.ensures in
+    let is = rw c.in-Some.is at c.in_ok-plan.ensures in
     is.noted noted ∙ ap (λ (s : BookState). ends_of s.network) (sym (c.adopt.ensures.state ∙ ap₂ next c.decide_noting_ends.ensures.state is.command))
 
 pub adopt-requires-clause-room : goal.adopt-requires-clause-room
-adopt-requires-clause-room g c = (rw c.in-Some.is at c.in_ok-decide_noting_ends.ensures).room
+adopt-requires-clause-room g c = (rw c.in-Some.is at c.in_ok-plan.ensures).room
 
 pub adopt-requires-clause-plan : goal.adopt-requires-clause-plan
-adopt-requires-clause-plan g c = (rw c.in-Some.is at c.in_ok-decide_noting_ends.ensures).plan
+adopt-requires-clause-plan g c = (rw c.in-Some.is at c.in_ok-plan.ensures).plan
 
 -- a command that the book refuses
 pub returns-in_default-clause-goes : goal.returns-in_default-clause-goes
 returns-in_default-clause-goes g c late live v has given it so =
-    let some = c.decide_noting_ends.ensures.refused (c.in_ok-decide_noting_ends.was ∙ ap Ok c.in_default.is) in
+    let some = c.decide_noting_ends.ensures.refused (c.in_ok-plan.was ∙ ap Ok c.in_default.is) in
     let none = unrefused _ c.fits.result (refusal c.args.book.now.state c.args.command.now) c.fits.ensures so in
     absurd (true≢false (sym some ∙ ap is_some none))
 
