@@ -1,6 +1,7 @@
 pub mod Asking
 pub mod Filing
 pub mod Headings
+mod Asked
 mod Kept
 mod Passing
 pub mod Listing

@@ -75,11 +75,10 @@ fn filed_in(alloc: Global, row: &Row, version: Version) -> Result<Option<Filed>,
     let Some(body) = text_at(row, 2) else {
         return Ok(None);
     };
-    match read_body_in(alloc, body, version) {
-        Ok(Some(command)) => Ok(Some(Filed { reference, command })),
-        Ok(None) => Ok(None),
-        Err(stop) => Err(stop),
-    }
+    let Some(command) = read_body_in(alloc, body, version)? else {
+        return Ok(None);
+    };
+    Ok(Some(Filed { reference, command }))
 }
 
 /// What stands next in the table of commands.
@@ -123,11 +122,10 @@ fn next_filed<S: Alter>(
     let Some(number) = higher_in(row, last) else {
         return Ok(Next::Other);
     };
-    match filed_in(alloc, row, version) {
-        Ok(Some(filed)) => Ok(Next::Higher(number, filed)),
-        Ok(None) => Ok(Next::Other),
-        Err(stop) => Err(stop),
-    }
+    let Some(filed) = filed_in(alloc, row, version)? else {
+        return Ok(Next::Other);
+    };
+    Ok(Next::Higher(number, filed))
 }
 
 /// Whether numbers that count from 1 so far, or don't, do with one more, where this is due.

@@ -1,18 +1,54 @@
 //! A book is led along commands.
-ghost use Rattle.std.specs.Prelude.{◌≡◌, ◌↔◌, true, IsTrue, IsSome, IfOk, IfErr, Ok, Some, None};
+ghost use Rattle.std.specs.Prelude.{◌≡◌, ◌<◌, ◌↔◌, true, IsTrue, IsSome, IfOk, IfErr, IfSome, Ok, Some, None};
 ghost use Rattle.ob_base.specs.Stop.{out_of_memory};
 ghost use Rattle.ob_state.specs.Next.{next, next_all};
 ghost use Rattle.ob_state.specs.Refusals.{refusal as refusal_to};
+ghost use Rattle.ob_book.specs.Plans.{IsPlan};
 ghost use Rattle.ob_compare.specs.Listing.{filed_of};
 ghost use Rattle.ob_compare.specs.Moves.{commands_of, ends_of};
 
 use crate::ends::EndNodes;
 use crate::filed::Filed;
-use crate::moves::note_ends;
 use ob_base::Stop;
-use ob_book::Book;
+use ob_book::{Book, Plan};
 use ob_command::Command;
 use ob_sweep::Timeline;
+
+/// The plan of a command that is accepted, with the ends of the device that it adds noted; None where it is refused.
+pub(crate) fn decide_noting_ends<T: Timeline>(
+    book: &mut Book<T>,
+    command: &Command,
+    noted: &mut Vec<EndNodes>,
+) -> Result<Option<Plan<T>>, Stop>
+    ensures refused { result ≡ Ok None → IsSome (refusal_to book.old.state command.now) }
+    ensures plan { IfOk result (λ plan. IfSome plan (IsPlan book.new.state)) }
+    ensures command { IfOk result (λ plan. IfSome plan (λ it. it.command ≡ command.now)) }
+    ensures room { IfOk result (λ plan. IfSome plan (λ _. 0 < book.new.room)) }
+    ensures state { book.new.state ≡ book.old.state }
+    ensures noted { IfOk result (λ plan. IfSome plan (λ _. noted.old.items
+        ≡ ends_of book.old.state.network
+        → noted.new.items ≡ ends_of (next book.old.state command.now).network)) }
+    ensures faults { IfErr result (λ stop. stop ≡ out_of_memory) }
+{
+    let plan = match book.decide(command) {
+        Ok(plan) => plan,
+        Err(Stop::Refused(_)) => return Ok(None),
+        Err(fault) => return Err(fault),
+    };
+    let Command::Device { ends, .. } = command else {
+        return Ok(Some(plan));
+    };
+    // Both ends are nodes, since the command is accepted.
+    let net = book.net();
+    let Some(a) = net.node_of(ends.a()) else {
+        unreachable!();
+    };
+    let Some(b) = net.node_of(ends.b()) else {
+        unreachable!();
+    };
+    noted.push(EndNodes { a, b })?;
+    Ok(Some(plan))
+}
 
 /// Whether a command is accepted. If so, the book adopts it, and the ends of the device that it adds are noted.
 fn adopts<T: Timeline>(
@@ -27,18 +63,11 @@ fn adopts<T: Timeline>(
         → noted.new.items ≡ ends_of book.new.state.network }
     ensures faults { IfErr result (λ stop. stop ≡ out_of_memory) }
 {
-    let plan = match book.decide(command) {
-        Ok(plan) => plan,
-        Err(Stop::Refused(_)) => return Ok(false),
-        Err(fault) => return Err(fault),
+    let Some(plan) = decide_noting_ends(book, command, noted)? else {
+        return Ok(false);
     };
-    match note_ends(noted, book, command) {
-        Ok(()) => {
-            book.adopt(plan);
-            Ok(true)
-        }
-        Err(stop) => Err(stop),
-    }
+    book.adopt(plan);
+    Ok(true)
 }
 
 /// Whether each of the commands is accepted in its turn. The book is led along, and the ends of its devices are noted.
@@ -56,10 +85,8 @@ pub fn lead<T: Timeline>(
     ensures faults { IfErr result (λ stop. stop ≡ out_of_memory) }
 {
     'commands: for at in 0..commands.len() {
-        match adopts(book, &commands[at].command, noted) {
-            Ok(true) => {}
-            Ok(false) => return Ok(false),
-            Err(stop) => return Err(stop),
+        if !adopts(book, &commands[at].command, noted)? {
+            return Ok(false);
         }
     }
     Ok(true)

@@ -23,6 +23,7 @@ ghost use Rattle.ob_compare.specs.Versioned.{accepts_in, next_all_in};
 
 use crate::ends::EndNodes;
 use crate::filed::Filed;
+use crate::leading::decide_noting_ends;
 use crate::listed::select_of;
 use crate::progress::{Progress, Work};
 use crate::query::prepare;
@@ -106,26 +107,6 @@ fn matches<S: Alter>(rows: &mut Rows<'_, S>, no: u32, moves: &[Moved]) -> Result
     Ok(true)
 }
 
-/// With the ends of a book's devices, those of the device that an accepted command adds.
-pub(crate) fn note_ends<T: Timeline>(
-    noted: &mut Vec<EndNodes>,
-    book: &Book<T>,
-    command: &Command,
-) -> Result<(), Stop>
-    ensures noted { OnOk result (noted.old.items ≡ ends_of book.now.state.network
-        → noted.new.items ≡ ends_of (next book.now.state command.now).network) }
-    ensures faults { IfErr result (λ stop. stop ≡ out_of_memory) }
-{
-    if let Command::Device { ends, .. } = command {
-        let net = book.net();
-        noted.push(EndNodes {
-            a: net.node_of(ends.a()).unwrap_or(0),
-            b: net.node_of(ends.b()).unwrap_or(0),
-        })?;
-    }
-    Ok(())
-}
-
 /// Whether a version has the command, and takes it over the book's sheet. Of these commands it accepts those that are
 /// accepted today.
 fn fits<T: Timeline>(book: &Book<T>, command: &Command, version: Version) -> bool
@@ -174,23 +155,14 @@ fn takes_on<S: Alter, T: Timeline>(
     if !fits(book, command, version) {
         return Ok(false);
     }
-    let plan = match book.decide(command) {
-        Ok(plan) => plan,
-        Err(Stop::Refused(_)) => return Ok(false),
-        Err(fault) => return Err(fault),
+    let Some(plan) = decide_noting_ends(book, command, noted)? else {
+        return Ok(false);
     };
-    match matches(rows, no, plan.moves()) {
-        Ok(true) => {}
-        Ok(false) => return Ok(false),
-        Err(stop) => return Err(stop),
+    if !matches(rows, no, plan.moves())? {
+        return Ok(false);
     }
-    match note_ends(noted, book, command) {
-        Ok(()) => {
-            book.adopt(plan);
-            Ok(true)
-        }
-        Err(stop) => Err(stop),
-    }
+    book.adopt(plan);
+    Ok(true)
 }
 
 /// Whether the rows to come are those of what the commands move, each accepted in its turn by a version. The book is led
@@ -229,18 +201,11 @@ fn follows<S: Alter, T: Timeline, P: Progress>(
     'commands: for at in 0..commands.len() {
         // A book has a million commands at most, so that the number is small.
         let _ = book.accepted();
-        match takes_on(
-            rows,
-            book,
-            at as u32 + 1,
-            &commands[at].command,
-            noted,
-            version,
-        ) {
-            Ok(true) => progress.step(at as u32 + 1),
-            Ok(false) => return Ok(false),
-            Err(stop) => return Err(stop),
+        let no = at as u32 + 1;
+        if !takes_on(rows, book, no, &commands[at].command, noted, version)? {
+            return Ok(false);
         }
+        progress.step(no);
     }
     is_over(rows)
 }

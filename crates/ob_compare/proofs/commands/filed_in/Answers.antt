@@ -24,24 +24,24 @@ pub returns-in_default-text_at-clause-filed : goal.returns-in_default-text_at-cl
 returns-in_default-text_at-clause-filed c f = nothing _ f _ refl
     (λ is. none_some (option_copied c.text_at-2.result) _ (ap option_copied c.in_default-text_at.is) ((c.text_at-2.ensures _).1 (body_there c.args.version c.args.row.now (rowid c.args.row.now) f is.1)))
 
-pub returns-in-Ok-None-clause-filed : goal.returns-in-Ok-None-clause-filed
-returns-in-Ok-None-clause-filed c f = nothing _ f _ refl (λ is.
+pub returns-in_default-2-clause-filed : goal.returns-in_default-2-clause-filed
+returns-in_default-2-clause-filed c f = nothing _ f _ refl (λ is.
     let text = same_some ((c.in-Some-text_at.ensures _).1 (body_there c.args.version c.args.row.now (rowid c.args.row.now) f is.1)) in
-    none_some c.in-Ok-None.field-0 f.command c.in-Ok-None.field-0-is ((c.in-Ok-None.ensures.read f.command).1 (command_in c.args.version (referenced f) is.0, text)))
+    none_some c.in_ok-command.field-0 f.command c.in_default-2.is ((c.in_ok-command.ensures.read f.command).1 (command_in c.args.version (referenced f) is.0, text)))
 
-pub returns-in-Ok-Some-clause-filed : goal.returns-in-Ok-Some-clause-filed
-returns-in-Ok-Some-clause-filed c f =
+pub returns-clause-filed : goal.returns-clause-filed
+returns-clause-filed c f =
     let version = c.args.version in
     let row = c.args.row.now in
     let read = reads_reference c.in-Some.text.now c.in-Some-read.reference c.in-Some-read.ensures in
-    let body = (c.in-Ok-Some.ensures.read c.in-Ok-Some.command).0 c.in-Ok-Some.field-0-is in
+    let body = (c.in_ok-command.ensures.read c.in-Some-2.command).0 c.in-Some-2.is in
     let second = (c.in-Some.ensures c.in-Some.text.now).0 refl in
     let third = (c.in-Some-text_at.ensures c.in-Some-text_at.body.now).0 refl in
-    let made : Filed = record { reference = c.in-Some-read.reference; command = c.in-Ok-Some.command } in
+    let made : Filed = record { reference = c.in-Some-read.reference; command = c.in-Some-2.command } in
     let there : row ≡ row_with version (rowid row) (referenced made) =
     three_columns row _ _ _ (sym c.column_count.ensures ∙ c.if-column_count-ne3.false) refl (second.1 ∙ ap Text (sym read.0)) (third.1 ∙ ap Text body.1) in (
       λ same. let is : made ≡ f = same_some same in subst (λ (x : Filed). IsFiled version x × (row ≡ row_with version (rowid row) (referenced x))) is (referenced_in version (referenced made) (ap (is_identifier 40) read.0 ∙ read.1) body.0, there),
       λ is. ap Some (let r : made.reference ≡ f.reference = read.0 ∙ same_some ((c.in-Some.ensures f.reference).1 (reference_there version row (rowid row) f is.1)) in
-          let k : made.command ≡ f.command = same_some (sym c.in-Ok-Some.field-0-is ∙ (c.in-Ok-Some.ensures.read f.command).1 (command_in version (referenced f) is.0, same_some ((c.in-Some-text_at.ensures _).1 (body_there version row (rowid row) f is.1)))) in
+          let k : made.command ≡ f.command = same_some (sym c.in-Some-2.is ∙ (c.in_ok-command.ensures.read f.command).1 (command_in version (referenced f) is.0, same_some ((c.in-Some-text_at.ensures _).1 (body_there version row (rowid row) f is.1)))) in
           ap₂ (λ a b. record { reference = a; command = b }) r k),
     )

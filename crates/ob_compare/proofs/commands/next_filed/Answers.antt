@@ -30,27 +30,27 @@ returns-in_default-higher_in-clause-stands g c clean v has given it =
     let one = one_stands g.S.Store v old new has (c.in_ok-advance.ensures.same clean) given c.in-Some.row.now more in
     (c.in-Some.row.now, one.0, one.1, λ n f above filed is. none_some c.higher_in.result n c.in_default-higher_in.is ((c.higher_in.ensures n).1 (ap rowid is, above)))
 
-pub returns-in-Ok-Some-clause-valid : goal.returns-in-Ok-Some-clause-valid
-returns-in-Ok-Some-clause-valid g c =
+pub returns-clause-valid : goal.returns-clause-valid
+returns-clause-valid g c =
     let fits : FitsSigned w64 c.in-Some-higher_in.number = search rules in
-    rw (to_z-of_z fits) (((c.in-Some-higher_in.ensures c.in-Some-higher_in.number).0 refl).1, ((c.in-Ok-Some.ensures.filed c.in-Ok-Some.filed).0 c.in-Ok-Some.field-0-is).0)
+    rw (to_z-of_z fits) (((c.in-Some-higher_in.ensures c.in-Some-higher_in.number).0 refl).1, ((c.in_ok-filed.ensures.filed c.in-Some-2.filed).0 c.in-Some-2.is).0)
 
-pub returns-in-Ok-Some-clause-stands : goal.returns-in-Ok-Some-clause-stands
-returns-in-Ok-Some-clause-stands g c clean v has given it =
+pub returns-clause-stands : goal.returns-clause-stands
+returns-clause-stands g c clean v has given it =
     let old = c.args.rows.now.conn.now in
     let new = c.advance.new.rows.conn.now in
     let at : row_if c.advance.new.rows.has_row new ≡ Some c.in-Some.row.now = sym (rw c.in-Some.is at c.get.ensures) in
     let more = subst (GivesOn g.S.Store command_listing.text [] old new given) at (c.in_ok-advance.ensures.goes clean command_listing.text [] given it) in
     let fits : FitsSigned w64 c.in-Some-higher_in.number = search rules in
     let number = ((c.in-Some-higher_in.ensures c.in-Some-higher_in.number).0 refl).0 in
-    let row = ((c.in-Ok-Some.ensures.filed c.in-Ok-Some.filed).0 c.in-Ok-Some.field-0-is).1 in
-    rw (to_z-of_z fits) (subst (λ (r : Columns). HasGiven g.S.Store command_listing.text [] new (given ++ r ∷ [])) (row ∙ ap (λ w. row_with c.args.version w (referenced c.in-Ok-Some.filed)) number) more)
+    let row = ((c.in_ok-filed.ensures.filed c.in-Some-2.filed).0 c.in-Some-2.is).1 in
+    rw (to_z-of_z fits) (subst (λ (r : Columns). HasGiven g.S.Store command_listing.text [] new (given ++ r ∷ [])) (row ∙ ap (λ w. row_with c.args.version w (referenced c.in-Some-2.filed)) number) more)
 
-pub returns-in-Ok-None-clause-stands : goal.returns-in-Ok-None-clause-stands
-returns-in-Ok-None-clause-stands g c clean v has given it =
+pub returns-in_default-2-clause-stands : goal.returns-in_default-2-clause-stands
+returns-in_default-2-clause-stands g c clean v has given it =
     let old = c.args.rows.now.conn.now in
     let new = c.advance.new.rows.conn.now in
     let at : row_if c.advance.new.rows.has_row new ≡ Some c.in-Some.row.now = sym (rw c.in-Some.is at c.get.ensures) in
     let more = subst (GivesOn g.S.Store command_listing.text [] old new given) at (c.in_ok-advance.ensures.goes clean command_listing.text [] given it) in
     let one = one_stands g.S.Store v old new has (c.in_ok-advance.ensures.same clean) given c.in-Some.row.now more in
-    (c.in-Some.row.now, one.0, one.1, λ n f above filed is. none_some c.in-Ok-None.field-0 f c.in-Ok-None.field-0-is ((c.in-Ok-None.ensures.filed f).1 (filed, is ∙ ap (λ w. row_with c.args.version w (referenced f)) (sym (ap rowid is)))))
+    (c.in-Some.row.now, one.0, one.1, λ n f above filed is. none_some c.in_ok-filed.field-0 f c.in_default-2.is ((c.in_ok-filed.ensures.filed f).1 (filed, is ∙ ap (λ w. row_with c.args.version w (referenced f)) (sym (ap rowid is)))))

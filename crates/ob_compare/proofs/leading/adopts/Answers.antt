@@ -1,8 +1,32 @@
-use Rattle.std.proofs.Common.{◌≡◌, Some, Err, sym, ap, ◌∙◌, true≢false}
+use Rattle.std.proofs.Common.{Ok, is_some, sym, ap, ap₂, ◌∙◌, true≢false, refl}
 use Rattle.ob_state.specs.Refusals.{refusal}
+use Rattle.ob_state.specs.Next.{next}
+use Rattle.ob_state.specs.State.{BookState}
+use Rattle.ob_compare.specs.Moves.{ends_of}
 use Rattle.ob_compare.proofs.leading.adopts.Goals as goal
 
-pub returns-in-Err-Refused-clause-accepted : goal.returns-in-Err-Refused-clause-accepted
-returns-in-Err-Refused-clause-accepted g c =
-    let known : refusal c.args.book.now.state c.args.command.now ≡ Some c.in-Err-Refused.field-0-0 = (c.decide.ensures.refused c.in-Err-Refused.field-0-0).0 (c.in-Err-Refused.is ∙ ap Err c.in-Err-Refused.field-0-is) in
-    (λ e. absurd (true≢false (sym e)), λ none. absurd (let e = sym none ∙ known in cc))
+pub returns-in_default-clause-accepted : goal.returns-in_default-clause-accepted
+returns-in_default-clause-accepted g c =
+    let some = c.decide_noting_ends.ensures.refused (c.in_ok-plan.was ∙ ap Ok c.in_default.is) in
+    (λ e. absurd (true≢false (sym e)), λ none. absurd (true≢false (sym some ∙ ap is_some none)))
+
+pub returns-clause-accepted : goal.returns-clause-accepted
+returns-clause-accepted g c =
+    let is = rw c.in-Some.is at c.in_ok-plan.ensures in
+    (λ _. sym (ap₂ refusal c.decide_noting_ends.ensures.state is.command) ∙ is.plan.accepted, λ _. refl)
+
+pub returns-clause-book : goal.returns-clause-book
+returns-clause-book g c e =
+    let is = rw c.in-Some.is at c.in_ok-plan.ensures in
+    c.adopt.ensures.state ∙ ap₂ next c.decide_noting_ends.ensures.state is.command
+
+pub returns-clause-noted : goal.returns-clause-noted
+returns-clause-noted g c e noted =
+    let is = rw c.in-Some.is at c.in_ok-plan.ensures in
+    is.noted noted ∙ ap (λ (s : BookState). ends_of s.network) (sym (c.adopt.ensures.state ∙ ap₂ next c.decide_noting_ends.ensures.state is.command))
+
+pub adopt-requires-clause-room : goal.adopt-requires-clause-room
+adopt-requires-clause-room g c = (rw c.in-Some.is at c.in_ok-plan.ensures).room
+
+pub adopt-requires-clause-plan : goal.adopt-requires-clause-plan
+adopt-requires-clause-plan g c = (rw c.in-Some.is at c.in_ok-plan.ensures).plan

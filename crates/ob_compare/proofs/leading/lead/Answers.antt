@@ -16,21 +16,21 @@ commands-preserved g c =
     let f = get_or list c.commands.at c.index-commands-at.result in
     let here : f ≡ get_or list c.commands.at f = ap (λ (d : Filed). get_or list c.commands.at d) c.index-commands-at.is in
     let low : c.commands.at < length list = omega (arith, c.commands-test.true) in
-    let was = c.in-Ok-true.is ∙ ap Ok c.in-Ok-true.field-0-test in
-    let taken : refusal b f.command ≡ None = c.in-Ok-true.ensures.accepted.0 c.in-Ok-true.field-0-test in
+    let was = c.in_ok-adopts.was ∙ ap Ok c.if-not-branch.false in
+    let taken : refusal b f.command ≡ None = c.in_ok-adopts.ensures.accepted.0 c.if-not-branch.false in
     let next_is : c.adopts.new.book.state ≡ next b f.command = c.adopts.ensures.book was in (
       ap (λ (s : BookState). leads Two s (drop (c.commands.at + 1) list)) next_is ∙ leads_on Two b list c.commands.at f low here (ap (λ (r : Option Refusal). is_none r) taken) ∙ c.commands.invariant.0,
       λ noted. c.adopts.ensures.noted was (c.commands.invariant.1 noted),
     )
 
-pub returns-in-Ok-false-clause-accepted : goal.returns-in-Ok-false-clause-accepted
-returns-in-Ok-false-clause-accepted g c =
+pub returns-then-not-branch-clause-accepted : goal.returns-then-not-branch-clause-accepted
+returns-then-not-branch-clause-accepted g c =
     let list = c.args.commands.now in
     let f = get_or list c.commands.at c.index-commands-at.result in
     let here : f ≡ get_or list c.commands.at f = ap (λ (d : Filed). get_or list c.commands.at d) c.index-commands-at.is in
     let low : c.commands.at < length list = omega (arith, c.commands-test.true) in (
       λ e. absurd (true≢false (sym e)),
-      λ some. absurd (true≢false (sym (c.in-Ok-false.ensures.accepted.1 (next_accepted c.commands.book.state c.args.book.now.state list c.commands.at f low here c.commands.invariant.0 some)) ∙ c.in-Ok-false.field-0-test)),
+      λ some. absurd (true≢false (sym (c.in_ok-adopts.ensures.accepted.1 (next_accepted c.commands.book.state c.args.book.now.state list c.commands.at f low here c.commands.invariant.0 some)) ∙ c.if-not-branch.true)),
     )
 
 pub returns-clause-accepted : goal.returns-clause-accepted

@@ -14,12 +14,12 @@ use Rattle.ob_compare.specs.Moves.{moved_listing}
 use Rattle.ob_compare.specs.Versioned.{accepts_in}
 use Rattle.ob_commit.proofs.Steps.{on_ok}
 use Rattle.ob_compare.proofs.Listing.{still_then, goes_off, goes_given}
-use Rattle.ob_compare.proofs.Passing.{clean_before, error_is_no_value, no_is_no, unchanged_after}
+use Rattle.ob_compare.proofs.Passing.{clean_before, no_is_no, unchanged_after}
 use Rattle.ob_compare.proofs.Rowing.{leads, expected, leads_on, front_more, leads_here, all_given, off_all, over, if_ok_and, moved_is}
 use Rattle.ob_compare.proofs.moves.follows.Goals as goal
 
-pub overflow_cast-at : goal.overflow_cast-at
-overflow_cast-at g c = omega (arith, c.commands.invariant.3, c.accepted.ensures.few, c.accepted.ensures.accepted)
+pub overflow_cast-no : goal.overflow_cast-no
+overflow_cast-no g c = omega (arith, c.commands.invariant.3, c.accepted.ensures.few, c.accepted.ensures.accepted)
 
 pub commands-preserved : goal.commands-preserved
 commands-preserved g c =
@@ -33,25 +33,25 @@ commands-preserved g c =
     let new = c.takes_on.new.rows.conn.now in
     let step = c.takes_on.ensures in
     let low : c.commands.at < length list = omega (arith, c.commands-test.true) in
-    let taken = step.book (c.in-Ok-true.is ∙ ap Ok c.in-Ok-true.field-0-test) in
+    let taken = step.book (c.in_ok-takes_on.was ∙ ap Ok c.if-not-branch.false) in
     let next_is : c.takes_on.new.book.state ≡ next b f.command = taken.1 in (
       step.same_reference ∙ c.commands.invariant.0,
       still_then old mid (state g.S.Store new) c.commands.invariant.1 step.survives,
       λ idle. step.mode (c.commands.invariant.2 idle),
       ap (λ (s : BookState). s.accepted) next_is ∙ ap (λ n. n + 1) c.commands.invariant.3 ∙ omega arith,
       ap (λ (s : BookState). leads c.args.version s (drop (c.commands.at + 1) list)) next_is ∙ leads_on c.args.version b list c.commands.at f low here taken.0 ∙ c.commands.invariant.4,
-      λ noted. step.noted (c.in-Ok-true.is ∙ ap Ok c.in-Ok-true.field-0-test) (c.commands.invariant.5 noted),
+      λ noted. step.noted (c.in_ok-takes_on.was ∙ ap Ok c.if-not-branch.false) (c.commands.invariant.5 noted),
       λ late.
           let early : HasCleanDisk mid = omega (arith, step.survives.clean, late) in
           let was = c.commands.invariant.6 early in (
-            λ live. unchanged_then old mid (state g.S.Store new) (was.0 live) (c.in-Ok-true.ensures.same late (was.0 live).0.is_open),
+            λ live. unchanged_then old mid (state g.S.Store new) (was.0 live) (c.in_ok-takes_on.ensures.same late (was.0 live).0.is_open),
             λ live v has given.
                 let at = was.1 live v has given in
                 let there = ap (λ (d : Database). d.schema) (was.0 live).0.now_is ∙ has in
                 let rows = rows_of_moves (c.commands.at + 1) (moves b (next b f.command)) in
-                let goes = c.in-Ok-true.ensures.goes late (was.0 live).0.is_open v there at.0 at.1 taken.0 in (
+                let goes = c.in_ok-takes_on.ensures.goes late (was.0 live).0.is_open v there at.0 at.1 taken.0 in (
                   at.0 ++ rows,
-                  goes_given g.S.Store moved_listing new at.0 rows c.in-Ok-true.field-0 goes c.in-Ok-true.field-0-test,
+                  goes_given g.S.Store moved_listing new at.0 rows c.in_ok-takes_on.field-0 goes c.if-not-branch.false,
                   ap (λ (s : BookState). (at.0 ++ rows) ++ expected s (c.commands.at + 1 + 1) (drop (c.commands.at + 1) list)) next_is
                       ∙ front_more b first (c.commands.at + 1) c.commands.at list f at.0 low here at.2,
                 ),
@@ -59,8 +59,8 @@ commands-preserved g c =
       λ v t keeps. step.kept v t (c.commands.invariant.7 v t keeps),
     )
 
-pub returns-in-Ok-false-clause-moved : goal.returns-in-Ok-false-clause-moved
-returns-in-Ok-false-clause-moved g c late live v has given table shows =
+pub returns-then-not-branch-clause-moved : goal.returns-then-not-branch-clause-moved
+returns-then-not-branch-clause-moved g c late live v has given table shows =
     let b = c.commands.book.state in
     let list = c.args.commands.now in
     let f = get_or list c.commands.at c.index-commands-at.result in
@@ -76,10 +76,10 @@ returns-in-Ok-false-clause-moved g c late live v has given table shows =
     let at = was.1 live v has given in
     let live_mid = (was.0 live).0.is_open in
     let there = ap (λ (d : Database). d.schema) (was.0 live).0.now_is ∙ has in
-    let db : (state g.S.Store new).now ≡ old.now = (c.in-Ok-false.ensures.same late live_mid).0.now_is ∙ (was.0 live).0.now_is in
+    let db : (state g.S.Store new).now ≡ old.now = (c.in_ok-takes_on.ensures.same late live_mid).0.now_is ∙ (was.0 live).0.now_is in
     let rows = rows_of_moves (c.commands.at + 1) (moves b (next b f.command)) in
     let off : IsTrue (accepts_in c.args.version b f.command) → IsOff moved_listing old.now at.0 rows = λ so. subst (λ (d : Database). IsOff moved_listing d at.0 rows) db
-    (goes_off g.S.Store moved_listing new at.0 rows c.in-Ok-false.field-0 (c.in-Ok-false.ensures.goes late live_mid v there at.0 at.1 so) c.in-Ok-false.field-0-test) in
+    (goes_off g.S.Store moved_listing new at.0 rows c.in_ok-takes_on.field-0 (c.in_ok-takes_on.ensures.goes late live_mid v there at.0 at.1 so) c.if-not-branch.true) in
     (λ e. absurd (true≢false (sym e)), λ it. absurd (off_all c.args.version old.now b first (c.commands.at + 1) c.commands.at list f at.0 table low here c.commands.invariant.4 at.2 off shows it))
 
 pub returns-clause-moved : goal.returns-clause-moved
@@ -100,52 +100,31 @@ returns-clause-moved g c late =
     let leading = sym c.commands.invariant.4 ∙ leads_here c.args.version b list c.commands.at end in
     over g.S.Store c.args.version c.args.rows.now.conn.now new first b list at.0 table is (same.0.now_is ∙ (was.0 live).0.now_is) leading all shows (ends (schema_of v) moved_listing (moved_is v) there at.0 at.1))
 
-pub returns-in-Ok-false-clause-same_reference : goal.returns-in-Ok-false-clause-same_reference
-returns-in-Ok-false-clause-same_reference g c = c.takes_on.ensures.same_reference ∙ c.commands.invariant.0
+pub returns-then-not-branch-clause-same_reference : goal.returns-then-not-branch-clause-same_reference
+returns-then-not-branch-clause-same_reference g c = c.takes_on.ensures.same_reference ∙ c.commands.invariant.0
 
-pub returns-in-Ok-false-clause-survives : goal.returns-in-Ok-false-clause-survives
-returns-in-Ok-false-clause-survives g c = still_then (state g.S.Store c.args.rows.now.conn.now) (state g.S.Store c.commands.rows.conn.now) (state g.S.Store c.takes_on.new.rows.conn.now) c.commands.invariant.1 c.takes_on.ensures.survives
+pub returns-then-not-branch-clause-survives : goal.returns-then-not-branch-clause-survives
+returns-then-not-branch-clause-survives g c = still_then (state g.S.Store c.args.rows.now.conn.now) (state g.S.Store c.commands.rows.conn.now) (state g.S.Store c.takes_on.new.rows.conn.now) c.commands.invariant.1 c.takes_on.ensures.survives
 
-pub returns-in-Ok-false-clause-kept : goal.returns-in-Ok-false-clause-kept
-returns-in-Ok-false-clause-kept g c v t keeps = c.takes_on.ensures.kept v t (c.commands.invariant.7 v t keeps)
+pub returns-then-not-branch-clause-kept : goal.returns-then-not-branch-clause-kept
+returns-then-not-branch-clause-kept g c v t keeps = c.takes_on.ensures.kept v t (c.commands.invariant.7 v t keeps)
 
-pub returns-in-Ok-false-clause-mode : goal.returns-in-Ok-false-clause-mode
-returns-in-Ok-false-clause-mode g c idle = c.takes_on.ensures.mode (c.commands.invariant.2 idle)
+pub returns-then-not-branch-clause-mode : goal.returns-then-not-branch-clause-mode
+returns-then-not-branch-clause-mode g c idle = c.takes_on.ensures.mode (c.commands.invariant.2 idle)
 
-pub returns-in-Ok-false-clause-same : goal.returns-in-Ok-false-clause-same
-returns-in-Ok-false-clause-same g c late live =
+pub returns-then-not-branch-clause-same : goal.returns-then-not-branch-clause-same
+returns-then-not-branch-clause-same g c late live =
     let old = state g.S.Store c.args.rows.now.conn.now in
     let mid = state g.S.Store c.commands.rows.conn.now in
     let new = state g.S.Store c.takes_on.new.rows.conn.now in
     let was = (c.commands.invariant.6 (clean_before mid new c.takes_on.ensures.survives late)).0 in
-    unchanged_then old mid new (was live) (c.in-Ok-false.ensures.same late (was live).0.is_open)
+    unchanged_then old mid new (was live) (c.in_ok-takes_on.ensures.same late (was live).0.is_open)
 
-pub returns-in-Ok-false-clause-book : goal.returns-in-Ok-false-clause-book
-returns-in-Ok-false-clause-book g c e = absurd (no_is_no e)
+pub returns-then-not-branch-clause-book : goal.returns-then-not-branch-clause-book
+returns-then-not-branch-clause-book g c e = absurd (no_is_no e)
 
-pub returns-in-Ok-false-clause-noted : goal.returns-in-Ok-false-clause-noted
-returns-in-Ok-false-clause-noted g c e = absurd (no_is_no e)
-
-pub returns-in-Err-clause-same_reference : goal.returns-in-Err-clause-same_reference
-returns-in-Err-clause-same_reference g c = c.takes_on.ensures.same_reference ∙ c.commands.invariant.0
-
-pub returns-in-Err-clause-survives : goal.returns-in-Err-clause-survives
-returns-in-Err-clause-survives g c = still_then (state g.S.Store c.args.rows.now.conn.now) (state g.S.Store c.commands.rows.conn.now) (state g.S.Store c.takes_on.new.rows.conn.now) c.commands.invariant.1 c.takes_on.ensures.survives
-
-pub returns-in-Err-clause-kept : goal.returns-in-Err-clause-kept
-returns-in-Err-clause-kept g c v t keeps = c.takes_on.ensures.kept v t (c.commands.invariant.7 v t keeps)
-
-pub returns-in-Err-clause-mode : goal.returns-in-Err-clause-mode
-returns-in-Err-clause-mode g c idle = c.takes_on.ensures.mode (c.commands.invariant.2 idle)
-
-pub returns-in-Err-clause-faults : goal.returns-in-Err-clause-faults
-returns-in-Err-clause-faults g c = c.in-Err.ensures.faults
-
-pub returns-in-Err-clause-book : goal.returns-in-Err-clause-book
-returns-in-Err-clause-book g c e = absurd (error_is_no_value e)
-
-pub returns-in-Err-clause-noted : goal.returns-in-Err-clause-noted
-returns-in-Err-clause-noted g c e = absurd (error_is_no_value e)
+pub returns-then-not-branch-clause-noted : goal.returns-then-not-branch-clause-noted
+returns-then-not-branch-clause-noted g c e = absurd (no_is_no e)
 
 pub returns-clause-same_reference : goal.returns-clause-same_reference
 returns-clause-same_reference g c = c.is_over.ensures.same_reference ∙ c.commands.invariant.0

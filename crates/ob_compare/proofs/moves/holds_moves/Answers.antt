@@ -1,16 +1,15 @@
-use Rattle.std.proofs.Common.{◌≡◌, [], inl, sym, ap, subst, ◌∙◌, arith, rules, Bool, false, Err}
+use Rattle.std.proofs.Common.{◌≡◌, [], inl, sym, ap, subst, ◌∙◌, arith, rules, Bool, false, Err, IsTrue, OnOk}
 use Rattle.sqlite.specs.Effect.{Database}
-use Rattle.sqlite.specs.State.{HasCleanDisk, IsUnchanged, Survives}
+use Rattle.sqlite.specs.State.{HasCleanDisk, IsUnchanged}
 use Rattle.sqlite.specs.Held.{Held, state}
-use Rattle.sqlite.proofs.Callers.{begun_plain, unchanged_then}
 use Rattle.ob_record.specs.Tables.{Shows}
 use Rattle.ob_tables.specs.declared.table.Table.TheVariants.{Moved as MovedTable}
 use Rattle.ob_compare.specs.Moves.{moved_listing}
-use Rattle.ob_compare.proofs.Listing.{still_then, quiet, begins}
+use Rattle.ob_compare.proofs.Listing.{still_then, quiet}
 use Rattle.ob_commit.specs.Keeps.{KeepsIn}
-use Rattle.ob_compare.specs.Faults.{HasNoMeaning, IsMissed}
-use Rattle.ob_commit.proofs.Steps.{on_ok}
+use Rattle.ob_compare.specs.Faults.{HasNoMeaning}
 use Rattle.ob_tables.specs.declared.version.Version.TheVariants.{Two}
+use Rattle.ob_compare.proofs.Asked.{IsRead, begun_read, clean_read, kept_read, missed_read, same_read, survives_read}
 use Rattle.ob_compare.proofs.Asking.{faults_alone, faults_read, foreign_tables, never_clean}
 use Rattle.ob_compare.proofs.Passing.{clean_before, error_is_no_value}
 use Rattle.ob_compare.proofs.Kept.{kept_asked, unread}
@@ -22,42 +21,31 @@ use Rattle.ob_compare.proofs.moves.holds_moves.Goals as goal
 given_back : (g : Over) (c : goal.After-drop-statement-inside-in-Ok-query_prepared-2 g) → c.follows.new.rows.conn.now ≡ c.conn-1.given.0
 given_back g c = search rules
 
+-- the table's rows were asked for, and read to the end
+read_all : (g : Over) (c : goal.After-drop-statement-inside-in-Ok-query_prepared-2 g) → IsRead g.S.Store moved_listing c.args.conn.now c.prepare.new.conn c.in-Ok-query_prepared.rows.conn.now c.conn-1.given.0 c.in-Ok.statement.text
+read_all g c =
+    subst (λ x. IsRead g.S.Store moved_listing c.args.conn.now c.prepare.new.conn c.in-Ok-query_prepared.rows.conn.now x c.in-Ok.statement.text) (given_back g c) (record {
+      prepared = λ clean. let it = c.in-Ok.ensures.prepared clean in (it.0 ∙ c.select_of.ensures, it.1);
+      first = c.prepare.ensures.survives;
+      asked = c.in-Ok-query_prepared.ensures.survives;
+      begun = c.in-Ok-query_prepared.ensures.begun;
+      rest = c.follows.ensures.survives;
+    })
+
 pub returns-in-Ok-query_prepared-clause-survives : goal.returns-in-Ok-query_prepared-clause-survives
-returns-in-Ok-query_prepared-clause-survives g c =
-    let old = state g.S.Store c.args.conn.now in
-    let mid = state g.S.Store c.prepare.new.conn in
-    let start = state g.S.Store c.in-Ok-query_prepared.rows.conn.now in
-    let last = c.follows.new.rows.conn.now in
-    let same : last ≡ c.conn-1.given.0 = given_back g c in
-    subst (λ x. Survives old (state g.S.Store x) (λ _. ⊥)) same
-    (still_then old start (state g.S.Store last) (still_then old mid start c.prepare.ensures.survives (quiet moved_listing (moved_is Two) old mid start c.in-Ok.statement.text (λ ready. let it = c.in-Ok.ensures.prepared ready in (it.0 ∙ c.select_of.ensures, it.1)) c.in-Ok-query_prepared.ensures.survives)) c.follows.ensures.survives)
+returns-in-Ok-query_prepared-clause-survives g c = survives_read (read_all g c) moved_is
 
 pub returns-in-Ok-query_prepared-clause-same : goal.returns-in-Ok-query_prepared-clause-same
 returns-in-Ok-query_prepared-clause-same g c clean =
-    let old = c.args.conn.now in
-    let mid = c.prepare.new.conn in
-    let start = c.in-Ok-query_prepared.rows.conn.now in
-    let last = c.follows.new.rows.conn.now in
-    let same : last ≡ c.conn-1.given.0 = given_back g c in
-    let late : HasCleanDisk (state g.S.Store last) = subst (λ x. HasCleanDisk (state g.S.Store x)) (sym same) clean in
-    let begun : HasCleanDisk (state g.S.Store start) = omega (arith, c.follows.ensures.survives.clean, late) in
-    let early : HasCleanDisk (state g.S.Store mid) = omega (arith, c.in-Ok-query_prepared.ensures.survives.clean, begun) in
-    on_ok c.follows.result (c.follows.ensures.same late) (λ step v has.
-    let b = begins g.S.Store moved_listing (moved_is v) old mid start c.in-Ok.statement.text (let it = c.in-Ok.ensures.prepared early in (it.0 ∙ c.select_of.ensures, it.1)) has (c.in-Ok-query_prepared.ensures.begun begun) in
-    subst (λ x. IsUnchanged (state g.S.Store old) (state g.S.Store x)) same (unchanged_then (state g.S.Store old) (state g.S.Store start) (state g.S.Store last) b.1 (step b.1.0.is_open)))
+    let start = state g.S.Store c.in-Ok-query_prepared.rows.conn.now in
+    same_read (read_all g c) moved_is c.follows.result clean
+    (subst (λ x. HasCleanDisk (state g.S.Store x) → OnOk c.follows.result (IsTrue start.is_open → IsUnchanged start (state g.S.Store x))) (given_back g c) c.follows.ensures.same clean)
 
 pub returns-in-Ok-query_prepared-clause-moved : goal.returns-in-Ok-query_prepared-clause-moved
 returns-in-Ok-query_prepared-clause-moved g c clean =
-    let old = c.args.conn.now in
-    let mid = c.prepare.new.conn in
-    let start = c.in-Ok-query_prepared.rows.conn.now in
-    let last = c.follows.new.rows.conn.now in
-    let same : last ≡ c.conn-1.given.0 = given_back g c in
-    let late : HasCleanDisk (state g.S.Store last) = subst (λ x. HasCleanDisk (state g.S.Store x)) (sym same) clean in
-    let begun : HasCleanDisk (state g.S.Store start) = omega (arith, c.follows.ensures.survives.clean, late) in
-    let early : HasCleanDisk (state g.S.Store mid) = omega (arith, c.in-Ok-query_prepared.ensures.survives.clean, begun) in
+    let late : HasCleanDisk (state g.S.Store c.follows.new.rows.conn.now) = subst (λ x. HasCleanDisk (state g.S.Store x)) (sym (given_back g c)) clean in
     if_ok c.follows.result (c.follows.ensures.moved late) (λ is tells v has table shows.
-    let b = begins g.S.Store moved_listing (moved_is v) old mid start c.in-Ok.statement.text (let it = c.in-Ok.ensures.prepared early in (it.0 ∙ c.select_of.ensures, it.1)) has (c.in-Ok-query_prepared.ensures.begun begun) in
+    let b = begun_read (read_all g c) moved_is clean v has in
     tells b.1.0.is_open v (ap (λ (d : Database). d.schema) b.1.0.now_is ∙ has) b.0 table (subst (λ (d : Database). Shows d.trees MovedTable table) (sym b.1.0.now_is) shows))
 
 pub returns-clause-survives : goal.returns-clause-survives
@@ -68,11 +56,7 @@ returns-clause-survives g c =
     still_then old mid end c.prepare.ensures.survives (quiet moved_listing (moved_is Two) old mid end c.in-Ok.statement.text (λ ready. let it = c.in-Ok.ensures.prepared ready in (it.0 ∙ c.select_of.ensures, it.1)) (rw c.in-Err-query_prepared.is at c.query_prepared.follows.holds-at-none).survives)
 
 pub returns-in-Ok-query_prepared-clause-clean : goal.returns-in-Ok-query_prepared-clause-clean
-returns-in-Ok-query_prepared-clause-clean g c clean =
-    let last = c.follows.new.rows.conn.now in
-    let same : last ≡ c.conn-1.given.0 = given_back g c in
-    let late : HasCleanDisk (state g.S.Store last) = subst (λ x. HasCleanDisk (state g.S.Store x)) (sym same) clean in
-    omega (arith, c.prepare.ensures.survives.clean, c.in-Ok-query_prepared.ensures.survives.clean, c.follows.ensures.survives.clean, late)
+returns-in-Ok-query_prepared-clause-clean g c = clean_read (read_all g c) moved_is
 
 pub returns-clause-clean : goal.returns-clause-clean
 returns-clause-clean g c clean = omega (arith, c.prepare.ensures.survives.clean, (rw c.in-Err-query_prepared.is at c.query_prepared.follows.holds-at-none).survives.clean, clean)
@@ -81,16 +65,9 @@ pub returns-in-Err-clause-foreign : goal.returns-in-Err-clause-foreign
 returns-in-Err-clause-foreign g c clean bad v = foreign_tables moved_listing (moved_is v) (state g.S.Store c.args.conn.now) _ (sym c.select_of.ensures) (c.in-Err.ensures.foreign clean bad).0
 
 pub returns-in-Ok-query_prepared-clause-kept : goal.returns-in-Ok-query_prepared-clause-kept
-returns-in-Ok-query_prepared-clause-kept g c v t keeps =
-    let old = c.args.conn.now in
-    let mid = c.prepare.new.conn in
-    let start = c.in-Ok-query_prepared.rows.conn.now in
-    let last = c.follows.new.rows.conn.now in
-    let text = c.in-Ok.statement.text in
-    let same : last ≡ c.conn-1.given.0 = given_back g c in
-    let begun = kept_asked v moved_listing (moved_is v) (state g.S.Store old) (state g.S.Store mid) (state g.S.Store start) text (λ ready. let it = c.in-Ok.ensures.prepared ready in (it.0 ∙ c.select_of.ensures, it.1)) t keeps c.prepare.ensures.survives c.in-Ok-query_prepared.ensures.survives
-    (λ late plain. inl (begun_plain g.S.Store text [] mid start plain (c.in-Ok-query_prepared.ensures.begun late)).1) in
-    subst (λ x. KeepsIn v (state g.S.Store x) t) same (c.follows.ensures.kept v t begun)
+returns-in-Ok-query_prepared-clause-kept g c v t =
+    let start = state g.S.Store c.in-Ok-query_prepared.rows.conn.now in
+    kept_read (read_all g c) moved_is v t (subst (λ x. KeepsIn v start t → KeepsIn v (state g.S.Store x) t) (given_back g c) (c.follows.ensures.kept v t))
 
 pub returns-clause-kept : goal.returns-clause-kept
 returns-clause-kept g c v t keeps =
@@ -104,15 +81,7 @@ returns-clause-kept g c v t keeps =
 
 pub returns-in-Ok-query_prepared-clause-missed : goal.returns-in-Ok-query_prepared-clause-missed
 returns-in-Ok-query_prepared-clause-missed g c none =
-    let old = state g.S.Store c.args.conn.now in
-    let mid = state g.S.Store c.prepare.new.conn in
-    let start = state g.S.Store c.in-Ok-query_prepared.rows.conn.now in
-    let last = c.follows.new.rows.conn.now in
-    let same : last ≡ c.conn-1.given.0 = given_back g c in
-    let unread : HasCleanDisk start → ⊥ = λ clean. c.in-Ok.ensures.missed (omega (arith, c.in-Ok-query_prepared.ensures.survives.clean, clean)) (subst (HasNoMeaning old.now.schema) (sym c.select_of.ensures) none) in
-    let all = still_then old start (state g.S.Store last) (never_clean old mid start _ c.prepare.ensures.survives c.in-Ok-query_prepared.ensures.survives unread) c.follows.ensures.survives in
-    let never : HasCleanDisk (state g.S.Store last) → ⊥ = λ clean. unread (omega (arith, c.follows.ensures.survives.clean, clean)) in
-    subst (λ x. Survives old (state g.S.Store x) (λ _. ⊥) × (HasCleanDisk (state g.S.Store x) → IsMissed old (state g.S.Store x) c.follows.result)) same (all, λ clean. absurd (never clean))
+    missed_read (read_all g c) moved_is c.follows.result (λ clean. c.in-Ok.ensures.missed clean (subst (HasNoMeaning c.args.conn.now.schema) (sym c.select_of.ensures) none))
 
 pub returns-clause-missed : goal.returns-clause-missed
 returns-clause-missed g c none =

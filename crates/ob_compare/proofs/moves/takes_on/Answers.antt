@@ -1,4 +1,4 @@
-use Rattle.std.proofs.Common.{◌≡◌, List, [], ◌++◌, Some, Err, inl, sym, ap, ap₂, subst, ◌∙◌}
+use Rattle.std.proofs.Common.{◌≡◌, List, [], ◌++◌, Ok, is_some, sym, ap, ap₂, subst, ◌∙◌, true≢false}
 use Rattle.sqlite.specs.Held.{state}
 use Rattle.sqlite.specs.Given.{HasGiven}
 use Rattle.ob_book.specs.Plans.{PlanState}
@@ -12,7 +12,7 @@ use Rattle.ob_record.specs.Tables.{rows_of_moves}
 use Rattle.ob_compare.specs.Listing.{IsOff}
 use Rattle.ob_compare.specs.Moves.{moved_listing, ends_of}
 use Rattle.ob_compare.proofs.Listing.{still, goes_off, goes_given}
-use Rattle.ob_compare.proofs.Passing.{error_is_no_value, no_is_no}
+use Rattle.ob_compare.proofs.Passing.{no_is_no}
 use Rattle.ob_compare.proofs.Texts.{same_state}
 use Rattle.ob_compare.proofs.Versions.{accepted, unfit, unrefused}
 use Rattle.ob_compare.proofs.moves.takes_on.Goals as goal
@@ -44,157 +44,103 @@ returns-then-not-fits-clause-book g c e = absurd (no_is_no e)
 pub returns-then-not-fits-clause-noted : goal.returns-then-not-fits-clause-noted
 returns-then-not-fits-clause-noted g c e = absurd (no_is_no e)
 
-pub returns-in-Err-Refused-clause-goes : goal.returns-in-Err-Refused-clause-goes
-returns-in-Err-Refused-clause-goes g c late live v has given it so =
-    let known : refusal c.args.book.now.state c.args.command.now ≡ Some c.in-Err-Refused.field-0-0 = (c.decide.ensures.refused c.in-Err-Refused.field-0-0).0 (c.in-Err-Refused.is ∙ ap Err c.in-Err-Refused.field-0-is) in
-    let none = unrefused _ c.fits.result (refusal c.args.book.now.state c.args.command.now) c.fits.ensures so in
-    absurd (let e = sym none ∙ known in cc)
-
-pub returns-in-Ok-false-clause-goes : goal.returns-in-Ok-false-clause-goes
-returns-in-Ok-false-clause-goes g c late live v has given it so =
+pub returns-then-not-branch-clause-goes : goal.returns-then-not-branch-clause-goes
+returns-then-not-branch-clause-goes g c late live v has given it so =
     let b = c.args.book.now.state in
     let x = c.args.command.now in
     let new = c.matches.new.rows.conn.now in
-    let moved_is : c.moves.result.now ≡ moves b (next b x) = moved_by c.moves.result.now c.in-Ok.plan b x c.decide.new.self.state c.moves.ensures c.in-Ok.ensures.plan.moved c.in-Ok.ensures.state c.in-Ok.ensures.command in
-    let off = goes_off g.S.Store moved_listing new given (rows_of_moves c.args.no c.moves.result.now) c.in-Ok-false.field-0 (c.in-Ok-false.ensures.goes late live v has given it) c.in-Ok-false.field-0-test in
+    let is = rw c.in-Some.is at c.in_ok-plan.ensures in
+    let moved_is : c.moves.result.now ≡ moves b (next b x) = moved_by c.moves.result.now c.in-Some.plan b x c.decide_noting_ends.new.book.state c.moves.ensures is.plan.moved c.decide_noting_ends.ensures.state is.command in
+    let off = goes_off g.S.Store moved_listing new given (rows_of_moves c.args.no c.moves.result.now) c.in_ok-matches.field-0 (c.in_ok-matches.ensures.goes late live v has given it) c.if-not-branch.true in
     subst (λ ms. IsOff moved_listing (state g.S.Store new).now given (rows_of_moves c.args.no ms)) moved_is off
 
-pub returns-in-Err-Refused-clause-survives : goal.returns-in-Err-Refused-clause-survives
-returns-in-Err-Refused-clause-survives g c = still (state g.S.Store c.args.rows.now.conn.now)
+pub returns-then-not-branch-clause-same_reference : goal.returns-then-not-branch-clause-same_reference
+returns-then-not-branch-clause-same_reference g c = c.matches.ensures.same_reference
 
-pub returns-in-Err-Refused-clause-kept : goal.returns-in-Err-Refused-clause-kept
-returns-in-Err-Refused-clause-kept g c v t keeps = keeps
+pub returns-then-not-branch-clause-survives : goal.returns-then-not-branch-clause-survives
+returns-then-not-branch-clause-survives g c = c.matches.ensures.survives
 
-pub returns-in-Err-Refused-clause-mode : goal.returns-in-Err-Refused-clause-mode
-returns-in-Err-Refused-clause-mode g c idle = idle
+pub returns-then-not-branch-clause-kept : goal.returns-then-not-branch-clause-kept
+returns-then-not-branch-clause-kept g c = c.matches.ensures.kept
 
-pub returns-in-Err-Refused-clause-same : goal.returns-in-Err-Refused-clause-same
-returns-in-Err-Refused-clause-same g c late live = same_state (state g.S.Store c.args.rows.now.conn.now) live
+pub returns-then-not-branch-clause-mode : goal.returns-then-not-branch-clause-mode
+returns-then-not-branch-clause-mode g c = c.matches.ensures.mode
 
-pub returns-in-Err-Refused-clause-book : goal.returns-in-Err-Refused-clause-book
-returns-in-Err-Refused-clause-book g c e = absurd (no_is_no e)
+pub returns-then-not-branch-clause-same : goal.returns-then-not-branch-clause-same
+returns-then-not-branch-clause-same g c = c.in_ok-matches.ensures.same
 
-pub returns-in-Err-Refused-clause-noted : goal.returns-in-Err-Refused-clause-noted
-returns-in-Err-Refused-clause-noted g c e = absurd (no_is_no e)
+pub returns-then-not-branch-clause-book : goal.returns-then-not-branch-clause-book
+returns-then-not-branch-clause-book g c e = absurd (no_is_no e)
 
-pub returns-in-Err-clause-survives : goal.returns-in-Err-clause-survives
-returns-in-Err-clause-survives g c = still (state g.S.Store c.args.rows.now.conn.now)
+pub returns-then-not-branch-clause-noted : goal.returns-then-not-branch-clause-noted
+returns-then-not-branch-clause-noted g c e = absurd (no_is_no e)
 
-pub returns-in-Err-clause-kept : goal.returns-in-Err-clause-kept
-returns-in-Err-clause-kept g c v t keeps = keeps
+pub returns-clause-same_reference : goal.returns-clause-same_reference
+returns-clause-same_reference g c = c.matches.ensures.same_reference
 
-pub returns-in-Err-clause-mode : goal.returns-in-Err-clause-mode
-returns-in-Err-clause-mode g c idle = idle
+pub returns-clause-survives : goal.returns-clause-survives
+returns-clause-survives g c = c.matches.ensures.survives
 
-pub returns-in-Err-clause-book : goal.returns-in-Err-clause-book
-returns-in-Err-clause-book g c e = absurd (error_is_no_value e)
+pub returns-clause-kept : goal.returns-clause-kept
+returns-clause-kept g c = c.matches.ensures.kept
 
-pub returns-in-Err-clause-noted : goal.returns-in-Err-clause-noted
-returns-in-Err-clause-noted g c e = absurd (error_is_no_value e)
+pub returns-clause-mode : goal.returns-clause-mode
+returns-clause-mode g c = c.matches.ensures.mode
 
-pub returns-in-Ok-false-clause-same_reference : goal.returns-in-Ok-false-clause-same_reference
-returns-in-Ok-false-clause-same_reference g c = c.matches.ensures.same_reference
+pub returns-clause-same : goal.returns-clause-same
+returns-clause-same g c = c.in_ok-matches.ensures.same
 
-pub returns-in-Ok-false-clause-survives : goal.returns-in-Ok-false-clause-survives
-returns-in-Ok-false-clause-survives g c = c.matches.ensures.survives
-
-pub returns-in-Ok-false-clause-kept : goal.returns-in-Ok-false-clause-kept
-returns-in-Ok-false-clause-kept g c = c.matches.ensures.kept
-
-pub returns-in-Ok-false-clause-mode : goal.returns-in-Ok-false-clause-mode
-returns-in-Ok-false-clause-mode g c = c.matches.ensures.mode
-
-pub returns-in-Ok-false-clause-same : goal.returns-in-Ok-false-clause-same
-returns-in-Ok-false-clause-same g c = c.in-Ok-false.ensures.same
-
-pub returns-in-Ok-false-clause-book : goal.returns-in-Ok-false-clause-book
-returns-in-Ok-false-clause-book g c e = absurd (no_is_no e)
-
-pub returns-in-Ok-false-clause-noted : goal.returns-in-Ok-false-clause-noted
-returns-in-Ok-false-clause-noted g c e = absurd (no_is_no e)
-
-pub returns-in-Err-matches-clause-same_reference : goal.returns-in-Err-matches-clause-same_reference
-returns-in-Err-matches-clause-same_reference g c = c.matches.ensures.same_reference
-
-pub returns-in-Err-matches-clause-survives : goal.returns-in-Err-matches-clause-survives
-returns-in-Err-matches-clause-survives g c = c.matches.ensures.survives
-
-pub returns-in-Err-matches-clause-kept : goal.returns-in-Err-matches-clause-kept
-returns-in-Err-matches-clause-kept g c = c.matches.ensures.kept
-
-pub returns-in-Err-matches-clause-mode : goal.returns-in-Err-matches-clause-mode
-returns-in-Err-matches-clause-mode g c = c.matches.ensures.mode
-
-pub returns-in-Err-matches-clause-faults : goal.returns-in-Err-matches-clause-faults
-returns-in-Err-matches-clause-faults g c = c.in-Err-matches.ensures.faults
-
-pub returns-in-Err-matches-clause-book : goal.returns-in-Err-matches-clause-book
-returns-in-Err-matches-clause-book g c e = absurd (error_is_no_value e)
-
-pub returns-in-Err-matches-clause-noted : goal.returns-in-Err-matches-clause-noted
-returns-in-Err-matches-clause-noted g c e = absurd (error_is_no_value e)
-
-pub returns-in-Ok-note_ends-clause-same_reference : goal.returns-in-Ok-note_ends-clause-same_reference
-returns-in-Ok-note_ends-clause-same_reference g c = c.matches.ensures.same_reference
-
-pub returns-in-Ok-note_ends-clause-survives : goal.returns-in-Ok-note_ends-clause-survives
-returns-in-Ok-note_ends-clause-survives g c = c.matches.ensures.survives
-
-pub returns-in-Ok-note_ends-clause-kept : goal.returns-in-Ok-note_ends-clause-kept
-returns-in-Ok-note_ends-clause-kept g c = c.matches.ensures.kept
-
-pub returns-in-Ok-note_ends-clause-mode : goal.returns-in-Ok-note_ends-clause-mode
-returns-in-Ok-note_ends-clause-mode g c = c.matches.ensures.mode
-
-pub returns-in-Ok-note_ends-clause-same : goal.returns-in-Ok-note_ends-clause-same
-returns-in-Ok-note_ends-clause-same g c = c.in-Ok-true.ensures.same
-
-pub returns-in-Ok-note_ends-clause-goes : goal.returns-in-Ok-note_ends-clause-goes
-returns-in-Ok-note_ends-clause-goes g c late live v has given it so =
+pub returns-clause-goes : goal.returns-clause-goes
+returns-clause-goes g c late live v has given it so =
     let b = c.args.book.now.state in
     let x = c.args.command.now in
     let new = c.matches.new.rows.conn.now in
-    let moved_is : c.moves.result.now ≡ moves b (next b x) = moved_by c.moves.result.now c.in-Ok.plan b x c.decide.new.self.state c.moves.ensures c.in-Ok.ensures.plan.moved c.in-Ok.ensures.state c.in-Ok.ensures.command in
+    let is = rw c.in-Some.is at c.in_ok-plan.ensures in
+    let moved_is : c.moves.result.now ≡ moves b (next b x) = moved_by c.moves.result.now c.in-Some.plan b x c.decide_noting_ends.new.book.state c.moves.ensures is.plan.moved c.decide_noting_ends.ensures.state is.command in
     let rows = rows_of_moves c.args.no c.moves.result.now in
-    let on = goes_given g.S.Store moved_listing new given rows c.in-Ok-true.field-0 (c.in-Ok-true.ensures.goes late live v has given it) c.in-Ok-true.field-0-test in
+    let on = goes_given g.S.Store moved_listing new given rows c.in_ok-matches.field-0 (c.in_ok-matches.ensures.goes late live v has given it) c.if-not-branch.false in
     subst (λ ms. HasGiven g.S.Store moved_listing.text [] new (given ++ rows_of_moves c.args.no ms)) moved_is on
 
-pub returns-in-Ok-note_ends-clause-book : goal.returns-in-Ok-note_ends-clause-book
-returns-in-Ok-note_ends-clause-book g c e =
-    let plan = c.in-Ok.ensures in (
-      accepted _ c.fits.result (refusal c.args.book.now.state c.args.command.now) c.fits.ensures c.if-not-fits.false (sym (ap₂ refusal plan.state plan.command) ∙ plan.plan.accepted),
-      c.adopt.ensures.state ∙ ap₂ next plan.state plan.command,
+pub returns-clause-book : goal.returns-clause-book
+returns-clause-book g c e =
+    let is = rw c.in-Some.is at c.in_ok-plan.ensures in
+    let state = c.decide_noting_ends.ensures.state in (
+      accepted _ c.fits.result (refusal c.args.book.now.state c.args.command.now) c.fits.ensures c.if-not-fits.false (sym (ap₂ refusal state is.command) ∙ is.plan.accepted),
+      c.adopt.ensures.state ∙ ap₂ next state is.command,
     )
 
-pub returns-in-Ok-note_ends-clause-noted : goal.returns-in-Ok-note_ends-clause-noted
-returns-in-Ok-note_ends-clause-noted g c e noted =
-    let plan = c.in-Ok.ensures in
-    c.in-Ok-note_ends.ensures.noted (noted ∙ ap (λ (s : BookState). ends_of s.network) (sym plan.state))
-    ∙ ap (λ (s : BookState). ends_of s.network) (sym (c.adopt.ensures.state ∙ ap (λ (k : Command). next c.decide.new.self.state k) plan.command))
-
-pub returns-in-Err-note_ends-clause-same_reference : goal.returns-in-Err-note_ends-clause-same_reference
-returns-in-Err-note_ends-clause-same_reference g c = c.matches.ensures.same_reference
-
-pub returns-in-Err-note_ends-clause-survives : goal.returns-in-Err-note_ends-clause-survives
-returns-in-Err-note_ends-clause-survives g c = c.matches.ensures.survives
-
-pub returns-in-Err-note_ends-clause-kept : goal.returns-in-Err-note_ends-clause-kept
-returns-in-Err-note_ends-clause-kept g c = c.matches.ensures.kept
-
-pub returns-in-Err-note_ends-clause-mode : goal.returns-in-Err-note_ends-clause-mode
-returns-in-Err-note_ends-clause-mode g c = c.matches.ensures.mode
-
-pub returns-in-Err-note_ends-clause-faults : goal.returns-in-Err-note_ends-clause-faults
-returns-in-Err-note_ends-clause-faults g c = inl c.in-Err-note_ends.ensures.faults
-
-pub returns-in-Err-note_ends-clause-book : goal.returns-in-Err-note_ends-clause-book
-returns-in-Err-note_ends-clause-book g c e = absurd (error_is_no_value e)
-
-pub returns-in-Err-note_ends-clause-noted : goal.returns-in-Err-note_ends-clause-noted
-returns-in-Err-note_ends-clause-noted g c e = absurd (error_is_no_value e)
+pub returns-clause-noted : goal.returns-clause-noted
+returns-clause-noted g c e noted =
+    let is = rw c.in-Some.is at c.in_ok-plan.ensures in
+    is.noted noted ∙ ap (λ (s : BookState). ends_of s.network) (sym (c.adopt.ensures.state ∙ ap₂ next c.decide_noting_ends.ensures.state is.command))
 
 pub adopt-requires-clause-room : goal.adopt-requires-clause-room
-adopt-requires-clause-room g c = c.in-Ok.ensures.room
+adopt-requires-clause-room g c = (rw c.in-Some.is at c.in_ok-plan.ensures).room
 
 pub adopt-requires-clause-plan : goal.adopt-requires-clause-plan
-adopt-requires-clause-plan g c = c.in-Ok.ensures.plan
+adopt-requires-clause-plan g c = (rw c.in-Some.is at c.in_ok-plan.ensures).plan
+
+-- a command that the book refuses
+pub returns-in_default-clause-goes : goal.returns-in_default-clause-goes
+returns-in_default-clause-goes g c late live v has given it so =
+    let some = c.decide_noting_ends.ensures.refused (c.in_ok-plan.was ∙ ap Ok c.in_default.is) in
+    let none = unrefused _ c.fits.result (refusal c.args.book.now.state c.args.command.now) c.fits.ensures so in
+    absurd (true≢false (sym some ∙ ap is_some none))
+
+pub returns-in_default-clause-survives : goal.returns-in_default-clause-survives
+returns-in_default-clause-survives g c = still (state g.S.Store c.args.rows.now.conn.now)
+
+pub returns-in_default-clause-kept : goal.returns-in_default-clause-kept
+returns-in_default-clause-kept g c v t keeps = keeps
+
+pub returns-in_default-clause-mode : goal.returns-in_default-clause-mode
+returns-in_default-clause-mode g c idle = idle
+
+pub returns-in_default-clause-same : goal.returns-in_default-clause-same
+returns-in_default-clause-same g c late live = same_state (state g.S.Store c.args.rows.now.conn.now) live
+
+pub returns-in_default-clause-book : goal.returns-in_default-clause-book
+returns-in_default-clause-book g c e = absurd (no_is_no e)
+
+pub returns-in_default-clause-noted : goal.returns-in_default-clause-noted
+returns-in_default-clause-noted g c e = absurd (no_is_no e)
