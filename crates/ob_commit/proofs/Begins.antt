@@ -33,10 +33,14 @@ module _ (old last end : State) (t : Tables) (none : old.now.schema ≡ no_schem
         holds = subst (λ x. Holds x t) (sym is) (it.holds none);
       }
 
+  -- where that ends on a clean disk the store was open
+  pub was_live : HasCleanDisk end → IsTrue old.is_open
+  was_live clean = (made clean).live
+
   -- a crash leaves what it left before, or the tables of a new book
   pub survives_new : Survives old end (Begins old t)
   survives_new =
-      survives_then old last end _ _ (Begins old t) (λ _ db none. absurd none) (λ clean db is. (none, leaves clean db is)) quiet.survives ends
+      survives_then old last end _ _ (Begins old t) (λ _ db none. absurd none) (λ clean db is. ((made clean).live, none, leaves clean db is)) quiet.survives ends
 
   -- a commit
   pub keeps_new : (HasCleanDisk end → Shows last end last.now last.now false) → (IsTrue end.is_open → (trees : Trees) → end.may_leave trees → trees ≡ end.committed.trees) → Keeps end t

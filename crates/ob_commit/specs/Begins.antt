@@ -17,9 +17,9 @@ pub record Stays (old new : State) : Type 0 where
   pub shown : HasCleanDisk new → IsTrue new.is_open → ShowsAsBefore old new
   pub survives : Survives old new (λ _. ⊥)
 
--- the database held nothing, and these are the trees of a whole database of these tables
+-- it was open and its database held nothing, and these are the trees of a whole database of these tables
 abbrev pub Begins : State → Tables → Trees → Type 0
-Begins old tables trees = (old.now.schema ≡ no_schema) × Leaves tables trees
+Begins old tables trees = IsTrue old.is_open × (old.now.schema ≡ no_schema) × Leaves tables trees
 
 -- while it is open it shows what it showed; a crash leaves what it left before, or these tables where nothing was
 pub record StaysOrBegins (old new : State) (tables : Tables) : Type 0 where

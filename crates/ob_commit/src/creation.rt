@@ -1,7 +1,7 @@
 //! The tables of a new book, committed together.
 ghost use Rattle.std.specs.Prelude.{◌≡◌, ◌≢◌, ◌↔◌, ◌⊎◌, Err, false, IsTrue, OnOk, IfErr};
 ghost use Rattle.sqlite.specs.Held.{state};
-ghost use Rattle.sqlite.specs.State.{Survives};
+ghost use Rattle.sqlite.specs.State.{HasCleanDisk, Survives};
 ghost use Rattle.ob_tables.specs.Schema.{no_schema};
 ghost use Rattle.ob_tables.specs.Rows.{Tables};
 ghost use Rattle.ob_tables.specs.Steps.{IsStoreFault};
@@ -29,6 +29,8 @@ pub fn commit_new<S: Alter>(
         ↔ ((state S.Store conn.old).now.schema ≢ no_schema) }
     ensures empty { result ≢ Err (Stop.Refused Refusal.BadBook)
         → (state S.Store conn.old).now.schema ≡ no_schema }
+    ensures live { HasCleanDisk (state S.Store conn.new)
+        → OnOk result (IsTrue (state S.Store conn.old).is_open) }
     ensures done { OnOk result (Keeps (state S.Store conn.new)
         (new_tables first_day.now days zone.now)) }
     ensures same { IfErr result (λ stop. stop ≢ Stop.Fault Fault.Store

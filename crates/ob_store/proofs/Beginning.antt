@@ -4,7 +4,7 @@ use Rattle.std.specs.List.Sorted.{IsPermutation}
 use Rattle.std.proofs.lemmas.List.Sorted.{IsPermutation-refl}
 use Rattle.sqlite_trees.specs.declared.store.Store.{Ghosts}
 use Rattle.sqlite.specs.Held.{Held, state}
-use Rattle.sqlite.specs.State.{State, Survives}
+use Rattle.sqlite.specs.State.{State, HasCleanDisk, Survives}
 use Rattle.ob_base.specs.Stop.{IsRefusedOrNoMemory, out_of_memory}
 use Rattle.ob_base.specs.declared.stop.Stop.{Stop}
 use Rattle.ob_base.specs.declared.stop.Stop.TheVariants.{Refused, Fault}
@@ -24,9 +24,10 @@ use Rattle.ob_commit.specs.NewBook.{new_tables}
 use Rattle.ob_commit.specs.Begins.{Stays, StaysOrBegins}
 use Rattle.ob_record.specs.Reached.{IsReached, StartHasFirstRows, StartIsReached, first_rows}
 use Rattle.ob_record.specs.Tables.{tables_of}
-use Rattle.ob_store.specs.Keeping.{KeepsBook}
+use Rattle.ob_store.specs.Keeping.{KeepsBook, KeepsOn}
 use Rattle.ob_store.specs.Creating.{Creates, HasNoPeriodText, LeavesAll, MayBegin}
 use Rattle.ob_store.proofs.Accepting.{keeps_as, leaves_as}
+use Rattle.ob_store.proofs.Staying.{keeps_on, keeps_same}
 
 survives_same : (s : State) → Survives s s (λ _. ⊥)
 survives_same s = record {
@@ -41,7 +42,7 @@ survives_same s = record {
 all_left : {S : Type 0} (g : Ghosts S) (conn : Held S) → LeavesAll g conn conn
 all_left g conn = record {
   stays = record { shown = λ clean live. record { was_open = live; now = refl; committed = refl }; survives = survives_same (state g conn) };
-  kept = λ b keeps. keeps;
+  keeps = keeps_same (state g conn);
 }
 
 module _ {S : Type 0} (g : Ghosts S) (conn : Held S) (first : List ℕ) (days : ℕ) (zone : List ℕ) where
@@ -88,28 +89,32 @@ module _ (p : Calendar) (first text : List ℕ) (days : ℕ) (zone : List ℕ) (
     pub kept : StartIsReached → Keeps (state g new) (new_tables text days zone) → KeepsBook (state g new) (start p)
     kept law keeps = record { kept = keeps_as (new_tables text days zone) (tables_of (start p)) (tables_are firsts) (state g new) keeps; reached = reached law; valid = tt }
 
-    may_begin : StaysOrBegins (state g old) (state g new) (new_tables text days zone) → MayBegin g old new first days zone
-    may_begin it = (
+    -- what was kept is kept on
+    on : (HasCleanDisk (state g new) → HasCleanDisk (state g old)) → StaysOrBegins (state g old) (state g new) (new_tables text days zone) → KeepsOn (state g old) (state g new)
+    on clean either = keeps_on (state g old) (state g new) clean either.shown (new_tables text days zone) either.left
+
+    may_begin : StartIsReached → (HasCleanDisk (state g new) → HasCleanDisk (state g old)) → StaysOrBegins (state g old) (state g new) (new_tables text days zone) → MayBegin g old new first days zone
+    may_begin law clean it = (
       p,
       of_text,
+      reached law,
+      on clean it,
       record {
         shown = it.shown;
         left = λ clean trees may. elim (it.left clean trees may) [
           | inl before ↦ inl before
-          | inr begins ↦ inr (begins.0, leaves_as (new_tables text days zone) (tables_of (start p)) (tables_are firsts) trees begins.1)
+          | inr begins ↦ inr (begins.0, begins.1, leaves_as (new_tables text days zone) (tables_of (start p)) (tables_are firsts) trees begins.2)
         ];
       },
     )
 
     -- the commit failed, or what goes before it
-    pub failed : (stop : Stop) → (stop ≡ Refused BadBook) ⊎ IsStoreFault stop → (stop ≡ Refused BadBook → (state g old).now.schema ≢ no_schema) → (stop ≢ Fault Store → Stays (state g old) (state g new))
-        → (stop ≢ Fault Store → (t : Tables) → Keeps (state g old) t → Keeps (state g new) t) → StaysOrBegins (state g old) (state g new) (new_tables text days zone) → Creates g old new first days zone (Err stop)
-    failed stop (inl taken) full stays keeps either =
+    pub failed : StartIsReached → (HasCleanDisk (state g new) → HasCleanDisk (state g old)) → (stop : Stop) → (stop ≡ Refused BadBook) ⊎ IsStoreFault stop → (stop ≡ Refused BadBook → (state g old).now.schema ≢ no_schema)
+        → (stop ≢ Fault Store → Stays (state g old) (state g new)) → StaysOrBegins (state g old) (state g new) (new_tables text days zone) → Creates g old new first days zone (Err stop)
+    failed law clean stop (inl taken) full stays either =
         let other : stop ≢ Fault Store = λ e. absurd (cc) in
-        subst (λ s. Creates g old new first days zone (Err s)) (sym taken)
-        (p, of_text, full taken, record { stays = stays other; kept = λ b k. record { kept = keeps other (tables_of b) k.kept; reached = k.reached; valid = k.valid } })
-    failed stop (inr (inl memory)) full stays keeps either =
+        subst (λ s. Creates g old new first days zone (Err s)) (sym taken) (p, of_text, full taken, record { stays = stays other; keeps = on clean either })
+    failed law clean stop (inr (inl memory)) full stays either =
         let other : stop ≢ Fault Store = λ e. absurd (cc) in
-        subst (λ s. Creates g old new first days zone (Err s)) (sym memory)
-        (record { stays = stays other; kept = λ b k. record { kept = keeps other (tables_of b) k.kept; reached = k.reached; valid = k.valid } })
-    failed stop (inr (inr store)) full stays keeps either = subst (λ s. Creates g old new first days zone (Err s)) (sym store) (may_begin either)
+        subst (λ s. Creates g old new first days zone (Err s)) (sym memory) (record { stays = stays other; keeps = on clean either })
+    failed law clean stop (inr (inr store)) full stays either = subst (λ s. Creates g old new first days zone (Err s)) (sym store) (may_begin law clean either)

@@ -1,5 +1,5 @@
 -- What is loaded from what a crash left.
-use Rattle.std.proofs.Common.{◌≡◌, ◌⊎◌, inl, inr, ℕ, List, [], ◌∷◌, Result, Ok, Err, refl, ap, subst, ◌∙◌, arith}
+use Rattle.std.proofs.Common.{◌≡◌, ◌⊎◌, inl, inr, ℕ, List, [], ◌∷◌, None, Result, Ok, Err, IsTrue, refl, ap, subst, ◌∙◌, arith}
 use Rattle.std.specs.Prelude.{⊤}
 use Rattle.std.specs.List.{AllByRecursion}
 use Rattle.sqlite_trees.specs.declared.store.Store.{Ghosts}
@@ -14,6 +14,7 @@ use Rattle.ob_tables.specs.Rows.{Columns, meta_row, number}
 use Rattle.ob_compare.specs.Version.{HasVersion}
 use Rattle.ob_store.proofs.Counting.{rows_counted}
 use Rattle.sqlite.specs.Held.{Held, state}
+use Rattle.sqlite.specs.State.{State, HasCleanDisk, IsLive, Opens}
 use Rattle.sqlite_catalog.specs.Listing.{IsSound}
 use Rattle.sqlite_catalog.proofs.ReadLemmas.{read_once, reads}
 use Rattle.ob_base.specs.declared.stop.Stop.{Stop}
@@ -23,15 +24,18 @@ use Rattle.ob_base.specs.declared.stop.Refusal.TheVariants.{BadField, UnknownNam
 use Rattle.ob_book.specs.Acts.{ActState}
 use Rattle.ob_tables.specs.Schema.{book_schema}
 use Rattle.ob_tables.specs.declared.table.Table.TheVariants.{Meta, Command}
-use Rattle.ob_tables.specs.declared.version.Version.TheVariants.{Two}
+use Rattle.ob_tables.specs.declared.version.Version.{Version}
+use Rattle.ob_tables.specs.declared.version.Version.TheVariants.{One, Two}
 use Rattle.ob_commit.specs.Keeps.{Leaves}
 use Rattle.ob_record.specs.Naming.{IsReferenced}
 use Rattle.ob_record.specs.Reached.{IsReached, ReachedAreFew}
 use Rattle.ob_record.specs.Tables.{tables_of}
 use Rattle.ob_store.specs.Keeping.{KeeperValue, KeepsBook, KeepsEitherBook}
-use Rattle.ob_store.specs.Finding.{IsBookOf}
+use Rattle.ob_store.specs.Finding.{Differs, IsBookOf}
 use Rattle.ob_store.specs.Loading.{HoldsNoBook, Loaded, trees_in}
-use Rattle.ob_store.specs.Crashing.{CrashLaw, HasLoaded, OpensAfterCrash, Restores}
+use Rattle.ob_parts.specs.Laws.{OldIsReached}
+use Rattle.ob_store.specs.Books.{IsReachedIn}
+use Rattle.ob_store.specs.Crashing.{CrashLaw, HasLoaded, LeftLaw, LoadLaw, Loads, OpensAfterCrash, Restores}
 
 -- the catalog of a database lists one schema
 pub one_schema : (s t : Schema) (trees : Trees) → IsSound s trees → IsSound t trees → s ≡ t
@@ -40,13 +44,13 @@ one_schema s t trees one other =
     read_once _ s t it.tables it.indexes it.views (reads _ t other.lists)
 
 -- the tables that a crash left are those of this book
-book_left : ReachedAreFew → (trees : Trees) (b : ActState) → IsReached b → AllByRecursion IsReferenced b.accepted → Leaves (tables_of b) trees → IsBookOf trees b
-book_left few trees b reached valid leaves = record {
+book_left : ReachedAreFew → (trees : Trees) (b : ActState) → IsReached b → AllByRecursion IsReferenced b.accepted → Differs trees b None → IsBookOf trees b
+book_left few trees b reached valid rows = record {
   reached = reached;
   valid = valid;
   few = few b reached;
-  period = (number 1, number 2, leaves.holds.rows Meta);
-  commands = rows_counted Two b.accepted (leaves.holds.rows Command);
+  period = (number 1, number 2, rows Meta);
+  commands = rows_counted Two b.accepted (rows Command);
 }
 
 -- a heading of version 2 is of no other
@@ -57,15 +61,15 @@ not_two row first_day days zone same one =
     absurd (let n : ◌≡◌ {A = ℕ} 2 1 = cc in omega (arith, n))
 
 module _ {R : Type 0} (h : Ghosts R) (keeper new : KeeperValue R) (Is : ActState → Type 0) (b : ActState) (is : Is b) (of : IsBookOf (trees_in h keeper.conn) b)
-    (leaves : Leaves (tables_of b) (trees_in h keeper.conn)) where
+    (rows : Differs (trees_in h keeper.conn) b None) where
   not_none : HoldsNoBook (trees_in h keeper.conn) → ⊥
-  not_none none = none b (of, leaves.holds.rows)
+  not_none none = none b (of, rows)
 
   -- nor are they of version 1
   not_outdated : HasVersion 1 (trees_in h keeper.conn) → ⊥
   not_outdated has =
-      let rows = one_permutation _ _ (IsPermutation-trans _ _ _ (IsPermutation-sym _ _ has.1) (leaves.holds.rows Meta)) in
-      not_two (has.0) (day_text b.book.period.first_day) (day_count b.book.period) b.book.period.zone rows has.2
+      let same = one_permutation _ _ (IsPermutation-trans _ _ _ (IsPermutation-sym _ _ has.1) (rows Meta)) in
+      not_two (has.0) (day_text b.book.period.first_day) (day_count b.book.period) b.book.period.zone same has.2
 
   -- no refusal but those of another book's tables and of another version is told, and this one's are there
   not_refused : (r : Refusal) → Loaded h keeper new (Err (Refused r)) → ⊥
@@ -94,21 +98,58 @@ module _ {R : Type 0} (h : Ghosts R) (keeper new : KeeperValue R) (Is : ActState
   has_loaded (Err (Refused r)) loaded = not_refused r loaded
   has_loaded (Err (Fault fault)) loaded = tt
 
-module _ {S R : Type 0} (g : Ghosts S) (h : Ghosts R) (few : ReachedAreFew) (was : Held S) (keeper : KeeperValue R) (opens : OpensAfterCrash g h was keeper.conn) where
+-- a connection that was just opened shows the tables of the book
+module _ {R : Type 0} (h : Ghosts R) (few : ReachedAreFew) (keeper : KeeperValue R) (opens : Opens (state h keeper.conn)) (live : IsLive (state h keeper.conn)) where
   pub restored : (Is : ActState → Type 0) (b : ActState) → Is b → IsReached b → AllByRecursion IsReferenced b.accepted → Leaves (tables_of b) (trees_in h keeper.conn) → Restores h keeper Is
   restored Is b is reached valid leaves = record {
-    schema = one_schema keeper.conn.schema book_schema (trees_in h keeper.conn) (opens.live opens.opens.is_open).0 leaves.sound;
-    loads = λ new r loaded. has_loaded h keeper new Is b is (book_left few (trees_in h keeper.conn) b reached valid leaves) leaves r loaded;
+    schema = one_schema keeper.conn.schema book_schema (trees_in h keeper.conn) (live opens.is_open).0 leaves.sound;
+    loads = λ new r loaded. has_loaded h keeper new Is b is (book_left few (trees_in h keeper.conn) b reached valid leaves.holds.rows) leaves.holds.rows r loaded;
   }
 
+-- what either version accepted is reached
+reached_now : OldIsReached → (v : Version) (b : ActState) → IsReachedIn v b → IsReached b
+reached_now old One b reached = (old b reached).0
+reached_now old Two b reached = reached
+
+pub left_law : {R : Type 0} (h : Ghosts R) → ReachedAreFew → OldIsReached → LeftLaw h
+left_law h few old keeper v b opens live leaves reached valid = restored h few keeper opens live (λ x. x ≡ b) b refl (reached_now old v b reached) valid leaves
+
+module _ {S R : Type 0} (g : Ghosts S) (h : Ghosts R) (few : ReachedAreFew) (was : Held S) (keeper : KeeperValue R) (opens : OpensAfterCrash g h was keeper.conn) where
   kept : (b : ActState) → KeepsBook (state g was) b → Restores h keeper (λ x. x ≡ b)
-  kept b keeps = restored (λ x. x ≡ b) b refl keeps.reached keeps.valid (keeps.kept.left opens.clean (trees_in h keeper.conn) opens.left)
+  kept b keeps =
+      restored h few keeper opens.opens opens.live (λ x. x ≡ b) b refl keeps.reached keeps.valid (keeps.kept.left opens.clean (trees_in h keeper.conn) opens.left)
 
   either : (b c : ActState) → KeepsEitherBook (state g was) b c → Restores h keeper (λ x. (x ≡ b) ⊎ (x ≡ c))
   either b c keeps = elim (keeps.kept.left opens.clean (trees_in h keeper.conn) opens.left) [
-    | inl first ↦ restored (λ x. (x ≡ b) ⊎ (x ≡ c)) b (inl refl) keeps.reached keeps.valid first
-    | inr other ↦ restored (λ x. (x ≡ b) ⊎ (x ≡ c)) c (inr refl) keeps.other_reached keeps.other_valid other
+    | inl first ↦ restored h few keeper opens.opens opens.live (λ x. (x ≡ b) ⊎ (x ≡ c)) b (inl refl) keeps.reached keeps.valid first
+    | inr other ↦ restored h few keeper opens.opens opens.live (λ x. (x ≡ b) ⊎ (x ≡ c)) c (inr refl) keeps.other_reached keeps.other_valid other
   ]
 
 pub crash_law : {S R : Type 0} (g : Ghosts S) (h : Ghosts R) → ReachedAreFew → CrashLaw g h
 crash_law g h few was keeper opens = (kept g h few was keeper opens, either g h few was keeper opens)
+
+-- a load on the keeper itself
+module _ {S : Type 0} (g : Ghosts S) (few : ReachedAreFew) (old new : KeeperValue S) (clean : HasCleanDisk (state g new.conn)) (b c : ActState) (keeps : KeepsEitherBook (state g old.conn) b c) where
+  loaded_open : (r : Result ⊤ Stop) → Loads g old new r → IsTrue (state g old.conn).is_open → HasLoaded g (λ x. x ≡ b) new r
+  loaded_open r loads opened =
+      let it = keeps.kept.settled (loads.clean clean) opened in
+      has_loaded g old new (λ x. x ≡ b) b refl (book_left few (trees_in g old.conn) b keeps.reached keeps.valid it.holds.rows) it.holds.rows r (loads.loaded clean it.schema)
+
+  loaded_first : (r : Result ⊤ Stop) → Loads g old new r → HasLoaded g (λ x. x ≡ b) new r
+  loaded_first (Ok done) loads = loaded_open (Ok done) loads (loads.answers.live clean tt)
+  loaded_first (Err (Refused refusal)) loads = loaded_open (Err (Refused refusal)) loads (loads.answers.live clean tt)
+  loaded_first (Err (Fault fault)) loads = tt
+
+-- a book is the first of two that are the same
+as_either : (s : State) (b : ActState) → KeepsBook s b → KeepsEitherBook s b b
+as_either s b keeps = record {
+  kept = record { settled = keeps.kept.settled; left = λ clean trees may. inl (keeps.kept.left clean trees may) };
+  reached = keeps.reached;
+  other_reached = keeps.reached;
+  valid = keeps.valid;
+  other_valid = keeps.valid;
+}
+
+pub load_law : {S : Type 0} (g : Ghosts S) → ReachedAreFew → LoadLaw g
+load_law g few old new r loads clean =
+    (λ b keeps. loaded_first g few old new clean b b (as_either (state g old.conn) b keeps) r loads, λ b c keeps. loaded_first g few old new clean b c keeps r loads)

@@ -80,7 +80,7 @@ module _ {S : Type 0} (g : Ghosts S) {L : Type 0} (state_of : L → BookState) (
   both r second = then_more g Two Led HasNoBook Off NoneSo old mid new l r first (of_each g (λ b. IsFirstOff b (counted_of l) (moved_of l)) (state_of l) mid new r second)
 
   abbrev finding : (trees : Trees) (found : Option Table) → Both trees found → Finding trees found
-  finding trees found it = (it.0.book, it.0.is_book, it.1 it.0.book (sym it.0.state) it.0.counts it.0.moves)
+  finding trees found it = (it.0.book, it.0.is_book, it.0.only, it.1 it.0.book (sym it.0.state) it.0.counts it.0.moves)
 
   -- the first table that differs
   found_ok : (found : Option Table) → Compared (Ok found) → Finds g Two Finding HasNoBook old new (Ok found)
@@ -101,7 +101,7 @@ module _ {S : Type 0} (g : Ghosts S) {L : Type 0} (state_of : L → BookState) (
       then_bad g Two Both Neither Good HoldsNoBook old new (Some table) (both (Ok (Some table)) second)
       (λ trees it other has.
       let found = finding trees (Some table) it in
-      found.2.0 (subst (λ (b : ActState). Shows trees table (tables_of b table)) (it.0.only other has.0) (has.1 table)))
+      found.3.0 (subst (λ (b : ActState). Shows trees table (tables_of b table)) (it.0.only other has.0) (has.1 table)))
 
   -- each table is the book's
   module _ (end : Held S) (second : Compared (Ok None)) where
@@ -123,4 +123,4 @@ module _ {S : Type 0} (g : Ghosts S) {L : Type 0} (state_of : L → BookState) (
     pub loads : {B : Type 0} (book_of : B → BookState) (book : B) → book_of book ≡ state_of l → (is : Bool) → is ≡ true → Finds g Two Apart NoneSo new end (Ok is) → Finds g Two (λ trees b. Holding trees (book_of b)) HoldsNoBook old end (Ok book)
     loads book_of book same is so third =
         then_good g Two All Nothing (λ trees b. Holding trees (book_of b)) HoldsNoBook old end is (all (Ok is) third) book
-        (λ trees it. let found = finding trees None it.0 in (found.0, (found.1, found.2), it.0.0.only, it.1.0 so, same ∙ it.0.0.state))
+        (λ trees it. let found = finding trees None it.0 in (found.0, (found.1, found.3), it.0.0.only, it.1.0 so, same ∙ it.0.0.state))

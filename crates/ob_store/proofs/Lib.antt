@@ -3,6 +3,7 @@ pub mod Replying
 pub mod Answering
 pub mod Accepting
 pub mod Answered
+pub mod Staying
 pub mod Beginning
 pub mod Reading
 pub mod Naming
@@ -16,9 +17,11 @@ pub mod Differing
 pub mod Found
 pub mod Counting
 pub mod Telling
+pub mod Asking
 pub mod Handing
 pub mod OldTelling
 pub mod OldParts
 pub mod OldBooks
 pub mod Upgrading
+pub mod GoingOn
 pub mod OldCrashing

@@ -69,7 +69,7 @@ module _ {S R : Type 0} (g : Ghosts S) (h : Ghosts R) (few : ReachedAreFew) (old
   either : (b : ActState) → KeepsEitherVersion (state g was) b → RestoresOld h keeper b ⊎ Restores h keeper (λ x. x ≡ b)
   either b keeps = elim (keeps.kept.left opens.clean (trees_in h keeper.conn) opens.left) [
     | inl first ↦ inl (old_restored b keeps.reached keeps.valid first)
-    | inr other ↦ inr (restored g h few was keeper opens (λ x. x ≡ b) b refl (old b keeps.reached).0 keeps.valid other)
+    | inr other ↦ inr (restored h few keeper opens.opens opens.live (λ x. x ≡ b) b refl (old b keeps.reached).0 keeps.valid other)
   ]
 
 pub old_crash_law : {S R : Type 0} (g : Ghosts S) (h : Ghosts R) → ReachedAreFew → OldIsReached → OldCrashLaw g h

@@ -1,7 +1,6 @@
 -- What the heading tells where the tables of version 1 are to be made those of version 2.
-use Rattle.std.proofs.Common.{◌≡◌, inl, inr, ℕ, Bool, true, false, true≢false, IsTrue, is_some, Result, Ok, Err, refl, sym, ap, ◌∙◌}
-use Rattle.std.specs.Prelude.{◌↔◌, codes}
-use Rattle.sqlite_schema.specs.Names.{table_named}
+use Rattle.std.proofs.Common.{◌≡◌, inl, inr, ℕ, Bool, true, false, true≢false, IsTrue, Result, Ok, Err, refl, sym, ap, subst, ◌∙◌}
+use Rattle.std.specs.Prelude.{◌↔◌, ⊤}
 use Rattle.sqlite_trees.specs.declared.store.Store.{Ghosts}
 use Rattle.sqlite.specs.Tree.{Trees}
 use Rattle.sqlite.specs.Schema.{Schema}
@@ -9,6 +8,9 @@ use Rattle.sqlite.specs.Effect.{Database}
 use Rattle.sqlite.specs.Held.{Held, state}
 use Rattle.sqlite.specs.State.{HasCleanDisk, IsUnchanged, Survives}
 use Rattle.ob_base.specs.declared.stop.Stop.{Stop}
+use Rattle.ob_tables.specs.Creation.{old_schema}
+use Rattle.ob_tables.specs.Schema.{book_schema}
+use Rattle.sqlite_tied.specs.Compute.{everything}
 use Rattle.ob_tables.specs.Rows.{Tables}
 use Rattle.ob_tables.specs.Versions.{schema_of}
 use Rattle.ob_tables.specs.declared.version.Version.{Version}
@@ -18,9 +20,12 @@ use Rattle.ob_compare.specs.Reading.{IsReadFault, bad_book}
 use Rattle.ob_compare.specs.Version.{HasVersion, IsOfBook}
 use Rattle.ob_store.specs.Differing.{NoneSo}
 use Rattle.ob_store.specs.Finding.{Finds}
+use Rattle.ob_store.specs.Migrating.{IsOldShape}
 use Rattle.ob_store.specs.Upgrading.{IsTold, IsUntold}
-use Rattle.ob_store.proofs.Reading.{fails, read_err, read_ok, then_bad, then_more}
-use Rattle.ob_store.proofs.Telling.{has_lives, lives_now, no_lives}
+use Rattle.ob_store.specs.Versions.{Looks}
+use Rattle.ob_store.proofs.Asking.{looked_kept}
+use Rattle.ob_store.proofs.Reading.{fails, find_as, read_err, read_ok, then_bad, then_more}
+use Rattle.ob_store.proofs.Telling.{lives_now}
 
 pub of_book : (v : Version) (schema : Schema) → schema ≡ schema_of v → IsOfBook schema
 of_book One schema is = inr is
@@ -34,14 +39,22 @@ untold : (v : Version) (trees : Trees) → ¬ (HasVersion 2 trees) → ¬ (HasVe
 untold One trees two one = (two, one)
 untold Two trees two one = two
 
--- with a table of lives the tables aren't those of version 1, and without one they aren't those of version 2
-untold_there : (v : Version) (schema : Schema) → schema ≡ schema_of v → has_lives schema ≡ true → (trees : Trees) → ¬ (HasVersion 2 trees) → IsUntold v trees
-untold_there One schema is there trees two = absurd (true≢false (sym there ∙ ap has_lives is ∙ no_lives))
-untold_there Two schema is there trees two = two
+-- the schema of version 1 has its shape, and that of version 2 hasn't
+shape_old : IsOldShape old_schema
+unfolding everything
+shape_old = (refl, refl, refl, refl)
 
-told_old : (v : Version) (schema : Schema) → schema ≡ schema_of v → has_lives schema ≡ false → (trees : Trees) → ¬ (HasVersion 2 trees) → IsTold v trees false
-told_old One schema is missing trees two = two
-told_old Two schema is missing trees two = absurd (true≢false (sym (ap has_lives is ∙ lives_now) ∙ missing))
+shape_now : IsOldShape book_schema → ⊥
+shape_now shape = true≢false (sym lives_now ∙ shape.3)
+
+-- with another shape the tables aren't those of version 1, and with this one they aren't those of version 2
+untold_there : (v : Version) (schema : Schema) → schema ≡ schema_of v → ¬ (IsOldShape schema) → (trees : Trees) → ¬ (HasVersion 2 trees) → IsUntold v trees
+untold_there One schema is other trees two = absurd (other (subst IsOldShape (sym is) shape_old))
+untold_there Two schema is other trees two = two
+
+told_old : (v : Version) (schema : Schema) → schema ≡ schema_of v → IsOldShape schema → (trees : Trees) → ¬ (HasVersion 2 trees) → IsTold v trees false
+told_old One schema is shape trees two = two
+told_old Two schema is shape trees two = absurd (shape_now (subst IsOldShape is shape))
 
 module _ {S : Type 0} (g : Ghosts S) where
   -- ---- one version was looked for
@@ -93,15 +106,12 @@ module _ {S : Type 0} (g : Ghosts S) where
       told_other one not_one second =
           then_bad g v Both Neither (IsTold v) (IsUntold v) old new one (both (Ok one) second) (λ trees so. untold v trees (not_two trees so.0) (λ has. true≢false (sym (so.1.1 has) ∙ not_one)))
 
-      module _ (one : Bool) (second : Finds g v (Decides 1) NoneSo mid new (Ok one)) (lives : Bool) (tells : lives ≡ is_some (table_named (state g new).now.schema (codes "life"))) where
+      module _ (one : Bool) (second : Finds g v (Decides 1) NoneSo mid new (Ok one)) (is_old : Bool) (shape : IsTrue is_old ↔ IsOldShape old.schema) where
         read : Finds g v Both Neither old new (Ok one)
         read = both (Ok one) second
 
-        at : HasCleanDisk (state g new) → old.schema ≡ schema_of v → lives ≡ has_lives old.schema
-        at c schema = tells ∙ ap (λ (d : Database). has_lives d.schema) (read.same c schema).0.now_is
-
-        pub told_lives : lives ≡ true → Finds g v (IsTold v) (IsUntold v) old new (Err bad_book)
-        told_lives there = record {
+        pub told_lives : is_old ≡ false → Finds g v (IsTold v) (IsUntold v) old new (Err bad_book)
+        told_lives another = record {
           mode = read.mode;
           clean = read.clean;
           survives = read.survives;
@@ -110,11 +120,11 @@ module _ {S : Type 0} (g : Ghosts S) where
           same = λ c. tt;
           same_bad = λ c is schema. (read.same c schema).0.now_is;
           good = λ c. tt;
-          bad = λ c is schema. untold_there v old.schema schema (sym (at c schema) ∙ there) (state g old).now.trees (not_two (state g old).now.trees (read.good c schema).0);
+          bad = λ c is schema. untold_there v old.schema schema (λ has. true≢false (sym (shape.1 has) ∙ another)) (state g old).now.trees (not_two (state g old).now.trees (read.good c schema).0);
         }
 
-        pub told_one : lives ≡ false → Finds g v (IsTold v) (IsUntold v) old new (Ok false)
-        told_one missing = record {
+        pub told_one : is_old ≡ true → Finds g v (IsTold v) (IsUntold v) old new (Ok false)
+        told_one so = record {
           mode = read.mode;
           clean = read.clean;
           survives = read.survives;
@@ -122,6 +132,20 @@ module _ {S : Type 0} (g : Ghosts S) where
           faults = tt;
           same = read.same;
           same_bad = λ c. tt;
-          good = λ c schema. told_old v old.schema schema (sym (at c schema) ∙ missing) (state g old).now.trees (not_two (state g old).now.trees (read.good c schema).0);
+          good = λ c schema. told_old v old.schema schema (shape.0 so) (state g old).now.trees (not_two (state g old).now.trees (read.good c schema).0);
           bad = λ c. tt;
         }
+
+  -- ---- where the store is open
+  pub looked_err : (v : Version) (old mid : Held S) (stop : Stop) → Looks g old mid (Err stop) → Finds g v (IsTold v) (IsUntold v) old mid (Err stop)
+  looked_err v old mid stop look =
+      read_err g v (IsTold v) (IsUntold v) old mid stop look.mode look.survives look.clean (looked_kept g old mid (Err stop) look v) look.faults (λ c bad schema. look.foreign c bad (of_book v old.schema schema))
+
+  pub looked_then : (v : Version) (old mid new : Held S) (r : Result Bool Stop) → Looks g old mid (Ok tt) → Finds g v (IsTold v) (IsUntold v) mid new r → Finds g v (IsTold v) (IsUntold v) old new r
+  looked_then v old mid new r look it =
+      let first : Finds g v (λ trees (done : ⊤). ⊤) NoneSo old mid (Ok tt) = read_ok g v (λ trees (done : ⊤). ⊤) NoneSo old mid tt look.mode look.survives look.clean (looked_kept g old mid (Ok tt) look v) (λ c schema. look.same c tt) (λ c schema. tt) in
+      find_as g v (λ trees z. ⊤ × IsTold v trees z) (IsTold v) (λ trees. ⊤ × IsUntold v trees) (IsUntold v) old new r (λ trees x found. found.1) (λ trees none. none.1)
+      (then_more g v (λ trees (done : ⊤). ⊤) NoneSo (IsTold v) (IsUntold v) old mid new tt r first it)
+
+  pub looked_shape : (old mid : Held S) → Looks g old mid (Ok tt) → HasCleanDisk (state g mid) → IsOldShape mid.schema → IsOldShape old.schema
+  looked_shape old mid look clean shape = subst IsOldShape (ap (λ (d : Database). d.schema) (look.same clean tt).0.now_is) shape

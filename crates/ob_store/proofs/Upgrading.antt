@@ -33,8 +33,8 @@ use Rattle.ob_parts.specs.OldTables.{HasOldBook, old_tables_of}
 use Rattle.ob_store.specs.declared.migrating.Upgrade.{Upgrade}
 use Rattle.ob_store.specs.Finding.{Finds, OnlyReads}
 use Rattle.ob_store.specs.Keeping.{KeepsBook}
-use Rattle.ob_store.specs.Migrating.{HoldsNoOldBook, KeepsEitherVersion, KeepsOldBook, LeavesKept, LeftAsItWas, Migrated, MigratesKept, OnlyReadsOld, StaysOrUpgrades}
-use Rattle.ob_store.specs.Upgrading.{IsTold, IsUntold, IsUpgradeOf, Migrates, Upgradable, Upgraded}
+use Rattle.ob_store.specs.Migrating.{HoldsNoOldBook, IsOldShape, KeepsEitherVersion, KeepsOldBook, LeavesKept, LeftAsItWas, Migrated, MigratesKept, OnlyReadsOld, StaysOrUpgrades}
+use Rattle.ob_store.specs.Upgrading.{IsTold, IsUntold, IsUpgradeOf, LeavesWritten, Migrates, Upgradable, Upgraded}
 use Rattle.ob_store.proofs.Accepting.{keeps_as, leaves_as}
 use Rattle.ob_store.proofs.Crashing.{one_schema}
 use Rattle.ob_store.proofs.OldBooks.{has_one}
@@ -52,6 +52,20 @@ keeps_old s t opened live settled leaves schema holds = record {
         sound = subst (IsSound old_schema) (sym is) (subst (λ x. IsSound x s.now.trees) schema (live opened).0);
         holds = subst (λ x. HoldsOld x t) (sym is) holds;
       };
+}
+
+-- what a commit leaves of the tables of version 1 of a book are those of version 2, where it makes them so
+pub written : (s : State) (it : Upgrade) (b : ActState) → IsUpgradeOf b it → KeepsIn One s (old_tables_of b) → (trees : Trees) → LeavesUpgraded s (CanUpgrade it.bodies.items it.devices) (with_upgrade it.bodies.items it.devices) trees → Leaves (tables_of b) trees
+written s it b makes keeps trees leaves = leaves_as (with_upgrade it.bodies.items it.devices (old_tables_of b)) (tables_of b) makes.rows trees (leaves (old_tables_of b) keeps makes.can)
+
+pub survives_as : (old new : State) (P Q : Trees → Type 0) → ((trees : Trees) → P trees → Q trees) → Survives old new P → Survives old new Q
+survives_as old new P Q f s = record {
+  clean = s.clean;
+  shield = s.shield;
+  counts = s.counts;
+  limit = s.limit;
+  closes = s.closes;
+  crash = λ clean trees may. elim (s.crash clean trees may) [ inl was ↦ inl was | inr commits ↦ inr (f trees commits) ];
 }
 
 -- no trees are a whole database of both versions
@@ -158,7 +172,7 @@ module _ {S : Type 0} (g : Ghosts S) where
     keeps_now : ((t : Tables) → KeepsIn Two (state g old) t → KeepsIn Two (state g new) t) → (b : ActState) → KeepsBook (state g old) b → KeepsBook (state g new) b
     keeps_now kept b keeps = record { kept = kept (tables_of b) keeps.kept; reached = keeps.reached; valid = keeps.valid }
 
-    as_either : (b : ActState) → KeepsOldBook (state g new) b → KeepsEitherVersion (state g new) b
+    pub as_either : (b : ActState) → KeepsOldBook (state g new) b → KeepsEitherVersion (state g new) b
     as_either b keeps = record {
       kept = record { settled = keeps.kept.settled; left = λ clean trees may. inl (keeps.kept.left clean trees may) };
       reached = keeps.reached;
@@ -255,22 +269,10 @@ module _ {S : Type 0} (g : Ghosts S) where
     unfound stop second = stopped old end Both stop (both (Err stop) second) (λ clean schema. absurd (not_now (second.clean clean) schema))
 
     module _ (up : Upgrade) (second : Finds g One Upgradable HoldsNoOldBook mid end (Ok up)) (new : Held S) (clean_then : HasCleanDisk (state g new) → HasCleanDisk (state g end))
-        (survives : Survives (state g end) (state g new) (LeavesUpgraded (state g end) (CanUpgrade up.bodies.items up.devices) (with_upgrade up.bodies.items up.devices)))
+        (survives : Survives (state g end) (state g new) (LeavesWritten g end up))
         (r : Result ⊤ Stop) (upgrades : HasCleanDisk (state g new) → IsTrue (state g end).is_open → end.schema ≡ old_schema → (b : ActState) → HasOldBook (state g end).now.trees b → AreApart ((state g end).now.trees 14) → IsUpgradeOf b up → Upgraded g end new b r) where
       read : Finds g One Both Neither old end (Ok up)
       read = both (Ok up) second
-
-      kept_leaves : HasCleanDisk (state g new) → (trees : Trees) → LeavesUpgraded (state g end) (CanUpgrade up.bodies.items up.devices) (with_upgrade up.bodies.items up.devices) trees → LeavesKept (state g old) trees
-      kept_leaves clean trees leaves opened b keeps =
-          let mid_clean = clean_then clean in
-          let has = kept_has old (read.clean mid_clean) opened b keeps in
-          let found = (read.good mid_clean has.0).1 in
-          let same : b ≡ found.0 = found.1.1 b has.1 in
-          let makes : IsUpgradeOf b up = subst (λ (x : ActState). IsUpgradeOf x up) (sym same) found.3 in
-          leaves_as (with_upgrade up.bodies.items up.devices (old_tables_of b)) (tables_of b) makes.rows trees (leaves (old_tables_of b) (read.kept (old_tables_of b) keeps.kept) makes.can)
-
-      all_survives : Survives (state g old) (state g new) (LeavesKept (state g old))
-      all_survives = survives_then (state g old) (state g end) (state g new) _ _ (LeavesKept (state g old)) (λ _ db none. absurd none) (λ clean db leaves. kept_leaves clean db leaves) read.survives survives
 
       module _ (clean : HasCleanDisk (state g new)) (schema : old.schema ≡ old_schema) where
         found : Upgradable (state g old).now.trees up
@@ -293,6 +295,26 @@ module _ {S : Type 0} (g : Ghosts S) where
         no_more_read : (trees : Trees) → (state g end).may_leave trees → (state g old).may_leave trees
         no_more_read = no_more (state g old) (state g end) read.survives (clean_then clean)
 
+      -- a crash leaves the tables of version 2 of no book but the one that was found
+      kept_leaves : (HasCleanDisk (state g mid) → IsTrue (state g old).is_open) → (HasCleanDisk (state g mid) → IsOldShape old.schema) → HasCleanDisk (state g new) → (trees : Trees) → LeavesWritten g end up trees → LeavesKept (state g old) trees
+      kept_leaves opened shape clean trees leaves =
+          let early = second.clean (clean_then clean) in (
+            opened early,
+            shape early,
+            λ schema.
+                let it = found clean schema in
+                let is = same clean schema in
+                let now : (state g end).now ≡ (state g old).now = is.0.now_is in (
+                  it.0,
+                  it.1,
+                  leaves is.0.is_open (ap (λ (d : Database). d.schema) now ∙ schema) it.0 (subst (λ (d : Database). HasOldBook d.trees it.0) (sym now) it.1.0) (subst (λ (d : Database). AreApart (d.trees 14)) (sym now) it.2) it.3,
+                ),
+          )
+
+      all_survives : (HasCleanDisk (state g mid) → IsTrue (state g old).is_open) → (HasCleanDisk (state g mid) → IsOldShape old.schema) → Survives (state g old) (state g new) (LeavesKept (state g old))
+      all_survives opened shape =
+          survives_then (state g old) (state g end) (state g new) _ _ (LeavesKept (state g old)) (λ _ db none. absurd none) (λ clean db leaves. kept_leaves opened shape clean db leaves) read.survives survives
+
       not_current : HasCleanDisk (state g new) → old.schema ≡ book_schema → ⊥
       not_current clean schema = not_now (second.clean (clean_then clean)) schema
 
@@ -303,14 +325,15 @@ module _ {S : Type 0} (g : Ghosts S) where
           subst (λ x. Upgraded g end new x r) (sym (it_is clean schema b keeps)) (upgraded_so clean schema)
 
   module _ (old mid : Held S) (is : Bool) (other : is ≡ false) (told : (v : Version) → Finds g v (IsTold v) (IsUntold v) old mid (Ok is)) (end : Held S) (up : Upgrade) (second : Finds g One Upgradable HoldsNoOldBook mid end (Ok up))
-      (new : Held S) (clean_then : HasCleanDisk (state g new) → HasCleanDisk (state g end)) (survives : Survives (state g end) (state g new) (LeavesUpgraded (state g end) (CanUpgrade up.bodies.items up.devices) (with_upgrade up.bodies.items up.devices))) where
+      (new : Held S) (clean_then : HasCleanDisk (state g new) → HasCleanDisk (state g end)) (survives : Survives (state g end) (state g new) (LeavesWritten g end up))
+      (opened : HasCleanDisk (state g mid) → IsTrue (state g old).is_open) (shape : HasCleanDisk (state g mid) → IsOldShape old.schema) where
     abbrev UpgradesTo : Result ⊤ Stop → Type 0
     UpgradesTo r = HasCleanDisk (state g new) → IsTrue (state g end).is_open → end.schema ≡ old_schema → (b : ActState) → HasOldBook (state g end).now.trees b → AreApart ((state g end).now.trees 14) → IsUpgradeOf b up → Upgraded g end new b r
 
     pub was_old : UpgradesTo (Ok tt) → Migrates g old new (Ok true)
     was_old upgrades = record {
       clean = λ clean. (read old mid is other told end up second new clean_then survives (Ok tt) upgrades).clean (clean_then clean);
-      survives = all_survives old mid is other told end up second new clean_then survives (Ok tt) upgrades;
+      survives = all_survives old mid is other told end up second new clean_then survives (Ok tt) upgrades opened shape;
       faults = tt;
       migrated = λ clean schema.
           let it = found old mid is other told end up second new clean_then survives (Ok tt) upgrades clean schema in
@@ -344,7 +367,7 @@ module _ {S : Type 0} (g : Ghosts S) where
                 (at b (subst (λ x. Upgraded g end new x (Err stop)) (sym is_it) so)).0;
             left = λ trees may. elim ((at it.0 so).1 trees may) [
               | inl was ↦ inl (no_more_read old mid is other told end up second new clean_then survives (Err stop) upgrades clean schema trees was)
-              | inr leaves ↦ inr (it.0, it.1.0, leaves)
+              | inr leaves ↦ inr (it.0, it.1, leaves)
             ];
           } in
           subst (λ s. Migrated g old new (Err s)) (sym store) stays
@@ -360,7 +383,7 @@ module _ {S : Type 0} (g : Ghosts S) where
       pub failed : IsStoreFault stop → Migrates g old new (Err stop)
       failed fault = record {
         clean = λ clean. (read old mid is other told end up second new clean_then survives (Err stop) upgrades).clean (clean_then clean);
-        survives = all_survives old mid is other told end up second new clean_then survives (Err stop) upgrades;
+        survives = all_survives old mid is other told end up second new clean_then survives (Err stop) upgrades opened shape;
         faults = inl fault;
         migrated = λ clean schema. failed_so clean schema fault;
         current = λ clean schema. absurd (not_current old mid is other told end up second new clean_then survives (Err stop) upgrades clean schema);

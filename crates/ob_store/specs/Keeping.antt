@@ -1,19 +1,22 @@
 -- What a store keeps of a book, and how a keeper is tied to it.
-use Rattle.std.specs.Prelude.{◌≡◌, Option, None, IfSome, refl}
+use Rattle.std.specs.Prelude.{◌≡◌, ⊤, Option, None, IfSome, Result, Ok, Err, IsTrue, refl}
 use Rattle.std.specs.List.{AllByRecursion}
 use Rattle.std.specs.Coded.{Coded, code_by, coded×, coded_option}
 use Rattle.sqlite_trees.specs.declared.store.Store.{Ghosts}
 use Rattle.sqlite.specs.Held.{Held, state}
-use Rattle.sqlite.specs.State.{State}
+use Rattle.sqlite.specs.State.{State, HasCleanDisk}
 use Rattle.ob_base.specs.declared.stop.Stop.{Stop}
 use Rattle.ob_base.specs.declared.stop.Stop.TheVariants.{Refused, Fault}
 use Rattle.ob_base.specs.declared.stop.Fault.TheVariants.{Store}
 use Rattle.ob_state.specs.State.{BookState}
 use Rattle.ob_book.specs.Acts.{ActState}
-use Rattle.ob_commit.specs.Keeps.{Keeps, KeepsEither}
+use Rattle.ob_tables.specs.declared.version.Version.TheVariants.{One}
+use Rattle.ob_commit.specs.Keeps.{Keeps, KeepsEither, KeepsIn}
+use Rattle.ob_commit.specs.Upgrade.{KeepsOldOr}
 use Rattle.ob_record.specs.Tables.{tables_of}
 use Rattle.ob_record.specs.Naming.{IsReferenced}
 use Rattle.ob_record.specs.Reached.{IsReached}
+use Rattle.ob_parts.specs.OldTables.{IsOldReached, old_tables_of}
 
 -- the store keeps the tables of a book and its accepted commands, and a crash leaves nothing else
 pub record KeepsBook (s : State) (b : ActState) : Type 0 where
@@ -29,6 +32,37 @@ pub record KeepsEitherBook (s : State) (b c : ActState) : Type 0 where
   pub other_reached : IsReached c
   pub valid : AllByRecursion IsReferenced b.accepted
   pub other_valid : AllByRecursion IsReferenced c.accepted
+
+-- the store keeps the tables of version 1 of a book and its accepted commands, and a crash leaves nothing else
+pub record KeepsOldBook (s : State) (b : ActState) : Type 0 where
+  pub kept : KeepsIn One s (old_tables_of b)
+  pub reached : IsOldReached b
+  -- what references and commands always are
+  pub valid : AllByRecursion IsReferenced b.accepted
+
+-- while it is open the store keeps the tables of version 1 of a book; a crash leaves these, or those of version 2 of the book
+pub record KeepsEitherVersion (s : State) (b : ActState) : Type 0 where
+  pub kept : KeepsOldOr s (old_tables_of b) (tables_of b)
+  pub reached : IsOldReached b
+  pub valid : AllByRecursion IsReferenced b.accepted
+
+-- what the store kept it keeps on: a book, one of two, a book of version 1, or a book in the tables of either version
+pub record KeepsOn (old new : State) : Type 0 where
+  pub book : (b : ActState) → KeepsBook old b → KeepsBook new b
+  pub either : (b c : ActState) → KeepsEitherBook old b c → KeepsEitherBook new b c
+  pub old_book : (b : ActState) → KeepsOldBook old b → KeepsOldBook new b
+  pub version : (b : ActState) → KeepsEitherVersion old b → KeepsEitherVersion new b
+
+-- of two books, or of the tables of both versions, it keeps the first
+pub record KeepsFirst (old new : State) : Type 0 where
+  pub either : (b c : ActState) → KeepsEitherBook old b c → KeepsBook new b
+  pub version : (b : ActState) → KeepsEitherVersion old b → KeepsOldBook new b
+
+-- an answer or a refusal: neither was memory refused nor did the store fail
+abbrev pub IsAnswer : {X : Type 0} → Result X Stop → Type 0
+IsAnswer (Ok x) = ⊤
+IsAnswer (Err (Refused refusal)) = ⊤
+IsAnswer (Err (Fault fault)) = ⊥
 
 -- a connection to the store, and the state of the book, where there is one
 pub record KeeperValue (S : Type 0) : Type 0 where
@@ -48,6 +82,13 @@ IsBookAfter was is (Fault Store) = is ≡ None
 IsBookAfter was is (Fault fault) = is ≡ was
 
 module _ {S : Type 0} (g : Ghosts S) where
+  -- the tables were read: what the store kept it keeps on; an answer or a refusal is given by an open store alone, which then
+  -- keeps the first of two that it may have kept
+  pub record Answers {X : Type 0} (old new : Held S) (result : Result X Stop) : Type 0 where
+    pub live : HasCleanDisk (state g new) → IsAnswer result → IsTrue (state g old).is_open
+    pub keeps : KeepsOn (state g old) (state g new)
+    pub first : HasCleanDisk (state g new) → IsAnswer result → KeepsFirst (state g old) (state g new)
+
   -- the keeper's store keeps the tables of the book and its commands, and its book, where there is one, has their state
   pub record Ties (k : KeeperValue S) (b : ActState) : Type 0 where
     pub kept : KeepsBook (state g k.conn) b

@@ -20,9 +20,9 @@ use Rattle.ob_store.specs.Versions.{IsOutdated}
 abbrev pub HoldsNoBook : Trees → Type 0
 HoldsNoBook trees = (b : ActState) → ¬ (HasBook trees b)
 
--- the first of the tables that differs from those of the book whose period and commands they name
+-- the first of the tables that differs from those of the one book whose period and commands they name
 abbrev pub Finding : Trees → Option Table → Type 0
-Finding trees found = (b : ActState) × IsBookOf trees b × Differs trees b found
+Finding trees found = (b : ActState) × IsBookOf trees b × AreOfNoOther trees b × Differs trees b found
 
 -- the tables are those of a book with this state, and of no other, and no two amounts stand under one hidden row number
 abbrev pub Holding : Trees → BookState → Type 0

@@ -1,15 +1,18 @@
 -- What becomes of a store whose tables of version 1 are to be made those of version 2.
-use Rattle.std.specs.Prelude.{◌≡◌, ◌⊎◌, Bool, true, false, Result, Ok, Err, IsTrue}
+use Rattle.std.specs.Prelude.{◌≡◌, ◌⊎◌, [], length, codes, is_some, Bool, true, false, Result, Ok, Err, IfErr, IsTrue}
 use Rattle.std.specs.List.{AllByRecursion}
 use Rattle.sqlite_trees.specs.declared.store.Store.{Ghosts}
 use Rattle.sqlite.specs.Tree.{Trees}
+use Rattle.sqlite_schema.specs.Names.{table_named}
+use Rattle.sqlite.specs.Schema.{Schema}
 use Rattle.sqlite.specs.Held.{Held, state}
-use Rattle.sqlite.specs.State.{State}
+use Rattle.sqlite.specs.State.{State, HasCleanDisk}
 use Rattle.ob_base.specs.declared.stop.Stop.{Stop}
 use Rattle.ob_base.specs.declared.stop.Stop.TheVariants.{Refused, Fault}
 use Rattle.ob_base.specs.declared.stop.Refusal.TheVariants.{BadBook}
 use Rattle.ob_base.specs.declared.stop.Fault.TheVariants.{OutOfMemory, Store}
 use Rattle.ob_book.specs.Acts.{ActState}
+use Rattle.ob_tables.specs.Creation.{old_schema}
 use Rattle.ob_tables.specs.declared.version.Version.TheVariants.{One}
 use Rattle.ob_commit.specs.Keeps.{KeepsIn, Leaves}
 use Rattle.ob_commit.specs.Upgrade.{KeepsOldOr}
@@ -18,21 +21,9 @@ use Rattle.ob_record.specs.Tables.{tables_of}
 use Rattle.ob_compare.specs.Version.{HasVersion}
 use Rattle.ob_parts.specs.OldTables.{HasOldBook, IsOldReached, old_tables_of}
 use Rattle.ob_store.specs.Finding.{OnlyReads, ShowsTheSame}
-use Rattle.ob_store.specs.Keeping.{KeepsBook}
+use Rattle.ob_store.specs.Keeping.{IsAnswer, KeepsBook, KeepsEitherBook}
+pub use Rattle.ob_store.specs.Keeping.{KeepsEitherVersion, KeepsOldBook}
 use Rattle.ob_store.specs.Loading.{trees_in}
-
--- the store keeps the tables of version 1 of a book and its accepted commands, and a crash leaves nothing else
-pub record KeepsOldBook (s : State) (b : ActState) : Type 0 where
-  pub kept : KeepsIn One s (old_tables_of b)
-  pub reached : IsOldReached b
-  -- what references and commands always are
-  pub valid : AllByRecursion IsReferenced b.accepted
-
--- while it is open the store keeps the tables of version 1 of a book; a crash leaves these, or those of version 2 of the book
-pub record KeepsEitherVersion (s : State) (b : ActState) : Type 0 where
-  pub kept : KeepsOldOr s (old_tables_of b) (tables_of b)
-  pub reached : IsOldReached b
-  pub valid : AllByRecursion IsReferenced b.accepted
 
 -- the tables are those of no book of version 1
 abbrev pub HoldsNoOldBook : Trees → Type 0
@@ -42,13 +33,20 @@ HoldsNoOldBook trees = (b : ActState) → ¬ (HasOldBook trees b)
 abbrev pub HoldsOldBook : Trees → ActState → Type 0
 HoldsOldBook trees b = HasOldBook trees b × ((other : ActState) → HasOldBook trees other → other ≡ b)
 
--- a whole database of version 2, of the book whose tables of version 1 these trees hold
+-- a whole database of version 2, of the one book whose tables of version 1 these trees hold
 abbrev pub LeavesUpgradeOf : Trees → Trees → Type 0
-LeavesUpgradeOf was trees = (b : ActState) × HasOldBook was b × Leaves (tables_of b) trees
+LeavesUpgradeOf was trees = (b : ActState) × HoldsOldBook was b × Leaves (tables_of b) trees
 
--- a whole database of version 2, of any book of version 1 that the store kept while it was open
+-- ten tables, none of them with the name of that of lives, and no index and no view
+abbrev pub IsOldShape : Schema → Type 0
+IsOldShape s =
+    (length s.tables ≡ 10) × (s.indexes ≡ []) × (s.views ≡ []) × (is_some (table_named s (codes "life")) ≡ false)
+
+-- the store was open and had as many tables as version 1 has; where they were those of version 1, a whole database of version 2,
+-- of the one book that they held
 abbrev pub LeavesKept : State → Trees → Type 0
-LeavesKept s trees = IsTrue s.is_open → (b : ActState) → KeepsOldBook s b → Leaves (tables_of b) trees
+LeavesKept s trees =
+    IsTrue s.is_open × IsOldShape s.now.schema × (s.now.schema ≡ old_schema → LeavesUpgradeOf s.now.trees trees)
 
 module _ {S : Type 0} (g : Ghosts S) where
   -- nothing was written: a book of version 1 that the store keeps it keeps on, and a crash leaves no more than before
@@ -98,3 +96,12 @@ module _ {S : Type 0} (g : Ghosts S) where
   MigratesKept new b (Err (Fault OutOfMemory)) = KeepsOldBook (state g new) b
   MigratesKept new b (Err (Fault Store)) = KeepsEitherVersion (state g new) b
   MigratesKept new b (Err (Fault fault)) = ⊥
+
+  -- an answer or a refusal comes of an open store alone. A book of version 2 that the store kept it keeps on, and so it does either
+  -- of two; and where there is no answer, a book in the tables of either version
+  pub record MigratesOn (old new : Held S) (result : Result Bool Stop) : Type 0 where
+    pub live : HasCleanDisk (state g new) → IsAnswer result → IsTrue (state g old).is_open
+    pub book : (b : ActState) → KeepsBook (state g old) b → KeepsBook (state g new) b
+    pub either : (b c : ActState) → KeepsEitherBook (state g old) b c → KeepsEitherBook (state g new) b c
+    pub version : HasCleanDisk (state g new) → IfErr result (λ stop. (b : ActState) → KeepsEitherVersion (state g old) b
+        → KeepsEitherVersion (state g new) b)

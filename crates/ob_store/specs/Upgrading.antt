@@ -22,7 +22,7 @@ use Rattle.ob_commit.specs.Upgrade.{CanUpgrade, with_upgrade}
 use Rattle.ob_record.specs.Tables.{Shows, tables_of}
 use Rattle.ob_compare.specs.Reading.{IsReadFault}
 use Rattle.ob_compare.specs.Version.{HasVersion}
-use Rattle.ob_parts.specs.OldTables.{old_tables_of}
+use Rattle.ob_parts.specs.OldTables.{HasOldBook, old_tables_of}
 use Rattle.ob_parts.specs.Parts.{parts_in}
 use Rattle.ob_store.specs.declared.migrating.Upgrade.{Upgrade}
 use Rattle.ob_store.specs.Keeping.{KeepsBook}
@@ -68,6 +68,12 @@ abbrev pub Upgradable : Trees → Upgrade → Type 0
 Upgradable trees it = (b : ActState) × HoldsOldBook trees b × AreApart (trees 14) × IsUpgradeOf b it
 
 module _ {S : Type 0} (g : Ghosts S) where
+  -- the tables of version 2, of the book of version 1 that the store showed while it was open and whose upgrade this is
+  abbrev pub LeavesWritten : Held S → Upgrade → Trees → Type 0
+  LeavesWritten old it trees =
+      IsTrue (state g old).is_open → old.schema ≡ old_schema → (b : ActState) → HasOldBook (state g old).now.trees b
+      → AreApart ((state g old).now.trees 14) → IsUpgradeOf b it → Leaves (tables_of b) trees
+
   -- what an upgrade leaves of the book of version 1 that the store showed: the tables of version 2; or, where memory was refused,
   -- what there was; or, after a fault of the store, what there was while it is open, and a crash leaves that or the tables of
   -- version 2

@@ -1,9 +1,9 @@
 -- What the version of a book tells before its tables are read.
-use Rattle.std.specs.Prelude.{◌≡◌, ◌≢◌, ◌⊎◌, ⊤, false, None, Result, Ok, Err, IfOk, IfErr, OnOk}
+use Rattle.std.specs.Prelude.{◌≡◌, ◌≢◌, ◌⊎◌, ⊤, false, None, Result, Ok, Err, IsTrue, IfOk, IfErr, OnOk}
 use Rattle.sqlite_trees.specs.declared.store.Store.{Ghosts}
 use Rattle.sqlite.specs.Tree.{Trees}
 use Rattle.sqlite.specs.Held.{Held, state}
-use Rattle.sqlite.specs.State.{HasCleanDisk, IsUnchanged, Survives}
+use Rattle.sqlite.specs.State.{HasCleanDisk, IsLive, IsRolledBack, IsUnchanged, Survives}
 use Rattle.ob_base.specs.declared.stop.Stop.{Stop}
 use Rattle.ob_base.specs.declared.stop.Stop.TheVariants.{Refused, Fault}
 use Rattle.ob_base.specs.declared.stop.Refusal.TheVariants.{BadBook, OldVersion}
@@ -11,11 +11,12 @@ use Rattle.ob_base.specs.declared.stop.Fault.TheVariants.{OutOfMemory, Store}
 use Rattle.ob_tables.specs.Creation.{old_schema}
 use Rattle.ob_tables.specs.Schema.{book_schema}
 use Rattle.ob_tables.specs.Rows.{Tables}
-use Rattle.ob_commit.specs.Keeps.{Keeps}
+use Rattle.ob_tables.specs.declared.version.Version.{Version}
+use Rattle.ob_commit.specs.Keeps.{Keeps, KeepsEitherIn, KeepsIn}
 use Rattle.ob_compare.specs.Reading.{IsReadFault, bad_book}
 use Rattle.ob_compare.specs.Version.{HasVersion, IsOfBook}
 use Rattle.ob_store.specs.Finding.{OnlyReads, ShowsTheSame}
-use Rattle.ob_store.specs.Keeping.{KeeperValue}
+use Rattle.ob_store.specs.Keeping.{IsAnswer, KeeperValue}
 
 -- the book is of version 1
 abbrev pub old_version : Stop
@@ -30,6 +31,29 @@ abbrev pub AnyTrees : Trees → ⊤ → Type 0
 AnyTrees trees done = ⊤
 
 module _ {S : Type 0} (g : Ghosts S) where
+  -- the columns of a heading were looked for, and nothing was read or written; what is open is a whole database, and shows what
+  -- a crash leaves
+  pub record Looks (old new : Held S) (result : Result ⊤ Stop) : Type 0 where
+    pub mode : old.in_transaction ≡ false → new.in_transaction ≡ false
+    pub clean : HasCleanDisk (state g new) → HasCleanDisk (state g old)
+    pub survives : Survives (state g old) (state g new) (λ _. ⊥)
+    pub faults : IfErr result IsReadFault
+    pub whole : IsLive (state g old)
+    pub left : IsTrue (state g old).is_open → (trees : Trees) → (state g old).may_leave trees
+        → trees ≡ (state g old).committed.trees
+    pub still : HasCleanDisk (state g new) → IsUnchanged (state g old) (state g new) ⊎ IsRolledBack (state g old) (state g new)
+    pub same : HasCleanDisk (state g new) → IsAnswer result → IsUnchanged (state g old) (state g new)
+    pub foreign : HasCleanDisk (state g new) → IfErr result (λ stop. stop ≡ bad_book → ¬ (IsOfBook old.schema))
+
+  -- the store was asked: it keeps on the tables that it kept, of either version; an answer or a refusal comes of an open one,
+  -- which then keeps the first of two
+  pub record Asks {X : Type 0} (old new : Held S) (result : Result X Stop) : Type 0 where
+    pub live : HasCleanDisk (state g new) → IsAnswer result → IsTrue (state g old).is_open
+    pub kept : (v : Version) (t : Tables) → KeepsIn v (state g old) t → KeepsIn v (state g new) t
+    pub either : (v : Version) (t u : Tables) → KeepsEitherIn v (state g old) t u → KeepsEitherIn v (state g new) t u
+    pub first : HasCleanDisk (state g new) → IsAnswer result → (v : Version) (t u : Tables)
+        → KeepsEitherIn v (state g old) t u → KeepsIn v (state g new) t
+
   -- the version was looked at, and then the tables; nothing was written. What was found is so of them, and where they are told
   -- to be no book's they aren't; over the tables of a book of either version it is told that it is of version 1 just where it is
   pub record Tells {X : Type 0} (Good : Trees → X → Type 0) (Bad : Trees → Type 0) (old new : Held S) (result : Result X Stop) : Type 0 where

@@ -1,5 +1,5 @@
 //! Laws of what a keeper finds of a book once its store has been through a crash.
-ghost use Rattle.ob_store.specs.Crashing.{CrashLaw};
+ghost use Rattle.ob_store.specs.Crashing.{CrashLaw, LeftLaw, LoadLaw};
 ghost use Rattle.ob_store.specs.OldCrashing.{OldCrashLaw};
 
 use ob_parts::upgrade_law;
@@ -21,4 +21,21 @@ pub fn old_crash_law<S: Alter, R: Alter>()
 {
     naming_law();
     upgrade_law();
+}
+
+/// Where a connection that was just opened shows the tables of a book, a keeper loads that book. It joins what a call says of the
+/// trees that a crash may leave to the next opening. This does nothing when it runs.
+pub fn left_law<R: Alter>()
+    ensures { LeftLaw R.Store }
+{
+    naming_law();
+    upgrade_law();
+}
+
+/// A load on a keeper whose store keeps a book gives that book, also where a fault of the store came in between and the keeper
+/// lost it; it fails only for want of memory, or as the store fails. This does nothing when it runs.
+pub fn load_law<S: Alter>()
+    ensures { LoadLaw S.Store }
+{
+    naming_law();
 }

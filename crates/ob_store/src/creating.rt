@@ -1,5 +1,7 @@
 //! A new book, in an empty database and in memory.
 ghost use Rattle.std.specs.Prelude.{◌≡◌, false};
+ghost use Rattle.sqlite.specs.Held.{state};
+ghost use Rattle.sqlite.specs.State.{HasCleanDisk};
 ghost use Rattle.ob_store.specs.Creating.{Creates};
 
 use ob_base::{Fault, Stop};
@@ -21,6 +23,7 @@ pub(crate) fn create_on<S: Alter, T: Timeline>(
 ) -> Result<Book<T>, Stop>
     requires mode { conn.old.in_transaction ≡ false }
     ensures mode { conn.new.in_transaction ≡ false }
+    ensures clean { HasCleanDisk (state S.Store conn.new) → HasCleanDisk (state S.Store conn.old) }
     ensures creates { Creates S.Store conn.old conn.new first.now days zone.now result }
 {
     reached_law();

@@ -46,13 +46,13 @@ impl<S: Alter, T: Timeline> Keeper<S, T> {
     ghost use Rattle.sqlite.specs.Held.{state};
     ghost use Rattle.sqlite.specs.State.{HasCleanDisk, Survives};
     ghost use Rattle.ob_book.specs.Acts.{ActState};
-    ghost use Rattle.ob_store.specs.Keeping.{IsBookAfter, Ties};
-    ghost use Rattle.ob_store.specs.Crashing.{CrashLaw};
+    ghost use Rattle.ob_store.specs.Keeping.{Answers, IsBookAfter, Ties};
+    ghost use Rattle.ob_store.specs.Crashing.{Loads};
     ghost use Rattle.ob_store.specs.Acting.{Acted, IsActStop, under};
     ghost use Rattle.ob_store.specs.Replying.{Replied};
     ghost use Rattle.ob_store.specs.Creating.{Created};
     ghost use Rattle.ob_store.specs.Loading.{Audited, Loaded};
-    ghost use Rattle.ob_store.specs.Migrating.{KeepsOldBook, LeavesKept, LeftAsItWas, Migrated, MigratesKept};
+    ghost use Rattle.ob_store.specs.Migrating.{KeepsOldBook, LeavesKept, LeftAsItWas, Migrated, MigratesKept, MigratesOn};
     ghost use Rattle.ob_store.specs.OldCrashing.{OldCrashLaw};
     ghost use Rattle.ob_upgrade.specs.Laws.{AcceptedByBoth, SameFigures};
     ghost use Rattle.ob_store.specs.MovingOut.{HandsOver, IsBookAfterMoves, MovesAreRows, MovesOut};
@@ -81,6 +81,8 @@ impl<S: Alter, T: Timeline> Keeper<S, T> {
     /// holds a table.
     pub fn create(&mut self, first: &[u8], days: u16, zone: &[u8]) -> Result<(), Stop>
         ensures lost { result ≡ Err (Stop.Fault Fault.Store) → self.new.book ≡ None }
+        ensures clean { HasCleanDisk (state S.Store self.new.conn)
+            → HasCleanDisk (state S.Store self.old.conn) }
         ensures created { Created S.Store self.old self.new first.now days zone.now result }
     {
         match create_on(self.alloc, &mut self.conn, first, days, zone) {
@@ -157,24 +159,21 @@ impl<S: Alter, T: Timeline> Keeper<S, T> {
     /// looked at first. The tables are those of its accepted commands, all eleven of them, or it is refused as `BadBook`; a
     /// book that the keeper had goes then on as before. Nothing is written.
     pub fn load(&mut self) -> Result<(), Stop>
-        ensures found { OnOk result (IsSome self.new.book) }
-        ensures dropped { IfErr result (IsBookAfter self.old.book self.new.book) }
-        ensures stops { IfErr result IsLoadFault }
-        ensures clean { HasCleanDisk (state S.Store self.new.conn)
-            → HasCleanDisk (state S.Store self.old.conn) }
-        ensures survives { Survives (state S.Store self.old.conn) (state S.Store self.new.conn)
-            (λ _. ⊥) }
-        ensures loaded { HasCleanDisk (state S.Store self.new.conn)
-            → self.old.conn.schema ≡ book_schema → Loaded S.Store self.old self.new result }
-        ensures outdated { HasCleanDisk (state S.Store self.new.conn)
-            → self.old.conn.schema ≡ old_schema → Outdated S.Store self.old self.new result }
-        ensures crash { CrashLaw S.Store S.Store }
+        ensures { Loads S.Store self.old self.new result }
     {
         self.load_with_progress(&mut Silent)
     }
 
     /// Reads the book that the tables hold, as [`Keeper::load`], and tells one who listens how far it is.
     pub fn load_with_progress<P: Progress>(&mut self, progress: &mut P) -> Result<(), Stop>
+        ensures { Loads S.Store self.old self.new result }
+    {
+        crash_law::<S, S>();
+        self.read_book(progress)
+    }
+
+    /// Reads the book that the tables hold, and tells one who listens how far it is.
+    fn read_book<P: Progress>(&mut self, progress: &mut P) -> Result<(), Stop>
         ensures found { OnOk result (IsSome self.new.book) }
         ensures dropped { IfErr result (IsBookAfter self.old.book self.new.book) }
         ensures stops { IfErr result IsLoadFault }
@@ -182,13 +181,12 @@ impl<S: Alter, T: Timeline> Keeper<S, T> {
             → HasCleanDisk (state S.Store self.old.conn) }
         ensures survives { Survives (state S.Store self.old.conn) (state S.Store self.new.conn)
             (λ _. ⊥) }
+        ensures answers { Answers S.Store self.old.conn self.new.conn result }
         ensures loaded { HasCleanDisk (state S.Store self.new.conn)
             → self.old.conn.schema ≡ book_schema → Loaded S.Store self.old self.new result }
         ensures outdated { HasCleanDisk (state S.Store self.new.conn)
             → self.old.conn.schema ≡ old_schema → Outdated S.Store self.old self.new result }
-        ensures crash { CrashLaw S.Store S.Store }
     {
-        crash_law::<S, S>();
         prove!(self.conn.is_autocommit());
         // what is open is a whole database
         let _schema = self.conn.schema();
@@ -220,6 +218,8 @@ impl<S: Alter, T: Timeline> Keeper<S, T> {
             → HasCleanDisk (state S.Store self.old.conn) }
         ensures survives { Survives (state S.Store self.old.conn) (state S.Store self.new.conn)
             (λ _. ⊥) }
+        // whatever the schema
+        ensures answers { Answers S.Store self.old.conn self.new.conn result }
         ensures audited { HasCleanDisk (state S.Store self.new.conn)
             → self.old.conn.schema ≡ book_schema → Audited S.Store self.old self.new result }
         ensures outdated { HasCleanDisk (state S.Store self.new.conn)
@@ -244,7 +244,9 @@ impl<S: Alter, T: Timeline> Keeper<S, T> {
         ensures stops { IfErr result IsReadFault }
         ensures clean { HasCleanDisk (state S.Store self.new.conn)
             → HasCleanDisk (state S.Store self.old.conn) }
-        // a crash leaves no more than before, but for the tables of version 2 of the book of version 1 that the store kept
+        // whatever the schema
+        ensures goes_on { MigratesOn S.Store self.old.conn self.new.conn result }
+        // a crash leaves no more than before, but for the tables of version 2 of the one book of version 1 that stood there
         ensures survives { Survives (state S.Store self.old.conn) (state S.Store self.new.conn)
             (LeavesKept (state S.Store self.old.conn)) }
         ensures migrated { HasCleanDisk (state S.Store self.new.conn)

@@ -15,7 +15,7 @@ mod reply;
 mod stored;
 mod version;
 
-pub use crash::{crash_law, old_crash_law};
+pub use crash::{crash_law, left_law, load_law, old_crash_law};
 pub use keeper::Keeper;
 pub use moving::MoveSink;
 pub use ob_compare::{Progress, Silent, Work};

@@ -3,6 +3,7 @@ ghost use Rattle.std.specs.Prelude.{◌≡◌, Ok, map};
 ghost use Rattle.ob_compare.specs.Moves.{ends_of};
 ghost use Rattle.ob_tables.specs.declared.version.Version.{Version as AVersion};
 ghost use Rattle.ob_store.specs.Finding.{Finds, HasNoBook};
+ghost use Rattle.ob_store.specs.Keeping.{Answers};
 ghost use Rattle.ob_store.specs.Leading.{IsLed};
 ghost use Rattle.ob_store.specs.Loading.{Finding, HoldsNoBook, Holding};
 ghost use Rattle.ob_store.specs.Versions.{Tells};
@@ -25,7 +26,8 @@ pub(crate) fn audit_on<S: Alter, T: Timeline>(
     alloc: Global,
     conn: &mut Connection<S>,
 ) -> Result<Option<Table>, Stop>
-    ensures { Tells S.Store Finding HasNoBook conn.old conn.new result }
+    ensures tells { Tells S.Store Finding HasNoBook conn.old conn.new result }
+    ensures answers { Answers S.Store conn.old conn.new result }
 {
     match check_version(conn) {
         Ok(()) => find_off::<S, T>(alloc, conn),
@@ -76,8 +78,9 @@ pub(crate) fn load_on<S: Alter, T: Timeline, P: Progress>(
     conn: &mut Connection<S>,
     progress: &mut P,
 ) -> Result<Book<T>, Stop>
-    ensures { Tells S.Store (λ trees book. Holding trees book.state) HoldsNoBook conn.old conn.new
-        result }
+    ensures tells { Tells S.Store (λ trees book. Holding trees book.state) HoldsNoBook conn.old
+        conn.new result }
+    ensures answers { Answers S.Store conn.old conn.new result }
 {
     match check_version(conn) {
         Ok(()) => load_tables(alloc, conn, progress),

@@ -5,23 +5,24 @@ ghost use Rattle.ob_compare.specs.Listing.{filed_of};
 ghost use Rattle.sqlite.specs.Held.{state};
 ghost use Rattle.sqlite.specs.State.{HasCleanDisk, Survives};
 ghost use Rattle.ob_book.specs.Acts.{ActState};
-ghost use Rattle.ob_commit.specs.Upgrade.{CanUpgrade, LeavesUpgraded, with_upgrade};
 ghost use Rattle.ob_compare.specs.Moves.{ends_of};
 ghost use Rattle.ob_parts.specs.OldTables.{HasOldBook, new_texts, texts_of};
 ghost use Rattle.ob_tables.specs.Creation.{old_schema};
-ghost use Rattle.ob_tables.specs.Rows.{AreApart};
+ghost use Rattle.ob_commit.specs.Keeps.{KeepsEitherIn, KeepsIn};
+ghost use Rattle.ob_tables.specs.Rows.{AreApart, Tables};
 ghost use Rattle.ob_tables.specs.Steps.{IsStoreFault};
 ghost use Rattle.ob_tables.specs.declared.version.Version.{Version as AVersion};
 ghost use Rattle.ob_store.specs.Differing.{NoneSo};
 ghost use Rattle.ob_store.specs.Finding.{Finds, IsNamed};
 ghost use Rattle.ob_store.specs.Laws.{Laws};
 ghost use Rattle.ob_store.specs.Leading.{HasParts, IsLedIn};
-ghost use Rattle.ob_store.specs.Migrating.{HoldsNoOldBook};
-ghost use Rattle.ob_store.specs.Upgrading.{HasOldParts, HasOldRows, IsTold, IsUntold, IsUpgradeOf, Migrates, Upgradable, Upgraded};
+ghost use Rattle.ob_store.specs.Migrating.{HoldsNoOldBook, IsOldShape, MigratesOn};
+ghost use Rattle.ob_store.specs.Upgrading.{HasOldParts, HasOldRows, IsTold, IsUntold, IsUpgradeOf, LeavesWritten, Migrates, Upgradable, Upgraded};
+ghost use Rattle.ob_store.specs.Versions.{Asks};
 
 use crate::led::{Led, follow};
 use crate::named::{BAD_BOOK, Named, read_named};
-use crate::version::{NEW, OLD, has_lives};
+use crate::version::{NEW, OLD, has_lives, look_at};
 use ob_base::{Fault, Stop};
 use ob_book::next_law;
 use ob_commit::{NewBody, commit_upgrade};
@@ -66,10 +67,24 @@ fn old_books_law()
     upgrade_law();
 }
 
-/// Whether the heading tells version 2. If not it tells version 1, and there is no table of lives, or the tables are those of
-/// no book of version 1.
-fn tells_new<S: Alter>(conn: &mut Connection<S>) -> Result<bool, Stop>
-    ensures { (v : AVersion) → Finds S.Store v (IsTold v) (IsUntold v) conn.old conn.new result }
+/// Whether there are as many tables as version 1 has, none of them with the name of that of lives, and no index and no view.
+fn has_old_shape<S: Alter>(conn: &Connection<S>) -> bool
+    ensures { IsTrue result ↔ IsOldShape (state S.Store conn.now).now.schema }
+{
+    let schema = conn.schema();
+    schema.tables.len() == 10
+        && schema.indexes.is_empty()
+        && schema.views.is_empty()
+        && !has_lives(conn)
+}
+
+/// Whether the heading tells version 2. If not it tells version 1, and the tables are as many as those of version 1, or they are
+/// those of no book of version 1.
+fn tell_heading<S: Alter>(conn: &mut Connection<S>, is_old: bool) -> Result<bool, Stop>
+    requires { IsTrue is_old ↔ IsOldShape conn.old.schema }
+    ensures finds { (v : AVersion) → Finds S.Store v (IsTold v) (IsUntold v) conn.old conn.new
+        result }
+    ensures shape { IfOk result (λ is. is ≡ false → IsTrue is_old) }
 {
     match has_version(conn, NEW) {
         Ok(true) => return Ok(true),
@@ -81,11 +96,25 @@ fn tells_new<S: Alter>(conn: &mut Connection<S>) -> Result<bool, Stop>
         Ok(false) => return Err(BAD_BOOK),
         Err(stop) => return Err(stop),
     }
-    if has_lives(conn) {
-        Err(BAD_BOOK)
-    } else {
-        Ok(false)
+    if is_old { Ok(false) } else { Err(BAD_BOOK) }
+}
+
+/// The same, where the store is open. Nothing is written.
+fn tells_new<S: Alter>(conn: &mut Connection<S>) -> Result<bool, Stop>
+    ensures finds { (v : AVersion) → Finds S.Store v (IsTold v) (IsUntold v) conn.old conn.new
+        result }
+    ensures asks { Asks S.Store conn.old conn.new result }
+    ensures first { IsTrue (state S.Store conn.old).is_open → (v : AVersion) (t u : Tables)
+        → KeepsEitherIn v (state S.Store conn.old) t u → KeepsIn v (state S.Store conn.old) t }
+    ensures shape { HasCleanDisk (state S.Store conn.new)
+        → IfOk result (λ is. is ≡ false → IsOldShape conn.old.schema) }
+{
+    match look_at(conn) {
+        Ok(()) => {}
+        Err(stop) => return Err(stop),
     }
+    let is_old = has_old_shape(conn);
+    tell_heading(conn, is_old)
 }
 
 /// Whether the tables of version 1, those of commands and of what they moved aside, have the rows of a led book.
@@ -197,8 +226,7 @@ fn write_upgrade<S: Alter>(conn: &mut Connection<S>, it: &Upgrade) -> Result<(),
     ensures mode { conn.new.in_transaction ≡ false }
     ensures faults { IfErr result IsStoreFault }
     ensures survives { Survives (state S.Store conn.old) (state S.Store conn.new)
-        (LeavesUpgraded (state S.Store conn.old) (CanUpgrade it.now.bodies.items it.now.devices)
-        (with_upgrade it.now.bodies.items it.now.devices)) }
+        (LeavesWritten S.Store conn.old it.now) }
     ensures upgraded { HasCleanDisk (state S.Store conn.new)
         → IsTrue (state S.Store conn.old).is_open → conn.old.schema ≡ old_schema → (b : ActState)
         → HasOldBook (state S.Store conn.old).now.trees b
@@ -220,6 +248,7 @@ pub(crate) fn migrate_on<S: Alter, T: Timeline>(
     requires mode { conn.old.in_transaction ≡ false }
     ensures mode { conn.new.in_transaction ≡ false }
     ensures migrates { Migrates S.Store conn.old conn.new result }
+    ensures goes_on { MigratesOn S.Store conn.old conn.new result }
 {
     match tells_new(conn) {
         Ok(true) => return Ok(false),

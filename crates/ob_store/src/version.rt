@@ -2,13 +2,18 @@
 ghost use Rattle.std.specs.Prelude.{◌≡◌, codes, is_some};
 ghost use Rattle.sqlite.specs.Held.{state};
 ghost use Rattle.sqlite_schema.specs.Names.{table_named};
+ghost use Rattle.ob_commit.specs.Keeps.{KeepsIn};
+ghost use Rattle.ob_compare.specs.Reading.{IsInputError, IsReadFault, bad_book};
+ghost use Rattle.ob_tables.specs.Rows.{Tables};
+ghost use Rattle.ob_tables.specs.declared.version.Version.{Version as AVersion};
 ghost use Rattle.ob_store.specs.Differing.{NoneSo};
-ghost use Rattle.ob_store.specs.Versions.{AnyTrees, Tells};
+ghost use Rattle.ob_store.specs.Versions.{AnyTrees, Asks, Looks, Tells};
 
 use crate::named::BAD_BOOK;
 use ob_base::{Refusal, Stop};
 use ob_compare::has_version;
-use sqlite::{Alter, Connection};
+use ob_tables::stop_of;
+use sqlite::{Alter, Connection, Error};
 
 /// The version before this one.
 pub(crate) const OLD: u32 = 1;
@@ -23,10 +28,36 @@ pub(crate) fn has_lives<S: Alter>(conn: &Connection<S>) -> bool
     conn.schema().table_named(b"life").is_some()
 }
 
+/// Why the columns of a heading weren't found: the tables lack them, as those of no book, or the store failed.
+fn stop_of_look(error: Error) -> Stop
+    ensures faults { IsReadFault result }
+    ensures foreign { result ≡ bad_book → IsInputError error }
+{
+    match error {
+        Error::SqlInputError(_) => BAD_BOOK,
+        error => stop_of(error),
+    }
+}
+
+/// Looks for the columns of a heading, before anything is read: a store that is shut answers nothing. They are those that the
+/// version is read from next.
+pub(crate) fn look_at<S: Alter>(conn: &mut Connection<S>) -> Result<(), Stop>
+    ensures { Looks S.Store conn.old conn.new result }
+{
+    // what is open is a whole database
+    let _schema = conn.schema();
+    match conn.prepare("SELECT id, version, day0, days, zone FROM meta ORDER BY id") {
+        Ok(_) => Ok(()),
+        Err(error) => Err(stop_of_look(error)),
+    }
+}
+
 /// Refuses a book of version 1 as `OldVersion`, where its heading is the only one and tells that version; and then one without
 /// the table of lives as `BadBook`. Nothing is written.
-pub(crate) fn check_version<S: Alter>(conn: &mut Connection<S>) -> Result<(), Stop>
-    ensures { Tells S.Store AnyTrees NoneSo conn.old conn.new result }
+fn tell_version<S: Alter>(conn: &mut Connection<S>) -> Result<(), Stop>
+    ensures tells { Tells S.Store AnyTrees NoneSo conn.old conn.new result }
+    ensures kept { (v : AVersion) (t : Tables) → KeepsIn v (state S.Store conn.old) t
+        → KeepsIn v (state S.Store conn.new) t }
 {
     match has_version(conn, OLD) {
         Ok(true) => return Err(Stop::Refused(Refusal::OldVersion(OLD))),
@@ -37,5 +68,16 @@ pub(crate) fn check_version<S: Alter>(conn: &mut Connection<S>) -> Result<(), St
         Ok(())
     } else {
         Err(BAD_BOOK)
+    }
+}
+
+/// The same, where the store is open. Nothing is written.
+pub(crate) fn check_version<S: Alter>(conn: &mut Connection<S>) -> Result<(), Stop>
+    ensures tells { Tells S.Store AnyTrees NoneSo conn.old conn.new result }
+    ensures asks { Asks S.Store conn.old conn.new result }
+{
+    match look_at(conn) {
+        Ok(()) => tell_version(conn),
+        Err(stop) => Err(stop),
     }
 }

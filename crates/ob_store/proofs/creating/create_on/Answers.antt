@@ -26,9 +26,16 @@ returns-in-Ok-commit_new-clause-creates g c =
     let first_is : c.args.first.now ≡ text = c.in-Ok-date_text.ensures.only c.args.first.now dated ∙ sym c.as_bytes.ensures.value in (
       p,
       of_text,
+      record { schema = c.in-Ok-commit_new.ensures.empty (λ e. absurd cc); live = c.in-Ok-commit_new.ensures.live },
       kept p c.args.first.now text c.args.days c.args.zone.now of_text text_is first_is g.S.Store c.args.conn.now c.commit_new.new.conn c.reached_law.ensures.empty c.reached_law.ensures.starts c.in-Ok-commit_new.ensures.done,
       c.in-Ok-new.ensures.state,
     )
+
+pub returns-in-Ok-commit_new-clause-clean : goal.returns-in-Ok-commit_new-clause-clean
+returns-in-Ok-commit_new-clause-clean g c clean = let it = c.in-Ok-commit_new.ensures.survives in omega (arith, it.clean, clean)
+
+pub returns-clause-clean : goal.returns-clause-clean
+returns-clause-clean g c clean = let it = c.in-Err-commit_new.ensures.survives in omega (arith, it.clean, clean)
 
 pub returns-clause-creates : goal.returns-clause-creates
 returns-clause-creates g c =
@@ -40,5 +47,5 @@ returns-clause-creates g c =
     let dated : IsTextOfDay c.args.first.now (p.first_day +ℤ pos 0) = (of_text.date, sym of_text.period.first ∙ sym at, of_text.date_is) in
     let first_is : c.args.first.now ≡ text = c.in-Ok-date_text.ensures.only c.args.first.now dated ∙ sym c.as_bytes.ensures.value in
     let it = c.in-Err-commit_new in
-    failed p c.args.first.now text c.args.days c.args.zone.now of_text text_is first_is g.S.Store c.args.conn.now c.commit_new.new.conn c.reached_law.ensures.empty
-    it.stop it.ensures.faults (λ e. it.ensures.refused.0 (ap Err e)) it.ensures.same it.ensures.kept it.ensures.either
+    failed p c.args.first.now text c.args.days c.args.zone.now of_text text_is first_is g.S.Store c.args.conn.now c.commit_new.new.conn c.reached_law.ensures.empty c.reached_law.ensures.starts (λ clean. omega (arith, it.ensures.survives.clean, clean))
+    it.stop it.ensures.faults (λ e. it.ensures.refused.0 (ap Err e)) it.ensures.same it.ensures.either

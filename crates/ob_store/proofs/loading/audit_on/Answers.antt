@@ -1,10 +1,22 @@
+use Rattle.std.proofs.Common.{Err}
 use Rattle.ob_store.specs.Finding.{HasNoBook}
 use Rattle.ob_store.specs.Loading.{Finding}
+use Rattle.ob_store.proofs.Asking.{answers, asks_err, asks_then}
 use Rattle.ob_store.proofs.Telling.{tells_err, then_tables}
 use Rattle.ob_store.proofs.loading.audit_on.Goals as goal
 
-pub returns-in-Ok : goal.returns-in-Ok
-returns-in-Ok g c = then_tables g.S.Store Finding HasNoBook c.args.conn.now c.check_version.new.conn c.find_off.new.conn c.find_off.result c.in-Ok.ensures c.find_off.ensures
+pub returns-in-Ok-clause-tells : goal.returns-in-Ok-clause-tells
+returns-in-Ok-clause-tells g c =
+    then_tables g.S.Store Finding HasNoBook c.args.conn.now c.check_version.new.conn c.find_off.new.conn c.find_off.result c.in-Ok.ensures.tells c.find_off.ensures
 
-pub returns-in-Err : goal.returns-in-Err
-returns-in-Err g c = tells_err g.S.Store Finding HasNoBook c.args.conn.now c.check_version.new.conn c.in-Err.stop c.in-Err.ensures
+pub returns-in-Ok-clause-answers : goal.returns-in-Ok-clause-answers
+returns-in-Ok-clause-answers g c =
+    answers g.S.Store c.args.conn.now c.find_off.new.conn c.find_off.result
+    (asks_then g.S.Store Finding HasNoBook c.args.conn.now c.check_version.new.conn c.find_off.new.conn c.find_off.result c.in-Ok.ensures.tells c.in-Ok.ensures.asks c.find_off.ensures)
+
+pub returns-in-Err-clause-tells : goal.returns-in-Err-clause-tells
+returns-in-Err-clause-tells g c = tells_err g.S.Store Finding HasNoBook c.args.conn.now c.check_version.new.conn c.in-Err.stop c.in-Err.ensures.tells
+
+pub returns-in-Err-clause-answers : goal.returns-in-Err-clause-answers
+returns-in-Err-clause-answers g c =
+    answers g.S.Store c.args.conn.now c.check_version.new.conn (Err c.in-Err.stop) (asks_err g.S.Store c.args.conn.now c.check_version.new.conn c.in-Err.stop c.in-Err.ensures.asks)

@@ -1,51 +1,30 @@
-use Rattle.ob_store.proofs.OldTelling.{looked, told_fault, told_lives, told_new, told_none, told_one, told_other, unread}
+use Rattle.std.proofs.Common.{Ok, Err}
+use Rattle.ob_tables.specs.declared.version.Version.TheVariants.{One}
+use Rattle.ob_store.proofs.Asking.{asked_err, asked_more, open_keeps}
+use Rattle.ob_store.proofs.OldTelling.{looked_err, looked_shape, looked_then}
+use Rattle.ob_store.proofs.Reading.{if_ok}
 use Rattle.ob_store.proofs.migrating.tells_new.Goals as goal
 
-pub returns-in-Ok-true : goal.returns-in-Ok-true
-returns-in-Ok-true g c v =
-    let it = c.in-Ok-true in
-    let e = it.ensures in
-    told_new g.S.Store v c.args.conn.now c.has_version.new.conn it.field-0 it.field-0-test (looked g.S.Store 2 v c.args.conn.now c.has_version.new.conn e.mode e.survives e.clean e.kept it.field-0 e.same e.version)
+pub returns-in-Err-clause-finds : goal.returns-in-Err-clause-finds
+returns-in-Err-clause-finds g c v = looked_err g.S.Store v c.args.conn.now c.look_at.new.conn c.in-Err.stop c.in-Err.ensures
 
-pub returns-in-Err : goal.returns-in-Err
-returns-in-Err g c v =
-    let e = c.in-Err.ensures in
-    told_none g.S.Store v c.args.conn.now c.has_version.new.conn c.in-Err.stop (unread g.S.Store 2 v c.args.conn.now c.has_version.new.conn e.mode e.survives e.clean e.kept c.in-Err.stop e.faults e.foreign)
+pub returns-in-Err-clause-asks : goal.returns-in-Err-clause-asks
+returns-in-Err-clause-asks g c = asked_err g.S.Store c.args.conn.now c.look_at.new.conn c.in-Err.stop c.in-Err.ensures
 
-pub returns-in-Ok-false-has_version : goal.returns-in-Ok-false-has_version
-returns-in-Ok-false-has_version g c v =
-    let it = c.in-Ok-false in
-    let e = it.ensures in
-    let two = c.in-Ok-false-has_version in
-    let f = two.ensures in
-    told_other g.S.Store v c.args.conn.now c.has_version.new.conn it.field-0 it.field-0-test (looked g.S.Store 2 v c.args.conn.now c.has_version.new.conn e.mode e.survives e.clean e.kept it.field-0 e.same e.version)
-    c.has_version-2.new.conn two.field-0 two.field-0-test (looked g.S.Store 1 v c.has_version.new.conn c.has_version-2.new.conn f.mode f.survives f.clean f.kept two.field-0 f.same f.version)
+pub returns-in-Ok-clause-finds : goal.returns-in-Ok-clause-finds
+returns-in-Ok-clause-finds g c v = looked_then g.S.Store v c.args.conn.now c.look_at.new.conn c.tell_heading.new.conn c.tell_heading.result c.in-Ok.ensures (c.tell_heading.ensures.finds v)
 
-pub returns-in-Err-has_version : goal.returns-in-Err-has_version
-returns-in-Err-has_version g c v =
-    let it = c.in-Ok-false in
-    let e = it.ensures in
-    let two = c.in-Err-has_version in
-    let f = two.ensures in
-    told_fault g.S.Store v c.args.conn.now c.has_version.new.conn it.field-0 it.field-0-test (looked g.S.Store 2 v c.args.conn.now c.has_version.new.conn e.mode e.survives e.clean e.kept it.field-0 e.same e.version)
-    c.has_version-2.new.conn two.stop (unread g.S.Store 1 v c.has_version.new.conn c.has_version-2.new.conn f.mode f.survives f.clean f.kept two.stop f.faults f.foreign)
+pub returns-in-Ok-clause-asks : goal.returns-in-Ok-clause-asks
+returns-in-Ok-clause-asks g c =
+    asked_more g.S.Store c.args.conn.now c.look_at.new.conn (Ok tt) c.in-Ok.ensures tt c.tell_heading.new.conn c.tell_heading.result (c.tell_heading.ensures.finds One).clean (λ v. (c.tell_heading.ensures.finds v).kept)
 
-pub returns-then-has_lives : goal.returns-then-has_lives
-returns-then-has_lives g c v =
-    let it = c.in-Ok-false in
-    let e = it.ensures in
-    let two = c.in-Ok-true-has_version in
-    let f = two.ensures in
-    told_lives g.S.Store v c.args.conn.now c.has_version.new.conn it.field-0 it.field-0-test (looked g.S.Store 2 v c.args.conn.now c.has_version.new.conn e.mode e.survives e.clean e.kept it.field-0 e.same e.version)
-    c.has_version-2.new.conn two.field-0 (looked g.S.Store 1 v c.has_version.new.conn c.has_version-2.new.conn f.mode f.survives f.clean f.kept two.field-0 f.same f.version)
-    c.has_lives.result c.has_lives.ensures c.if-has_lives.true
+pub returns-in-Err-clause-first : goal.returns-in-Err-clause-first
+returns-in-Err-clause-first g c opened v t u keeps = open_keeps g.S.Store c.args.conn.now c.look_at.new.conn (Err c.in-Err.stop) c.in-Err.ensures v t u opened keeps
 
-pub returns-else-has_lives : goal.returns-else-has_lives
-returns-else-has_lives g c v =
-    let it = c.in-Ok-false in
-    let e = it.ensures in
-    let two = c.in-Ok-true-has_version in
-    let f = two.ensures in
-    told_one g.S.Store v c.args.conn.now c.has_version.new.conn it.field-0 it.field-0-test (looked g.S.Store 2 v c.args.conn.now c.has_version.new.conn e.mode e.survives e.clean e.kept it.field-0 e.same e.version)
-    c.has_version-2.new.conn two.field-0 (looked g.S.Store 1 v c.has_version.new.conn c.has_version-2.new.conn f.mode f.survives f.clean f.kept two.field-0 f.same f.version)
-    c.has_lives.result c.has_lives.ensures c.if-has_lives.false
+pub returns-in-Ok-clause-first : goal.returns-in-Ok-clause-first
+returns-in-Ok-clause-first g c opened v t u keeps = open_keeps g.S.Store c.args.conn.now c.look_at.new.conn (Ok tt) c.in-Ok.ensures v t u opened keeps
+
+pub returns-in-Ok-clause-shape : goal.returns-in-Ok-clause-shape
+returns-in-Ok-clause-shape g c clean =
+    if_ok c.tell_heading.result c.tell_heading.ensures.shape
+    (λ is so no. looked_shape g.S.Store c.args.conn.now c.look_at.new.conn c.in-Ok.ensures ((c.tell_heading.ensures.finds One).clean clean) (c.has_old_shape.ensures.0 (so no)))

@@ -1,8 +1,10 @@
 use Rattle.sqlite.specs.Held.{state}
 use Rattle.ob_tables.specs.declared.version.Version.TheVariants.{One}
 use Rattle.ob_commit.specs.Keeps.{KeepsIn}
+use Rattle.ob_commit.specs.Upgrade.{CanUpgrade, LeavesUpgraded, with_upgrade}
 use Rattle.ob_parts.specs.OldTables.{old_tables_of}
-use Rattle.ob_store.proofs.Upgrading.{keeps_old, upgraded_or}
+use Rattle.ob_store.specs.Upgrading.{LeavesWritten}
+use Rattle.ob_store.proofs.Upgrading.{keeps_old, survives_as, upgraded_or, written}
 use Rattle.ob_store.proofs.migrating.write_upgrade.Goals as goal
 
 pub returns-clause-upgraded : goal.returns-clause-upgraded
@@ -14,3 +16,16 @@ returns-clause-upgraded g c clean opened schema b has apart makes =
     keeps_old (state g.S.Store old) (old_tables_of b) opened c.schema-schema.ensures.live (λ live. c.is_autocommit.ensures.settled c.if-prove.false live) (λ live trees may. g.met.S.Store.settled old.store trees live may) schema
     (record { rows = has.tables; apart = apart }) in
     upgraded_or g.S.Store c.upgrade_law.ensures.reached old c.commit_upgrade.new.conn c.args.it.now (rw is at e.survives) b has makes keeps clean c.commit_upgrade.result e.faults (rw is at e.done) e.undone (rw is at e.either)
+
+pub returns-clause-survives : goal.returns-clause-survives
+returns-clause-survives g c =
+    let old = c.args.conn.now in
+    let new = c.commit_upgrade.new.conn in
+    let it = c.args.it.now in
+    survives_as (state g.S.Store old) (state g.S.Store new) (LeavesUpgraded (state g.S.Store old) (CanUpgrade it.bodies.items it.devices) (with_upgrade it.bodies.items it.devices)) (LeavesWritten g.S.Store old c.args.it.now)
+    (λ trees leaves opened schema b has apart makes.
+    let keeps : KeepsIn One (state g.S.Store old) (old_tables_of b) =
+    keeps_old (state g.S.Store old) (old_tables_of b) opened c.schema-schema.ensures.live (λ live. c.is_autocommit.ensures.settled c.if-prove.false live) (λ live trees may. g.met.S.Store.settled old.store trees live may) schema
+    (record { rows = has.tables; apart = apart }) in
+    written (state g.S.Store old) c.args.it.now b makes keeps trees leaves)
+    (rw c.deref.ensures.value at c.commit_upgrade.ensures.survives)

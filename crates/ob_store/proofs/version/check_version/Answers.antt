@@ -1,26 +1,16 @@
-use Rattle.ob_tables.specs.declared.version.Version.TheVariants.{Two}
-use Rattle.ob_store.proofs.Telling.{current, lacks, outdated, unversioned}
+use Rattle.std.proofs.Common.{Ok}
+use Rattle.ob_store.proofs.Asking.{asked_more, asked_once, told_none, told_then}
 use Rattle.ob_store.proofs.version.check_version.Goals as goal
 
-pub returns-in-Ok-true : goal.returns-in-Ok-true
-returns-in-Ok-true g c =
-    let it = c.in-Ok-true in
-    let e = it.ensures in
-    outdated g.S.Store c.args.conn.now c.has_version.new.conn e.mode e.survives e.clean (e.kept Two) e.same it.field-0 e.version it.field-0-test
+pub returns-in-Ok-clause-tells : goal.returns-in-Ok-clause-tells
+returns-in-Ok-clause-tells g c = told_then g.S.Store c.args.conn.now c.look_at.new.conn c.tell_version.new.conn c.in-Ok.ensures c.tell_version.result c.tell_version.ensures.tells
 
-pub returns-in-Err : goal.returns-in-Err
-returns-in-Err g c =
-    let e = c.in-Err.ensures in
-    unversioned g.S.Store c.args.conn.now c.has_version.new.conn e.mode e.survives e.clean (e.kept Two) c.in-Err.stop e.faults e.foreign
+pub returns-in-Ok-clause-asks : goal.returns-in-Ok-clause-asks
+returns-in-Ok-clause-asks g c =
+    asked_more g.S.Store c.args.conn.now c.look_at.new.conn (Ok tt) c.in-Ok.ensures tt c.tell_version.new.conn c.tell_version.result c.tell_version.ensures.tells.clean c.tell_version.ensures.kept
 
-pub returns-then-has_lives : goal.returns-then-has_lives
-returns-then-has_lives g c =
-    let it = c.in-Ok-false in
-    let e = it.ensures in
-    current g.S.Store c.args.conn.now c.has_version.new.conn e.mode e.survives e.clean (e.kept Two) e.same it.field-0 e.version it.field-0-test c.has_lives.result c.has_lives.ensures c.if-has_lives.true
+pub returns-in-Err-clause-tells : goal.returns-in-Err-clause-tells
+returns-in-Err-clause-tells g c = told_none g.S.Store c.args.conn.now c.look_at.new.conn c.in-Err.stop c.in-Err.ensures
 
-pub returns-else-has_lives : goal.returns-else-has_lives
-returns-else-has_lives g c =
-    let it = c.in-Ok-false in
-    let e = it.ensures in
-    lacks g.S.Store c.args.conn.now c.has_version.new.conn e.mode e.survives e.clean (e.kept Two) e.same it.field-0 e.version it.field-0-test c.has_lives.result c.has_lives.ensures c.if-has_lives.false
+pub returns-in-Err-clause-asks : goal.returns-in-Err-clause-asks
+returns-in-Err-clause-asks g c = asked_once g.S.Store c.args.conn.now c.look_at.new.conn _ c.in-Err.ensures

@@ -1,0 +1,35 @@
+use Rattle.std.proofs.Common.{[], inl, arith}
+use Rattle.sqlite.specs.Held.{state}
+use Rattle.ob_store.proofs.Asking.{looked_foreign, looked_same, looked_still}
+use Rattle.ob_store.proofs.version.look_at.Goals as goal
+
+pub returns-in-Ok : goal.returns-in-Ok
+returns-in-Ok g c = record {
+  mode = c.prepare.ensures.mode;
+  clean = λ clean. omega (arith, c.prepare.ensures.survives.clean, clean);
+  survives = c.prepare.ensures.survives;
+  faults = tt;
+  whole = c.schema-schema.ensures.live;
+  left = λ live trees may. g.met.S.Store.settled c.args.conn.now.store trees live may;
+  still = λ clean. inl (c.in-Ok.ensures.ok clean).1;
+  same = λ clean answer. (c.in-Ok.ensures.ok clean).1;
+  foreign = λ clean. tt;
+}
+
+pub returns-in-Err : goal.returns-in-Err
+returns-in-Err g c =
+    let old = state g.S.Store c.args.conn.now in
+    let new = state g.S.Store c.prepare.new.self in
+    let e = c.in-Err.error in
+    let stop = c.stop_of_look in
+    record {
+      mode = c.prepare.ensures.mode;
+      clean = λ clean. omega (arith, c.prepare.ensures.survives.clean, clean);
+      survives = c.prepare.ensures.survives;
+      faults = stop.ensures.faults;
+      whole = c.schema-schema.ensures.live;
+      left = λ live trees may. g.met.S.Store.settled c.args.conn.now.store trees live may;
+      still = λ clean. looked_still old new e (c.in-Err.ensures.err clean []);
+      same = λ clean answer. looked_same old new e (c.in-Err.ensures.err clean []) stop.result stop.ensures.faults stop.ensures.foreign answer;
+      foreign = λ clean bad. looked_foreign old new e (c.in-Err.ensures.err clean []) (stop.ensures.foreign bad);
+    }
