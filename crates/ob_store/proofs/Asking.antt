@@ -8,14 +8,17 @@ use Rattle.sqlite.specs.Effect.{Database}
 use Rattle.sqlite.specs.Held.{Held, state}
 use Rattle.sqlite.specs.State.{State, HasCleanDisk, IsLive, IsNotRun, IsRolledBack, IsUnchanged, Survives}
 use Rattle.sqlite.specs.declared.error.Error.{Error}
+use Rattle.sqlite.specs.declared.error.Error.TheVariants.{SqliteFailure}
+use Rattle.sqlite.specs.declared.error.ErrorCode.TheVariants as code
 use Rattle.sqlite_catalog.specs.Listing.{IsSound}
 use Rattle.sqlite.specs.Listing.{understood}
 use Rattle.sqlite.proofs.Callers.{IsPlain, unchanged_then}
 use Rattle.sqlite_tied.specs.Compute.{everything}
+use Rattle.ob_base.specs.Stop.{out_of_memory}
 use Rattle.ob_base.specs.declared.stop.Stop.{Stop}
 use Rattle.ob_base.specs.declared.stop.Stop.TheVariants.{Refused, Fault}
 use Rattle.ob_tables.specs.Creation.{old_schema}
-use Rattle.ob_tables.specs.Schema.{book_schema}
+use Rattle.ob_tables.specs.Schema.{book_schema, no_schema}
 use Rattle.ob_tables.specs.Rows.{Tables}
 use Rattle.ob_tables.specs.Versions.{HoldsIn, schema_of}
 use Rattle.ob_tables.specs.declared.version.Version.{Version}
@@ -23,11 +26,11 @@ use Rattle.ob_tables.specs.declared.version.Version.TheVariants.{One, Two}
 use Rattle.ob_commit.specs.Keeps.{IsSettledIn, KeepsEitherIn, KeepsIn}
 use Rattle.ob_commit.proofs.Commits.{settled_as}
 use Rattle.ob_record.specs.Tables.{tables_of}
-use Rattle.ob_compare.specs.Faults.{HasNoMeaning, IsReadFault, bad_book}
+use Rattle.ob_compare.specs.Faults.{HasNoMeaning, IsMissed, IsReadFault, bad_book}
 use Rattle.ob_compare.specs.Reading.{IsInputError}
 use Rattle.ob_compare.specs.Version.{HasVersion, IsOfBook}
-use Rattle.ob_compare.proofs.Asking.{not_understood}
-use Rattle.ob_compare.proofs.Headings.{meta_listing}
+use Rattle.ob_compare.proofs.Asking.{missed, not_understood}
+use Rattle.ob_compare.proofs.Headings.{meta_listing, no_meaning}
 use Rattle.ob_compare.proofs.Listing.{still_then}
 use Rattle.ob_parts.specs.OldTables.{old_tables_of}
 use Rattle.ob_store.specs.Differing.{NoneSo}
@@ -85,6 +88,10 @@ module _ (old new : State) (e : Error) (fails : IsNotRun old new meta_listing.te
       let none : HasNoMeaning old.now.schema meta_listing.text = (not_understood old new meta_listing.text [] e input fails).0 in
       elim of [ inl has ↦ has_meaning Two old.now.schema has none | inr has ↦ has_meaning One old.now.schema has none ]
 
+  -- nor is an empty database one
+  pub looked_empty : (stop : Stop) → (IsInputError e → stop ≡ bad_book) → (e ≡ SqliteFailure code.OutOfMemory → stop ≡ out_of_memory) → old.now.schema ≡ no_schema → IsMissed {X = ⊤} old new (Err stop)
+  looked_empty stop bad memory empty = missed old new meta_listing.text [] e stop bad memory (no_meaning old.now.schema meta_listing.text empty refl) fails
+
 module _ {S : Type 0} (g : Ghosts S) where
   module _ (old mid : Held S) (r : Result ⊤ Stop) (look : Looks g old mid r) where
     pub looked_kept : (v : Version) (t : Tables) → KeepsIn v (state g old) t → KeepsIn v (state g mid) t
@@ -122,11 +129,12 @@ module _ {S : Type 0} (g : Ghosts S) where
       kept = looked_kept;
       either = looked_either;
       first = looked_first;
+      empty = look.empty;
     }
 
     -- and something else after it
-    pub asked_more : IsAnswer r → {X : Type 0} (new : Held S) (done : Result X Stop) → (HasCleanDisk (state g new) → HasCleanDisk (state g mid)) → ((v : Version) (t : Tables) → KeepsIn v (state g mid) t → KeepsIn v (state g new) t) → Asks g old new done
-    asked_more answer new done clean_then kept_then = record {
+    pub asked_more : IsAnswer r → (HasCleanDisk (state g mid) → old.schema ≢ no_schema) → {X : Type 0} (new : Held S) (done : Result X Stop) → (HasCleanDisk (state g new) → HasCleanDisk (state g mid)) → ((v : Version) (t : Tables) → KeepsIn v (state g mid) t → KeepsIn v (state g new) t) → Asks g old new done
+    asked_more answer filled new done clean_then kept_then = record {
       live = λ clean is. (look.same (clean_then clean) answer).0.was_open;
       kept = λ v t keeps. kept_then v t (looked_kept v t keeps);
       either = λ v t u keeps. record {
@@ -134,6 +142,7 @@ module _ {S : Type 0} (g : Ghosts S) where
         left = λ clean trees may. inl ((kept_then v t (looked_first (clean_then clean) answer v t u keeps)).left clean trees may);
       };
       first = λ clean is v t u keeps. kept_then v t (looked_first (clean_then clean) answer v t u keeps);
+      empty = λ clean none. absurd (filled (clean_then clean) none);
     }
 
   -- ---- then the version was looked at
@@ -177,6 +186,7 @@ module _ {S : Type 0} (g : Ghosts S) where
     kept = it.kept;
     either = it.either;
     first = λ clean answer. it.first clean (refused_as {Y} {X} stop answer);
+    empty = it.empty;
   }
 
   pub asked_err : {Y : Type 0} (old mid : Held S) (stop : Stop) → Looks g old mid (Err stop) → Asks g {X = Y} old mid (Err stop)
@@ -215,6 +225,7 @@ module _ {S : Type 0} (g : Ghosts S) where
       kept = kept_all;
       either = either_all;
       first = λ clean answer. first_all clean;
+      empty = λ clean none. absurd (asks.empty (second.clean clean) none);
     }
 
   -- ---- what was kept of tables was kept of books
@@ -237,15 +248,17 @@ module _ {S : Type 0} (g : Ghosts S) where
       either = λ b c k. record { kept = it.first clean answer Two (tables_of b) (tables_of c) k.kept; reached = k.reached; valid = k.valid };
       version = λ b k. record { kept = it.first clean answer One (old_tables_of b) (tables_of b) k.kept; reached = k.reached; valid = k.valid };
     };
+    empty = it.empty;
   }
 
   -- the same of what a keeper answers then
   pub answers_ok : {X Y : Type 0} (old new : Held S) (x : X) (y : Y) → Answers g old new (Ok x) → Answers g old new (Ok y)
-  answers_ok old new x y it = record { live = it.live; keeps = it.keeps; first = it.first }
+  answers_ok old new x y it = record { live = it.live; keeps = it.keeps; first = it.first; empty = it.empty }
 
   pub answers_err : {X Y : Type 0} (old new : Held S) (stop : Stop) → Answers g {X = X} old new (Err stop) → Answers g {X = Y} old new (Err stop)
   answers_err {X} {Y} old new stop it = record {
     live = λ clean answer. it.live clean (refused_as {Y} {X} stop answer);
     keeps = it.keeps;
     first = λ clean answer. it.first clean (refused_as {Y} {X} stop answer);
+    empty = it.empty;
   }

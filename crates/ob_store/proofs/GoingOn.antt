@@ -1,5 +1,5 @@
 -- What a migration leaves of what the store kept.
-use Rattle.std.proofs.Common.{◌≡◌, inl, inr, Bool, false, Result, Ok, Err, IsTrue, subst}
+use Rattle.std.proofs.Common.{◌≡◌, ◌≢◌, inl, inr, Bool, false, Result, Ok, Err, IsTrue, subst}
 use Rattle.std.specs.Prelude.{IfErr}
 use Rattle.sqlite_trees.specs.declared.store.Store.{Ghosts}
 use Rattle.sqlite.specs.Held.{Held, state}
@@ -7,7 +7,7 @@ use Rattle.sqlite.specs.State.{HasCleanDisk}
 use Rattle.ob_base.specs.declared.stop.Stop.{Stop}
 use Rattle.ob_book.specs.Acts.{ActState}
 use Rattle.ob_tables.specs.Rows.{Tables}
-use Rattle.ob_tables.specs.Schema.{book_schema}
+use Rattle.ob_tables.specs.Schema.{book_schema, no_schema}
 use Rattle.ob_tables.specs.declared.version.Version.{Version}
 use Rattle.ob_tables.specs.declared.version.Version.TheVariants.{One, Two}
 use Rattle.ob_commit.specs.Keeps.{KeepsEitherIn, KeepsIn}
@@ -36,6 +36,7 @@ module _ {S : Type 0} (g : Ghosts S) where
         other_valid = k.other_valid;
       };
       version = λ clean. tt;
+      empty = λ clean none. absurd (it.empty clean none);
     }
 
     pub on_err : (stop : Stop) → Asks g {X = Bool} old new (Err stop) → MigratesOn g old new (Err stop)
@@ -50,6 +51,7 @@ module _ {S : Type 0} (g : Ghosts S) where
         other_valid = k.other_valid;
       };
       version = λ clean b k. record { kept = it.either One (old_tables_of b) (tables_of b) k.kept; reached = k.reached; valid = k.valid };
+      empty = it.empty;
     }
 
   -- no tables of version 2 stood where the heading told another version
@@ -58,7 +60,8 @@ module _ {S : Type 0} (g : Ghosts S) where
 
   -- the tables were read, and perhaps written
   module _ (old new : Held S) (r : Result Bool Stop) (opened : HasCleanDisk (state g new) → IsTrue (state g old).is_open)
-      (first : IsTrue (state g old).is_open → (v : Version) (t u : Tables) → KeepsEitherIn v (state g old) t u → KeepsIn v (state g old) t) (other : HasCleanDisk (state g new) → old.schema ≡ book_schema → ⊥) (it : Migrates g old new r) where
+      (first : IsTrue (state g old).is_open → (v : Version) (t u : Tables) → KeepsEitherIn v (state g old) t u → KeepsIn v (state g old) t) (other : HasCleanDisk (state g new) → old.schema ≡ book_schema → ⊥)
+      (filled : HasCleanDisk (state g new) → old.schema ≢ no_schema) (it : Migrates g old new r) where
     not_now : HasCleanDisk (state g new) → (b c : ActState) → KeepsEitherBook (state g old) b c → ⊥
     not_now clean b c k = other clean (k.kept.settled (it.clean clean) (opened clean)).schema
 
@@ -96,4 +99,5 @@ module _ {S : Type 0} (g : Ghosts S) where
         other_valid = k.other_valid;
       };
       version = λ clean. versions r it.faults (λ b k. of_old b k clean);
+      empty = λ clean none. absurd (filled clean none);
     }

@@ -19,9 +19,10 @@ use Rattle.ob_record.specs.Tables.{tables_of}
 use Rattle.ob_tables.specs.Creation.{old_schema}
 use Rattle.ob_compare.specs.Reading.{bad_book}
 use Rattle.ob_compare.specs.Version.{IsOfBook}
-use Rattle.ob_store.specs.Keeping.{KeeperValue, Ties}
+use Rattle.ob_store.specs.Keeping.{IsBookAfter, KeeperValue, Ties}
 use Rattle.ob_store.specs.Finding.{HasBook, HasNoBook, OnlyReads, ShowsTheSame}
 use Rattle.ob_store.specs.Versions.{IsLoadFault, IsOutdated, Outdated, Tells, old_version}
+use Rattle.ob_store.proofs.Dropping.{by_after}
 use Rattle.ob_store.proofs.Reading.{no_more}
 use Rattle.ob_store.specs.Loading.{Audited, Finding, Holding, HoldsNoBook, Loaded, trees_in}
 
@@ -59,12 +60,17 @@ module _ {S : Type 0} (g : Ghosts S) {X : Type 0} (Good : Trees → X → Type 0
     outdated_ok x it y = absurd (it.never clean schema)
 
     -- memory was refused, the book is of version 1, or its tables are those of no book
-    pub outdated_err : (stop : Stop) → stop ≢ Fault Store → Tells g Good Bad old.conn new.conn (Err stop) → new.book ≡ old.book → Outdated g {X = Y} old new (Err stop)
+    outdated_err : (stop : Stop) → stop ≢ Fault Store → Tells g Good Bad old.conn new.conn (Err stop) → new.book ≡ old.book → Outdated g {X = Y} old new (Err stop)
     outdated_err stop other it book = outdated_fault stop it.faults other it book
 
     -- the store failed
-    pub outdated_store : Tells g Good Bad old.conn new.conn (Err (Fault Store)) → new.book ≡ None → Outdated g {X = Y} old new (Err (Fault Store))
+    outdated_store : Tells g Good Bad old.conn new.conn (Err (Fault Store)) → new.book ≡ None → Outdated g {X = Y} old new (Err (Fault Store))
     outdated_store it book = (only_reads g Good Bad old.conn new.conn clean (Err (Fault Store)) it, book)
+
+    pub outdated_stopped : (stop : Stop) → Tells g Good Bad old.conn new.conn (Err stop) → IsBookAfter old.book new.book stop → Outdated g {X = Y} old new (Err stop)
+    outdated_stopped stop it book =
+        by_after old.book new.book stop (λ s. Tells g Good Bad old.conn new.conn (Err s) → Outdated g {X = Y} old new (Err s)) book
+        (λ other same told. outdated_err stop other told same) (λ none told. outdated_store told none) it
 
 module _ {S : Type 0} (g : Ghosts S) (old new : KeeperValue S) (schema : old.conn.schema ≡ book_schema) (clean : HasCleanDisk (state g new.conn)) where
   -- the first table that differs was found, or none
@@ -85,12 +91,17 @@ module _ {S : Type 0} (g : Ghosts S) (old new : KeeperValue S) (schema : old.con
       subst (λ s. Audited g old new (Err s)) (sym is) (refl, is_outdated g Finding HasNoBook old new clean (inl schema) at book)
 
   -- memory was refused, the book is of version 1, or the tables name no book
-  pub audited_err : (stop : Stop) → stop ≢ Fault Store → Tells g Finding HasNoBook old.conn new.conn (Err stop) → new.book ≡ old.book → Audited g old new (Err stop)
+  audited_err : (stop : Stop) → stop ≢ Fault Store → Tells g Finding HasNoBook old.conn new.conn (Err stop) → new.book ≡ old.book → Audited g old new (Err stop)
   audited_err stop other it book = audited_fault stop it.faults other it book
 
   -- the store failed
-  pub audited_store : Tells g Finding HasNoBook old.conn new.conn (Err (Fault Store)) → new.book ≡ None → Audited g old new (Err (Fault Store))
+  audited_store : Tells g Finding HasNoBook old.conn new.conn (Err (Fault Store)) → new.book ≡ None → Audited g old new (Err (Fault Store))
   audited_store it book = (only_reads g Finding HasNoBook old.conn new.conn clean (Err (Fault Store)) it, book)
+
+  pub audited_stopped : (stop : Stop) → Tells g Finding HasNoBook old.conn new.conn (Err stop) → IsBookAfter old.book new.book stop → Audited g old new (Err stop)
+  audited_stopped stop it book =
+      by_after old.book new.book stop (λ s. Tells g Finding HasNoBook old.conn new.conn (Err s) → Audited g old new (Err s)) book
+      (λ other same told. audited_err stop other told same) (λ none told. audited_store told none) it
 
 -- the same of a book that was loaded
 module _ {S : Type 0} (g : Ghosts S) {B : Type 0} (state_of : B → BookState) (old new : KeeperValue S) (schema : old.conn.schema ≡ book_schema) (clean : HasCleanDisk (state g new.conn)) where
@@ -147,9 +158,14 @@ module _ {S : Type 0} (g : Ghosts S) {B : Type 0} (state_of : B → BookState) (
       subst (λ s. Loaded g old new (Err s)) (sym is) (refl, is_outdated g Good HoldsNoBook old new clean (inl schema) at book)
 
   -- memory was refused, the book is of version 1, or the tables are those of no book
-  pub loaded_err : (stop : Stop) → stop ≢ Fault Store → Tells g Good HoldsNoBook old.conn new.conn (Err stop) → new.book ≡ old.book → Loaded g old new (Err stop)
+  loaded_err : (stop : Stop) → stop ≢ Fault Store → Tells g Good HoldsNoBook old.conn new.conn (Err stop) → new.book ≡ old.book → Loaded g old new (Err stop)
   loaded_err stop other it book = loaded_fault stop it.faults other it book
 
   -- the store failed
-  pub loaded_store : Tells g Good HoldsNoBook old.conn new.conn (Err (Fault Store)) → new.book ≡ None → Loaded g old new (Err (Fault Store))
+  loaded_store : Tells g Good HoldsNoBook old.conn new.conn (Err (Fault Store)) → new.book ≡ None → Loaded g old new (Err (Fault Store))
   loaded_store it book = (only_reads g Good HoldsNoBook old.conn new.conn clean (Err (Fault Store)) it, book)
+
+  pub loaded_stopped : (stop : Stop) → Tells g Good HoldsNoBook old.conn new.conn (Err stop) → IsBookAfter old.book new.book stop → Loaded g old new (Err stop)
+  loaded_stopped stop it book =
+      by_after old.book new.book stop (λ s. Tells g Good HoldsNoBook old.conn new.conn (Err s) → Loaded g old new (Err s)) book
+      (λ other same told. loaded_err stop other told same) (λ none told. loaded_store told none) it

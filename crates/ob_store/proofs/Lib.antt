@@ -19,6 +19,7 @@ pub mod Counting
 pub mod Telling
 pub mod Asking
 pub mod Handing
+pub mod OldNames
 pub mod OldTelling
 pub mod OldParts
 pub mod OldBooks

@@ -1,5 +1,5 @@
 -- What the heading tells where the tables of version 1 are to be made those of version 2.
-use Rattle.std.proofs.Common.{◌≡◌, inl, inr, ℕ, Bool, true, false, true≢false, IsTrue, Result, Ok, Err, refl, sym, ap, subst, ◌∙◌}
+use Rattle.std.proofs.Common.{◌≡◌, inl, inr, ℕ, length, Bool, true, false, true≢false, IsTrue, Result, Ok, Err, refl, sym, ap, subst, ◌∙◌}
 use Rattle.std.specs.Prelude.{◌↔◌, ⊤}
 use Rattle.sqlite_trees.specs.declared.store.Store.{Ghosts}
 use Rattle.sqlite.specs.Tree.{Trees}
@@ -25,7 +25,6 @@ use Rattle.ob_store.specs.Upgrading.{IsTold, IsUntold}
 use Rattle.ob_store.specs.Versions.{Looks}
 use Rattle.ob_store.proofs.Asking.{looked_kept}
 use Rattle.ob_store.proofs.Reading.{fails, find_as, read_err, read_ok, then_bad, then_more}
-use Rattle.ob_store.proofs.Telling.{lives_now}
 
 pub of_book : (v : Version) (schema : Schema) → schema ≡ schema_of v → IsOfBook schema
 of_book One schema is = inr is
@@ -42,10 +41,11 @@ untold Two trees two one = two
 -- the schema of version 1 has its shape, and that of version 2 hasn't
 shape_old : IsOldShape old_schema
 unfolding everything
-shape_old = (refl, refl, refl, refl)
+shape_old = (refl, refl, refl)
 
 shape_now : IsOldShape book_schema → ⊥
-shape_now shape = true≢false (sym lives_now ∙ shape.3)
+unfolding everything
+shape_now shape = absurd (let n : ◌≡◌ {A = ℕ} 11 10 = ap length shape.0 in omega (arith, n))
 
 -- with another shape the tables aren't those of version 1, and with this one they aren't those of version 2
 untold_there : (v : Version) (schema : Schema) → schema ≡ schema_of v → ¬ (IsOldShape schema) → (trees : Trees) → ¬ (HasVersion 2 trees) → IsUntold v trees

@@ -10,9 +10,11 @@ use Rattle.ob_base.specs.declared.stop.Stop.TheVariants.{Refused, Fault}
 use Rattle.ob_base.specs.declared.stop.Fault.TheVariants.{Store}
 use Rattle.ob_state.specs.State.{BookState}
 use Rattle.ob_book.specs.Acts.{ActState}
+use Rattle.ob_tables.specs.Schema.{no_schema}
 use Rattle.ob_tables.specs.declared.version.Version.TheVariants.{One}
 use Rattle.ob_commit.specs.Keeps.{Keeps, KeepsEither, KeepsIn}
 use Rattle.ob_commit.specs.Upgrade.{KeepsOldOr}
+use Rattle.ob_compare.specs.Reading.{IsMissed}
 use Rattle.ob_record.specs.Tables.{tables_of}
 use Rattle.ob_record.specs.Naming.{IsReferenced}
 use Rattle.ob_record.specs.Reached.{IsReached}
@@ -83,11 +85,12 @@ IsBookAfter was is (Fault fault) = is ≡ was
 
 module _ {S : Type 0} (g : Ghosts S) where
   -- the tables were read: what the store kept it keeps on; an answer or a refusal is given by an open store alone, which then
-  -- keeps the first of two that it may have kept
+  -- keeps the first of two that it may have kept; an empty database is told as that of no book, unless other trouble came before
   pub record Answers {X : Type 0} (old new : Held S) (result : Result X Stop) : Type 0 where
     pub live : HasCleanDisk (state g new) → IsAnswer result → IsTrue (state g old).is_open
     pub keeps : KeepsOn (state g old) (state g new)
     pub first : HasCleanDisk (state g new) → IsAnswer result → KeepsFirst (state g old) (state g new)
+    pub empty : HasCleanDisk (state g new) → old.schema ≡ no_schema → IsMissed (state g old) (state g new) result
 
   -- the keeper's store keeps the tables of the book and its commands, and its book, where there is one, has their state
   pub record Ties (k : KeeperValue S) (b : ActState) : Type 0 where

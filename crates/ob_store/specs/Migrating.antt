@@ -1,10 +1,10 @@
 -- What becomes of a store whose tables of version 1 are to be made those of version 2.
-use Rattle.std.specs.Prelude.{◌≡◌, ◌⊎◌, [], length, codes, is_some, Bool, true, false, Result, Ok, Err, IfErr, IsTrue}
+use Rattle.std.specs.Prelude.{◌≡◌, ◌⊎◌, List, [], ◌∷◌, map, Bool, true, false, Result, Ok, Err, IfErr, IsTrue}
 use Rattle.std.specs.List.{AllByRecursion}
 use Rattle.sqlite_trees.specs.declared.store.Store.{Ghosts}
 use Rattle.sqlite.specs.Tree.{Trees}
-use Rattle.sqlite_schema.specs.Names.{table_named}
 use Rattle.sqlite.specs.Schema.{Schema}
+use Rattle.sqlite.specs.Table.{Table as Stored}
 use Rattle.sqlite.specs.Held.{Held, state}
 use Rattle.sqlite.specs.State.{State, HasCleanDisk}
 use Rattle.ob_base.specs.declared.stop.Stop.{Stop}
@@ -13,11 +13,16 @@ use Rattle.ob_base.specs.declared.stop.Refusal.TheVariants.{BadBook}
 use Rattle.ob_base.specs.declared.stop.Fault.TheVariants.{OutOfMemory, Store}
 use Rattle.ob_book.specs.Acts.{ActState}
 use Rattle.ob_tables.specs.Creation.{old_schema}
+use Rattle.ob_tables.specs.Rows.{table_name}
+use Rattle.ob_tables.specs.Schema.{no_schema}
+use Rattle.ob_tables.specs.declared.table.Table.{Table}
+use Rattle.ob_tables.specs.declared.table.Table.TheVariants.{Meta, Cause, Node, Device, Customer, Entry, Mark, Command, Moved, Posting}
 use Rattle.ob_tables.specs.declared.version.Version.TheVariants.{One}
 use Rattle.ob_commit.specs.Keeps.{KeepsIn, Leaves}
 use Rattle.ob_commit.specs.Upgrade.{KeepsOldOr}
 use Rattle.ob_record.specs.Naming.{IsReferenced}
 use Rattle.ob_record.specs.Tables.{tables_of}
+use Rattle.ob_compare.specs.Reading.{IsMissed}
 use Rattle.ob_compare.specs.Version.{HasVersion}
 use Rattle.ob_parts.specs.OldTables.{HasOldBook, IsOldReached, old_tables_of}
 use Rattle.ob_store.specs.Finding.{OnlyReads, ShowsTheSame}
@@ -37,13 +42,17 @@ HoldsOldBook trees b = HasOldBook trees b × ((other : ActState) → HasOldBook 
 abbrev pub LeavesUpgradeOf : Trees → Trees → Type 0
 LeavesUpgradeOf was trees = (b : ActState) × HoldsOldBook was b × Leaves (tables_of b) trees
 
--- ten tables, none of them with the name of that of lives, and no index and no view
+-- the tables of version 1, in the order in which they are made
+abbrev pub old_tables : List Table
+old_tables = Meta ∷ Cause ∷ Node ∷ Device ∷ Customer ∷ Entry ∷ Mark ∷ Command ∷ Moved ∷ Posting ∷ []
+
+-- the tables have the names of those of version 1, in that order; there is no other one, no index and no view
 abbrev pub IsOldShape : Schema → Type 0
 IsOldShape s =
-    (length s.tables ≡ 10) × (s.indexes ≡ []) × (s.views ≡ []) × (is_some (table_named s (codes "life")) ≡ false)
+    (map (λ (t : Stored). t.name) s.tables ≡ map table_name old_tables) × (s.indexes ≡ []) × (s.views ≡ [])
 
--- the store was open and had as many tables as version 1 has; where they were those of version 1, a whole database of version 2,
--- of the one book that they held
+-- the store was open and its tables had the names of those of version 1; where they were these, a whole database of version 2, of
+-- the one book that they held
 abbrev pub LeavesKept : State → Trees → Type 0
 LeavesKept s trees =
     IsTrue s.is_open × IsOldShape s.now.schema × (s.now.schema ≡ old_schema → LeavesUpgradeOf s.now.trees trees)
@@ -98,10 +107,12 @@ module _ {S : Type 0} (g : Ghosts S) where
   MigratesKept new b (Err (Fault fault)) = ⊥
 
   -- an answer or a refusal comes of an open store alone. A book of version 2 that the store kept it keeps on, and so it does either
-  -- of two; and where there is no answer, a book in the tables of either version
+  -- of two; and where there is no answer, a book in the tables of either version. An empty database is told as that of no book,
+  -- unless other trouble came before
   pub record MigratesOn (old new : Held S) (result : Result Bool Stop) : Type 0 where
     pub live : HasCleanDisk (state g new) → IsAnswer result → IsTrue (state g old).is_open
     pub book : (b : ActState) → KeepsBook (state g old) b → KeepsBook (state g new) b
     pub either : (b c : ActState) → KeepsEitherBook (state g old) b c → KeepsEitherBook (state g new) b c
     pub version : HasCleanDisk (state g new) → IfErr result (λ stop. (b : ActState) → KeepsEitherVersion (state g old) b
         → KeepsEitherVersion (state g new) b)
+    pub empty : HasCleanDisk (state g new) → old.schema ≡ no_schema → IsMissed (state g old) (state g new) result

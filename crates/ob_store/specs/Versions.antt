@@ -9,11 +9,11 @@ use Rattle.ob_base.specs.declared.stop.Stop.TheVariants.{Refused, Fault}
 use Rattle.ob_base.specs.declared.stop.Refusal.TheVariants.{BadBook, OldVersion}
 use Rattle.ob_base.specs.declared.stop.Fault.TheVariants.{OutOfMemory, Store}
 use Rattle.ob_tables.specs.Creation.{old_schema}
-use Rattle.ob_tables.specs.Schema.{book_schema}
+use Rattle.ob_tables.specs.Schema.{book_schema, no_schema}
 use Rattle.ob_tables.specs.Rows.{Tables}
 use Rattle.ob_tables.specs.declared.version.Version.{Version}
 use Rattle.ob_commit.specs.Keeps.{Keeps, KeepsEitherIn, KeepsIn}
-use Rattle.ob_compare.specs.Reading.{IsReadFault, bad_book}
+use Rattle.ob_compare.specs.Reading.{IsMissed, IsReadFault, bad_book}
 use Rattle.ob_compare.specs.Version.{HasVersion, IsOfBook}
 use Rattle.ob_store.specs.Finding.{OnlyReads, ShowsTheSame}
 use Rattle.ob_store.specs.Keeping.{IsAnswer, KeeperValue}
@@ -32,7 +32,7 @@ AnyTrees trees done = ⊤
 
 module _ {S : Type 0} (g : Ghosts S) where
   -- the columns of a heading were looked for, and nothing was read or written; what is open is a whole database, and shows what
-  -- a crash leaves
+  -- a crash leaves; an empty database has none
   pub record Looks (old new : Held S) (result : Result ⊤ Stop) : Type 0 where
     pub mode : old.in_transaction ≡ false → new.in_transaction ≡ false
     pub clean : HasCleanDisk (state g new) → HasCleanDisk (state g old)
@@ -44,15 +44,17 @@ module _ {S : Type 0} (g : Ghosts S) where
     pub still : HasCleanDisk (state g new) → IsUnchanged (state g old) (state g new) ⊎ IsRolledBack (state g old) (state g new)
     pub same : HasCleanDisk (state g new) → IsAnswer result → IsUnchanged (state g old) (state g new)
     pub foreign : HasCleanDisk (state g new) → IfErr result (λ stop. stop ≡ bad_book → ¬ (IsOfBook old.schema))
+    pub empty : HasCleanDisk (state g new) → old.schema ≡ no_schema → IsMissed (state g old) (state g new) result
 
   -- the store was asked: it keeps on the tables that it kept, of either version; an answer or a refusal comes of an open one,
-  -- which then keeps the first of two
+  -- which then keeps the first of two; an empty database is told as that of no book
   pub record Asks {X : Type 0} (old new : Held S) (result : Result X Stop) : Type 0 where
     pub live : HasCleanDisk (state g new) → IsAnswer result → IsTrue (state g old).is_open
     pub kept : (v : Version) (t : Tables) → KeepsIn v (state g old) t → KeepsIn v (state g new) t
     pub either : (v : Version) (t u : Tables) → KeepsEitherIn v (state g old) t u → KeepsEitherIn v (state g new) t u
     pub first : HasCleanDisk (state g new) → IsAnswer result → (v : Version) (t u : Tables)
         → KeepsEitherIn v (state g old) t u → KeepsIn v (state g new) t
+    pub empty : HasCleanDisk (state g new) → old.schema ≡ no_schema → IsMissed (state g old) (state g new) result
 
   -- the version was looked at, and then the tables; nothing was written. What was found is so of them, and where they are told
   -- to be no book's they aren't; over the tables of a book of either version it is told that it is of version 1 just where it is

@@ -1,4 +1,7 @@
 //! The keeper: a book, and the connection to the store that keeps its tables.
+ghost use Rattle.std.specs.Option.{option_map};
+ghost use Rattle.ob_store.specs.Keeping.{IsBookAfter};
+
 use crate::acting::act_on;
 use crate::crash::{crash_law, old_crash_law};
 use crate::creating::create_on;
@@ -39,6 +42,16 @@ impl<S: Alter, T: Timeline> Model for Keeper<S, T> {
     ghost view = { λ k. record { conn = k.conn; book = option_map (λ b. b.state) k.book } };
 
     ghost invariant = { λ k. k.conn.in_transaction ≡ false };
+}
+
+/// Drops the book after a fault of the store.
+fn settle<T: Timeline>(book: &mut Option<Book<T>>, stop: Stop)
+    ensures { IsBookAfter (option_map (λ b. b.state) book.old) (option_map (λ b. b.state) book.new)
+        stop }
+{
+    if stop == Stop::Fault(Fault::Store) {
+        *book = None;
+    }
 }
 
 impl<S: Alter, T: Timeline> Keeper<S, T> {
@@ -90,11 +103,10 @@ impl<S: Alter, T: Timeline> Keeper<S, T> {
                 self.book = Some(book);
                 Ok(())
             }
-            Err(Stop::Fault(Fault::Store)) => {
-                self.book = None;
-                Err(Stop::Fault(Fault::Store))
+            Err(stop) => {
+                settle(&mut self.book, stop);
+                Err(stop)
             }
-            Err(stop) => Err(stop),
         }
     }
 
@@ -118,11 +130,10 @@ impl<S: Alter, T: Timeline> Keeper<S, T> {
         };
         match act_on(self.alloc, &mut self.conn, book, &reference, &command) {
             Ok(reply) => Ok(reply),
-            Err(Stop::Fault(Fault::Store)) => {
-                self.book = None;
-                Err(Stop::Fault(Fault::Store))
+            Err(stop) => {
+                settle(&mut self.book, stop);
+                Err(stop)
             }
-            Err(stop) => Err(stop),
         }
     }
 
@@ -147,11 +158,10 @@ impl<S: Alter, T: Timeline> Keeper<S, T> {
         };
         match reply_at(self.alloc, &mut self.conn, book, no) {
             Ok(reply) => Ok(reply),
-            Err(Stop::Fault(Fault::Store)) => {
-                self.book = None;
-                Err(Stop::Fault(Fault::Store))
+            Err(stop) => {
+                settle(&mut self.book, stop);
+                Err(stop)
             }
-            Err(stop) => Err(stop),
         }
     }
 
@@ -198,11 +208,10 @@ impl<S: Alter, T: Timeline> Keeper<S, T> {
                 self.book = Some(book);
                 Ok(())
             }
-            Err(Stop::Fault(Fault::Store)) => {
-                self.book = None;
-                Err(Stop::Fault(Fault::Store))
+            Err(stop) => {
+                settle(&mut self.book, stop);
+                Err(stop)
             }
-            Err(stop) => Err(stop),
         }
     }
 
@@ -227,11 +236,10 @@ impl<S: Alter, T: Timeline> Keeper<S, T> {
     {
         match audit_on::<S, T>(self.alloc, &mut self.conn) {
             Ok(found) => Ok(found),
-            Err(Stop::Fault(Fault::Store)) => {
-                self.book = None;
-                Err(Stop::Fault(Fault::Store))
+            Err(stop) => {
+                settle(&mut self.book, stop);
+                Err(stop)
             }
-            Err(stop) => Err(stop),
         }
     }
 
@@ -268,11 +276,10 @@ impl<S: Alter, T: Timeline> Keeper<S, T> {
         old_crash_law::<S, S>();
         match migrate_on::<S, T>(self.alloc, &mut self.conn) {
             Ok(done) => Ok(done),
-            Err(Stop::Fault(Fault::Store)) => {
-                self.book = None;
-                Err(Stop::Fault(Fault::Store))
+            Err(stop) => {
+                settle(&mut self.book, stop);
+                Err(stop)
             }
-            Err(stop) => Err(stop),
         }
     }
 
@@ -301,11 +308,10 @@ impl<S: Alter, T: Timeline> Keeper<S, T> {
         match hand_out(&mut self.conn, sink) {
             Ok(count) => Ok(count),
             Err(Halt::Sink(fault)) => Err(Stop::Fault(fault)),
-            Err(Halt::Store(Stop::Fault(Fault::Store))) => {
-                self.book = None;
-                Err(Stop::Fault(Fault::Store))
+            Err(Halt::Store(stop)) => {
+                settle(&mut self.book, stop);
+                Err(stop)
             }
-            Err(Halt::Store(stop)) => Err(stop),
         }
     }
 

@@ -22,7 +22,7 @@ ghost use Rattle.ob_store.specs.Versions.{Asks};
 
 use crate::led::{Led, follow};
 use crate::named::{BAD_BOOK, Named, read_named};
-use crate::version::{NEW, OLD, has_lives, look_at};
+use crate::version::{NEW, OLD, has_old_shape, look_at};
 use ob_base::{Fault, Stop};
 use ob_book::next_law;
 use ob_commit::{NewBody, commit_upgrade};
@@ -67,18 +67,7 @@ fn old_books_law()
     upgrade_law();
 }
 
-/// Whether there are as many tables as version 1 has, none of them with the name of that of lives, and no index and no view.
-fn has_old_shape<S: Alter>(conn: &Connection<S>) -> bool
-    ensures { IsTrue result ↔ IsOldShape (state S.Store conn.now).now.schema }
-{
-    let schema = conn.schema();
-    schema.tables.len() == 10
-        && schema.indexes.is_empty()
-        && schema.views.is_empty()
-        && !has_lives(conn)
-}
-
-/// Whether the heading tells version 2. If not it tells version 1, and the tables are as many as those of version 1, or they are
+/// Whether the heading tells version 2. If not it tells version 1, and the tables have the names of that version, or they are
 /// those of no book of version 1.
 fn tell_heading<S: Alter>(conn: &mut Connection<S>, is_old: bool) -> Result<bool, Stop>
     requires { IsTrue is_old ↔ IsOldShape conn.old.schema }

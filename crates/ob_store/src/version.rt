@@ -1,19 +1,22 @@
 //! The version of a book, which is looked at before its tables are read.
-ghost use Rattle.std.specs.Prelude.{◌≡◌, codes, is_some};
+ghost use Rattle.std.specs.Prelude.{◌≡◌, ◌↔◌, codes, is_some, map, IsTrue};
 ghost use Rattle.sqlite.specs.Held.{state};
 ghost use Rattle.sqlite_schema.specs.Names.{table_named};
+ghost use Rattle.ob_base.specs.Stop.{out_of_memory};
 ghost use Rattle.ob_commit.specs.Keeps.{KeepsIn};
 ghost use Rattle.ob_compare.specs.Reading.{IsInputError, IsReadFault, bad_book};
-ghost use Rattle.ob_tables.specs.Rows.{Tables};
+ghost use Rattle.ob_tables.specs.Rows.{Tables, table_name};
 ghost use Rattle.ob_tables.specs.declared.version.Version.{Version as AVersion};
 ghost use Rattle.ob_store.specs.Differing.{NoneSo};
+ghost use Rattle.ob_store.specs.Migrating.{IsOldShape};
 ghost use Rattle.ob_store.specs.Versions.{AnyTrees, Asks, Looks, Tells};
 
 use crate::named::BAD_BOOK;
-use ob_base::{Refusal, Stop};
+use ob_base::{Fault, Refusal, Stop};
 use ob_compare::has_version;
-use ob_tables::stop_of;
-use sqlite::{Alter, Connection, Error};
+use ob_tables::Table;
+use sqlite::{Alter, Connection, Error, ErrorCode};
+use sqlite_schema::schema;
 
 /// The version before this one.
 pub(crate) const OLD: u32 = 1;
@@ -21,21 +24,63 @@ pub(crate) const OLD: u32 = 1;
 /// This version.
 pub(crate) const NEW: u32 = 2;
 
+/// The tables of version 1, in the order in which they are made.
+const OLD_TABLES: [Table; 10] = [
+    Table::Meta,
+    Table::Cause,
+    Table::Node,
+    Table::Device,
+    Table::Customer,
+    Table::Entry,
+    Table::Mark,
+    Table::Command,
+    Table::Moved,
+    Table::Posting,
+];
+
 /// Whether the database has a table with the name of that of lives.
-pub(crate) fn has_lives<S: Alter>(conn: &Connection<S>) -> bool
+fn has_lives<S: Alter>(conn: &Connection<S>) -> bool
     ensures { result ≡ is_some (table_named (state S.Store conn.now).now.schema (codes "life")) }
 {
     conn.schema().table_named(b"life").is_some()
+}
+
+/// Whether the tables have the names of these, in this order, and there is no other one.
+fn are_named(tables: &[schema::Table], known: &[Table]) -> bool
+    ensures { IsTrue result ↔ (map (λ t. t.name) tables.now ≡ map table_name known.now) }
+{
+    if tables.len() != known.len() {
+        return false;
+    }
+    'names: for at in 0..known.len() {
+        if tables[at].name.as_slice() != known[at].name().as_bytes() {
+            return false;
+        }
+    }
+    true
+}
+
+/// Whether the tables have the names of those of version 1, and there is no other one, no index and no view.
+pub(crate) fn has_old_shape<S: Alter>(conn: &Connection<S>) -> bool
+    ensures { IsTrue result ↔ IsOldShape (state S.Store conn.now).now.schema }
+{
+    let schema = conn.schema();
+    are_named(schema.tables.as_slice(), &OLD_TABLES)
+        && schema.indexes.is_empty()
+        && schema.views.is_empty()
 }
 
 /// Why the columns of a heading weren't found: the tables lack them, as those of no book, or the store failed.
 fn stop_of_look(error: Error) -> Stop
     ensures faults { IsReadFault result }
     ensures foreign { result ≡ bad_book → IsInputError error }
+    ensures missed { IsInputError error → result ≡ bad_book }
+    ensures memory { error ≡ Error.SqliteFailure ErrorCode.OutOfMemory → result ≡ out_of_memory }
 {
     match error {
         Error::SqlInputError(_) => BAD_BOOK,
-        error => stop_of(error),
+        Error::SqliteFailure(ErrorCode::OutOfMemory) => Stop::Fault(Fault::OutOfMemory),
+        _ => Stop::Fault(Fault::Store),
     }
 }
 

@@ -16,7 +16,7 @@ returns-in-Ok-clause-finds g c v = looked_then g.S.Store v c.args.conn.now c.loo
 
 pub returns-in-Ok-clause-asks : goal.returns-in-Ok-clause-asks
 returns-in-Ok-clause-asks g c =
-    asked_more g.S.Store c.args.conn.now c.look_at.new.conn (Ok tt) c.in-Ok.ensures tt c.tell_heading.new.conn c.tell_heading.result (c.tell_heading.ensures.finds One).clean (λ v. (c.tell_heading.ensures.finds v).kept)
+    asked_more g.S.Store c.args.conn.now c.look_at.new.conn (Ok tt) c.in-Ok.ensures tt c.in-Ok.ensures.empty c.tell_heading.new.conn c.tell_heading.result (c.tell_heading.ensures.finds One).clean (λ v. (c.tell_heading.ensures.finds v).kept)
 
 pub returns-in-Err-clause-first : goal.returns-in-Err-clause-first
 returns-in-Err-clause-first g c opened v t u keeps = open_keeps g.S.Store c.args.conn.now c.look_at.new.conn (Err c.in-Err.stop) c.in-Err.ensures v t u opened keeps

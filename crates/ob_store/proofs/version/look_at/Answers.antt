@@ -1,6 +1,9 @@
-use Rattle.std.proofs.Common.{[], inl, arith}
+use Rattle.std.proofs.Common.{[], inl, refl, arith}
 use Rattle.sqlite.specs.Held.{state}
-use Rattle.ob_store.proofs.Asking.{looked_foreign, looked_same, looked_still}
+use Rattle.sqlite.specs.Listing.{understood}
+use Rattle.ob_compare.proofs.Asking.{no_outline}
+use Rattle.ob_compare.proofs.Headings.{meta_listing, no_meaning}
+use Rattle.ob_store.proofs.Asking.{looked_empty, looked_foreign, looked_same, looked_still}
 use Rattle.ob_store.proofs.version.look_at.Goals as goal
 
 pub returns-in-Ok : goal.returns-in-Ok
@@ -14,6 +17,7 @@ returns-in-Ok g c = record {
   still = λ clean. inl (c.in-Ok.ensures.ok clean).1;
   same = λ clean answer. (c.in-Ok.ensures.ok clean).1;
   foreign = λ clean. tt;
+  empty = λ clean none. absurd (no_outline (understood c.args.conn.now.schema meta_listing.text) _ (no_meaning c.args.conn.now.schema meta_listing.text none refl) (c.in-Ok.ensures.shape clean));
 }
 
 pub returns-in-Err : goal.returns-in-Err
@@ -32,4 +36,5 @@ returns-in-Err g c =
       still = λ clean. looked_still old new e (c.in-Err.ensures.err clean []);
       same = λ clean answer. looked_same old new e (c.in-Err.ensures.err clean []) stop.result stop.ensures.faults stop.ensures.foreign answer;
       foreign = λ clean bad. looked_foreign old new e (c.in-Err.ensures.err clean []) (stop.ensures.foreign bad);
+      empty = λ clean none. looked_empty old new e (c.in-Err.ensures.err clean []) stop.result stop.ensures.missed stop.ensures.memory none;
     }
