@@ -23,7 +23,7 @@ use Rattle.ob_routes.specs.Answering.{RouteAnswered, StandsLost, StandsShort}
 use Rattle.ob_routes.specs.Routes.{route_of}
 use Rattle.ob_routes.specs.declared.routes.Route.{Route}
 use Rattle.ob_routes.specs.declared.routes.Route.TheVariants as routes
-use Rattle.ob_desk.specs.Crashes.{IsActed, IsLeft, LeavesFirst, Outlasts}
+use Rattle.ob_desk.specs.Crashes.{IsActed, IsLeft, KeepsInWork, LeavesFirst, Outlasts}
 use Rattle.ob_desk.specs.Exchanges.{AnswersAt, Replies}
 use Rattle.ob_desk.specs.Serving.{Breaks, BreaksAnswer, BreaksReply, Fails, Serves}
 use Rattle.ob_desk.specs.Standing.{Over, Stands}
@@ -111,14 +111,25 @@ module _ {S : Type 0} (g : Ghosts S) where
         (all-of b (act c x) (commands ++ x ∷ []) (ap (λ d. act d x) is ∙ sym (fold-append act b commands (x ∷ [])))),
   )
 
+  -- after a fault of the store: the book after some commands, and perhaps one more
+  lost-left : (new : KeeperValue S) (b : ActState) (method : Method) (route : Option Route) (body : List ℕ) → StandsLost g new b method route body
+      → (commands : List Referenced) × KeepsInWork g new (acts b commands)
+  lost-left new b method None body h = absurd h
+  lost-left new b methods.Get (Some route) body (keeps, none) = ([], inl keeps)
+  lost-left new b methods.Post (Some routes.Commands) body (x, says, keeps, none) = ([], inr (x, keeps))
+  lost-left new b methods.Post (Some routes.Import) body (added, again, (c, later, a, begins, next, keeps, none)) =
+      (begins.2.commands, subst (KeepsInWork g new) begins.2.state (inr (a, keeps)))
+  lost-left new b methods.Post (Some (routes.Command number)) body h = absurd h
+  lost-left new b methods.Post (Some (routes.View view)) body h = absurd h
+
+  in-work-outlasts : (new : KeeperValue S) (b : ActState) (commands : List Referenced) → KeepsInWork g new (acts b commands) → Outlasts g new (Some b)
+  in-work-outlasts new b commands h = elim h [
+    | inl keeps ↦ (commands, from-book (state g new.conn) b (acts b commands) commands (length commands) keeps (all-of b (acts b commands) commands refl))
+    | inr (x, keeps) ↦ one-more new b (acts b commands) commands x keeps refl
+  ]
+
   lost-outlasts : (new : KeeperValue S) (b : ActState) (method : Method) (route : Option Route) (body : List ℕ) → StandsLost g new b method route body → Outlasts g new (Some b)
-  lost-outlasts new b method None body h = absurd h
-  lost-outlasts new b methods.Get (Some route) body (keeps, none) = ([], from-book (state g new.conn) b b [] 0 keeps refl)
-  lost-outlasts new b methods.Post (Some routes.Commands) body (x, says, keeps, none) = one-more new b b [] x keeps refl
-  lost-outlasts new b methods.Post (Some routes.Import) body (added, again, (c, later, a, begins, next, keeps, none)) =
-      one-more new b c begins.2.commands a keeps begins.2.state
-  lost-outlasts new b methods.Post (Some (routes.Command number)) body h = absurd h
-  lost-outlasts new b methods.Post (Some (routes.View view)) body h = absurd h
+  lost-outlasts new b method route body h = let so = lost-left new b method route body h in in-work-outlasts new b so.0 so.1
 
   route-outlasts : (new : KeeperValue S) (b : ActState) (method : Method) (route : Option Route) (body : List ℕ) (closes : Bool) (fault : Fault)
       → RouteAnswered g new b method route body closes (Err fault) → Outlasts g new (Some b)
@@ -168,7 +179,7 @@ module _ {S : Type 0} (g : Ghosts S) where
   answer-left : (new : KeeperValue S) (b : ActState) (method : Method) (route : Option Route) (body : List ℕ) (closes : Bool) (fault : Fault)
       → RouteAnswered g new b method route body closes (Err fault) → IsLeft g new b (Some fault)
   answer-left new b method route body closes OutOfMemory h = short-acts new b method route body h
-  answer-left new b method route body closes Store h = ([], lost-outlasts new b method route body h)
+  answer-left new b method route body closes Store h = lost-left new b method route body h
   answer-left new b method route body closes Reopen h = absurd h
   answer-left new b method route body closes Input h = absurd h
   answer-left new b method route body closes Output h = absurd h
@@ -193,7 +204,7 @@ module _ {S : Type 0} (g : Ghosts S) where
   pub left-then : (new : KeeperValue S) (b : ActState) (done : List Referenced) (fault : Option Fault) → IsLeft g new (acts b done) fault → IsLeft g new b fault
   left-then new b done None (more, ties) = (done ++ more, subst (Ties g new) (sym (fold-append act b done more)) ties)
   left-then new b done (Some OutOfMemory) (more, ties) = (done ++ more, subst (Ties g new) (sym (fold-append act b done more)) ties)
-  left-then new b done (Some Store) (more, outlasts) = (done ++ more, subst (λ c. Outlasts g new (Some c)) (sym (fold-append act b done more)) outlasts)
+  left-then new b done (Some Store) (more, keeps) = (done ++ more, subst (KeepsInWork g new) (sym (fold-append act b done more)) keeps)
   left-then new b done (Some Reopen) (more, ties) = (done ++ more, subst (Ties g new) (sym (fold-append act b done more)) ties)
   left-then new b done (Some Input) (more, ties) = (done ++ more, subst (Ties g new) (sym (fold-append act b done more)) ties)
   left-then new b done (Some Output) (more, ties) = (done ++ more, subst (Ties g new) (sym (fold-append act b done more)) ties)

@@ -1,15 +1,15 @@
 -- What requests make of a book, and what a crash leaves of it.
-use Rattle.std.specs.Prelude.{◌≡◌, ⊤, ℕ, List, take, Option, None, Some, option_map}
+use Rattle.std.specs.Prelude.{◌≡◌, ◌⊎◌, ⊤, ℕ, List, take, Option, None, Some, option_map}
 use Rattle.sqlite_trees.specs.declared.store.Store.{Ghosts}
 use Rattle.sqlite.specs.Tree.{Trees}
 use Rattle.sqlite.specs.Held.{state}
 use Rattle.sqlite.specs.State.{State, HasCleanDisk}
 use Rattle.ob_base.specs.declared.stop.Fault.{Fault}
 use Rattle.ob_base.specs.declared.stop.Fault.TheVariants.{Store}
-use Rattle.ob_book.specs.Acts.{ActState, Referenced, acts}
+use Rattle.ob_book.specs.Acts.{ActState, Referenced, act, acts}
 use Rattle.ob_commit.specs.Keeps.{Leaves}
 use Rattle.ob_record.specs.Tables.{tables_of}
-use Rattle.ob_store.specs.Keeping.{KeeperValue, Ties}
+use Rattle.ob_store.specs.Keeping.{KeeperValue, KeepsBook, KeepsEitherBook, Ties}
 
 -- one state is that of the other after some commands
 abbrev pub IsActed : Option ActState → Option ActState → Type 0
@@ -25,8 +25,13 @@ module _ {S : Type 0} (g : Ghosts S) where
   Outlasts new None = ⊤
   Outlasts new (Some b) = (work : List Referenced) × LeavesFirst (state g new.conn) b work
 
-  -- The book is that of some commands more. Where the store has failed, a crash leaves the book of some commands, with the first
-  -- of those that were in work.
+  -- the store keeps the book; or it does while it is open, and a crash leaves that, or the book with the command that was in work
+  abbrev pub KeepsInWork : KeeperValue S → ActState → Type 0
+  KeepsInWork new b =
+      KeepsBook (state g new.conn) b ⊎ ((command : Referenced) × KeepsEitherBook (state g new.conn) b (act b command))
+
+  -- The book is that of some commands more. Where the store has failed, that is the one that it keeps, or else a crash leaves it or
+  -- the book with the command that was in work.
   abbrev pub IsLeft : KeeperValue S → ActState → Option Fault → Type 0
-  IsLeft new b (Some Store) = (done : List Referenced) × Outlasts new (Some (acts b done))
+  IsLeft new b (Some Store) = (done : List Referenced) × KeepsInWork new (acts b done)
   IsLeft new b fault = (done : List Referenced) × Ties g new (acts b done)

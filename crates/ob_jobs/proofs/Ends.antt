@@ -1,13 +1,16 @@
 -- How a job ends: its work, and the text that tells it.
 use Rattle.std.proofs.Common.{◌≡◌, ◌≢◌, ℕ, List, Option, Some, Result, Ok, Err, inl, inr, refl, sym, subst, ◌∙◌}
 use Rattle.std.specs.Bool.{⊤}
+use Rattle.sqlite_trees.specs.declared.store.Store.{Ghosts}
 use Rattle.ob_base.specs.declared.stop.Stop.{Stop}
 use Rattle.ob_base.specs.declared.stop.Stop.TheVariants.{Refused, Fault}
 use Rattle.ob_base.specs.declared.stop.Fault.TheVariants.{OutOfMemory, Store, Reopen, Input, Output}
 use Rattle.ob_compare.specs.Reading.{IsReadFault}
 use Rattle.ob_state.specs.State.{BookState}
 use Rattle.ob_book.specs.Views.{annual_table_of_book}
+use Rattle.ob_store.specs.Keeping.{KeeperValue}
 use Rattle.ob_stream.specs.declared.watched.Watched.{Watched}
+use Rattle.ob_jobs.specs.Making.{MakingOf}
 use Rattle.ob_jobs.specs.Tabling.{HasTable, table_text}
 use Rattle.ob_jobs.specs.Telling.{Tells, Told, WritesNothing}
 
@@ -38,8 +41,14 @@ other_than_output stop (inl (inl memory)) output = let same = sym memory ∙ out
 other_than_output stop (inl (inr store)) output = let same = sym store ∙ output in cc
 other_than_output stop (inr bad) output = let same = sym bad ∙ output in cc
 
+-- no making of a book does
+pub making_other : {S : Type 0} (g : Ghosts S) (old new : KeeperValue S) (first : List ℕ) (days : ℕ) (zone : List ℕ) (stop : Stop)
+    → MakingOf g old new first days zone (Err stop) → stop ≢ Fault Output
+making_other g old new first days zone stop making output =
+    let so = subst (λ s. MakingOf g old new first days zone (Err s)) output making in absurd so.created
+
 -- the work gave nothing but its text, and that was told
-ended : {W : Type 0} (Works : Result ⊤ Stop → Type 0) (text : List ℕ) (contents : W → Option (List ℕ)) (old new : Watched W)
+pub ended : {W : Type 0} (Works : Result ⊤ Stop → Type 0) (text : List ℕ) (contents : W → Option (List ℕ)) (old new : Watched W)
     (r : Result ⊤ Stop) → Works (Ok tt) → Told contents old new text r → Tells Works (λ _. text) contents old new r
 ended Works text contents old new (Ok tt) works told = (works, told)
 ended Works text contents old new (Err stop) works told = untold Works (λ _. text) contents old new stop tt works told

@@ -4,7 +4,6 @@ use Rattle.sqlite_trees.specs.declared.store.Store.{Ghosts}
 use Rattle.ob_base.specs.declared.stop.Stop.{Stop}
 use Rattle.ob_base.specs.declared.stop.Fault.TheVariants.{Input, Output}
 use Rattle.ob_stream.specs.declared.watched.Watched.{Watched}
-use Rattle.ob_store.specs.Creating.{Created}
 use Rattle.ob_store.specs.Keeping.{KeeperValue}
 use Rattle.ob_import.specs.declared.report.ImportReport.{ImportReport}
 use Rattle.ob_cli.specs.declared.status.Unfinished.{Unfinished}
@@ -13,6 +12,7 @@ use Rattle.ob_jobs.specs.Endings.{audit_end, import_end, job_end}
 use Rattle.ob_jobs.specs.Importing.{TellsExport, TellsImport}
 use Rattle.ob_jobs.specs.Lines.{audit_line, created_line, migrate_line}
 use Rattle.ob_jobs.specs.Loads.{AuditOf, LoadsThen, OpensThen, TakesThen}
+use Rattle.ob_jobs.specs.Making.{MakingOf}
 use Rattle.ob_jobs.specs.Migrations.{MigrationOf}
 use Rattle.ob_jobs.specs.Tabling.{HasTable, table_text}
 use Rattle.ob_jobs.specs.Telling.{Tells}
@@ -26,7 +26,7 @@ module _ {S : Type 0} (g : Ghosts S) where
   abbrev pub MakesBook : {W : Type 0} → (W → Option (List ℕ)) → KeeperValue S → KeeperValue S → List ℕ → ℕ → List ℕ
       → Watched W → Watched W → Result ⊤ Unfinished → Type 0
   MakesBook contents old new first days zone before after result =
-      EndsAs job_end (Tells (Created g old new first days zone) (λ _. created_line) contents before after) result
+      EndsAs job_end (Tells (MakingOf g old new first days zone) (λ _. created_line) contents before after) result
 
   -- the tables are compared with the commands; no book is loaded
   abbrev pub AuditsBook : {W : Type 0} → (W → Option (List ℕ)) → KeeperValue S → KeeperValue S → Watched W → Watched W

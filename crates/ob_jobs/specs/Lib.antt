@@ -1,6 +1,8 @@
 pub mod Telling
 pub mod Lines
 pub mod Tabling
+pub mod Tasks
+pub mod Making
 pub mod After
 pub mod Importing
 pub mod Loads

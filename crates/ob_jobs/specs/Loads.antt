@@ -1,5 +1,5 @@
 -- What a job finds before it works: a book that is loaded, and an input or an output that is opened.
-use Rattle.std.specs.Prelude.{◌≡◌, ◌⊎◌, ⊤, Option, Some, None, IsSome, Result, Ok, Err, IfErr, OnOk}
+use Rattle.std.specs.Prelude.{◌≡◌, ◌⊎◌, Option, Some, None, Result, Ok, Err, IfErr, OnOk}
 use Rattle.sqlite_trees.specs.declared.store.Store.{Ghosts}
 use Rattle.sqlite.specs.Held.{state}
 use Rattle.sqlite.specs.State.{HasCleanDisk, Survives}
@@ -11,8 +11,9 @@ use Rattle.ob_stream.specs.declared.watched.Watched.{Watched}
 use Rattle.ob_tables.specs.Creation.{old_schema}
 use Rattle.ob_tables.specs.Schema.{book_schema}
 use Rattle.ob_tables.specs.declared.table.Table.{Table}
-use Rattle.ob_store.specs.Keeping.{IsBookAfter, KeeperValue}
-use Rattle.ob_store.specs.Loading.{Audited, Loaded}
+use Rattle.ob_store.specs.Crashing.{Loads}
+use Rattle.ob_store.specs.Keeping.{Answers, IsBookAfter, KeeperValue}
+use Rattle.ob_store.specs.Loading.{Audited}
 use Rattle.ob_store.specs.Versions.{IsLoadFault, Outdated}
 
 -- something was opened and this was done with it; or it could not be opened, which is answered as this fault, and nothing was done
@@ -30,16 +31,6 @@ TakesThen {A} {I} takes Works Nothing was is done =
     ⊎ ((taken : I) × (mid : A) × takes was (Ok taken) mid × Works taken mid done)
 
 module _ {S : Type 0} (g : Ghosts S) where
-  -- a reading of the book that the tables hold: why there is none, and what then stands
-  pub record LoadOf (old new : KeeperValue S) (done : Result ⊤ Stop) : Type 0 where
-    pub found : OnOk done (IsSome new.book)
-    pub dropped : IfErr done (IsBookAfter old.book new.book)
-    pub stops : IfErr done IsLoadFault
-    pub clean : HasCleanDisk (state g new.conn) → HasCleanDisk (state g old.conn)
-    pub survives : Survives (state g old.conn) (state g new.conn) (λ _. ⊥)
-    pub loaded : HasCleanDisk (state g new.conn) → old.conn.schema ≡ book_schema → Loaded g old new done
-    pub outdated : HasCleanDisk (state g new.conn) → old.conn.schema ≡ old_schema → Outdated g old new done
-
   -- a comparison of the tables with the commands in them: what differs, or why there is no answer
   pub record AuditOf (old new : KeeperValue S) (found : Result (Option Table) Stop) : Type 0 where
     pub kept : OnOk found (new.book ≡ old.book)
@@ -47,6 +38,7 @@ module _ {S : Type 0} (g : Ghosts S) where
     pub stops : IfErr found IsLoadFault
     pub clean : HasCleanDisk (state g new.conn) → HasCleanDisk (state g old.conn)
     pub survives : Survives (state g old.conn) (state g new.conn) (λ _. ⊥)
+    pub answers : Answers g old.conn new.conn found
     pub audited : HasCleanDisk (state g new.conn) → old.conn.schema ≡ book_schema → Audited g old new found
     pub outdated : HasCleanDisk (state g new.conn) → old.conn.schema ≡ old_schema → Outdated g old new found
 
@@ -54,5 +46,5 @@ module _ {S : Type 0} (g : Ghosts S) where
   abbrev pub LoadsThen : {X : Type 0} → (KeeperValue S → Result X Stop → Type 0) → Type 0 → KeeperValue S → KeeperValue S
       → Result X Stop → Type 0
   LoadsThen Works Nothing old new done =
-      ((stop : Stop) × LoadOf old new (Err stop) × (done ≡ Err stop) × Nothing)
-      ⊎ ((mid : KeeperValue S) × LoadOf old mid (Ok tt) × Works mid done)
+      ((stop : Stop) × Loads g old new (Err stop) × (done ≡ Err stop) × Nothing)
+      ⊎ ((mid : KeeperValue S) × Loads g old mid (Ok tt) × Works mid done)

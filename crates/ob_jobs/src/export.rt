@@ -5,7 +5,6 @@ ghost use Rattle.ob_jobs.specs.Importing.{ExportOf, TellsExport, export_line};
 
 use crate::ending::end_of_job;
 use crate::export_moves;
-use crate::load::load_book;
 use crate::opening::OpenOutput;
 use crate::tell::tell;
 use ob_base::{Fault, Stop};
@@ -29,7 +28,7 @@ pub fn export_from_book<O: OpenOutput, S: Alter, T: Timeline, P: Progress, W: Wr
     ensures { ExportsFromBook S.Store O.opens O.Output.contents W.contents keeper.old keeper.new
         output.old output.new writer.old writer.new result }
 {
-    load_book(keeper, progress)?;
+    keeper.load_with_progress(progress)?;
     let Some(opened) = output.open() else {
         return Err(Unfinished::from(Stop::Fault(Fault::Output)));
     };

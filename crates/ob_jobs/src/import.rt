@@ -4,7 +4,6 @@ ghost use Rattle.ob_jobs.specs.Books.{ImportsIntoBook};
 ghost use Rattle.ob_jobs.specs.Importing.{TellsImport, import_line};
 
 use crate::ending::end_of_import;
-use crate::load::load_book;
 use crate::opening::OpenInput;
 use crate::tell::tell;
 use ob_base::{Fault, Stop};
@@ -28,7 +27,7 @@ pub fn import_into_book<O: OpenInput, S: Alter, T: Timeline, P: Progress, W: Wri
     ensures { ImportsIntoBook S.Store O.opens O.Input.remaining W.contents keeper.old keeper.new
         input.old input.new writer.old writer.new result }
 {
-    load_book(keeper, progress)?;
+    keeper.load_with_progress(progress)?;
     let Some(opened) = input.open() else {
         return Err(Unfinished::from(Stop::Fault(Fault::Input)));
     };

@@ -1,8 +1,8 @@
 //! The job that makes a book.
 ghost use Rattle.std.specs.Prelude.{◌≡◌};
-ghost use Rattle.ob_store.specs.Creating.{Created};
 ghost use Rattle.ob_jobs.specs.Books.{MakesBook};
 ghost use Rattle.ob_jobs.specs.Lines.{created_line};
+ghost use Rattle.ob_jobs.specs.Making.{MakingOf};
 ghost use Rattle.ob_jobs.specs.Telling.{Tells};
 
 use crate::ending::end_of_job;
@@ -42,11 +42,21 @@ pub fn run_init<S: Alter, T: Timeline, W: Write>(
     zone: &[u8],
     writer: &mut Watched<W>,
 ) -> Result<(), Stop>
-    ensures { Tells (Created S.Store keeper.old keeper.new first.now days zone.now)
+    ensures { Tells (MakingOf S.Store keeper.old keeper.new first.now days zone.now)
         (λ _. created_line) W.contents writer.old writer.new result }
 {
-    match keeper.create(first, days, zone) {
-        Ok(()) => tell(writer, b"created\n".as_slice()),
-        Err(stop) => Err(stop),
-    }
+    make_tables(keeper, first, days, zone)?;
+    tell(writer, b"created\n".as_slice())
+}
+
+/// The making.
+fn make_tables<S: Alter, T: Timeline>(
+    keeper: &mut Keeper<S, T>,
+    first: &[u8],
+    days: u16,
+    zone: &[u8],
+) -> Result<(), Stop>
+    ensures { MakingOf S.Store keeper.old keeper.new first.now days zone.now result }
+{
+    keeper.create(first, days, zone)
 }

@@ -5,8 +5,8 @@
 //! is told; and the job from the opened store to its end, which first loads the book where the work needs one, and only then
 //! has the input or the output opened. The work of an import is `ob_import`'s; that of an export is here, a line of CSV for
 //! each amount that an accepted command moved, in order. Promises of each what it leaves of the keeper and of the writers: the
-//! whole text where it is done, less of it where the writer fails, and nothing where it stops before; and how it ends. Above
-//! it stands the program.
+//! whole text where it is done, less of it where the writer fails, and nothing where it stops before; and how it ends. One
+//! function does the job of a name. Above it stands the program.
 #![tactic(auto)]
 
 mod audit;
@@ -16,12 +16,12 @@ mod import;
 mod init;
 mod line;
 mod lines;
-mod load;
 mod migrate;
 mod moves;
 mod opening;
 mod serve;
 mod table;
+mod tasks;
 mod tell;
 
 pub use audit::{audit_book, run_audit};
@@ -34,3 +34,4 @@ pub use ob_import::{Progress, Silent, Work};
 pub use opening::{OpenInput, OpenOutput, ServeBook};
 pub use serve::serve_book;
 pub use table::{print_book, run_table};
+pub use tasks::{Task, run_task};

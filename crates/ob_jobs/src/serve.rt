@@ -2,7 +2,6 @@
 ghost use Rattle.ob_jobs.specs.Books.{ServesBook};
 
 use crate::ending::end_of_job;
-use crate::load::load_book;
 use crate::opening::ServeBook;
 use ob_cli::Unfinished;
 use ob_import::Progress;
@@ -19,7 +18,7 @@ pub fn serve_book<V: ServeBook<S, T>, S: Alter, T: Timeline, P: Progress>(
     ensures { ServesBook S.Store V.takes V.serves keeper.old keeper.new server.old server.new
         result }
 {
-    load_book(keeper, progress)?;
+    keeper.load_with_progress(progress)?;
     let port = server.take()?;
     end_of_job(server.serve(port, keeper))
 }

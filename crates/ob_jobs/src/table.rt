@@ -5,7 +5,6 @@ ghost use Rattle.ob_jobs.specs.Tabling.{HasTable, table_text};
 ghost use Rattle.ob_jobs.specs.Telling.{Tells};
 
 use crate::ending::end_of_job;
-use crate::load::load_book;
 use crate::tell::tell;
 use ob_base::{Fault, Stop};
 use ob_cli::Unfinished;
@@ -24,7 +23,7 @@ pub fn print_book<S: Alter, T: Timeline, P: Progress, W: Write>(
 ) -> Result<(), Unfinished>
     ensures { PrintsBook S.Store W.contents keeper.old keeper.new writer.old writer.new result }
 {
-    load_book(keeper, progress)?;
+    keeper.load_with_progress(progress)?;
     end_of_job(run_table(keeper, writer))
 }
 

@@ -1,4 +1,6 @@
 //! The job that serves a book over HTTP.
+ghost use Rattle.outagebook.specs.Serving.{IsPortTaken};
+
 use crate::tell_stop;
 use ob_base::{Fault, Stop};
 use ob_desk::{FaultLog, Listener, run_serve};
@@ -15,9 +17,9 @@ struct Complaints<'r> {
 }
 
 impl FaultLog for Complaints<'_> {
-    ghost use Rattle.std.specs.Prelude.{⊤};
+    ghost use Rattle.outagebook.specs.Serving.{told_outside};
 
-    ghost tells = { λ _ _ _. ⊤ };
+    ghost tells = { told_outside };
 
     fn tell(&mut self, fault: Fault) {
         tell_stop(self.rt, &Stop::Fault(fault), None);
@@ -34,13 +36,15 @@ pub(crate) struct Server<'r> {
 }
 
 impl<S: Alter, T: Timeline> ServeBook<S, T> for Server<'_> {
-    ghost use Rattle.std.specs.Prelude.{⊤};
+    ghost use Rattle.std.specs.Prelude.{◌≡◌};
+    ghost use Rattle.outagebook.specs.Serving.{IsPortTaken, ServesDesk};
 
     type Port = TcpListener;
 
-    ghost takes = { λ _ _ _. ⊤ };
+    ghost takes = { λ old result new. (new ≡ old) × IsPortTaken result };
 
-    ghost serves = { λ _ _ _ _ _ _. ⊤ };
+    ghost serves = { λ old _ keeper result left new. (new ≡ old)
+        × ServesDesk S.Store old.streams keeper left result };
 
     fn take(&mut self) -> Result<TcpListener, Stop> {
         listen(self.rt, self.port)
@@ -58,7 +62,9 @@ impl<S: Alter, T: Timeline> ServeBook<S, T> for Server<'_> {
 }
 
 /// Binds a port of this machine alone, and tells it.
-fn listen(rt: &HostRuntime, port: u16) -> Result<TcpListener, Stop> {
+fn listen(rt: &HostRuntime, port: u16) -> Result<TcpListener, Stop>
+    ensures { IsPortTaken result }
+{
     let Ok(listener) = TcpListener::bind(rt, (Ipv4Addr::LOCALHOST, port)) else {
         return Err(Stop::Fault(Fault::Input));
     };

@@ -9,9 +9,11 @@ mod books;
 mod desk;
 mod progress;
 
-use crate::books::{Task, look_at_period, run_on_book};
+use crate::books::{InputFile, OutputFile, look_at_period, run_on_book};
+use crate::desk::Server;
 use ob_base::{Fault, Stop};
 pub use ob_cli::{Job, Unfinished, Word, WrongWords, complaint_of, read_words, status_of_run};
+use ob_jobs::Task;
 use ob_stream::Watched;
 pub use ob_total::{TotalStop, run_total};
 use std::alloc::{AllocError, Global};
@@ -48,16 +50,20 @@ fn run_job(rt: &HostRuntime, job: Job) -> Result<(), Unfinished> {
             days,
             zone,
         } => init(rt, &book, &first, days, &zone),
-        Job::Import { book, input } => run_on_book(rt, &book, &Task::Import { input: &input }),
-        Job::Export { book, output } => run_on_book(rt, &book, &Task::Export { output: &output }),
-        Job::Table { book } => run_on_book(rt, &book, &Task::Table),
-        Job::Audit { book } => run_on_book(rt, &book, &Task::Audit),
-        Job::Migrate { book } => run_on_book(rt, &book, &Task::Migrate),
+        Job::Import { book, input } => {
+            run_on_book(rt, &book, Task::Import(InputFile { rt, path: &input }))
+        }
+        Job::Export { book, output } => {
+            run_on_book(rt, &book, Task::Export(OutputFile { rt, path: &output }))
+        }
+        Job::Table { book } => run_on_book(rt, &book, Task::Table),
+        Job::Audit { book } => run_on_book(rt, &book, Task::Audit),
+        Job::Migrate { book } => run_on_book(rt, &book, Task::Migrate),
         Job::Serve {
             book,
             port,
             streams,
-        } => run_on_book(rt, &book, &Task::Serve { port, streams }),
+        } => run_on_book(rt, &book, Task::Serve(Server { rt, port, streams })),
     }
 }
 
@@ -69,10 +75,9 @@ fn init(
     days: u16,
     zone: &Word,
 ) -> Result<(), Unfinished> {
-    match look_at_period(rt, first, days, zone) {
-        Ok(()) => run_on_book(rt, book, &Task::Init { first, days, zone }),
-        Err(stop) => Err(Unfinished::Stopped(stop, None)),
-    }
+    look_at_period(rt, first, days, zone)?;
+    let (first, zone) = (first.as_str().as_bytes(), zone.as_str().as_bytes());
+    run_on_book(rt, book, Task::Init { first, days, zone })
 }
 
 /// The words of the command line, the program's name first.

@@ -9,6 +9,7 @@ returns g c =
       stops = all.stops;
       clean = all.clean;
       survives = all.survives;
+      answers = all.answers;
       audited = all.audited;
       outdated = all.outdated;
     }

@@ -9,7 +9,9 @@ returns g c =
       stops = all.stops;
       clean = all.clean;
       survives = all.survives;
+      goes_on = all.goes_on;
       migrated = all.migrated;
       current = all.current;
       kept = all.kept;
+      crash = all.crash;
     }

@@ -1,0 +1,99 @@
+//! The jobs on a book by their names, each with what it opens.
+ghost use Rattle.std.specs.Prelude.{◌≡◌};
+ghost use Rattle.ob_jobs.specs.Tasks.{RunsTask, makes_book, may_write};
+
+use crate::opening::{OpenInput, OpenOutput, ServeBook};
+use crate::{
+    audit_book, export_from_book, import_into_book, make_book, migrate_book, print_book, serve_book,
+};
+use ob_cli::Unfinished;
+use ob_import::Progress;
+use ob_store::Keeper;
+use ob_stream::Watched;
+use ob_sweep::Timeline;
+use sqlite::Alter;
+use std::alloc::Global;
+use std::io::Write;
+
+/// A job on a book, with the input, the output or the port that it opens.
+#[derive(Drop)]
+pub enum Task<'w, I, O, V> {
+    /// The book of a period is made.
+    Init {
+        /// The first day.
+        first: &'w [u8],
+        /// How many days it has.
+        days: u16,
+        /// The time zone.
+        zone: &'w [u8],
+    },
+    /// The commands of an input are imported.
+    Import(I),
+    /// What the commands moved is written into an output.
+    Export(O),
+    /// The annual table is printed.
+    Table,
+    /// The tables are compared with the commands.
+    Audit,
+    /// A book of version 1 is made one of version 2.
+    Migrate,
+    /// The book is served.
+    Serve(V),
+}
+
+impl<I, O, V> Task<'_, I, O, V> {
+    /// Whether the job makes the book.
+    pub fn makes_book(&self) -> bool
+        ensures { result ≡ makes_book self.now }
+    {
+        match self {
+            Task::Init { .. } => true,
+            Task::Import(_)
+            | Task::Export(_)
+            | Task::Table
+            | Task::Audit
+            | Task::Migrate
+            | Task::Serve(_) => false,
+        }
+    }
+
+    /// Whether the job may write into the book.
+    pub fn may_write(&self) -> bool
+        ensures { result ≡ may_write self.now }
+    {
+        match self {
+            Task::Init { .. } | Task::Import(_) | Task::Migrate | Task::Serve(_) => true,
+            Task::Export(_) | Task::Table | Task::Audit => false,
+        }
+    }
+}
+
+/// Does a job on the book that a keeper's tables hold, which isn't loaded yet.
+pub fn run_task<
+    I: OpenInput + Drop,
+    O: OpenOutput + Drop,
+    V: ServeBook<S, T> + Drop,
+    S: Alter,
+    T: Timeline,
+    P: Progress,
+    W: Write,
+>(
+    alloc: Global,
+    keeper: &mut Keeper<S, T>,
+    task: Task<'_, I, O, V>,
+    progress: &mut P,
+    writer: &mut Watched<W>,
+) -> Result<(), Unfinished>
+    ensures { RunsTask S.Store I.opens I.Input.remaining O.opens O.Output.contents V.takes V.serves
+        W.contents task.entry keeper.old keeper.new writer.old writer.new result }
+{
+    match task {
+        Task::Init { first, days, zone } => make_book(keeper, first, days, zone, writer),
+        Task::Import(mut input) => import_into_book(alloc, keeper, &mut input, progress, writer),
+        Task::Export(mut output) => export_from_book(alloc, keeper, &mut output, progress, writer),
+        Task::Table => print_book(keeper, progress, writer),
+        Task::Audit => audit_book(alloc, keeper, writer),
+        Task::Migrate => migrate_book(keeper, writer),
+        Task::Serve(mut server) => serve_book(keeper, &mut server, progress),
+    }
+}

@@ -1,0 +1,11 @@
+-- What the opening of a book's file gives.
+use Rattle.std.specs.Prelude.{◌≡◌, ◌⊎◌, None, Result, Ok, Err}
+use Rattle.ob_base.specs.declared.stop.Stop.{Stop}
+use Rattle.ob_base.specs.declared.stop.Stop.TheVariants.{Fault}
+use Rattle.ob_base.specs.declared.stop.Fault.TheVariants.{OutOfMemory, Store}
+use Rattle.ob_store.specs.Keeping.{KeeperValue}
+
+-- a keeper that has no book yet; or memory was refused, or the file isn't there or can't be opened
+abbrev pub OpensFile : {S : Type 0} → Result (KeeperValue S) Stop → Type 0
+OpensFile (Ok keeper) = keeper.book ≡ None
+OpensFile (Err stop) = (stop ≡ Fault OutOfMemory) ⊎ (stop ≡ Fault Store)
