@@ -1,0 +1,3 @@
+pub mod Standings
+pub mod Restarting
+pub mod Telling
