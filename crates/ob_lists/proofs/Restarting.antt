@@ -23,12 +23,12 @@ use Rattle.ob_lists.specs.Going.{Goes, JoinLaw, RestartLaw, Restarts}
 abbrev pub Settles : {R : Type 0} → Ghosts R → Type 0
 Settles {R} h = (conn : Held R) → IsTrue (state h conn).is_open → (trees : Trees) → (state h conn).may_leave trees → trees ≡ (state h conn).committed.trees
 
-module _ {S R : Type 0} (g : Ghosts S) (h : Ghosts R) (settles : Settles h) (reached : OldIsReached) (old : KeeperValue S) (new : KeeperValue R) (it : Restarts g h old new) where
+module _ {S R : Type 0} (g : Ghosts S) (h : Ghosts R) (settles : Settles h) (old : KeeperValue S) (new : KeeperValue R) (it : Restarts g h old new) where
 
 
 
   -- the tables that the crash left are kept
-  kept_in : (v : Version) (t : Tables) → LeavesIn v t (trees_in h new.conn) → KeepsIn v (state h new.conn) t
+  pub kept_in : (v : Version) (t : Tables) → LeavesIn v t (trees_in h new.conn) → KeepsIn v (state h new.conn) t
   kept_in v t leaves = record {
     settled = λ clean live. record {
       schema = one_schema new.conn.schema (schema_of v) (trees_in h new.conn) (it.opens.live it.opens.opens.is_open).0 leaves.sound;
@@ -38,11 +38,11 @@ module _ {S R : Type 0} (g : Ghosts S) (h : Ghosts R) (settles : Settles h) (rea
     left = λ clean trees may. subst (λ x. LeavesIn v t x) (sym (settles new.conn it.opens.opens.is_open trees may ∙ ap (λ d. d.trees) (sym it.opens.opens.clean))) leaves;
   }
 
-  none : (x : ActState) → IfSome new.book (λ s. s ≡ x.book)
+  pub none : (x : ActState) → IfSome new.book (λ s. s ≡ x.book)
   none x = subst (λ b. IfSome b (λ s. s ≡ x.book)) (sym it.book) tt
 
-  restarted : (Is : ActState → Type 0) → Stands g Is old → Stands h Is new
-  restarted Is (inl k) = inl (record {
+  pub restarted : OldIsReached → (Is : ActState → Type 0) → Stands g Is old → Stands h Is new
+  restarted reached Is (inl k) = inl (record {
     book = k.book;
     is = k.is;
     ties = record {
@@ -50,7 +50,7 @@ module _ {S R : Type 0} (g : Ghosts S) (h : Ghosts R) (settles : Settles h) (rea
       book = none k.book;
     };
   })
-  restarted Is (inr (inl k)) = elim (k.keeps.kept.left it.opens.clean (trees_in h new.conn) it.opens.left) [
+  restarted reached Is (inr (inl k)) = elim (k.keeps.kept.left it.opens.clean (trees_in h new.conn) it.opens.left) [
     | inl first ↦ inl (record {
       book = k.book;
       is = k.is;
@@ -62,13 +62,13 @@ module _ {S R : Type 0} (g : Ghosts S) (h : Ghosts R) (settles : Settles h) (rea
       ties = record { kept = record { kept = kept_in Two (tables_of k.other) other; reached = k.keeps.other_reached; valid = k.keeps.other_valid }; book = none k.other };
     })
   ]
-  restarted Is (inr (inr (inl k))) = inr (inr (inl (record {
+  restarted reached Is (inr (inr (inl k))) = inr (inr (inl (record {
     book = k.book;
     is = k.is;
     keeps = record { kept = kept_in One (old_tables_of k.book) (k.keeps.kept.left it.opens.clean (trees_in h new.conn) it.opens.left); reached = k.keeps.reached; valid = k.keeps.valid };
     lost = it.book;
   })))
-  restarted Is (inr (inr (inr k))) = elim (k.keeps.kept.left it.opens.clean (trees_in h new.conn) it.opens.left) [
+  restarted reached Is (inr (inr (inr k))) = elim (k.keeps.kept.left it.opens.clean (trees_in h new.conn) it.opens.left) [
     | inl first ↦ inr (inr (inl (record {
       book = k.book;
       is = k.is;
@@ -88,7 +88,7 @@ module _ {S R : Type 0} (g : Ghosts S) (h : Ghosts R) (settles : Settles h) (rea
 pub restart_law : {S R : Type 0} (g : Ghosts S) (h : Ghosts R) → Settles h → OldIsReached → RestartLaw g h
 restart_law g h settles reached old new it = record {
   clean = λ clean. it.opens.clean;
-  stands = λ clean b before stands. restarted g h settles reached old new it (MayBe b before) stands;
+  stands = λ clean b before stands. restarted g h settles old new it reached (MayBe b before) stands;
 }
 
 pub join_law : {S M R : Type 0} (g : Ghosts S) (m : Ghosts M) (h : Ghosts R) → JoinLaw g m h

@@ -1,5 +1,5 @@
 -- What any list of calls on a keeper comes to, with crashes and openings between them.
-use Rattle.std.specs.Prelude.{◌≡◌, ◌⊎◌, ⊤, true, List, [], ◌++◌, Contains, Some, None, Result, Ok, Err}
+use Rattle.std.specs.Prelude.{◌≡◌, ◌⊎◌, ⊤, ℕ, true, List, [], ◌++◌, Contains, Some, None, Result, Ok, Err, IsErr}
 use Rattle.sqlite_trees.specs.declared.store.Store.{Ghosts}
 use Rattle.sqlite.specs.Held.{state}
 use Rattle.sqlite.specs.State.{HasCleanDisk}
@@ -7,7 +7,9 @@ use Rattle.ob_base.specs.declared.stop.Stop.{Stop}
 use Rattle.ob_base.specs.declared.stop.Stop.TheVariants.{Refused, Fault}
 use Rattle.ob_base.specs.declared.stop.Refusal.TheVariants.{OldVersion}
 use Rattle.ob_base.specs.declared.stop.Fault.TheVariants.{OutOfMemory, Store}
-use Rattle.ob_book.specs.Acts.{ActState, Referenced, is_same}
+use Rattle.ob_time.specs.Calendar.{Calendar}
+use Rattle.ob_time.specs.Period.{IsPeriodText}
+use Rattle.ob_book.specs.Acts.{ActState, Referenced, is_same, start}
 use Rattle.ob_store.specs.Crashing.{OpensAfterCrash}
 use Rattle.ob_store.specs.Keeping.{KeeperValue, Ties}
 use Rattle.ob_lists.specs.Standing.{InUpgrade, KeptOld, MayBe, Stands, Told, acknowledged}
@@ -53,6 +55,15 @@ module _ {S : Type 0} (g : Ghosts S) where
   Finds Is new (Err (Fault OutOfMemory)) = ⊤
   Finds Is new (Err (Fault Store)) = ⊤
   Finds Is new (Err (Fault fault)) = ⊥
+
+  -- what a load finds where a book of a period was to be made in a database that held nothing: that book where it was made, that
+  -- or none where the store failed, and else none
+  abbrev pub Begun : List ℕ → ℕ → List ℕ → Result ⊤ Stop → KeeperValue S → Result ⊤ Stop → Type 0
+  Begun first days zone (Ok done) new result = (p : Calendar) × IsPeriodText first days zone p × Finds (λ x. x ≡ start p) new result
+  Begun first days zone (Err (Refused refusal)) new result = IsErr result
+  Begun first days zone (Err (Fault Store)) new result =
+      (p : Calendar) × IsPeriodText first days zone p × (Finds (λ x. x ≡ start p) new result ⊎ IsErr result)
+  Begun first days zone (Err (Fault fault)) new result = IsErr result
 
 -- an accepted command of the book has the reference and the body text
 abbrev pub Holds : ActState → Referenced → Type 0

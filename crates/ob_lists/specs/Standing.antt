@@ -1,11 +1,13 @@
 -- What the store of a keeper has of a book after a list of calls, and which book that may be.
-use Rattle.std.specs.Prelude.{◌≡◌, ◌⊎◌, List, [], ◌∷◌, None, Result, Ok, Err}
+use Rattle.std.specs.Prelude.{◌≡◌, ◌⊎◌, List, [], ◌∷◌, None, Result, Ok, Err, IsTrue}
 use Rattle.sqlite_trees.specs.declared.store.Store.{Ghosts}
 use Rattle.sqlite.specs.Held.{state}
+use Rattle.sqlite.specs.State.{IsLive}
 use Rattle.ob_base.specs.declared.stop.Stop.{Stop}
 use Rattle.ob_base.specs.declared.stop.Stop.TheVariants.{Refused, Fault}
 use Rattle.ob_base.specs.declared.stop.Fault.TheVariants.{Store}
 use Rattle.ob_book.specs.Acts.{ActState, Referenced, Reply, act, answer}
+use Rattle.ob_tables.specs.Schema.{no_schema}
 use Rattle.ob_store.specs.Keeping.{KeeperValue, KeepsEitherBook, Ties}
 use Rattle.ob_store.specs.Migrating.{KeepsEitherVersion, KeepsOldBook}
 use Rattle.ob_store.specs.declared.reply.Reply.{Reply as GivenReply}
@@ -66,3 +68,10 @@ module _ {S : Type 0} (g : Ghosts S) (Is : ActState → Type 0) (k : KeeperValue
   -- one of these
   abbrev pub Stands : Type 0
   Stands = Kept ⊎ (InDoubt ⊎ (KeptOld ⊎ InUpgrade))
+
+-- the store of a keeper is open, and holds nothing
+pub record HoldsNothing {S : Type 0} (g : Ghosts S) (k : KeeperValue S) : Type 0 where
+  pub live : IsTrue (state g k.conn).is_open
+  pub whole : IsLive (state g k.conn)
+  pub schema : k.conn.schema ≡ no_schema
+  pub committed : (state g k.conn).now ≡ (state g k.conn).committed

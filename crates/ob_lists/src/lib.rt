@@ -13,4 +13,7 @@ mod lists;
 
 pub use calls::{act, audit, create_again, load, migrate, moves_out, reply_of};
 pub use laws::{join_law, restart_law, told_law};
-pub use lists::{Restart, act_create, act_load_load, migrate_load_audit, migrate_restart_migrate_load};
+pub use lists::{
+    Restart, act_create, act_load_load, create_restart_load, migrate_load_audit,
+    migrate_restart_migrate_load,
+};

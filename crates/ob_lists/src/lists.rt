@@ -4,14 +4,14 @@ ghost use Rattle.sqlite.specs.State.{HasCleanDisk};
 ghost use Rattle.sqlite.specs.Held.{state};
 ghost use Rattle.ob_book.specs.Acts.{ActState};
 ghost use Rattle.ob_store.specs.Acting.{under};
-ghost use Rattle.ob_lists.specs.Standing.{MayBe, Stands, Told, told_by};
-ghost use Rattle.ob_lists.specs.Going.{Finds};
+ghost use Rattle.ob_lists.specs.Standing.{HoldsNothing, MayBe, Stands, Told, told_by};
+ghost use Rattle.ob_lists.specs.Going.{Begun, Finds};
 
 use crate::calls::{act, audit, create_again, load, migrate};
 use crate::laws::restart_law;
 use ob_base::{Ref, Stop};
 use ob_command::Command;
-use ob_store::{Keeper, Reply};
+use ob_store::{Keeper, Reply, load_law};
 use ob_sweep::Timeline;
 use ob_tables::Table;
 use sqlite::Alter;
@@ -57,6 +57,25 @@ pub fn act_create<S: Alter, T: Timeline>(
 {
     let sent = act(keeper, reference, command);
     (sent, create_again(keeper, first, days, zone))
+}
+
+/// A new book in a database that holds nothing, a crash, and a load: it finds the book that was made; where the store failed, that
+/// one or none; and else none.
+pub fn create_restart_load<S: Alter, R: Alter, T: Timeline, C: Restart<S, R, T>>(
+    mut keeper: Keeper<S, T>,
+    crash: &mut C,
+    first: &[u8],
+    days: u16,
+    zone: &[u8],
+) -> (Result<(), Stop>, Keeper<R, T>, Result<(), Stop>)
+    ensures { HasCleanDisk (state R.Store result.1.conn) → HoldsNothing S.Store keeper
+        → Begun R.Store first.now days zone.now result.0 result.1 result.2 }
+{
+    load_law::<R>();
+    let made = keeper.create(first, days, zone);
+    let mut next = crash.restart(keeper);
+    let found = next.load();
+    (made, next, found)
 }
 
 /// A migration that a crash ends, a migration after it, and a load: it finds the book, in the tables of either version.
