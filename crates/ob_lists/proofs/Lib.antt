@@ -1,0 +1,4 @@
+pub mod Standings
+pub mod Restarting
+pub mod Telling
+pub mod Beginning

@@ -1,0 +1,346 @@
+-- What each call makes of a book that the store may have.
+use Rattle.std.proofs.Common.{◌≡◌, ◌⊎◌, inl, inr, ℕ, Bool, true, false, List, [], ◌∷◌, ◌++◌, length, Option, Some, None, Result, Ok, Err, IsTrue, is_some, IsSome, IfSome, IfErr, IsErr, OnOk, refl, sym, ap, subst, ◌∙◌, arith}
+use Rattle.std.specs.Prelude.{⊤, ◌↔◌, ◌≢◌}
+use Rattle.sqlite_trees.specs.declared.store.Store.{Ghosts}
+use Rattle.sqlite.specs.Held.{state}
+use Rattle.sqlite.specs.State.{HasCleanDisk}
+use Rattle.ob_base.specs.declared.stop.Stop.{Stop}
+use Rattle.ob_base.specs.declared.stop.Stop.TheVariants.{Refused, Fault}
+use Rattle.ob_base.specs.declared.stop.Fault.{Fault as AFault}
+use Rattle.ob_base.specs.declared.stop.Fault.TheVariants.{OutOfMemory, Store, Reopen, Input, Output}
+use Rattle.ob_base.specs.declared.stop.Refusal.{Refusal}
+use Rattle.ob_base.specs.declared.stop.Refusal.TheVariants.{BadField, UnknownName, NameTaken, OutOfPeriod, UnknownEntry, Stale, Withdrawn, UnknownCustomer, BadService, RefConflict, Full, MarkedAlready, NotMarked, UnknownCause, BadPeriod, BadBook, BadLife, OldVersion}
+use Rattle.ob_state.specs.State.{BookState}
+use Rattle.ob_book.specs.Acts.{ActState, Referenced, act}
+use Rattle.ob_tables.specs.Creation.{old_schema}
+use Rattle.ob_tables.specs.Schema.{book_schema, no_schema}
+use Rattle.ob_tables.specs.declared.version.Version.TheVariants.{One}
+use Rattle.ob_compare.specs.Version.{HasVersion}
+use Rattle.ob_commit.specs.Keeps.{IsSettledIn}
+use Rattle.ob_parts.specs.OldTables.{HasOldBook, old_tables_of}
+use Rattle.ob_store.specs.Acting.{Acted, reply_as}
+use Rattle.ob_store.specs.Crashing.{HasLoaded, LoadLaw, Loads}
+use Rattle.ob_store.specs.Creating.{Created, HeldNothing}
+use Rattle.ob_store.specs.Keeping.{IsBookAfter, KeeperValue, KeepsBook, KeepsEitherBook, KeepsOn, Ties}
+use Rattle.ob_store.specs.Loading.{trees_in}
+use Rattle.ob_store.specs.Migrating.{KeepsEitherVersion, KeepsOldBook, Migrated, MigratesKept, MigratesOn}
+use Rattle.ob_store.specs.MovingOut.{MovesOut, StoreFails, Takes}
+use Rattle.ob_store.specs.Replying.{Replied}
+use Rattle.ob_store.specs.Versions.{IsLoadFault, Outdated}
+use Rattle.ob_store.specs.declared.reply.Reply.{Reply as GivenReply}
+use Rattle.ob_store.proofs.OldBooks.{has_one}
+use Rattle.ob_store.proofs.Upgrading.{two_versions}
+use Rattle.ob_lists.specs.Standing.{InDoubt, InUpgrade, Kept, KeptOld, MayBe, Stands, Told, acknowledged, doubted, told_by}
+use Rattle.ob_lists.specs.Going.{Finds, LoadsOne}
+
+-- the book after a stop is none, or as before
+pub after_stop : (was is : Option BookState) (stop : Stop) → IsBookAfter was is stop → (is ≡ was) ⊎ (is ≡ None)
+after_stop was is (Refused refusal) h = inl h
+after_stop was is (Fault OutOfMemory) h = inl h
+after_stop was is (Fault Store) h = inr h
+after_stop was is (Fault Reopen) h = inl h
+after_stop was is (Fault Input) h = inl h
+after_stop was is (Fault Output) h = inl h
+
+pub after_result : {X : Type 0} (was is : Option BookState) (r : Result X Stop) → OnOk r (is ≡ was) → IfErr r (IsBookAfter was is) → (is ≡ was) ⊎ (is ≡ None)
+after_result was is (Ok x) found dropped = inl found
+after_result was is (Err stop) found dropped = after_stop was is stop dropped
+
+module _ {S : Type 0} (g : Ghosts S) (old new : KeeperValue S) where
+  -- a book that is kept, and that of the keeper as before or none
+  tie_as_before : (x : ActState) → Ties g old x → KeepsBook (state g new.conn) x → new.book ≡ old.book → Ties g new x
+  tie_as_before x ties keeps same = record { kept = keeps; book = subst (λ b. IfSome b (λ s. s ≡ x.book)) (sym same) ties.book }
+
+  tie_none : (x : ActState) → KeepsBook (state g new.conn) x → new.book ≡ None → Ties g new x
+  tie_none x keeps none = record { kept = keeps; book = subst (λ b. IfSome b (λ s. s ≡ x.book)) (sym none) tt }
+
+  tie_after : (x : ActState) → Ties g old x → KeepsBook (state g new.conn) x → (new.book ≡ old.book) ⊎ (new.book ≡ None) → Ties g new x
+  tie_after x ties keeps (inl same) = tie_as_before x ties keeps same
+  tie_after x ties keeps (inr none) = tie_none x keeps none
+
+  still_lost : old.book ≡ None → (new.book ≡ old.book) ⊎ (new.book ≡ None) → new.book ≡ None
+  still_lost lost (inl same) = same ∙ lost
+  still_lost lost (inr none) = none
+
+  module _ (Is : ActState → Type 0) where
+    -- what the store kept it keeps on
+    pub kept_on : KeepsOn (state g old.conn) (state g new.conn) → (new.book ≡ old.book) ⊎ (new.book ≡ None) → Stands g Is old → Stands g Is new
+    kept_on on how (inl it) = inl (record { book = it.book; is = it.is; ties = tie_after it.book it.ties (on.book it.book it.ties.kept) how })
+    kept_on on how (inr (inl it)) = inr (inl (record {
+      book = it.book;
+      other = it.other;
+      is = it.is;
+      other_is = it.other_is;
+      keeps = on.either it.book it.other it.keeps;
+      lost = still_lost it.lost how;
+    }))
+    kept_on on how (inr (inr (inl it))) = inr (inr (inl (record { book = it.book; is = it.is; keeps = on.old_book it.book it.keeps; lost = still_lost it.lost how })))
+    kept_on on how (inr (inr (inr it))) = inr (inr (inr (record { book = it.book; is = it.is; keeps = on.version it.book it.keeps; lost = still_lost it.lost how })))
+
+    -- nothing was done
+    pub unmoved : new ≡ old → Stands g Is old → Stands g Is new
+    unmoved same stands = subst (λ k. Stands g Is k) (sym same) stands
+
+    -- a book that is lost, or one that the store keeps and the keeper has
+    pub by_book : (b : Option BookState) → old.book ≡ b → Stands g Is old
+        → (old.book ≡ None) ⊎ ((x : ActState) × Is x × Ties g old x × IsSome old.book)
+    by_book None e stands = inl e
+    by_book (Some s) e (inl it) = inr (it.book, it.is, it.ties, ap is_some e)
+    by_book (Some s) e (inr (inl it)) = inl it.lost
+    by_book (Some s) e (inr (inr (inl it))) = inl it.lost
+    by_book (Some s) e (inr (inr (inr it))) = inl it.lost
+
+    -- the tables that an open store shows of a book of version 1
+    old_settled : HasCleanDisk (state g old.conn) → IsTrue (state g old.conn).is_open → KeptOld g Is old ⊎ InUpgrade g Is old
+        → (x : ActState) × Is x × IsSettledIn One (state g old.conn) (old_tables_of x) × HasOldBook (trees_in g old.conn) x
+    old_settled clean live (inl it) =
+        let settled = it.keeps.kept.settled clean live in
+        (it.book, it.is, settled, record { reached = it.keeps.reached; valid = it.keeps.valid; tables = settled.holds.rows })
+    old_settled clean live (inr it) =
+        let settled = it.keeps.kept.settled clean live in
+        (it.book, it.is, settled, record { reached = it.keeps.reached; valid = it.keeps.valid; tables = settled.holds.rows })
+
+    -- ---- a load
+    -- a book that was found is the one that there may be
+    load_found : LoadLaw g → Loads g old new (Ok tt) → HasCleanDisk (state g new.conn) → Stands g Is old → HasLoaded g Is new (Ok tt)
+    load_found law loads clean (inl it) =
+        let got = (law old new (Ok tt) loads clean).0 it.book it.ties.kept in
+        (got.0, subst Is (sym got.1) it.is, got.2, got.3)
+    load_found law loads clean (inr (inl it)) =
+        let got = (law old new (Ok tt) loads clean).1 it.book it.other it.keeps in
+        (got.0, subst Is (sym got.1) it.is, got.2, got.3)
+    load_found law loads clean (inr (inr it)) =
+        let found = old_settled (loads.clean clean) (loads.answers.live clean tt) it in
+        absurd (loads.outdated clean found.2.schema)
+
+    pub load_stands : LoadLaw g → (r : Result ⊤ Stop) → Loads g old new r → HasCleanDisk (state g new.conn) → Stands g Is old → Stands g Is new
+    load_stands law (Ok done) loads clean stands =
+        let got = load_found law loads clean stands in
+        inl (record { book = got.0; is = got.1; ties = got.2 })
+    load_stands law (Err stop) loads clean stands = kept_on loads.answers.keeps (after_stop old.book new.book stop loads.dropped) stands
+
+    -- over the tables of version 1 that version is told
+    told_old : (r : Refusal) → HasVersion 1 (trees_in g old.conn) → KeptOld g Is old ⊎ InUpgrade g Is old → Outdated g {X = ⊤} old new (Err (Refused r)) → LoadsOne g Is old new (Err (Refused r))
+    told_old (BadField at) one it told = absurd told
+    told_old UnknownName one it told = absurd told
+    told_old NameTaken one it told = absurd told
+    told_old OutOfPeriod one it told = absurd told
+    told_old UnknownEntry one it told = absurd told
+    told_old (Stale revision) one it told = absurd told
+    told_old Withdrawn one it told = absurd told
+    told_old UnknownCustomer one it told = absurd told
+    told_old BadService one it told = absurd told
+    told_old (RefConflict id) one it told = absurd told
+    told_old (Full most) one it told = absurd told
+    told_old MarkedAlready one it told = absurd told
+    told_old NotMarked one it told = absurd told
+    told_old UnknownCause one it told = absurd told
+    told_old BadPeriod one it told = absurd told
+    told_old BadBook one it told = absurd (told.0 one)
+    told_old BadLife one it told = absurd told
+    told_old (OldVersion version) one it told = (told.0, it)
+
+    -- a fault that a load can have
+    load_fault : (f : AFault) → IsLoadFault (Fault f) → LoadsOne g Is old new (Err (Fault f))
+    load_fault OutOfMemory may = tt
+    load_fault Store may = tt
+    load_fault Reopen may = elim may [ | inl read ↦ elim read [ | inl store ↦ elim store [ | inl e ↦ absurd cc | inr e ↦ absurd cc ] | inr e ↦ absurd cc ] | inr e ↦ absurd cc ]
+    load_fault Input may = elim may [ | inl read ↦ elim read [ | inl store ↦ elim store [ | inl e ↦ absurd cc | inr e ↦ absurd cc ] | inr e ↦ absurd cc ] | inr e ↦ absurd cc ]
+    load_fault Output may = elim may [ | inl read ↦ elim read [ | inl store ↦ elim store [ | inl e ↦ absurd cc | inr e ↦ absurd cc ] | inr e ↦ absurd cc ] | inr e ↦ absurd cc ]
+
+    pub loads_one : LoadLaw g → (r : Result ⊤ Stop) → Loads g old new r → HasCleanDisk (state g new.conn) → Stands g Is old → LoadsOne g Is old new r
+    loads_one law (Ok done) loads clean stands = load_found law loads clean stands
+    loads_one law (Err (Refused r)) loads clean (inl it) = absurd ((law old new (Err (Refused r)) loads clean).0 it.book it.ties.kept)
+    loads_one law (Err (Refused r)) loads clean (inr (inl it)) = absurd ((law old new (Err (Refused r)) loads clean).1 it.book it.other it.keeps)
+    loads_one law (Err (Refused r)) loads clean (inr (inr it)) =
+        let found = old_settled (loads.clean clean) (loads.answers.live clean tt) it in
+        told_old r (has_one (trees_in g old.conn) found.0 found.3) it (loads.outdated clean found.2.schema)
+    loads_one law (Err (Fault f)) loads clean stands = load_fault f loads.stops
+
+    -- ---- a stored reply, and what was moved
+    replied_by : (n : ℕ) (r : Result (Option GivenReply) Stop) (x : ActState) → Is x → Replied g old new x n r → Stands g Is new
+    replied_by n (Ok found) x is done = inl (record { book = x; is = is; ties = done.1 })
+    replied_by n (Err (Refused refusal)) x is done = absurd done
+    replied_by n (Err (Fault OutOfMemory)) x is done = inl (record { book = x; is = is; ties = done.0 })
+    replied_by n (Err (Fault Store)) x is done = inl (record { book = x; is = is; ties = tie_none x done.0 done.1 })
+    replied_by n (Err (Fault Reopen)) x is done = absurd done
+    replied_by n (Err (Fault Input)) x is done = absurd done
+    replied_by n (Err (Fault Output)) x is done = absurd done
+
+    pub reply_stands : (n : ℕ) (r : Result (Option GivenReply) Stop) → (old.book ≡ None → new ≡ old)
+        → ((x : ActState) → Ties g old x → IsSome old.book → Replied g old new x n r) → Stands g Is old → Stands g Is new
+    reply_stands n r unopened replied stands = elim (by_book old.book refl stands) [
+      | inl none ↦ unmoved (unopened none) stands
+      | inr it ↦ replied_by n r it.0 it.1 (replied it.0 it.2 it.3)
+    ]
+
+    store_failed : (x : ActState) → Is x → (f : AFault) → StoreFails g old new x f → Stands g Is new
+    store_failed x is OutOfMemory done = inl (record { book = x; is = is; ties = done.0 })
+    store_failed x is Store done = inl (record { book = x; is = is; ties = tie_none x done.0 done.1 })
+    store_failed x is Reopen done = absurd done
+    store_failed x is Input done = absurd done
+    store_failed x is Output done = absurd done
+
+    module _ {V : Type 0} (takes : Takes V) (was now : V) where
+      moved_by : (r : Result ℕ Stop) (x : ActState) → Is x → MovesOut g takes old new was now x r → Stands g Is new
+      moved_by (Ok count) x is done = inl (record { book = x; is = is; ties = done.2 })
+      moved_by (Err (Refused refusal)) x is done = absurd done
+      moved_by (Err (Fault f)) x is (inl sink) = inl (record { book = x; is = is; ties = sink.1 })
+      moved_by (Err (Fault f)) x is (inr store) = store_failed x is f store.1
+
+      pub moves_stand : (r : Result ℕ Stop) → (old.book ≡ None → new ≡ old)
+          → ((x : ActState) → Ties g old x → IsSome old.book → MovesOut g takes old new was now x r) → Stands g Is old → Stands g Is new
+      moves_stand r unopened moves stands = elim (by_book old.book refl stands) [
+        | inl none ↦ unmoved (unopened none) stands
+        | inr it ↦ moved_by r it.0 it.1 (moves it.0 it.2 it.3)
+      ]
+
+    -- ---- a migration
+    as_either_version : (x : ActState) → KeepsOldBook (state g old.conn) x → KeepsEitherVersion (state g old.conn) x
+    as_either_version x keeps = record {
+      kept = record { settled = keeps.kept.settled; left = λ clean trees may. inl (keeps.kept.left clean trees may) };
+      reached = keeps.reached;
+      valid = keeps.valid;
+    }
+
+    -- the clauses of a migration
+    module _ (r : Result Bool Stop) (on : MigratesOn g old.conn new.conn r) (clean : HasCleanDisk (state g new.conn)) (was_clean : HasCleanDisk (state g old.conn))
+        (how : (new.book ≡ old.book) ⊎ (new.book ≡ None)) where
+      in_upgrade : (x : ActState) → Is x → KeepsEitherVersion (state g new.conn) x → old.book ≡ None → Stands g Is new
+      in_upgrade x is keeps lost = inr (inr (inr (record { book = x; is = is; keeps = keeps; lost = still_lost lost how })))
+
+      now_kept : (x : ActState) → Is x → KeepsBook (state g new.conn) x → old.book ≡ None → Stands g Is new
+      now_kept x is keeps lost = inl (record { book = x; is = is; ties = tie_none x keeps (still_lost lost how) })
+
+    migrated_kept : (r : Result Bool Stop) (on : MigratesOn g old.conn new.conn r) (clean : HasCleanDisk (state g new.conn)) (was_clean : HasCleanDisk (state g old.conn))
+        (how : (new.book ≡ old.book) ⊎ (new.book ≡ None)) (it : KeptOld g Is old) → (IsTrue (state g old.conn).is_open → MigratesKept g new.conn it.book r) → Stands g Is new
+    migrated_kept (Ok true) on clean was_clean how it kept = now_kept (Ok true) on clean was_clean how it.book it.is (kept (on.live clean tt)) it.lost
+    migrated_kept (Ok false) on clean was_clean how it kept = absurd (kept (on.live clean tt))
+    migrated_kept (Err (Refused r)) on clean was_clean how it kept = absurd (kept (on.live clean tt))
+    migrated_kept (Err (Fault f)) on clean was_clean how it kept =
+        in_upgrade (Err (Fault f)) on clean was_clean how it.book it.is (on.version clean it.book (as_either_version it.book it.keeps)) it.lost
+
+    migrated_either : (r : Result Bool Stop) (on : MigratesOn g old.conn new.conn r) (clean : HasCleanDisk (state g new.conn)) (was_clean : HasCleanDisk (state g old.conn))
+        (how : (new.book ≡ old.book) ⊎ (new.book ≡ None)) (it : InUpgrade g Is old) → (old.conn.schema ≡ old_schema → Migrated g old.conn new.conn r) → Stands g Is new
+    migrated_either (Ok true) on clean was_clean how it migrated =
+        let found = old_settled was_clean (on.live clean tt) (inr it) in
+        let made = migrated found.2.schema in
+        now_kept (Ok true) on clean was_clean how found.0 found.1 (subst (λ (x : ActState). KeepsBook (state g new.conn) x) (sym (made.1.1 found.0 found.3)) made.2) it.lost
+    migrated_either (Ok false) on clean was_clean how it migrated =
+        let found = old_settled was_clean (on.live clean tt) (inr it) in
+        absurd (two_versions (trees_in g old.conn) (has_one (trees_in g old.conn) found.0 found.3) (migrated found.2.schema).0)
+    migrated_either (Err stop) on clean was_clean how it migrated =
+        in_upgrade (Err stop) on clean was_clean how it.book it.is (on.version clean it.book it.keeps) it.lost
+
+    pub migrate_stands : (r : Result Bool Stop) → MigratesOn g old.conn new.conn r → HasCleanDisk (state g new.conn) → HasCleanDisk (state g old.conn)
+        → (new.book ≡ old.book) ⊎ (new.book ≡ None) → (old.conn.schema ≡ old_schema → Migrated g old.conn new.conn r)
+        → (IsTrue (state g old.conn).is_open → (x : ActState) → KeepsOldBook (state g old.conn) x → MigratesKept g new.conn x r) → Stands g Is old → Stands g Is new
+    migrate_stands r on clean was_clean how migrated kept (inl it) =
+        inl (record { book = it.book; is = it.is; ties = tie_after it.book it.ties (on.book it.book it.ties.kept) how })
+    migrate_stands r on clean was_clean how migrated kept (inr (inl it)) = inr (inl (record {
+      book = it.book;
+      other = it.other;
+      is = it.is;
+      other_is = it.other_is;
+      keeps = on.either it.book it.other it.keeps;
+      lost = still_lost it.lost how;
+    }))
+    migrate_stands r on clean was_clean how migrated kept (inr (inr (inl it))) = migrated_kept r on clean was_clean how it (λ live. kept live it.book it.keeps)
+    migrate_stands r on clean was_clean how migrated kept (inr (inr (inr it))) = migrated_either r on clean was_clean how it migrated
+
+    -- ---- a new book where there may be one
+    not_empty : book_schema ≡ no_schema → ⊥
+    not_empty e = let n : ◌≡◌ {A = ℕ} 11 0 = ap (λ s. length s.tables) e in omega (arith, n)
+
+    not_empty_old : old_schema ≡ no_schema → ⊥
+    not_empty_old e = let n : ◌≡◌ {A = ℕ} 10 0 = ap (λ s. length s.tables) e in omega (arith, n)
+
+    -- a database that an open store shows holds something where a book may be
+    held_nothing : HasCleanDisk (state g old.conn) → HasCleanDisk (state g new.conn) → HeldNothing (state g old.conn) (state g new.conn) → Stands g Is old → ⊥
+    held_nothing was_clean clean held (inl it) = not_empty (sym (it.ties.kept.kept.settled was_clean (held.live clean)).schema ∙ held.schema)
+    held_nothing was_clean clean held (inr (inl it)) = not_empty (sym (it.keeps.kept.settled was_clean (held.live clean)).schema ∙ held.schema)
+    held_nothing was_clean clean held (inr (inr it)) = not_empty_old (sym (old_settled was_clean (held.live clean) it).2.schema ∙ held.schema)
+
+    pub create_refused : (first : List ℕ) (days : ℕ) (zone : List ℕ) (r : Result ⊤ Stop) → Created g old new first days zone r → HasCleanDisk (state g new.conn)
+        → HasCleanDisk (state g old.conn) → Stands g Is old → IsErr r
+    create_refused first days zone (Ok done) made clean was_clean stands = absurd (held_nothing was_clean clean made.2 stands)
+    create_refused first days zone (Err stop) made clean was_clean stands = refl
+
+    pub create_stands : (first : List ℕ) (days : ℕ) (zone : List ℕ) (r : Result ⊤ Stop) → Created g old new first days zone r → HasCleanDisk (state g new.conn)
+        → HasCleanDisk (state g old.conn) → Stands g Is old → Stands g Is new
+    create_stands first days zone (Ok done) made clean was_clean stands = absurd (held_nothing was_clean clean made.2 stands)
+    create_stands first days zone (Err (Refused (BadField at))) made clean was_clean stands = absurd made
+    create_stands first days zone (Err (Refused UnknownName)) made clean was_clean stands = absurd made
+    create_stands first days zone (Err (Refused NameTaken)) made clean was_clean stands = absurd made
+    create_stands first days zone (Err (Refused OutOfPeriod)) made clean was_clean stands = absurd made
+    create_stands first days zone (Err (Refused UnknownEntry)) made clean was_clean stands = absurd made
+    create_stands first days zone (Err (Refused (Stale revision))) made clean was_clean stands = absurd made
+    create_stands first days zone (Err (Refused Withdrawn)) made clean was_clean stands = absurd made
+    create_stands first days zone (Err (Refused UnknownCustomer)) made clean was_clean stands = absurd made
+    create_stands first days zone (Err (Refused BadService)) made clean was_clean stands = absurd made
+    create_stands first days zone (Err (Refused (RefConflict id))) made clean was_clean stands = absurd made
+    create_stands first days zone (Err (Refused (Full most))) made clean was_clean stands = absurd made
+    create_stands first days zone (Err (Refused MarkedAlready)) made clean was_clean stands = absurd made
+    create_stands first days zone (Err (Refused NotMarked)) made clean was_clean stands = absurd made
+    create_stands first days zone (Err (Refused UnknownCause)) made clean was_clean stands = absurd made
+    create_stands first days zone (Err (Refused BadPeriod)) made clean was_clean stands = kept_on made.1.keeps (inl made.2) stands
+    create_stands first days zone (Err (Refused BadBook)) made clean was_clean stands = kept_on made.3.keeps (inl made.4) stands
+    create_stands first days zone (Err (Refused BadLife)) made clean was_clean stands = absurd made
+    create_stands first days zone (Err (Refused (OldVersion version))) made clean was_clean stands = absurd made
+    create_stands first days zone (Err (Fault OutOfMemory)) made clean was_clean stands = kept_on made.0.keeps (inl made.1) stands
+    create_stands first days zone (Err (Fault Store)) made clean was_clean stands = kept_on made.0.3 (inr made.1) stands
+    create_stands first days zone (Err (Fault Reopen)) made clean was_clean stands = absurd made
+    create_stands first days zone (Err (Fault Input)) made clean was_clean stands = absurd made
+    create_stands first days zone (Err (Fault Output)) made clean was_clean stands = absurd made
+
+  -- ---- a command
+  module _ (b : ActState) (before : List Told) (a : Referenced) where
+    acted_by : (r : Result GivenReply Stop) (x : ActState) → MayBe b before x → Acted g old new x a r → Stands g (MayBe b (told_by a r ++ before)) new
+    acted_by (Ok reply) x is done = inl (record { book = act x a; is = (x, is, (reply_as reply, done.0), refl); ties = done.1 })
+    acted_by (Err (Refused refusal)) x is done = inl (record { book = x; is = is; ties = done.1 })
+    acted_by (Err (Fault OutOfMemory)) x is done = inl (record { book = x; is = is; ties = done.0 })
+    acted_by (Err (Fault Store)) x is done = inr (inl (record {
+      book = x;
+      other = act x a;
+      is = (x, is, inl refl);
+      other_is = (x, is, inr refl);
+      keeps = done.0;
+      lost = done.1;
+    }))
+    acted_by (Err (Fault Reopen)) x is done = absurd done
+    acted_by (Err (Fault Input)) x is done = absurd done
+    acted_by (Err (Fault Output)) x is done = absurd done
+
+    pub act_stands : (r : Result GivenReply Stop) → (old.book ≡ None → r ≡ Err (Fault Reopen)) → (old.book ≡ None → new ≡ old)
+        → ((x : ActState) → Ties g old x → IsSome old.book → Acted g old new x a r) → Stands g (MayBe b before) old → Stands g (MayBe b (told_by a r ++ before)) new
+    act_stands r reopen unopened acted stands = elim (by_book (MayBe b before) old.book refl stands) [
+      | inl none ↦ subst (λ r. Stands g (MayBe b (told_by a r ++ before)) new) (sym (reopen none)) (unmoved (MayBe b before) (unopened none) stands)
+      | inr it ↦ acted_by r it.0 it.1 (acted it.0 it.2 it.3)
+    ]
+
+-- what a load finds, of the keeper that it leaves
+pub finds : {S : Type 0} (g : Ghosts S) (Is : ActState → Type 0) (old new : KeeperValue S) (r : Result ⊤ Stop) → LoadsOne g Is old new r → Finds g Is new r
+finds g Is old new (Ok done) found = found
+finds g Is old new (Err (Refused (BadField at))) found = found
+finds g Is old new (Err (Refused UnknownName)) found = found
+finds g Is old new (Err (Refused NameTaken)) found = found
+finds g Is old new (Err (Refused OutOfPeriod)) found = found
+finds g Is old new (Err (Refused UnknownEntry)) found = found
+finds g Is old new (Err (Refused (Stale revision))) found = found
+finds g Is old new (Err (Refused Withdrawn)) found = found
+finds g Is old new (Err (Refused UnknownCustomer)) found = found
+finds g Is old new (Err (Refused BadService)) found = found
+finds g Is old new (Err (Refused (RefConflict id))) found = found
+finds g Is old new (Err (Refused (Full most))) found = found
+finds g Is old new (Err (Refused MarkedAlready)) found = found
+finds g Is old new (Err (Refused NotMarked)) found = found
+finds g Is old new (Err (Refused UnknownCause)) found = found
+finds g Is old new (Err (Refused BadPeriod)) found = found
+finds g Is old new (Err (Refused BadBook)) found = found
+finds g Is old new (Err (Refused BadLife)) found = found
+finds g Is old new (Err (Refused (OldVersion version))) found = found.0
+finds g Is old new (Err (Fault OutOfMemory)) found = found
+finds g Is old new (Err (Fault Store)) found = found
+finds g Is old new (Err (Fault Reopen)) found = found
+finds g Is old new (Err (Fault Input)) found = found
+finds g Is old new (Err (Fault Output)) found = found

@@ -1,0 +1,14 @@
+use Rattle.ob_lists.specs.Standing.{MayBe}
+use Rattle.ob_lists.proofs.Standings.{after_result, migrate_stands}
+use Rattle.ob_lists.proofs.calls.migrate.Goals as goal
+
+pub returns : goal.returns
+returns g c =
+    let old = c.args.keeper.now in
+    let new = c.migrate.new.self in
+    let m = c.migrate.ensures in
+    record {
+      clean = m.clean;
+      stands = λ clean b before stands. migrate_stands g.S.Store old new (MayBe b before) c.migrate.result m.goes_on clean (m.clean clean)
+          (after_result old.book new.book c.migrate.result m.found m.dropped) (m.migrated clean) (m.kept clean) stands;
+    }

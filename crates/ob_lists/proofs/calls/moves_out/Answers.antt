@@ -1,0 +1,10 @@
+use Rattle.ob_lists.specs.Standing.{MayBe}
+use Rattle.ob_lists.proofs.Standings.{moves_stand}
+use Rattle.ob_lists.proofs.calls.moves_out.Goals as goal
+
+pub returns : goal.returns
+returns g c = record {
+  clean = c.moves_out.ensures.clean;
+  stands = λ clean b before stands. moves_stand g.S.Store c.args.keeper.now c.moves_out.new.self (MayBe b before) g.V.MoveSink.takes c.args.sink.now c.moves_out.new.sink c.moves_out.result
+      (λ none. (c.moves_out.ensures.unopened none).0) (λ x ties some. c.moves_out.ensures.moves clean x ties some) stands;
+}

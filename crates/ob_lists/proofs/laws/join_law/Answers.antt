@@ -1,0 +1,5 @@
+use Rattle.ob_lists.proofs.Restarting.{join_law}
+use Rattle.ob_lists.proofs.laws.join_law.Goals as goal
+
+pub returns : goal.returns
+returns g c = join_law g.S.Store g.M.Store g.R.Store

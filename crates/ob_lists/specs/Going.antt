@@ -1,0 +1,74 @@
+-- What any list of calls on a keeper comes to, with crashes and openings between them.
+use Rattle.std.specs.Prelude.{◌≡◌, ◌⊎◌, ⊤, ℕ, true, List, [], ◌++◌, Contains, Some, None, Result, Ok, Err, IsErr}
+use Rattle.sqlite_trees.specs.declared.store.Store.{Ghosts}
+use Rattle.sqlite.specs.Held.{state}
+use Rattle.sqlite.specs.State.{HasCleanDisk}
+use Rattle.ob_base.specs.declared.stop.Stop.{Stop}
+use Rattle.ob_base.specs.declared.stop.Stop.TheVariants.{Refused, Fault}
+use Rattle.ob_base.specs.declared.stop.Refusal.TheVariants.{OldVersion}
+use Rattle.ob_base.specs.declared.stop.Fault.TheVariants.{OutOfMemory, Store}
+use Rattle.ob_time.specs.Calendar.{Calendar}
+use Rattle.ob_time.specs.Period.{IsPeriodText}
+use Rattle.ob_book.specs.Acts.{ActState, Referenced, is_same, start}
+use Rattle.ob_store.specs.Crashing.{OpensAfterCrash}
+use Rattle.ob_store.specs.Keeping.{KeeperValue, Ties}
+use Rattle.ob_lists.specs.Standing.{InUpgrade, KeptOld, MayBe, Stands, Told, acknowledged}
+
+module _ {S R : Type 0} (g : Ghosts S) (h : Ghosts R) where
+  -- the one keeper has become the other, and this was told in between, the newest first: whatever was told before, what the store
+  -- had of a book it has, with what was told since
+  pub record Goes (told : List Told) (old : KeeperValue S) (new : KeeperValue R) : Type 0 where
+    pub clean : HasCleanDisk (state h new.conn) → HasCleanDisk (state g old.conn)
+    pub stands : HasCleanDisk (state h new.conn) → (b : ActState) (before : List Told)
+        → Stands g (MayBe b before) old → Stands h (MayBe b (told ++ before)) new
+
+  -- a process ended at any moment, and a keeper was made over what a crash left of its store
+  pub record Restarts (old : KeeperValue S) (new : KeeperValue R) : Type 0 where
+    pub opens : OpensAfterCrash g h old.conn new.conn
+    pub book : new.book ≡ None
+
+  abbrev pub RestartLaw : Type 0
+  RestartLaw = (old : KeeperValue S) (new : KeeperValue R) → Restarts old new → Goes [] old new
+
+module _ {S M R : Type 0} (g : Ghosts S) (m : Ghosts M) (h : Ghosts R) where
+  -- one list after another is a list
+  abbrev pub JoinLaw : Type 0
+  JoinLaw =
+      (first next : List Told) (old : KeeperValue S) (mid : KeeperValue M) (new : KeeperValue R)
+      → Goes g m first old mid → Goes m h next mid new → Goes g h (next ++ first) old new
+
+module _ {S : Type 0} (g : Ghosts S) where
+  -- a load finds one of these books, or tells that it is of version 1; or memory was refused, or the store failed
+  abbrev pub LoadsOne : (ActState → Type 0) → KeeperValue S → KeeperValue S → Result ⊤ Stop → Type 0
+  LoadsOne Is old new (Ok done) = (b : ActState) × Is b × Ties g new b × (new.book ≡ Some b.book)
+  LoadsOne Is old new (Err (Refused (OldVersion version))) = (version ≡ 1) × (KeptOld g Is old ⊎ InUpgrade g Is old)
+  LoadsOne Is old new (Err (Refused refusal)) = ⊥
+  LoadsOne Is old new (Err (Fault OutOfMemory)) = ⊤
+  LoadsOne Is old new (Err (Fault Store)) = ⊤
+  LoadsOne Is old new (Err (Fault fault)) = ⊥
+
+  -- the same of the last of some calls
+  abbrev pub Finds : (ActState → Type 0) → KeeperValue S → Result ⊤ Stop → Type 0
+  Finds Is new (Ok done) = (b : ActState) × Is b × Ties g new b × (new.book ≡ Some b.book)
+  Finds Is new (Err (Refused (OldVersion version))) = version ≡ 1
+  Finds Is new (Err (Refused refusal)) = ⊥
+  Finds Is new (Err (Fault OutOfMemory)) = ⊤
+  Finds Is new (Err (Fault Store)) = ⊤
+  Finds Is new (Err (Fault fault)) = ⊥
+
+  -- what a load finds where a book of a period was to be made in a database that held nothing: that book where it was made, that
+  -- or none where the store failed, and else none
+  abbrev pub Begun : List ℕ → ℕ → List ℕ → Result ⊤ Stop → KeeperValue S → Result ⊤ Stop → Type 0
+  Begun first days zone (Ok done) new result = (p : Calendar) × IsPeriodText first days zone p × Finds (λ x. x ≡ start p) new result
+  Begun first days zone (Err (Refused refusal)) new result = IsErr result
+  Begun first days zone (Err (Fault Store)) new result =
+      (p : Calendar) × IsPeriodText first days zone p × (Finds (λ x. x ≡ start p) new result ⊎ IsErr result)
+  Begun first days zone (Err (Fault fault)) new result = IsErr result
+
+-- an accepted command of the book has the reference and the body text
+abbrev pub Holds : ActState → Referenced → Type 0
+Holds b a = (c : Referenced) × Contains b.accepted c × (c.reference ≡ a.reference) × (is_same c.command a.command ≡ true)
+
+-- each command that is acknowledged is in the book
+abbrev pub ToldLaw : Type 0
+ToldLaw = (b x : ActState) (told : List Told) (a : Referenced) → MayBe b told x → Contains told (acknowledged a) → Holds x a

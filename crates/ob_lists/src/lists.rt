@@ -1,0 +1,107 @@
+//! Some lists of calls, each with what its last call answers.
+ghost use Rattle.std.specs.Prelude.{◌++◌, List, IsErr};
+ghost use Rattle.sqlite.specs.State.{HasCleanDisk};
+ghost use Rattle.sqlite.specs.Held.{state};
+ghost use Rattle.ob_book.specs.Acts.{ActState};
+ghost use Rattle.ob_store.specs.Acting.{under};
+ghost use Rattle.ob_lists.specs.Standing.{HoldsNothing, MayBe, Stands, Told, told_by};
+ghost use Rattle.ob_lists.specs.Going.{Begun, Finds};
+
+use crate::calls::{act, audit, create_again, load, migrate};
+use crate::laws::restart_law;
+use ob_base::{Ref, Stop};
+use ob_command::Command;
+use ob_store::{Keeper, Reply, load_law};
+use ob_sweep::Timeline;
+use ob_tables::Table;
+use sqlite::Alter;
+
+/// A process ends, and another one makes a keeper over what it left.
+pub trait Restart<S: Alter, R: Alter, T: Timeline> {
+    ghost use Rattle.ob_lists.specs.Going.{Restarts};
+
+    /// The keeper of the process after a crash, at any moment at which no call is at work.
+    fn restart(&mut self, keeper: Keeper<S, T>) -> Keeper<R, T>
+        ensures { Restarts S.Store R.Store keeper result };
+}
+
+/// A command, a load, and a load again: whatever the first two answered, the last finds a book in which the command is, if it was
+/// acknowledged.
+pub fn act_load_load<S: Alter, T: Timeline>(
+    keeper: &mut Keeper<S, T>,
+    reference: Ref,
+    command: Command,
+) -> (Result<Reply, Stop>, Result<(), Stop>)
+    ensures { HasCleanDisk (state S.Store keeper.new.conn) → (b : ActState) (told : List Told)
+        → Stands S.Store (MayBe b told) keeper.old
+        → Finds S.Store (MayBe b (told_by (under reference command) result.0 ++ told)) keeper.new
+        result.1 }
+{
+    let sent = act(keeper, reference, command);
+    let _ = load(keeper);
+    (sent, load(keeper))
+}
+
+/// A command, and then a new book where there is one: the last is refused, or it fails.
+pub fn act_create<S: Alter, T: Timeline>(
+    keeper: &mut Keeper<S, T>,
+    reference: Ref,
+    command: Command,
+    first: &[u8],
+    days: u16,
+    zone: &[u8],
+) -> (Result<Reply, Stop>, Result<(), Stop>)
+    ensures { HasCleanDisk (state S.Store keeper.new.conn) → (b : ActState) (told : List Told)
+        → Stands S.Store (MayBe b told) keeper.old → IsErr result.1
+        × Stands S.Store (MayBe b (told_by (under reference command) result.0 ++ told)) keeper.new }
+{
+    let sent = act(keeper, reference, command);
+    (sent, create_again(keeper, first, days, zone))
+}
+
+/// A new book in a database that holds nothing, a crash, and a load: it finds the book that was made; where the store failed, that
+/// one or none; and else none.
+pub fn create_restart_load<S: Alter, R: Alter, T: Timeline, C: Restart<S, R, T>>(
+    mut keeper: Keeper<S, T>,
+    crash: &mut C,
+    first: &[u8],
+    days: u16,
+    zone: &[u8],
+) -> (Result<(), Stop>, Keeper<R, T>, Result<(), Stop>)
+    ensures { HasCleanDisk (state R.Store result.1.conn) → HoldsNothing S.Store keeper
+        → Begun R.Store first.now days zone.now result.0 result.1 result.2 }
+{
+    load_law::<R>();
+    let made = keeper.create(first, days, zone);
+    let mut next = crash.restart(keeper);
+    let found = next.load();
+    (made, next, found)
+}
+
+/// A migration that a crash ends, a migration after it, and a load: it finds the book, in the tables of either version.
+pub fn migrate_restart_migrate_load<S: Alter, R: Alter, T: Timeline, C: Restart<S, R, T>>(
+    mut keeper: Keeper<S, T>,
+    crash: &mut C,
+) -> (Keeper<R, T>, Result<(), Stop>)
+    ensures { HasCleanDisk (state R.Store result.0.conn) → (b : ActState) (told : List Told)
+        → Stands S.Store (MayBe b told) keeper
+        → Finds R.Store (MayBe b told) result.0 result.1 }
+{
+    restart_law::<S, R>();
+    let _ = migrate(&mut keeper);
+    let mut next = crash.restart(keeper);
+    let _ = migrate(&mut next);
+    let found = load(&mut next);
+    (next, found)
+}
+
+/// A migration, a load and an audit: the audit ends as it may, and the book stands.
+pub fn migrate_load_audit<S: Alter, T: Timeline>(keeper: &mut Keeper<S, T>) -> Result<Option<Table>, Stop>
+    ensures { HasCleanDisk (state S.Store keeper.new.conn) → (b : ActState) (told : List Told)
+        → Stands S.Store (MayBe b told) keeper.old
+        → Stands S.Store (MayBe b told) keeper.new }
+{
+    let _ = migrate(keeper);
+    let _ = load(keeper);
+    audit(keeper)
+}
