@@ -11,7 +11,7 @@ from typing import NamedTuple
 from outagebook.normal_state import SOURCE, TestedDevice
 from outagebook.oms.complaints import BadRow, Complaint, Notes
 from outagebook.oms.conversion import MOST_NAME, Conversion
-from outagebook.oms.customers import GREATEST_NUMBER, read_service
+from outagebook.oms.customers import GREATEST_NUMBER
 from outagebook.oms.fields import identifier, number, read_moment, read_zone, shown
 from outagebook.oms.files import Export, Row
 from outagebook.oms.known import Service
@@ -197,8 +197,11 @@ def device_text(device: TestedDevice) -> str:
 def take_customer(contents: Contents, row: Row) -> None:
     """A customer; one whose service was over before the period doesn't come into its book."""
     customer = number(row["customer"], GREATEST_NUMBER, "the customer")
-    service = read_service(row, contents.conversion.zone, contents.conversion.dates)
-    contents.ends(row)
+    section = identifier(row["section"], MOST_NAME, "the section")
+    if not row["since"]:
+        raise BadRow("since is empty")
+    since, until = contents.ends(row)
+    service = Service(section, max(0, since or 0), until)
     if not contents.is_first("customer", str(customer), row):
         return
     before = contents.customers.get(customer)

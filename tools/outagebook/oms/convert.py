@@ -36,6 +36,7 @@ from outagebook.zone import Zone
 
 MOST_DAYS = 366
 MOST_PREFIX = 8
+MOST_TOLD = 1_000  # complaints on standard error
 
 
 @dataclass
@@ -86,7 +87,10 @@ class Run:
         """Nothing is written where a row can't be taken."""
         complaints = self.conversion.complaints.found
         if complaints:
-            reported = "\n".join(map(str, complaints))
+            listed = [str(complaint) for complaint in complaints[:MOST_TOLD]]
+            if len(complaints) > MOST_TOLD:
+                listed.append(f"and {len(complaints) - MOST_TOLD} more, which --report FILE tells")
+            reported = "\n".join(listed)
             raise BookError(f"rows can't be read, and nothing was written:\n{reported}")
 
 

@@ -214,6 +214,8 @@ class Export:
         if len(record) != width:
             return f"it has {len(record)} fields, and there are {width} columns"
         whole = "".join(record)
+        if whole.isprintable():  # most are, and have neither
+            return None
         if UNREADABLE in whole:
             return f"it has bytes that aren't of the encoding {self.notes.encoding} (--encoding tells another)"
         if CONTROL.search(whole):
