@@ -18,11 +18,13 @@ from collections import Counter
 from collections.abc import Iterator
 from contextlib import closing
 from dataclasses import dataclass
+from fractions import Fraction
 from pathlib import Path
 
 from outagebook.cli import Parser, run_job
 from outagebook.compare import figures_of_table
 from outagebook.copies import copy_of
+from outagebook.counts import index_text
 from outagebook.errors import BookError, Differs
 from outagebook.exported import ExportedRows, add_export_arguments, exported_rows
 from outagebook.references import sources_of
@@ -180,7 +182,14 @@ def parted(table: list[str]) -> dict[str, str]:
     figures = figures_of_table(table)
     figures.pop("the heading")
     sums = figures.pop("P, S and W").split()
-    return {**dict(zip(("P", "S", "W"), sums)), **figures}
+    shown = {which: shown_index(which, words) for which, words in figures.items()}
+    return {**dict(zip(("P", "S", "W"), sums)), **shown}
+
+
+def shown_index(which: str, words: str) -> str:
+    """The words of the table for a figure; of ASAI, five decimals."""
+    fraction = words.partition(" ")[0]
+    return index_text("ASAI", Fraction(fraction)) if which.startswith("ASAI ") and "/" in fraction else words
 
 
 def trial_of(book: Path, text: Text, program: str, prefix: str, exports: ExportedRows) -> Trial:
