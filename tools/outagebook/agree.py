@@ -6,6 +6,7 @@ OMS.csv has the columns `ticket`, `customers` and `customer_minutes`. What belon
 tickets.py and in docs/DATA.md. The book is compared with the program first.
 """
 
+import argparse
 import re
 from collections.abc import Iterable, Iterator
 from dataclasses import dataclass, replace
@@ -19,7 +20,7 @@ from outagebook.forms import Figures, Value, write_csv, write_json, write_text
 from outagebook.oms.complaints import BadRow, Complaints
 from outagebook.oms.fields import identifier
 from outagebook.oms.files import Format, Row, add_format_arguments, format_of, read_file
-from outagebook.oms.steps import CANCELLED
+from outagebook.oms.steps import cancelled_words
 from outagebook.rows import Book, Entry
 from outagebook.tickets import Part, Ticket, Tickets, customers_of, tickets_of
 
@@ -59,13 +60,13 @@ def minutes_told(text: str) -> Fraction | None:
     return Fraction(text.replace(",", "."))
 
 
-def read_told(rows: Iterable[Row], by_step: bool) -> dict[str, Told]:
+def read_told(rows: Iterable[Row], by_step: bool, cancelled: frozenset[str] = cancelled_words()) -> dict[str, Told]:
     """The counts by ticket. A ticket's rows say the same or nothing; by step, each has its own, and they are added up."""
     complaints = Complaints()
     told: dict[str, Told] = {}
     for row in rows:
         with complaints.about(row):
-            if row["status"].lower() not in CANCELLED:
+            if row["status"].lower() not in cancelled:
                 ticket = identifier(row["ticket"], LONGEST_TICKET, "the ticket")
                 here = Told(customers_told(row["customers"]), minutes_told(row["customer_minutes"]))
                 before = told.get(ticket, Told(None, None))
@@ -76,9 +77,11 @@ def read_told(rows: Iterable[Row], by_step: bool) -> dict[str, Told]:
     return told
 
 
-def read_counts(path: str, by_step: bool = False, format: Format = Format()) -> dict[str, Told]:
+def read_counts(
+    path: str, by_step: bool = False, format: Format = Format(), cancelled: Iterable[str] = ()
+) -> dict[str, Told]:
     """The counts that a file tells."""
-    return read_told(read_file(path, COLUMNS, REQUIRED, format), by_step)
+    return read_told(read_file(path, COLUMNS, REQUIRED, format), by_step, cancelled_words(cancelled))
 
 
 def sum_of(before: Told, here: Told) -> Told:
@@ -365,6 +368,23 @@ def figures_of(book: Book, agreement: Agreement, most: int | None) -> Figures:
     return Figures("agreement", lines, columns, [[row[name] for name in columns] for row in rows])
 
 
+def add_count_arguments(parser: argparse._ActionsContainer) -> None:
+    """The words that say how the OMS's counts are written."""
+    parser.add_argument(
+        "--by-step", action="store_true", help="each row of a ticket has the counts of a step: they are added up"
+    )
+    parser.add_argument("--prefix", default="OMS-", help="what the references of outages begin with (OMS-)")
+    parser.add_argument(
+        "--cancelled", metavar="WORD", action="append", default=[], help="as outagebook-from-oms takes it"
+    )
+    add_format_arguments(parser)
+
+
+def counts_of(args: argparse.Namespace) -> dict[str, Told]:
+    """The counts of the file that the words name."""
+    return read_counts(args.oms, args.by_step, format_of(args), args.cancelled)
+
+
 def make_parser() -> Parser:
     parser = Parser(description="Shows the counts of an outage management system beside a book's, ticket by ticket.")
     parser.add_argument("book", help="the book's file")
@@ -379,11 +399,7 @@ def make_parser() -> Parser:
         default=FIRST_PAGE,
         help=f"how many tickets a text shows ({FIRST_PAGE}); 0: all",
     )
-    parser.add_argument(
-        "--by-step", action="store_true", help="each row of a ticket has the counts of a step: they are added up"
-    )
-    parser.add_argument("--prefix", default="OMS-", help="what the references of outages begin with (OMS-)")
-    add_format_arguments(parser)
+    add_count_arguments(parser)
     add_table_arguments(parser)
     return parser
 
@@ -395,7 +411,7 @@ def main() -> int:
         parser.error("--most is a number from 0 on")
 
     def job() -> None:
-        told = read_counts(args.oms, args.by_step, format_of(args))
+        told = counts_of(args)
         with open_book(args.book, args.table, args.program) as found:
             agreement = agreement_of(found, told, args.prefix)
             args.write(figures_of(found.book, agreement, args.most if args.write is write_text else None))

@@ -253,7 +253,7 @@ def refusals(contents: Contents, findings: list[Finding], complaints: list[Compl
 
 
 def conversion_findings(run: Run, contents: Contents, findings: list[Finding]) -> Iterator[Finding]:
-    """What the conversion refuses beside the findings, leaves out and changes."""
+    """What the conversion refuses beside the findings, leaves out, changes and notices."""
     yield from refusals(contents, findings, run.conversion.complaints.found)
     yield from (Finding(Topic.NOTED, (), line, is_wrong=False) for line in told.lines_of_notes(run.files))
 

@@ -11,11 +11,11 @@ from typing import NamedTuple
 from outagebook.normal_state import SOURCE, TestedDevice
 from outagebook.oms.complaints import BadRow, Complaint, Notes
 from outagebook.oms.conversion import MOST_NAME, Conversion
-from outagebook.oms.customers import GREATEST_NUMBER, read_service
+from outagebook.oms.customers import GREATEST_NUMBER
 from outagebook.oms.fields import identifier, number, read_moment, read_zone, shown
 from outagebook.oms.files import Export, Row
 from outagebook.oms.known import Service
-from outagebook.oms.steps import CANCELLED, MOST_STEP
+from outagebook.oms.steps import MOST_STEP
 
 
 class Topic(Enum):
@@ -32,7 +32,7 @@ class Topic(Enum):
     NOT_REACHED = "not reached, with or without ties"
     TIES_ALONE = "reached through ties alone"
     LOOP = "loops of devices that are closed normally"
-    NOTED = "left out or changed when rows are written"
+    NOTED = "left out, changed or noticed when rows are written"
 
 
 class Place(NamedTuple):
@@ -197,8 +197,11 @@ def device_text(device: TestedDevice) -> str:
 def take_customer(contents: Contents, row: Row) -> None:
     """A customer; one whose service was over before the period doesn't come into its book."""
     customer = number(row["customer"], GREATEST_NUMBER, "the customer")
-    service = read_service(row, contents.conversion.zone, contents.conversion.dates)
-    contents.ends(row)
+    section = identifier(row["section"], MOST_NAME, "the section")
+    if not row["since"]:
+        raise BadRow("since is empty")
+    since, until = contents.ends(row)
+    service = Service(section, max(0, since or 0), until)
     if not contents.is_first("customer", str(customer), row):
         return
     before = contents.customers.get(customer)
@@ -228,7 +231,10 @@ def take_outage(contents: Contents, row: Row) -> None:
     """A step of a ticket, but for one that was cancelled."""
     ticket = identifier(row["ticket"], MOST_NAME, "the ticket")
     step = identifier(row["step"] or "1", MOST_STEP, "the step")
-    if not contents.is_first("ticket and step", f"{ticket} {step}", row) or row["status"].lower() in CANCELLED:
+    if (
+        not contents.is_first("ticket and step", f"{ticket} {step}", row)
+        or row["status"].lower() in contents.conversion.cancelled
+    ):
         return
     if not row["out"] and not row["restored"]:
         raise BadRow("neither out nor restored is given")

@@ -80,6 +80,16 @@ def decimal_text(value: Fraction | None, places: int = 3) -> str:
     return f"{parts // scale}.{parts % scale:0{places}}"
 
 
+def index_decimals(index: str) -> int:
+    """How many decimals of an index are shown beside its fraction: of ASAI five, since three say nothing."""
+    return 5 if index == "ASAI" else 3
+
+
+def index_text(index: str, value: Fraction | None) -> str:
+    """The fraction of an index, and its decimals."""
+    return "undefined" if value is None else f"{fraction_text(value)} {decimal_text(value, index_decimals(index))}"
+
+
 def fraction_text(value: Fraction | None) -> str:
     """A fraction in lowest terms as the program writes it."""
     return "undefined" if value is None else f"{value.numerator}/{value.denominator}"

@@ -20,7 +20,7 @@ from outagebook import indices as further
 from outagebook.causes import cause_groups, causes
 from outagebook.cli import Parser, add_table_arguments, run_job
 from outagebook.compare import Checked, open_book
-from outagebook.counts import SETS, indices_of
+from outagebook.counts import SETS, decimal_text, fraction_text, index_decimals, indices_of
 from outagebook.customers import customers
 from outagebook.days import days, months
 from outagebook.events import DEFAULT_RULE, events, read_rule
@@ -66,7 +66,7 @@ def indices(found: Checked, hours: Sequence[Fraction] = further.HOURS, loads: fu
         "index": "its name",
         "set": "all interruptions, or the unmarked ones, which don't begin on a marked day",
         "value": "an exact fraction in lowest terms, `undefined` where there is nothing to divide by, or a count",
-        "decimal": "three decimals, rounded half up",
+        "decimal": "three decimals, five of ASAI, rounded half up",
         "unit": "its unit",
         "definition": "its quotient",
         "from": "program: equal to the annual table; computed here: no program prints it",
@@ -76,7 +76,9 @@ def indices(found: Checked, hours: Sequence[Fraction] = further.HOURS, loads: fu
     for name in SETS:
         counts = found.counts[name]
         values = indices_of(counts, found.book.served_seconds(), found.book.period.length)
-        rows += [[index, name, *both(value), *meaning_of(index), "program"] for index, value in values.items()]
+        for index, value in values.items():
+            decimals = decimal_text(value, index_decimals(index))
+            rows.append([index, name, fraction_text(value), decimals, *meaning_of(index), "program"])
         rows.append(["SUSTAINED", name, counts.sustained, "", *meaning_of("SUSTAINED"), "program"])
         rows.append(["MOMENTARY", name, counts.momentary, "", *meaning_of("MOMENTARY"), "program"])
         rows += [

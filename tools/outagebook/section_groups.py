@@ -7,7 +7,16 @@ from fractions import Fraction
 from typing import Literal
 
 from outagebook.compare import Checked
-from outagebook.counts import SETS, Counts, counts_of, decimal_text, fraction_text, indices_of, quotient
+from outagebook.counts import (
+    SETS,
+    Counts,
+    counts_of,
+    decimal_text,
+    fraction_text,
+    index_decimals,
+    indices_of,
+    quotient,
+)
 from outagebook.errors import Differs
 from outagebook.forms import Figures, Value
 from outagebook.lists import Groups, groups_in_order, told_missing
@@ -152,5 +161,5 @@ def counted_values(row: Counted) -> list[Value]:
     values += [row.customer_seconds, counts.sustained, counts.sustained_seconds, counts.momentary, counts.with_some[0]]
     for index in INDICES:
         value = row.indices[index]
-        values += [fraction_text(value), decimal_text(value, 5 if index == "ASAI" else 3)]
+        values += [fraction_text(value), decimal_text(value, index_decimals(index))]
     return values

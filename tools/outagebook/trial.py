@@ -18,18 +18,21 @@ from collections import Counter
 from collections.abc import Iterator
 from contextlib import closing
 from dataclasses import dataclass
+from fractions import Fraction
 from pathlib import Path
 
 from outagebook.cli import Parser, run_job
 from outagebook.compare import figures_of_table
 from outagebook.copies import copy_of
+from outagebook.counts import index_text
 from outagebook.errors import BookError, Differs
 from outagebook.exported import ExportedRows, add_export_arguments, exported_rows
 from outagebook.references import sources_of
 from outagebook.serving import LONGEST_BODY, Desk, Refusal, served
 from outagebook.texts import Text, text_of
 
-MOST_AT_ONCE = 4_096  # rows that are sent together
+FIRST_AT_ONCE, MOST_AT_ONCE = 256, 4_096  # rows that are sent together
+LONG = 1.0  # seconds; parts that take longer don't grow, so that a person sees how far it is
 MOST_DAYS_SHOWN = 10
 REFUSED = 2
 
@@ -123,20 +126,27 @@ def act_rows(desk: Desk, text: Text, progress: Progress | None = None) -> Iterat
     Rows are sent many at once, and after a refusal those behind it. So that few of them are sent twice, a part has at most
     twice as many rows as the one before it had acted: the rows that are sent are at most three times those of the text.
     """
-    place, size = 0, MOST_AT_ONCE
+    place, size = 0, FIRST_AT_ONCE
     while place < len(text.rows):
         if progress:
             progress.at(place, len(text.rows))
-        size = fitting(text, place, size)
+        size, began = fitting(text, place, size), time.monotonic()
         said = desk.import_text(text.part(place, size))
         acted = size if said.row is None else said.row - 1
         if said.added + said.again != acted:
             raise Differs(f"rows behind row {place}", acted, f"{said.added} added and {said.again} again")
         if said.row is None or said.refusal is None:
-            place, size = place + size, min(2 * size, MOST_AT_ONCE)
+            place, size = place + size, next_size(size, time.monotonic() - began)
         else:
             place, size = place + said.row, said.row
             yield place - 1, said.refusal
+
+
+def next_size(size: int, seconds: float) -> int:
+    """How many rows are sent together after a part of some rows that took some seconds."""
+    if seconds > 2 * LONG:
+        return max(1, size // 2)
+    return size if seconds > LONG else min(2 * size, MOST_AT_ONCE)
 
 
 def fitting(text: Text, place: int, size: int) -> int:
@@ -172,7 +182,14 @@ def parted(table: list[str]) -> dict[str, str]:
     figures = figures_of_table(table)
     figures.pop("the heading")
     sums = figures.pop("P, S and W").split()
-    return {**dict(zip(("P", "S", "W"), sums)), **figures}
+    shown = {which: shown_index(which, words) for which, words in figures.items()}
+    return {**dict(zip(("P", "S", "W"), sums)), **shown}
+
+
+def shown_index(which: str, words: str) -> str:
+    """The words of the table for a figure; of ASAI, five decimals."""
+    fraction = words.partition(" ")[0]
+    return index_text("ASAI", Fraction(fraction)) if which.startswith("ASAI ") and "/" in fraction else words
 
 
 def trial_of(book: Path, text: Text, program: str, prefix: str, exports: ExportedRows) -> Trial:

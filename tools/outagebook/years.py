@@ -13,7 +13,7 @@ import sys
 
 from outagebook.cli import Parser, run_job
 from outagebook.compare import Checked, open_book
-from outagebook.counts import SETS, decimal_text, indices_of, quotient, quotient_text
+from outagebook.counts import SETS, decimal_text, index_text, indices_of, quotient
 from outagebook.rows import CAUSE, FEEDER
 
 
@@ -33,7 +33,7 @@ def lines_of(found: Checked) -> dict[str, str]:
     }
     for name in SETS:
         for index, value in indices_of(found.counts[name], served, period.length).items():
-            lines[f"{index} {name}"] = quotient_text(value)
+            lines[f"{index} {name}"] = index_text(index, value)
         lines[f"SUSTAINED {name}"] = str(found.counts[name].sustained)
         lines[f"MOMENTARY {name}"] = str(found.counts[name].momentary)
     for code, cause in book.causes.items():

@@ -40,13 +40,14 @@ class Zone:
 
     def instants(self, moment: datetime) -> list[int]:
         """The seconds at which the clock shows a moment: one, two in a fold, none in a gap; rising."""
-        readings = (moment.replace(tzinfo=self.info, fold=fold) for fold in (0, 1))
-        seconds = {second_of(reading) for reading in readings}
         shown = moment.replace(tzinfo=None, fold=0)
+        first, second = (second_of(moment.replace(tzinfo=self.info, fold=fold)) for fold in (0, 1))
+        if first == second:  # neither a fold nor a gap, in which both readings differ
+            return [first]
         return sorted(
-            second
-            for second in seconds
-            if datetime.fromtimestamp(second, self.info).replace(tzinfo=None, fold=0) == shown
+            each
+            for each in (first, second)
+            if datetime.fromtimestamp(each, self.info).replace(tzinfo=None, fold=0) == shown
         )
 
     def midnight(self, day: date) -> int:

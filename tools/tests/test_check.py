@@ -147,8 +147,12 @@ class Found(unittest.TestCase):
         """What lies outside of the period is told, and no fault by itself; steps of a device that overlap are one."""
         row = "T-1,1,CB-7,2025-10-19 22:00:00,,2025-10-19 23:00:00,,WIND"
         found = self.checked(Exports(oms=[row]), status=0)
-        text = "oms.csv: left out: steps before the period: 1 (row 8)"
-        self.assertEqual(found, [("left out or changed when rows are written", text, False)])
+        texts = [
+            "oms.csv: left out: steps before the period: 1 (row 8)",
+            "oms.csv: noticed: steps that aren't over: 1 (row 7)",
+        ]
+        topic = "left out, changed or noticed when rows are written"
+        self.assertEqual(sorted(found), [(topic, text, False) for text in texts])
         row = "T-1,1,SW-81,2025-10-23 13:03:00,,2025-10-23 14:00:00,,WIND"
         ((topic, text, is_wrong),) = self.checked(Exports(oms=[row]))
         self.assertEqual((topic, is_wrong), ("rows that can't be taken", True))

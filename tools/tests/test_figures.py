@@ -11,8 +11,9 @@ from typing import Any
 
 from outagebook import figures
 from outagebook.compare import Checked
-from outagebook.counts import SETS
+from outagebook.counts import SETS, decimal_text
 from outagebook.forms import Figures, write_csv, write_json, write_text
+from outagebook.years import lines_of
 from tests import support
 
 Row = dict[str, Any]  # a figure's values by their columns
@@ -74,13 +75,20 @@ class Fortnight(unittest.TestCase):
         self.assertEqual(found, wanted)
 
     def test_indices_are_the_words_of_the_table(self) -> None:
+        """The table's, but for the decimals of ASAI, of which three say nothing."""
         lines = support.fortnight().table.read_text().splitlines()[-34:]
-        found = [
-            f"{row['index']:<10}{row['set']:<9}{row['value']} {row['decimal']}".rstrip()
-            for row in self.rows("indices")
-            if row["from"] == "program"
-        ]
+        rows = [row for row in self.rows("indices") if row["from"] == "program"]
+        self.assertEqual([row["decimal"] for row in rows if row["index"] == "ASAI"], ["0.99034", "0.99268"])
+        for row in rows:
+            if row["index"] == "ASAI":
+                row["decimal"] = decimal_text(Fraction(row["value"]))
+        found = [f"{row['index']:<10}{row['set']:<9}{row['value']} {row['decimal']}".rstrip() for row in rows]
         self.assertEqual(found, lines)
+
+    def test_years_show_five_decimals_of_asai(self) -> None:
+        lines = lines_of(support.opened(support.fortnight()))
+        self.assertEqual(lines["ASAI all"], "1246999/1259160 0.99034")
+        self.assertEqual(lines["SAIDI all"], "4073935/20986 194.126")
 
 
 class Sums(unittest.TestCase):

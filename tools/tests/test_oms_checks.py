@@ -93,8 +93,9 @@ class Checks(unittest.TestCase):
         )
 
     def test_a_device_that_was_never_closed_is_told(self) -> None:
-        self.taken("--report", self.folder / "report.txt")
-        self.assertIn("noticed: steps that aren't over: 1 (row 7)", (self.folder / "report.txt").read_text())
+        done = self.taken("--report", self.folder / "report.txt")
+        for told in (done.err, (self.folder / "report.txt").read_text()):
+            self.assertIn("noticed: steps that aren't over: 1 (row 7)", told)
 
     def test_a_switching_outside_of_the_life_of_its_device_is_told(self) -> None:
         """The book takes it, and counts it where a life reaches it."""
@@ -118,6 +119,29 @@ class Checks(unittest.TestCase):
             ("17:55:00+01:00,,,,CABLE FAULT,CREW-A,,", "17:55:00+01:00,,,,CABLE FAULT,CREW-A,,cancelld"),
         )
         self.refused("row 7: status 'cancelld' may be meant for cancelled", oms=oms)
+
+    def test_words_of_the_status(self) -> None:
+        """A word that isn't looked at is told; one that means a mistake may be given."""
+        oms = changed(
+            "oms",
+            ("CREW-B,,cancelled", "CREW-B,,Storno"),
+            ("17:55:00+01:00,,,,CABLE FAULT,CREW-A,,", "17:55:00+01:00,,,,CABLE FAULT,CREW-A,,open"),
+        )
+        done = self.taken(oms=oms)
+        self.assertIn("oms.csv: left out: the status 'Storno', which isn't looked at (--cancelled", done.err)
+        self.assertIn("oms.csv: left out: the status 'open', which isn't looked at (--cancelled", done.err)
+        self.assertIn("OMS-T-2044-1-O", done.out)
+        done = self.taken("--cancelled", "STORNO", oms=oms)
+        self.assertNotIn("Storno", done.err)
+        self.assertNotIn("OMS-T-2044-1-O", done.out)
+
+    def test_very_many_rows_that_can_not_be_taken(self) -> None:
+        """Standard error tells the first thousand, the report all of them."""
+        customers = sample("customers") + "".join(f"{number},NOWHERE,2020-01-01,\n" for number in range(6_000, 7_500))
+        done = self.run_with("--report", self.folder / "report.txt", customers=customers)
+        self.assertEqual((done.status, done.out, len(done.complaints)), (1, "", 1_000))
+        self.assertIn("and 500 more, which --report FILE tells", done.err)
+        self.assertEqual((self.folder / "report.txt").read_text().count("NOWHERE is no section"), 1_500)
 
     # The network and the customers.
 

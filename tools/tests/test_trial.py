@@ -8,6 +8,7 @@ import unittest
 from collections.abc import Callable, Iterable
 from dataclasses import dataclass, field
 from pathlib import Path
+from unittest import mock
 
 from outagebook import trial
 from outagebook.exported import ExportedRows
@@ -298,6 +299,29 @@ class Steps(unittest.TestCase):
                 self.assertEqual(desk.seen, list(range(self.ROWS)), "each row acts once, in order")
                 self.assertLessEqual(desk.sent, 3 * self.ROWS)
                 self.assertLessEqual(desk.asked, 20 + 14 * (1 + len(refused)))
+
+    def test_how_far_it_is(self) -> None:
+        """On a terminal each part is told; where rows take long, parts are small, a second or two each."""
+        seconds_of_row, clock = 0.01, [0.0]
+        text = text_of(b"header\n" + b"".join(b"%d,,,,,,,\n" % row for row in range(2_000)), "rows")
+        desk = PlainDesk(lambda row: False)
+
+        def slow(body: bytes) -> Imported:
+            said = PlainDesk.import_text(desk, body)
+            clock[0] += seconds_of_row * said.added
+            return said
+
+        terminal = io.StringIO()
+        with mock.patch.object(terminal, "isatty", lambda: True), mock.patch("sys.stderr", terminal):
+            with mock.patch("time.monotonic", lambda: clock[0]):
+                progress = trial.Progress()
+                self.assertEqual(list(trial.act_rows(mock.Mock(import_text=slow), text, progress)), [])
+                progress.end()
+        told = [int(line.split()[0]) for line in terminal.getvalue().split("\r")[1:-1]]
+        self.assertEqual(told, sorted(told))
+        steps = [after - before for before, after in zip(told, [*told[1:], 2_000])]
+        self.assertLessEqual(max(steps) * seconds_of_row, 2.56, "seconds without a word")
+        self.assertGreater(len(told), 8)
 
 
 class References(unittest.TestCase):

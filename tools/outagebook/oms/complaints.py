@@ -68,6 +68,7 @@ class Notes:
     delimiter: str = ""
     columns: list[str] = field(default_factory=list)
     unread: list[str] = field(default_factory=list)
+    renamed: set[tuple[str, str]] = field(default_factory=set)  # columns by the user's names, with those of this tool
     rows: int = 0
     commands: dict[str, int] = field(default_factory=dict)
     noted: dict[tuple[str, str], list[int]] = field(default_factory=dict)

@@ -30,6 +30,7 @@ class Conversion:
     period: Period | None
     known: Known
     dates: tuple[str, ...] = ()
+    cancelled: frozenset[str] = frozenset()  # words of a status
     complaints: Complaints = field(default_factory=Complaints)
     refs: set[str] = field(default_factory=set)  # of the commands of this run
 

@@ -29,13 +29,14 @@ from outagebook.oms.conversion import Conversion
 from outagebook.oms.fields import LATEST_MOMENT
 from outagebook.oms.files import Export, Format, Row, add_format_arguments, format_of
 from outagebook.oms.known import Known, known_of
-from outagebook.oms.steps import StepReader
+from outagebook.oms.steps import StepReader, cancelled_words
 from outagebook.oms.writing import whole_file, whole_output
 from outagebook.rows import Period, period_of
 from outagebook.zone import Zone
 
 MOST_DAYS = 366
 MOST_PREFIX = 8
+MOST_TOLD = 1_000  # complaints on standard error
 
 
 @dataclass
@@ -73,7 +74,11 @@ class Run:
             self.check_given(grid)
 
     def check_given(self, grid: network.Network) -> None:
-        """What the files can't be checked against isn't guessed."""
+        """What the files can't be checked against isn't guessed, and a column's name that no file has is no slip of the pen."""
+        read = {each for notes in self.files for each in notes.renamed}
+        for theirs, ours in self.format.columns:
+            if (theirs, ours) not in read:
+                raise BookError(f"no file has a column {theirs!r} that --column names as {ours}")
         if (self.args.oms or self.args.customers) and not grid.is_known:
             raise BookError("outages and customers are checked against the network: give --gis or --book")
         if self.args.oms and self.conversion.period is None:
@@ -86,7 +91,10 @@ class Run:
         """Nothing is written where a row can't be taken."""
         complaints = self.conversion.complaints.found
         if complaints:
-            reported = "\n".join(map(str, complaints))
+            listed = [str(complaint) for complaint in complaints[:MOST_TOLD]]
+            if len(complaints) > MOST_TOLD:
+                listed.append(f"and {len(complaints) - MOST_TOLD} more, which --report FILE tells")
+            reported = "\n".join(listed)
             raise BookError(f"rows can't be read, and nothing was written:\n{reported}")
 
 
@@ -125,6 +133,13 @@ def make_parser() -> Parser:
     parser.add_argument("--book", metavar="BOOK", help="the book that the rows are for, as far as it is")
     parser.add_argument(
         "--prefix", type=prefix_argument, default="OMS-", help="what the references of outages begin with (OMS-)"
+    )
+    parser.add_argument(
+        "--cancelled",
+        metavar="WORD",
+        action="append",
+        default=[],
+        help="a word of the column status that means a mistake, beside cancelled; may be told several times",
     )
     parser.add_argument("--crew", default="OMS", help="the crew where a row names none (OMS)")
     add_format_arguments(parser)
@@ -170,7 +185,8 @@ def conversion_of(args: argparse.Namespace, known: Known) -> Conversion:
             raise BookError(f"the period can't be read: {error}") from None
         if period.first < 0 or period.end > LATEST_MOMENT:
             raise BookError("the period doesn't lie between 1970 and 5138, where a book's seconds do")
-    return Conversion(args.zone or (period.zone if period else None), period, known, tuple(args.dates))
+    cancelled = cancelled_words(args.cancelled)
+    return Conversion(args.zone or (period.zone if period else None), period, known, tuple(args.dates), cancelled)
 
 
 def write_report(path: Path, run: Run) -> None:

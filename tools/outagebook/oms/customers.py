@@ -5,26 +5,15 @@ from dataclasses import dataclass, field
 
 from outagebook.oms.complaints import BadRow, Notes
 from outagebook.oms.conversion import MOST_NAME, Conversion, note_small_letters
-from outagebook.oms.fields import identifier, life_texts, number, read_moment
+from outagebook.oms.fields import identifier, life_texts, number
 from outagebook.oms.files import Row
 from outagebook.oms.known import Service
 from outagebook.oms.network import Network
-from outagebook.zone import Zone
 
 COLUMNS = ("customer", "section", "since", "since_hour", "until", "until_hour")
 REQUIRED = ("customer", "section", "since", "until")
 GREATEST_NUMBER = 4_294_967_295
 MOST_CUSTOMERS = 100_000
-
-
-def read_service(row: Row, zone: Zone | None, dates: tuple[str, ...] = ()) -> Service:
-    """The service that a row tells; a beginning before 1970 is 0."""
-    section = identifier(row["section"], MOST_NAME, "the section")
-    if not row["since"]:
-        raise BadRow("since is empty")
-    since = read_moment(row["since"], row["since_hour"], zone, "since", dates)
-    until = read_moment(row["until"], row["until_hour"], zone, "until", dates) if row["until"] else None
-    return Service(section, max(0, since), until)
 
 
 @dataclass

@@ -106,11 +106,14 @@ def formatted_civil(text: str, pattern: str, what: str) -> Civil | None:
 def civil_of(text: str, formats: tuple[str, ...], what: str) -> Civil:
     """The moment that a text tells; one that it tells in two ways is refused."""
     readings = [iso_civil(text, what), *(formatted_civil(text, pattern, what) for pattern in formats)]
-    found = sorted({reading for reading in readings if reading is not None}, key=str)
+    found = [reading for reading in readings if reading is not None]
+    if len(found) == 1:
+        return found[0]
     if not found:
         raise BadRow(
             f"{what} {shown(text)} is no time such as 2025-10-21 08:14:05 (--date-format tells another spelling)"
         )
+    found = sorted(set(found), key=str)
     if len({moment for moment, _ in found}) > 1:
         raise BadRow(f"{what} {shown(text)} may be {' or '.join(str(moment) for moment, _ in found)}")
     return found[0]

@@ -44,11 +44,13 @@ class Row:
 
 @dataclass(frozen=True)
 class Format:
-    """How the files are written: None is what a file tells by itself. `dates` are the user's formats beside ISO 8601."""
+    """How the files are written: None is what a file tells by itself. `dates` are the user's formats beside ISO 8601, `columns`
+    the user's names of columns, in small letters, each with that of this page."""
 
     delimiter: str | None = None
     encoding: str | None = None
     dates: tuple[str, ...] = ()
+    columns: tuple[tuple[str, str], ...] = ()
 
 
 def date_format(text: str) -> str:
@@ -59,7 +61,15 @@ def date_format(text: str) -> str:
         raise argparse.ArgumentTypeError(str(error)) from None
 
 
-def add_format_arguments(parser: argparse.ArgumentParser) -> None:
+def column_name(text: str) -> tuple[str, str]:
+    """A name of a column on the command line, and the column for which it stands."""
+    theirs, between, ours = text.rpartition("=")
+    if not between or not theirs.strip() or not ours.strip():
+        raise argparse.ArgumentTypeError(f"{text!r} isn't THEIRS=COLUMN, as 'Ticket No=ticket'")
+    return theirs.strip().lower(), ours.strip().lower()
+
+
+def add_format_arguments(parser: argparse._ActionsContainer) -> None:
     """The words that say how the exports are written."""
     parser.add_argument(
         "--delimiter", choices=DELIMITERS, help="what stands between fields (found by the line of column names)"
@@ -76,10 +86,19 @@ def add_format_arguments(parser: argparse.ArgumentParser) -> None:
         type=date_format,
         help="another spelling of dates and times, in strptime's words, as %%d.%%m.%%Y %%H:%%M; may be told several times",
     )
+    parser.add_argument(
+        "--column",
+        dest="renamed",
+        metavar="THEIRS=COLUMN",
+        action="append",
+        default=[],
+        type=column_name,
+        help="what a column is called in the files, as 'Ticket No=ticket'; may be told several times",
+    )
 
 
 def format_of(args: argparse.Namespace) -> Format:
-    return Format(DELIMITERS.get(args.delimiter), args.encoding, tuple(args.dates))
+    return Format(DELIMITERS.get(args.delimiter), args.encoding, tuple(args.dates), tuple(args.renamed))
 
 
 class Progress:
@@ -138,7 +157,7 @@ class Export:
                 names = next(csv.reader([line], delimiter=delimiter), list[str]())
             except csv.Error:
                 return 0
-            return len({name.strip().lower() for name in names} & set(self.columns))
+            return len({self.own_name(name) for name in names} & set(self.columns))
 
         return max(DELIMITERS.values(), key=known)
 
@@ -167,7 +186,10 @@ class Export:
 
     def places_of(self, names: list[str]) -> dict[str, int]:
         """Where each column stands; nothing where they can't be told."""
-        found = [name.strip().lower() for name in names]
+        found = [self.own_name(name) for name in names]
+        self.notes.renamed = {
+            (name.strip().lower(), own) for name, own in zip(names, found) if name.strip().lower() != own
+        }
         wrong = list(self.wrong_in_header(found, names))
         for text in wrong:
             self.complaints.add(Spot(self.path, HEADER), text)
@@ -175,13 +197,19 @@ class Export:
         self.notes.unread = [name for name in found if name not in self.columns]
         return {} if wrong else {name: place for place, name in enumerate(found) if name in self.columns}
 
+    def own_name(self, name: str) -> str:
+        """The column for which a name stands in this file, or the name in small letters."""
+        lowered = name.strip().lower()
+        meant = (ours for theirs, ours in self.format.columns if theirs == lowered and ours in self.columns)
+        return next(meant, lowered)
+
     def wrong_in_header(self, found: list[str], names: list[str]) -> Iterator[str]:
         """What is wrong with the columns."""
         if any(UNREADABLE in name or CONTROL.search(name) for name in names):
             yield f"it isn't of the encoding {self.notes.encoding} (--encoding tells another)"
             return
         if not set(self.columns) & set(found):
-            yield f"it has none of the columns {', '.join(self.columns)}"
+            yield f"it has none of the columns {', '.join(self.columns)} (--column THEIRS={self.columns[0]} tells another name)"
             return
         yield from (f"it has two columns {name}" for name in self.columns if found.count(name) > 1)
         for name in self.columns:
@@ -189,9 +217,12 @@ class Export:
                 others = [other for other in found if other not in self.columns]
                 alike = difflib.get_close_matches(name, others, 1, ALIKE)
                 if alike:
-                    yield f"it has {alike[0]!r}, which isn't read, and no column {name}: is it meant? Rename it"
+                    yield (
+                        f"it has {alike[0]!r}, which isn't read, and no column {name}: is it meant? Rename it, or say"
+                        f" --column '{alike[0]}={name}'"
+                    )
                 elif name in self.required:
-                    yield f"it has no column {name}"
+                    yield f"it has no column {name} (--column THEIRS={name} tells another name)"
 
     def rows_of(self, fields: Iterator[list[str]], places: dict[str, int], width: int) -> Iterator[Row]:
         progress = Progress(self.path)
@@ -214,6 +245,8 @@ class Export:
         if len(record) != width:
             return f"it has {len(record)} fields, and there are {width} columns"
         whole = "".join(record)
+        if whole.isprintable():  # most are, and have neither
+            return None
         if UNREADABLE in whole:
             return f"it has bytes that aren't of the encoding {self.notes.encoding} (--encoding tells another)"
         if CONTROL.search(whole):

@@ -1,7 +1,8 @@
 """Outages and steps of restoration, row by row, of an outage management system."""
 
 import difflib
-from dataclasses import dataclass
+from collections.abc import Iterable
+from dataclasses import dataclass, field
 from functools import lru_cache
 
 from outagebook.oms.causes import Causes
@@ -16,6 +17,7 @@ MOST_STEP = 4
 MOST_CREW = 16
 CANCELLED_STEPS = "steps that were cancelled"
 CANCELLED = ("cancelled", "canceled")
+MOST_STATUSES = 20  # words of the status that are told one by one
 
 
 @dataclass(slots=True, eq=False)
@@ -65,16 +67,9 @@ def is_alike(status: str) -> bool:
     return bool(difflib.get_close_matches(status, CANCELLED, 1, ALIKE))
 
 
-def is_cancelled(row: Row, notes: Notes) -> bool:
-    """The ticket was a mistake. Other words of a status mean nothing here, but one that may be meant for it is refused."""
-    status = row["status"].lower()
-    if status in CANCELLED:
-        return True
-    if is_alike(status):
-        raise BadRow(f"status {shown(row['status'])} may be meant for {CANCELLED[0]}")
-    if status:
-        notes.noticed("steps with a status that isn't looked at", row)
-    return False
+def cancelled_words(words: Iterable[str] = ()) -> frozenset[str]:
+    """The words of a status that mean a mistake, the user's among them, in small letters."""
+    return frozenset({*CANCELLED, *(word.strip().lower() for word in words)})
 
 
 @dataclass
@@ -86,13 +81,28 @@ class StepReader:
     causes: Causes
     prefix: str
     crew: str
+    statuses: set[str] = field(default_factory=set)  # words that aren't looked at
+
+    def is_cancelled(self, row: Row, notes: Notes) -> bool:
+        """The ticket was a mistake. Other words of a status mean nothing here, and are told; one that may be meant for it is
+        refused."""
+        status = row["status"].lower()
+        if not status or status in self.conversion.cancelled:
+            return bool(status)
+        if is_alike(status):
+            raise BadRow(f"status {shown(row['status'])} may be meant for {CANCELLED[0]}")
+        if len(self.statuses) < MOST_STATUSES:
+            self.statuses.add(status)
+        word = f"the status {shown(row['status'])}" if status in self.statuses else "other words of the status"
+        notes.left_out(f"{word}, which isn't looked at (--cancelled WORD tells what means a mistake)", row)
+        return False
 
     def read(self, row: Row, notes: Notes) -> Step:
         """The step of a row; one that was cancelled tells no moment."""
         ticket = identifier(row["ticket"], MOST_NAME, "the ticket")
         step = identifier(row["step"] or "1", MOST_STEP, "the step")
         place = row.file, row.number, f"{self.prefix}{ticket}-{step}", ticket, step
-        if is_cancelled(row, notes):
+        if self.is_cancelled(row, notes):
             notes.left_out(CANCELLED_STEPS, row)
             return Step(*place, "", True, None, None, 0, "", None)
         device = identifier(row["device"], MOST_NAME, "the device")

@@ -52,10 +52,10 @@ def rows_text(rows: list[int]) -> str:
 
 
 def lines_of_notes(files: Iterable[Notes]) -> Iterator[str]:
-    """What was left out or changed, a line for each file and reason."""
+    """What was left out, changed or noticed, a line for each file and reason."""
     for notes in files:
         for (what, reason), rows in notes.noted.items():
-            if what != NOTICED and reason not in QUIET:
+            if reason not in QUIET:
                 yield f"{notes.file}: {what}: {reason}: {len(set(rows))} ({rows_text(rows)})"
 
 

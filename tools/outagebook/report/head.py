@@ -5,7 +5,7 @@ from fractions import Fraction
 from html import escape
 
 from outagebook.compare import Checked
-from outagebook.counts import SETS, decimal_text, quotient
+from outagebook.counts import SETS, decimal_text, index_decimals, quotient
 from outagebook.figures import TERMS, meaning_of
 from outagebook.report.pieces import PROVED, Part, decimal, hours, number
 from outagebook.rows import CAUSE
@@ -52,9 +52,9 @@ def per_cent(share: Fraction) -> str:
 
 
 def value_text(index: str, words: str) -> str:
-    """The figure of an index that everybody looks for: its three decimals, and five of ASAI, where three say nothing."""
+    """The figure of an index that everybody looks for: its decimals."""
     fraction, _, decimals = words.rpartition(" ")
-    return decimal_text(Fraction(fraction), 5) if index == "ASAI" and fraction else decimals
+    return decimal_text(Fraction(fraction), index_decimals(index)) if "/" in fraction else decimals
 
 
 def tile_text(index: str, words: str) -> str:

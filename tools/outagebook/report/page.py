@@ -15,7 +15,7 @@ from datetime import date
 from html import escape
 from pathlib import Path
 
-from outagebook.agree import Agreement, agreement_of, read_counts
+from outagebook.agree import Agreement, add_count_arguments, agreement_of, counts_of
 from outagebook.cli import Parser, add_table_arguments, run_job
 from outagebook.compare import Checked, figures_of_table, open_book
 from outagebook.counts import SETS
@@ -121,7 +121,7 @@ def asked_for(found: Checked, args: argparse.Namespace) -> Asked:
         section_groups=read_section_groups(args.by, book) if args.by else None,
         rule=args.ticket or (DEFAULT_RULE if args.events else None),
         has_customers=args.customers,
-        agreement=agreement_of(found, read_counts(args.oms)) if args.oms else None,
+        agreement=agreement_of(found, counts_of(args), args.prefix) if args.oms else None,
         years=years_until(found, args) if args.earlier else None,
     )
 
@@ -161,6 +161,7 @@ def parser_of_report() -> Parser:
     parser.add_argument(
         "--earlier", metavar="BOOK", nargs="+", help="books of the years before: the part on major event days"
     )
+    add_count_arguments(parser.add_argument_group("how the OMS's counts are written"))
     add_table_arguments(parser)
     return parser
 

@@ -215,6 +215,8 @@ def late_part(found: Checked) -> Part:
     late = [work for work in works if work.is_late]
     whole = sorted((work for work in late if work.own is not None), key=late_rank)
     rows = [late_row(found, work, by_number) for work in whole[:WORST]]
+    if not late:
+        return Part("late", "What late work moved", PROVED, "<p>No switching is late, corrected or withdrawn.</p>")
     content = f"""
 <p>{number(len(late))} late switchings, corrections and withdrawals; as wholes they changed W by {signed(own_sum(late))}
 customer-seconds. A switching is late where a later second had been told before it. An opening takes the rest of the period
