@@ -1,16 +1,18 @@
 """The pages in headless Chromium, over a real desk: what an operator sees and does."""
 
+import json
 import os
 import random
 import signal
 import threading
 import time
 import unittest
+from http.server import BaseHTTPRequestHandler, ThreadingHTTPServer
 
 import browser
 import support
 from selenium.webdriver.common.keys import Keys
-from test_server import Cutter
+from test_server import LIGHTHOUSE, Cutter
 
 COMMANDS = int(os.environ.get("SCREEN_COMMANDS", "24"))
 LATE = "/enter?device=LBS-22&at=2025-04-06T23:52:00%2B02:00"
@@ -238,6 +240,7 @@ class Breaks(Case):
         page.says(".outcome", "Command 103 stands")
         page.says(".outcome .equal", "equal")
         page.says(".state", "Desk: here")
+        self.assertEqual(screen.number(), 103)
 
     def test_the_screen_is_killed_while_a_command_is_in_work(self) -> None:
         desk = self.desk()
@@ -340,6 +343,86 @@ class Pages(Case):
         self.one.open(f"{copy.url}/year", None)
         self.one.says("main", "194.126")
         self.one.says(".state", "No desk: a copy")
+
+
+class Elsewhere(BaseHTTPRequestHandler):
+    """A page of another origin."""
+
+    def do_GET(self) -> None:
+        data = b"<!DOCTYPE html><title>elsewhere</title><body></body>"
+        self.send_response(200)
+        self.send_header("Content-Type", "text/html")
+        self.send_header("Content-Length", str(len(data)))
+        self.end_headers()
+        self.wfile.write(data)
+
+    def log_message(self, *_: object) -> None:
+        pass
+
+
+# Tries to read and to act from a page of another origin, with the cookie and even with the token of a login.
+TRIES = """
+const [url, body, token] = arguments, done = arguments[arguments.length - 1];
+const json = { "Content-Type": "application/json", "X-Screen-Token": token };
+const tries = [
+  ["/api/now", {}], ["/api/me", { credentials: "include" }], ["/api/me", { mode: "no-cors", credentials: "include" }],
+  ["/api/command", { method: "POST", body, mode: "no-cors", credentials: "include" }],
+  ["/api/command", { method: "POST", body, credentials: "include", headers: json }],
+  ["/api/import", { method: "POST", body, credentials: "include", headers: { "Content-Type": "text/csv" } }],
+];
+const seen = async ([route, options]) => {
+  try {
+    return await (await fetch(url + route, options)).text();
+  } catch {
+    return "";
+  }
+};
+const heard = () => new Promise((resolve) => {
+  const source = new EventSource(`${url}/events`, { withCredentials: true });
+  source.onmessage = (event) => resolve(event.data);
+  source.onerror = () => { source.close(); resolve(""); };
+});
+const framed = () => new Promise((resolve) => {
+  const frame = document.createElement("iframe");
+  frame.src = `${url}/enter`;
+  frame.onload = () => { try { resolve(frame.contentDocument.body.textContent); } catch { resolve(""); } };
+  document.body.append(frame);
+});
+(async () => {
+  const found = [];
+  for (const each of tries) found.push(await seen(each));
+  done([...found, await heard(), await framed()]);
+})();
+"""
+# A form of another origin, which a browser sends without asking the server first.
+FORM = """
+const [url, body] = arguments;
+const form = Object.assign(document.createElement("form"), { action: `${url}/api/command`, method: "POST", enctype: "text/plain" });
+form.append(Object.assign(document.createElement("input"), { name: body.slice(0, -1) + ',"x":"', value: '"}' }));
+document.body.append(form);
+form.submit();
+"""
+
+
+class Origins(Case):
+    def test_a_page_from_elsewhere_neither_reads_nor_acts(self) -> None:
+        screen = self.screen()
+        server = ThreadingHTTPServer(("127.0.0.1", 0), Elsewhere)
+        threading.Thread(target=server.serve_forever, daemon=True).start()
+        self.addCleanup(server.server_close)
+        self.addCleanup(server.shutdown)
+        page = self.one
+        page.open(f"{screen.url}/")
+        screen.log_in("ANNA")
+        body = json.dumps({**LIGHTHOUSE, "ref": "SCR-ANNA-1"})
+        for host in ("127.0.0.1", "localhost"):  # the same site on another port, and another site
+            page.driver.get(f"http://{host}:{server.server_port}/")
+            found = page.driver.execute_async_script(TRIES, screen.url, body, screen.headers["X-Screen-Token"])
+            self.assertEqual(found, [""] * len(found))
+            page.driver.execute_script(FORM, screen.url, body)
+            page.wait(lambda: "from elsewhere" in page.text("body"), "the refusal of the form")
+        self.assertEqual(screen.number(), 102)
+        self.assertEqual(screen.call("/api/log")[1], [])
 
 
 class Crowd(Case):
