@@ -120,10 +120,43 @@ export function table(heads, rows, caption = null, rowClasses = []) {
   );
 }
 
-/** A label with its field. */
+let made = 0;
+const newId = (words) => `f-${words.toLowerCase().replace(/[^a-z0-9]+/g, "-")}-${(made += 1)}`;
+
+/** A label with its field, and a note of which a reader of the screen hears with the field. */
 export function field(label, input, note = null) {
-  input.id ||= `f-${label.toLowerCase().replace(/[^a-z0-9]+/g, "-")}-${(field.count = (field.count || 0) + 1)}`;
-  return el("div", { class: "field" }, el("label", { for: input.id }, label), input, note ? el("div", { class: "note" }, note) : "");
+  input.id ||= newId(label);
+  const beside = typeof note === "string" ? el("div", { class: "note" }, note) : note;
+  if (beside) {
+    beside.id ||= newId("note");
+    input.setAttribute("aria-describedby", beside.id);
+  }
+  return el("div", { class: "field" }, el("label", { for: input.id }, label), input, beside);
+}
+
+/** What is higher than its place scrolls, by the keyboard too. */
+export function scrolling(label, ...children) {
+  return el("div", { class: "tall scroll", tabindex: "0", role: "region", "aria-label": `${label}, scrolls` }, children);
+}
+
+const nameOf = (element) => `${element.tagName} ${element.getAttribute("href") || element.getAttribute("aria-label") || element.textContent}`;
+
+/** Puts new children in the place of old ones: what had the focus keeps it, where it is there again, and what was scrolled
+ * stays so. */
+export function renew(place, ...children) {
+  const had = place.contains(document.activeElement) ? nameOf(document.activeElement) : null;
+  const scrolled = [...place.querySelectorAll(".scroll")].map((each) => [each.scrollLeft, each.scrollTop]);
+  place.replaceChildren(...children);
+  if (had) [...place.querySelectorAll("a, button, summary, [tabindex]")].find((each) => nameOf(each) === had)?.focus({ preventScroll: true });
+  place.querySelectorAll(".scroll").forEach((each, at) => scrolled[at] && each.scrollTo(...scrolled[at]));
+}
+
+/** Lets the browser show what is there, before more work is done; a page that isn't looked at shows nothing. */
+export function painted() {
+  return new Promise((resolve) => {
+    requestAnimationFrame(() => setTimeout(resolve));
+    setTimeout(resolve, 100);
+  });
 }
 
 export function choice(options, chosen = "") {
@@ -175,15 +208,20 @@ function head() {
   document.body.append(said);
 }
 
+/** Sets a text where it is another one: what is set again would be read out again. */
+function say(place, words) {
+  if (place.textContent !== words) place.textContent = words;
+}
+
 export function showDesk(shown) {
   const words = { here: "Desk: here", away: "Desk: AWAY", none: "No desk: a copy" };
-  state.replaceChildren(`${words[shown.desk]}, ${number(shown.number)} commands`);
+  say(state, `${words[shown.desk]}, ${number(shown.number)} commands`);
   const parts = [];
   if (shown.desk === "away") {
     parts.push(el("p", { class: "bad" }, `The desk is away; the screen tries again each second. What is shown is as of command ${shown.number}. (${shown.why})`));
   }
   if (shown.differs) parts.push(el("p", { class: "bad" }, `The screen's own count differs from the desk: ${shown.differs}. Believe the desk.`));
-  banner.replaceChildren(...parts);
+  if (banner.textContent !== parts.map((part) => part.textContent).join("")) banner.replaceChildren(...parts);
 }
 
 function askName(again = false) {
@@ -227,17 +265,28 @@ function listen() {
     if (event.what === "commands" || (event.what === "hello" && heard)) listeners.forEach((work) => work(event));
     heard = true;
   });
-  source.addEventListener("error", () => state.replaceChildren("The screen's server is away"));
+  source.addEventListener("error", () => say(state, "The screen's server is away"));
 }
 
 let hush = null;
 
+function showSaid(words, kind = null) {
+  said.replaceChildren(kind ? el("span", { class: kind }, words) : words);
+  clearTimeout(hush);
+  hush = setTimeout(() => said.replaceChildren(), 12000);
+}
+
+// What no part of a page has dealt with is told all the same.
+window.addEventListener("unhandledrejection", (event) => {
+  if (!(event.reason instanceof Trouble)) return;
+  event.preventDefault();
+  showSaid(event.reason.message, "bad");
+});
+
 function tell(event) {
   const command = event.command;
   const words = event.count > 1 ? `${event.count} commands, the last one ${command.no}` : `Command ${command.no}`;
-  said.replaceChildren(`${words}: ${command.kind} ${command.fields.slice(0, 2).join(" ")} (${command.ref}) moved W by ${signed(event.moved)}`);
-  clearTimeout(hush);
-  hush = setTimeout(() => said.replaceChildren(), 12000);
+  showSaid(`${words}: ${command.kind} ${command.fields.slice(0, 2).join(" ")} (${command.ref}) moved W by ${signed(event.moved)}`);
 }
 
 /** Begins a page: who asks, the book's names, the head, the events. */

@@ -4,11 +4,11 @@ import { el, field, get, settled, text } from "./common.js";
 export class MomentField {
   constructor(label, value, changed, { may_be_empty = false } = {}) {
     this.second = null;
-    this.input = text({ value, placeholder: "2025-04-05 06:10:00", "aria-describedby": "" });
+    this.input = text({ value, placeholder: "2025-04-05 06:10:00", });
     this.told = el("div", { class: "note", role: "status" });
     this.changed = changed;
     this.may_be_empty = may_be_empty;
-    this.element = el("div", { class: "moment" }, field(label, this.input), this.told);
+    this.element = el("div", { class: "moment" }, field(label, this.input, this.told));
     this.count = 0;
     const read = settled(() => this.read());
     this.input.addEventListener("input", () => {

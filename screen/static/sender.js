@@ -1,5 +1,5 @@
 // A command on its way: what it would do, computed here; then, under one reference, the desk's answer beside it.
-import { el, get, HERE, known, moment, newReference, number, onCommands, post, PROGRAM, settled, signed, table, duration } from "./common.js";
+import { el, get, HERE, known, moment, newReference, number, onCommands, post, PROGRAM, scrolling, settled, signed, table, duration } from "./common.js";
 
 const KEPT = "outagebook-unanswered";
 
@@ -95,7 +95,7 @@ export class Sender {
       parts.push(el("p", {}, `${found.sections.length} section${found.sections.length > 1 ? "s" : ""}, ${number(customers)} customers, until `, found.to ? "the device's next entry at " : "the end of the period.", found.to ? moment(found.to) : ""));
       parts.push(sectionsTable(found.sections));
     }
-    parts.push(el("h3", {}, `W moves by ${signed(found.total)} customer-seconds`), el("div", { class: "tall scroll" }, movesTable(found.moved)));
+    parts.push(el("h3", {}, `W moves by ${signed(found.total)} customer-seconds`), scrolling("What it would move", movesTable(found.moved)));
     return parts;
   }
 
@@ -140,7 +140,7 @@ export class Sender {
     parts.push(el("p", { class: equal ? "good equal" : "bad differs" }, equal ? "The forecast is equal to the desk's reply." : "The forecast DIFFERS from the desk's reply: believe the desk."));
     if (!sameBook && !shown.again) parts.push(el("p", { class: "warn" }, "Another command came between; the count was made again for the book as the desk had it."));
     parts.push(el("p", {}, `W moved by ${signed(total(shown.reply.moved))} customer-seconds. Reference ${intent.command.ref}.`));
-    parts.push(el("div", { class: "tall scroll" }, movesTable(counted || [], shown.reply.moved)), el("p", { class: "mono reply" }, shown.text));
+    parts.push(scrolling("What it moved", movesTable(counted || [], shown.reply.moved)), el("p", { class: "mono reply" }, shown.text));
     this.outcome.replaceChildren(el("div", { class: "card" }, parts));
     this.forecast.replaceChildren();
     this.shown = null;

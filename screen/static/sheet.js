@@ -1,12 +1,13 @@
 // The switching sheet: entries, what each command moved, corrections and withdrawals; and the screen's own log.
-import { begin, causes, choice, el, field, get, HERE, known, list, moment, number, onCommands, PROGRAM, settled, table, text } from "./common.js";
+import { begin, causes, choice, el, field, get, HERE, known, list, moment, number, onCommands, PROGRAM, renew, scrolling, settled, table, text } from "./common.js";
 import { MomentField } from "./moments.js";
 import { entryWords, movesTable, Sender } from "./sender.js";
 
 const main = document.getElementById("main");
 const detail = el("section", { id: "detail", tabindex: "-1", "aria-label": "An entry" });
 const rows = el("section", { "aria-label": "Entries" });
-const log = el("section", { "aria-label": "The screen's log" });
+const logged = el("div", {});
+const log = el("section", { "aria-label": "The screen's log" }, el("details", {}, el("summary", {}, "The screen's own log: who sent what, when"), logged));
 const wanted = {};
 let from = 0;
 let opened = null;
@@ -54,7 +55,8 @@ async function show() {
   ]);
   const classes = shown.rows.map((entry) => (entry.kept ? "" : "gone"));
   const turn = (by, words) => el("button", { type: "button", disabled: by < 0 ? from === 0 : from + 100 >= shown.found, click: () => { from += by; show(); } }, words);
-  rows.replaceChildren(
+  renew(
+    rows,
     el("h2", {}, `${number(shown.found)} of ${number(shown.of)} entries `, HERE()),
     table(["entry", "second", "device", "position", "cause", "crew", "#revision", "reference", "marks"], lines, null, classes),
     shown.found > 100 ? el("div", { class: "buttons" }, turn(-100, "Earlier rows"), turn(100, "Later rows")) : "",
@@ -78,7 +80,7 @@ async function open(no, focus = true) {
   for (const command of entry.history) {
     const reply = command.text ? JSON.parse(command.text) : null;
     const words = `Command ${command.no}, ${command.kind}, ${command.ref}${command.second ? `, ${command.second}` : ""}`;
-    parts.push(el("details", {}, el("summary", {}, words, " ", PROGRAM()), reply ? el("div", { class: "tall scroll" }, movesTable(reply.moved)) : "the desk gives no reply"));
+    parts.push(el("details", {}, el("summary", {}, words, " ", PROGRAM()), reply ? scrolling("What it moved", movesTable(reply.moved)) : "the desk gives no reply"));
   }
   if (entry.kept && known.me.may_send) parts.push(work(entry));
   parts.push(el("div", { class: "buttons" }, el("button", { type: "button", click: () => { opened = null; detail.replaceChildren(); rows.querySelector(`[data-entry="${no}"]`)?.focus(); } }, "Close")));
@@ -128,7 +130,7 @@ async function showLog() {
     row.sent ? `sent ${row.sent.kind} ${row.sent.f1 || ""} ${row.sent.f2 || ""}` : row.unanswered ? "not answered" : String(row.status),
     el("span", { class: "mono" }, JSON.stringify(row.answer ?? row.unanswered ?? "").slice(0, 160)),
   ]);
-  log.replaceChildren(el("details", {}, el("summary", {}, "The screen's own log: who sent what, when"), table(["time", "login", "reference", "what", "answer"], lines)));
+  logged.replaceChildren(table(["time", "login", "reference", "what", "answer"], lines));
 }
 
 begin(async () => {
