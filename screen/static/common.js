@@ -99,14 +99,23 @@ export function duration(seconds) {
   return parts.map(([count, unit]) => `${count} ${unit}`).join(" ") || "0 s";
 }
 
-/** A table of rows of cells; heads that begin with # are of numbers. On a narrow page each row is a card. */
+/** A text that may be broken where a word of it is long. */
+export function breakable(words) {
+  const parts = words.match(/[^\s-]{1,8}[\s-]*|[\s-]+/g) || [];
+  return parts.flatMap((part, at) => (at && /[^\s-]$/.test(parts[at - 1]) ? [el("wbr"), part] : [part]));
+}
+
+const BRIEF = 12; // letters, that stay in one line
+const COLUMNS = { "#": "n", "~": "no-print" };
+
+/** A table of rows of cells; heads that begin with # are of numbers, with ~ of what can be done. On a narrow page each row
+ * is a card. */
 export function table(heads, rows, caption = null, rowClasses = []) {
-  const names = heads.map((head) => head.replace(/^#/, ""));
-  const cells = (row, at) =>
-    row.map((cell, place) =>
-      el("td", { class: heads[place].startsWith("#") ? "n" : null, "data-label": names[place] }, cell),
-    );
-  const head = heads.map((name, place) => el("th", { scope: "col", class: name.startsWith("#") ? "n" : null }, names[place]));
+  const names = heads.map((head) => head.replace(/^[#~]/, ""));
+  const kinds = heads.map((head) => COLUMNS[head[0]]);
+  const brief = (cell) => ((cell.textContent ?? cell).length > BRIEF ? null : "brief");
+  const cells = (row) => row.map((cell, place) => el("td", { class: kinds[place] ?? brief(cell), "data-label": names[place] }, typeof cell === "string" ? breakable(cell) : cell));
+  const head = heads.map((_, place) => el("th", { scope: "col", class: kinds[place] }, names[place]));
   return el(
     "div",
     { class: "scroll" },
@@ -115,7 +124,7 @@ export function table(heads, rows, caption = null, rowClasses = []) {
       { class: heads.length > 3 ? "cards" : null },
       caption ? el("caption", {}, caption) : "",
       el("thead", {}, el("tr", {}, head)),
-      el("tbody", {}, rows.map((row, at) => el("tr", { class: rowClasses[at] || null }, cells(row, at)))),
+      el("tbody", {}, rows.map((row, at) => el("tr", { class: rowClasses[at] || null }, cells(row)))),
     ),
   );
 }

@@ -62,7 +62,7 @@ function showNodes() {
     node.name, ["source", "bus", "section"][node.kind], node.feeder ? String(node.feeder) : "",
     node.kind === 2 ? el("button", { type: "button", class: "small", click: () => showCustomers(node.name) }, "Customers") : "",
   ]);
-  renew(nodes, el("h2", {}, `${number(seen.length)} nodes `, HERE()), scrolling("Nodes", table(["node", "kind", "#feeder", "customers"], rows)));
+  renew(nodes, el("h2", {}, `${number(seen.length)} nodes `, HERE()), scrolling("Nodes", table(["node", "kind", "#feeder", "~customers"], rows)));
 }
 
 function showDevices() {
@@ -72,7 +72,7 @@ function showDevices() {
     device.name, `${name(device.a)} \u2013 ${name(device.b)}`, device.normal, device.since || "always", device.until || "without end",
     form ? el("button", { type: "button", class: "small", click: () => form.choose("life", device.name, device.since, device.until) }, "Set its life") : "",
   ]);
-  renew(devices, el("h2", {}, `${number(seen.length)} devices `, HERE()), scrolling("Devices", table(["device", "between", "normal", "in the network from", "until before", "life"], rows)));
+  renew(devices, el("h2", {}, `${number(seen.length)} devices `, HERE()), scrolling("Devices", table(["device", "between", "normal", "in the network from", "until before", "~life"], rows)));
 }
 
 async function showCustomers(section) {

@@ -1,5 +1,5 @@
 // Who is out at a second, and how the network stands.
-import { begin, el, get, HERE, known, moment, number, onCommands, painted, renew, settled, table, duration } from "./common.js";
+import { begin, breakable, el, get, HERE, known, moment, number, onCommands, painted, renew, settled, table, duration } from "./common.js";
 import { MomentField } from "./moments.js";
 import { Diagram, legend } from "./diagram.js";
 
@@ -25,7 +25,7 @@ function outageTable(shown) {
     row.device || "no switching",
     row.device ? `${row.cause} ${row.cause_name}` : "0 UNASSIGNED",
     row.crew || "",
-    row.entry ? el("a", { href: `/sheet?entry=${row.entry}` }, row.reference || `entry ${row.entry}`) : "",
+    row.entry ? el("a", { href: `/sheet?entry=${row.entry}` }, breakable(row.reference || `entry ${row.entry}`)) : "",
     row.until ? moment(row.until) : "not told yet",
   ]);
   return table(["section", "#feeder", "#customers", "since", "#for", "cut off by", "cause", "crew", "reference", "supplied again"], rows);

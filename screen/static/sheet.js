@@ -50,7 +50,7 @@ async function show() {
     `${entry.cause} ${entry.cause_name}`,
     entry.crew,
     String(entry.revision),
-    el("span", { class: "nowrap" }, entry.commands[0]?.ref || ""),
+    entry.commands[0]?.ref || "",
     tags(entry).length ? el("span", {}, tags(entry)) : "",
   ]);
   const classes = shown.rows.map((entry) => (entry.kept ? "" : "gone"));

@@ -2,8 +2,10 @@
 
 from __future__ import annotations
 
+import base64
 import tempfile
 from collections.abc import Callable
+from pathlib import Path
 from typing import Any
 
 import support
@@ -36,13 +38,18 @@ class Browser:
         options.set_capability("goog:loggingPrefs", {"browser": "ALL"})
         self.driver: Any = webdriver.Chrome(service=Service(DRIVER), options=options)
         self.resize(width, height)
-        scheme = [{"name": "prefers-color-scheme", "value": "dark" if dark else "light"}]
-        self.driver.execute_cdp_cmd("Emulation.setEmulatedMedia", {"features": scheme})
+        self.scheme = "dark" if dark else "light"
+        self.media("")
         self.driver.execute_cdp_cmd("Emulation.setTimezoneOverride", {"timezoneId": "Pacific/Kiritimati"})
 
     def resize(self, width: int, height: int) -> None:
         metrics = {"width": width, "height": height, "deviceScaleFactor": 1, "mobile": width < 500}
         self.driver.execute_cdp_cmd("Emulation.setDeviceMetricsOverride", metrics)
+
+    def media(self, media: str) -> None:
+        """Shows pages as for a screen (""), or as for paper ("print")."""
+        scheme = [{"name": "prefers-color-scheme", "value": self.scheme}]
+        self.driver.execute_cdp_cmd("Emulation.setEmulatedMedia", {"media": media, "features": scheme})
 
     def end(self) -> None:
         self.driver.quit()
@@ -120,6 +127,11 @@ class Browser:
         """What the browser's console complains of since the page was opened: scripts that failed, what the policy forbids."""
         rows = [row["message"] for row in self.driver.get_log("browser") if row["level"] == "SEVERE"]
         return [row for row in rows if "Failed to load resource" not in row]
+
+    def paper(self, path: str) -> None:
+        """The page as it is printed on A4, without backgrounds, as browsers print where nobody asks for them."""
+        shown = self.driver.execute_cdp_cmd("Page.printToPDF", {"paperWidth": 8.27, "paperHeight": 11.69})
+        Path(path).write_bytes(base64.b64decode(shown["data"]))
 
     def picture(self, path: str, whole: bool = True) -> None:
         if whole:

@@ -4,6 +4,7 @@ import json
 import os
 import random
 import signal
+import subprocess
 import threading
 import time
 import unittest
@@ -15,6 +16,7 @@ from selenium.webdriver.common.keys import Keys
 from test_server import LIGHTHOUSE, Cutter
 
 COMMANDS = int(os.environ.get("SCREEN_COMMANDS", "24"))
+A4 = 702  # pixels between its margins
 LATE = "/enter?device=LBS-22&at=2025-04-06T23:52:00%2B02:00"
 
 
@@ -287,11 +289,75 @@ class Pages(Case):
             for route in ("/", "/sheet", "/sheet?entry=10", LATE, "/network", "/year"):
                 page.open(screen.url + route)
                 page.find("main table")
-                wide, room = page.driver.execute_script(
-                    "return [document.documentElement.scrollWidth, window.innerWidth]"
-                )
-                self.assertLessEqual(wide, room, route)
+                self.assertLessEqual(*self.widths(page), route)
                 self.assertEqual(page.complaints(), [], route)
+
+    def test_pages_on_paper(self) -> None:
+        """On A4 no column is cut off, forms aren't printed, and a dark page is printed dark on white."""
+        wanted = {
+            "/": ("Customers without supply", "OUT-0406-1", "not told yet", "TIE-1", "LIGHTHOUSE"),
+            "/sheet": ("35 of 35 entries", "marks", "withdrawn", "OUT-0406-1", "OUT-0325-1"),
+            "/network": ("12 devices", "until before", "without end", "10 nodes", "LIGHTHOUSE"),
+            "/year": ("OUTAGE BOOK 2025-03-24", "unmarked", "147.195", "CEMI-10", "8 UNKNOWN", "2025-04-06"),
+        }
+        screen = self.screen()
+        page = self.other
+        self.addCleanup(page.media, "")
+        self.addCleanup(page.resize, 390, 844)
+        for route, words in wanted.items():
+            page.open(screen.url + route)
+            paper = support.folder() / f"paper{route.replace('/', '-')}.pdf"
+            page.paper(str(paper))
+            text = subprocess.run(
+                ["pdftotext", "-layout", paper, "-"], check=True, capture_output=True, text=True
+            ).stdout
+            for each in words:
+                self.assertIn(each, text, route)
+            for each in ("Search", "Another second", "Mark a day", "Set its life", "To the page"):
+                self.assertNotIn(each, text, route)
+            grey = subprocess.run(["pdftoppm", "-gray", "-r", "40", paper], check=True, capture_output=True).stdout
+            shades = grey[len(grey) // 10 :]
+            self.assertGreater(sum(shade > 240 for shade in shades) / len(shades), 0.75, route)
+            self.assertLess(min(shades), 100, route)
+            page.media("print")
+            page.resize(A4, 1000)
+            wide = page.driver.execute_script(
+                "return [...document.querySelectorAll('main table, main svg')].map((each) => each.getBoundingClientRect().right)"
+            )
+            self.assertLessEqual(max(wide), A4, route)
+            page.resize(390, 844)
+            page.media("")
+
+    def test_the_longest_names_are_not_cut_off(self) -> None:
+        """Names of 24 characters, a crew of 16, references of 40: no page is wider than its window, nor than A4."""
+        word = "WWWW-WWWW-WWWW-WWWW-W"
+        rows = [f"cause,{'R' * 39}0,1,{word}-C1,,,,", f"section,{'R' * 39}1,{word}-S1,255,,,,"]
+        rows += [f"device,{'R' * 39}2,{word}-D1,GRID,{word}-S1,closed,,", f"connect,{'R' * 39}3,1,{word}-S1,0,,,"]
+        rows += [f"switch,{'R' * 39}4,{word}-D1,open,2025-03-25T10:00:00+01:00,1,{'M' * 16},"]
+        text = support.folder() / "long.csv"
+        text.write_text("kind,ref,f1,f2,f3,f4,f5,f6\n" + "\n".join(rows) + "\n")
+        screen = support.Screen(support.new_book("long-names", text))
+        self.addCleanup(screen.end)
+        self.addCleanup(self.one.media, "")
+        self.addCleanup(self.one.resize, 1280, 900)
+        for page in self.browsers:
+            for route in ("/", "/sheet?entry=1", f"/enter?device={word}-D1", "/network", "/year"):
+                page.open(screen.url + route, "M" * 16)
+                page.says("main", word)
+                self.assertLessEqual(*self.widths(page), route)
+        for route in ("/", "/sheet", "/network", "/year"):
+            self.one.open(screen.url + route, "M" * 16)
+            self.one.says("main", word)
+            self.one.media("print")
+            self.one.resize(A4, 1000)
+            self.assertLessEqual(*self.widths(self.one), route)
+            self.one.resize(1280, 900)
+            self.one.media("")
+
+    def widths(self, page: browser.Browser) -> tuple[int, int]:
+        """How wide a page is, and its window."""
+        wide, room = page.driver.execute_script("return [document.documentElement.scrollWidth, window.innerWidth]")
+        return int(wide), int(room)
 
     def test_now_at_another_second(self) -> None:
         screen = self.screen()
