@@ -83,10 +83,14 @@ export function signed(value) {
 }
 
 /** A moment as the server wrote it by the clock of the book's zone: date, time and offset. */
+const clock = (text) => [text.slice(0, 10), text.slice(11, 19), text.slice(19)];
+export const momentWords = (text) => clock(text).join(" ");
+
 export function moment(value) {
   const text = typeof value === "string" ? value : value.text;
   if (!text) return "";
-  return el("time", { datetime: text }, `${text.slice(0, 10)} ${text.slice(11, 19)} ${text.slice(19)}`);
+  const parts = clock(text).map((part) => [" ", el("span", { class: "nowrap" }, part)]);
+  return el("time", { datetime: text }, parts.flat().slice(1));
 }
 
 export function duration(seconds) {

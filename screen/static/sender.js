@@ -1,5 +1,5 @@
 // A command on its way: what it would do, computed here; then, under one reference, the desk's answer beside it.
-import { el, get, HERE, known, moment, newReference, number, onCommands, post, PROGRAM, scrolling, settled, signed, table, duration } from "./common.js";
+import { el, get, HERE, known, moment, momentWords, newReference, number, onCommands, post, PROGRAM, scrolling, settled, signed, table, duration } from "./common.js";
 
 const KEPT = "outagebook-unanswered";
 
@@ -8,12 +8,11 @@ export function sectionsTable(sections) {
     row.section,
     row.loses && row.gets_back ? "loses and gets back" : row.loses ? "LOSES supply" : "gets back supply",
     String(row.customers),
-    moment(row.since),
-    moment(row.until),
+    el("span", {}, moment(row.since), " \u2013 ", moment(row.until)),
     duration(row.loses || row.gets_back),
     signed(row.customer_seconds),
   ]);
-  return table(["section", "what", "#customers", "from", "to", "#duration", "#customer-seconds"], rows);
+  return table(["section", "what", "#customers", "from \u2013 to", "#duration", "#customer-seconds"], rows);
 }
 
 const dayName = (key) => known.book.days[key] || key;
@@ -180,5 +179,5 @@ export class Sender {
 
 export function entryWords(entry) {
   const what = entry.kept ? "" : " (withdrawn)";
-  return `${entry.no}, revision ${entry.revision}: ${entry.device} ${entry.action} at ${entry.second.text}, cause ${entry.cause} ${entry.cause_name}, crew ${entry.crew}${what}`;
+  return `${entry.no}, revision ${entry.revision}: ${entry.device} ${entry.action} at ${momentWords(entry.second.text)}, cause ${entry.cause} ${entry.cause_name}, crew ${entry.crew}${what}`;
 }

@@ -1,5 +1,5 @@
 // The switching sheet: entries, what each command moved, corrections and withdrawals; and the screen's own log.
-import { begin, causes, choice, el, field, get, HERE, known, list, moment, number, onCommands, PROGRAM, renew, scrolling, settled, table, text } from "./common.js";
+import { begin, causes, choice, el, field, get, HERE, known, list, moment, momentWords, number, onCommands, PROGRAM, renew, scrolling, settled, table, text } from "./common.js";
 import { MomentField } from "./moments.js";
 import { entryWords, movesTable, Sender } from "./sender.js";
 
@@ -22,7 +22,7 @@ function filters() {
   const order = make("order", choice([["newest", "newest first"], ["second", "by second"]]));
   return el(
     "form",
-    { class: "card short no-print", submit: (event) => event.preventDefault(), "aria-label": "Search" },
+    { class: "card short", submit: (event) => event.preventDefault(), "aria-label": "Search" },
     list("devices", known.book.devices.map((each) => each.name)),
     list("crews", known.book.crews),
     list("sections", known.book.nodes.filter((node) => node.kind === 2).map((node) => node.name)),
@@ -79,7 +79,7 @@ async function open(no, focus = true) {
   const parts = [el("h2", {}, `Entry ${entry.no} `, tags(entry)), el("p", {}, entryWords(entry))];
   for (const command of entry.history) {
     const reply = command.text ? JSON.parse(command.text) : null;
-    const words = `Command ${command.no}, ${command.kind}, ${command.ref}${command.second ? `, ${command.second}` : ""}`;
+    const words = `Command ${command.no}, ${command.kind}, ${command.ref}${command.second ? `, ${momentWords(command.second)}` : ""}`;
     parts.push(el("details", {}, el("summary", {}, words, " ", PROGRAM()), reply ? scrolling("What it moved", movesTable(reply.moved)) : "the desk gives no reply"));
   }
   if (entry.kept && known.me.may_send) parts.push(work(entry));
@@ -134,7 +134,8 @@ async function showLog() {
 }
 
 begin(async () => {
-  main.append(filters(), detail, rows, log);
+  const narrow = matchMedia("(max-width: 40rem)").matches;
+  main.append(el("details", { class: "search no-print", open: !narrow }, el("summary", {}, "Search"), filters()), detail, rows, log);
   onCommands(() => { show(); showLog(); lookAgain(); });
   await show();
   await showLog();

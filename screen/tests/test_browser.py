@@ -16,6 +16,10 @@ from selenium.webdriver.common.keys import Keys
 from test_server import LIGHTHOUSE, Cutter
 
 COMMANDS = int(os.environ.get("SCREEN_COMMANDS", "24"))
+CUT_OFF = """
+return [...document.querySelectorAll("main .scroll")].filter((each) => !each.querySelector("svg") && each.scrollWidth > each.clientWidth)
+  .map((each) => each.innerText.slice(0, 80));
+"""
 A4 = 702  # pixels between its margins
 LATE = "/enter?device=LBS-22&at=2025-04-06T23:52:00%2B02:00"
 
@@ -285,11 +289,16 @@ class Breaks(Case):
 class Pages(Case):
     def test_no_page_is_cut_off(self) -> None:
         screen = self.screen()
+        loses = "/enter?device=CB-1&at=2025-04-06T20:52:00%2B02:00"
         for page in self.browsers:
-            for route in ("/", "/sheet", "/sheet?entry=10", LATE, "/network", "/year"):
+            for route in ("/", "/sheet", "/sheet?entry=10", LATE, loses, "/network", "/year"):
                 page.open(screen.url + route)
+                if route == loses:
+                    page.fill("Cause", "5")
+                    page.says(".forecast", "LOSES supply")
                 page.find("main table")
                 self.assertLessEqual(*self.widths(page), route)
+                self.assertEqual(page.driver.execute_script(CUT_OFF), [], route)
                 self.assertEqual(page.complaints(), [], route)
 
     def test_pages_on_paper(self) -> None:
