@@ -16,6 +16,38 @@ from selenium.webdriver.common.keys import Keys
 from test_server import LIGHTHOUSE, Cutter
 
 COMMANDS = int(os.environ.get("SCREEN_COMMANDS", "24"))
+NAMELESS = """
+const named = (each) => each.labels?.length || each.ariaLabel || each.textContent.trim();
+const controls = [...document.querySelectorAll("input, select, button, a, summary, [tabindex='0']")].filter((each) => !named(each));
+const landmarks = ["header", "main", "nav"].filter((each) => document.querySelectorAll(each).length !== 1);
+const outlines = [...document.querySelectorAll("h1")].length === 1 ? [] : ["h1"];
+return [...controls.map((each) => each.outerHTML.slice(0, 120)), ...landmarks, ...outlines];
+"""
+SMALL = """
+const tapped = [...document.querySelectorAll("button, input, select, summary, header a, .buttons a, td a, .diagram .hit")];
+return tapped.filter((each) => each.checkVisibility()).map((each) => [each, each.getBoundingClientRect()])
+  .filter(([, box]) => box.height < 43.5 || box.width < 43.5)
+  .map(([each, box]) => `${Math.round(box.width)} x ${Math.round(box.height)} ${each.outerHTML.slice(0, 120)}`);
+"""
+# Texts whose colour has less than 4.5 times the light of what is behind them, or the other way round, by WCAG's formula.
+FAINT = """
+const parts = (colour) => (colour.match(/[0-9.]+/g) || []).map(Number);
+const light = ([r, g, b]) => [r, g, b].map((x) => x / 255).map((x) => (x <= 0.04045 ? x / 12.92 : ((x + 0.055) / 1.055) ** 2.4))
+  .reduce((sum, x, at) => sum + x * [0.2126, 0.7152, 0.0722][at], 0);
+const behind = (each) => {
+  for (let at = each; at; at = at.parentElement) {
+    const found = parts(getComputedStyle(at).backgroundColor);
+    if (found.length === 3 || found[3] > 0) return found;
+  }
+  return [255, 255, 255];
+};
+const texts = [...document.querySelectorAll("body *")].filter((each) => !each.closest("svg, noscript, [disabled], .skip")
+  && each.checkVisibility() && [...each.childNodes].some((node) => node.nodeType === 3 && node.textContent.trim()));
+return texts.filter((each) => {
+  const [one, other] = [light(parts(getComputedStyle(each).color)), light(behind(each))].sort((x, y) => y - x);
+  return (one + 0.05) / (other + 0.05) < 4.5;
+}).map((each) => each.outerHTML.slice(0, 120));
+"""
 CUT_OFF = """
 return [...document.querySelectorAll("main .scroll")].filter((each) => !each.querySelector("svg") && each.scrollWidth > each.clientWidth)
   .map((each) => each.innerText.slice(0, 80));
@@ -103,21 +135,59 @@ class Operators(Case):
         self.tab_to(page, "Send to the desk")
         keys.active_element.send_keys(Keys.ENTER)
         page.says(".outcome .equal", "equal")
-        page.open(f"{screen.url}/sheet?entry=36")
-        self.tab_to(page, "Position", "close")
-        self.forecast_is_there(page)
-        self.tab_to(page, "Send")
-        keys.active_element.send_keys(Keys.ENTER)
-        page.says(".outcome .equal", "equal")
-        page.open(f"{screen.url}/sheet?entry=36")
-        page.says("#detail", "revision 2")
-        self.tab_to(page, "What", "Withdraw")
-        self.forecast_is_there(page)
-        self.tab_to(page, "Send")
-        keys.active_element.send_keys(Keys.ENTER)
-        page.says(".outcome .equal", "equal")
+        for revision, (field, typed) in enumerate((("Position", "close"), ("What", "Withdraw")), 1):
+            page.driver.execute_script("document.activeElement.blur()")  # from the page's top on
+            page.driver.find_element("tag name", "body").send_keys(Keys.HOME)
+            self.tab_to(page, "Sheet" if revision == 1 else "36")
+            keys.active_element.send_keys(Keys.ENTER)
+            if revision == 1:
+                page.wait(lambda: page.text("h1") == "Sheet" and page.all("[data-entry='36']"), "the sheet")
+                page.ready()
+                self.tab_to(page, "36")
+                keys.active_element.send_keys(Keys.ENTER)
+            page.says("#detail", f"36, revision {revision}")
+            page.wait(lambda: keys.active_element.get_attribute("id") == "detail", "the focus on the entry")
+            self.tab_to(page, field, typed)
+            self.forecast_is_there(page)
+            self.tab_to(page, "Send")
+            keys.active_element.send_keys(Keys.ENTER)
+            page.says(".outcome .equal", "equal")
         page.says("tr.gone", "36")
         self.assertEqual(screen.call("/api/year")[1]["totals"]["W"], "366070")
+
+    def test_by_a_finger_on_a_phone(self) -> None:
+        """The same on a phone's width by touch, from a name that isn't given yet on."""
+        screen = self.screen()
+        page = self.other
+        page.driver.delete_all_cookies()
+        page.open(f"{screen.url}/", None)
+        page.fill("Your name", "cleo")
+        page.tap_on("This is my name")
+        page.says("header", "You are CLEO")
+        page.tap_on("Enter")
+        page.wait(lambda: page.text("h1") == "Enter" and page.all(".sender"), "the form")
+        page.ready()
+        page.fill("Device", "lbs-22")
+        page.fill("Second", "2025-03-27 10:00:00")
+        page.says(".moment", "+01:00 from UTC")
+        page.says("form", "LBS-22 is closed then")
+        page.fill("Cause", "5")
+        page.says(".forecast", "LOSES supply")
+        page.tap_on("Send to the desk")
+        page.says(".outcome .equal", "equal")
+        page.tap_on("Sheet")
+        page.wait(lambda: page.all("[data-entry='36']"), "the sheet")
+        page.ready()
+        for revision, (field, value) in enumerate((("Position", "close"), ("What", "Withdraw")), 1):
+            page.tap_on("Entry 36")
+            page.says("#detail", f"36, revision {revision}")
+            page.fill(field, value)
+            self.forecast_is_there(page)
+            page.tap_on("Send")
+            page.says(".outcome .equal", "equal")
+        page.says("tr.gone", "36")
+        self.assertEqual(screen.call("/api/year")[1]["totals"]["W"], "366070")
+        self.assertEqual(page.complaints(), [])
 
     def forecast_is_there(self, page: browser.Browser) -> None:
         """Waits until the button could be pressed for a second: no forecast of what was chosen is on its way."""
@@ -300,6 +370,20 @@ class Pages(Case):
                 self.assertLessEqual(*self.widths(page), route)
                 self.assertEqual(page.driver.execute_script(CUT_OFF), [], route)
                 self.assertEqual(page.complaints(), [], route)
+
+    def test_what_is_tapped_and_read(self) -> None:
+        """On a phone what is tapped is 44 pixels high, each field and control has a name, and texts stand out from what is
+        behind them."""
+        screen = self.screen()
+        for page in self.browsers:
+            for route in ("/", "/sheet?entry=10", LATE, "/network", "/year"):
+                page.open(screen.url + route)
+                page.find("main table")
+                time.sleep(0.3)
+                self.assertEqual(page.driver.execute_script(NAMELESS), [], route)
+                self.assertEqual(page.driver.execute_script(FAINT), [], route)
+                if page is self.other:
+                    self.assertEqual(page.driver.execute_script(SMALL), [], route)
 
     def test_pages_on_paper(self) -> None:
         """On A4 no column is cut off, forms aren't printed, and a dark page is printed dark on white."""
