@@ -109,8 +109,18 @@ export function breakable(words) {
   return parts.flatMap((part, at) => (at && /[^\s-]$/.test(parts[at - 1]) ? [el("wbr"), part] : [part]));
 }
 
+/** Work for when the browser has time. */
+export const idle = window.requestIdleCallback ? (work) => requestIdleCallback(work, { timeout: 300 }) : (work) => setTimeout(work, 20);
+
 const BRIEF = 12; // letters, that stay in one line
+const SLICE = 100; // rows that are drawn in one go
 const COLUMNS = { "#": "n", "~": "no-print" };
+
+/** Draws rows into a table, a slice at a time, for as long as it is shown. */
+function drawRows(body, rows, draw) {
+  body.append(...rows.slice(0, SLICE).map(draw));
+  if (rows.length > SLICE) idle(() => body.isConnected && drawRows(body, rows.slice(SLICE), draw));
+}
 
 /** A table of rows of cells; heads that begin with # are of numbers, with ~ of what can be done. On a narrow page each row
  * is a card. */
@@ -120,6 +130,8 @@ export function table(heads, rows, caption = null, rowClasses = []) {
   const brief = (cell) => ((cell.textContent ?? cell).length > BRIEF ? null : "brief");
   const cells = (row) => row.map((cell, place) => el("td", { class: kinds[place] ?? brief(cell), "data-label": names[place] }, typeof cell === "string" ? breakable(cell) : cell));
   const head = heads.map((_, place) => el("th", { scope: "col", class: kinds[place] }, names[place]));
+  const body = el("tbody", {});
+  drawRows(body, rows.map((row, at) => [row, rowClasses[at] || null]), ([row, kind]) => el("tr", { class: kind }, cells(row)));
   return el(
     "div",
     { class: "scroll" },
@@ -128,7 +140,7 @@ export function table(heads, rows, caption = null, rowClasses = []) {
       { class: heads.length > 3 ? "cards" : null },
       caption ? el("caption", {}, caption) : "",
       el("thead", {}, el("tr", {}, head)),
-      el("tbody", {}, rows.map((row, at) => el("tr", { class: rowClasses[at] || null }, cells(row)))),
+      body,
     ),
   );
 }

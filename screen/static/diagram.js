@@ -1,8 +1,9 @@
 // The one-line diagram: GRID at the left, each layer of normally closed devices a column further, ties as arcs.
-import { el, svg } from "./common.js";
+import { el, idle, svg } from "./common.js";
 
 const COLUMN = 224, ROW = 62, WIDTH = 122, HEIGHT = 36, EDGE = 14, HIT = 44;
-const WIDEST_ON_PAPER = 1500;
+const WIDEST_ON_PAPER = 1500; // of a picture that can still be read there
+const SLICE = 150; // nodes and devices that are drawn in one go
 
 const place = (node) => ({ x: EDGE + node.layer * COLUMN, y: EDGE + 14 + node.row * ROW });
 
@@ -62,7 +63,7 @@ function signShape(device, a, b) {
   );
 }
 
-/** What a shape is drawn from: it is drawn anew where that has changed. */
+/** A shape is drawn anew where what it is drawn from has changed. */
 class Shape {
   constructor(draw) {
     this.draw = draw;
@@ -89,8 +90,9 @@ class Shape {
   }
 }
 
-/** The diagram of a network, drawn larger where there is room. Shown again, it draws what has changed: the rest stays, and
- * with it what has the focus and how far it is scrolled. */
+/** The diagram of a network, drawn larger where there is room: from the top on, a slice at a time, so that a large one
+ * keeps nobody waiting. Shown again, it draws what has changed: the rest stays, and with it what has the focus and how far
+ * it is scrolled. */
 export class Diagram {
   constructor() {
     this.element = el("div", { class: "scroll tall diagram-place", tabindex: "0", role: "region", "aria-label": "One-line diagram, scrolls" });
@@ -99,37 +101,54 @@ export class Diagram {
 
   show(shown, link, room) {
     const network = JSON.stringify([shown.nodes.map(({ name, layer, row }) => [name, layer, row]), shown.devices.map(({ name, a, b, tree }) => [name, a, b, tree])]);
-    if (network !== this.network) this.begin(shown, room);
+    Object.assign(this, { shown, link });
+    if (network !== this.network) this.begin(room);
+    else this.parts.slice(0, this.drawn).forEach((part) => this.draw(part));
     this.network = network;
-    shown.nodes.forEach((node, at) => this.nodes[at].show(node));
-    shown.devices.forEach((device, at) => {
-      const a = shown.nodes[device.a], b = shown.nodes[device.b];
-      this.ways[at].show(device, a, b);
-      this.signs[at].show(device, a, b);
-      this.signs[at].element.setAttribute("href", link(device));
-      this.signs[at].giveFocus();
-    });
-    if (this.isNew) this.fill();
   }
 
-  begin(shown, room) {
-    const layers = Math.max(...shown.nodes.map((node) => node.layer)) + 1;
-    const rows = Math.max(...shown.nodes.map((node) => node.row)) + 1;
+  begin(room) {
+    const { nodes, devices } = this.shown;
+    const layers = Math.max(...nodes.map((node) => node.layer)) + 1;
+    const rows = Math.max(...nodes.map((node) => node.row)) + 1;
     const width = EDGE * 2 + layers * COLUMN + 130, height = EDGE * 2 + rows * ROW + 24;
     const scale = Math.min(1.5, Math.max(1, room / width));
     const on_paper = width > WIDEST_ON_PAPER ? " no-print" : "";
-    this.picture = svg("svg", { class: `diagram${on_paper}`, width: width * scale, height: height * scale, viewBox: `0 0 ${width} ${height}`, role: "group", "aria-label": "One-line diagram" });
-    this.note = on_paper ? el("p", { class: "print-only" }, "The diagram of this network is too wide for paper: it is on the screen.") : "";
-    this.nodes = shown.nodes.map(() => new Shape(nodeShape));
-    this.ways = shown.devices.map(() => new Shape(wayShape));
-    this.signs = shown.devices.map(() => new Shape(signShape));
-    this.isNew = true;
+    const picture = svg("svg", { class: `diagram${on_paper}`, width: width * scale, height: height * scale, viewBox: `0 0 ${width} ${height}`, role: "group", "aria-label": "One-line diagram" });
+    this.layers = { way: svg("g"), node: svg("g"), sign: svg("g") };
+    picture.append(...Object.values(this.layers));
+    const note = on_paper ? el("p", { class: "print-only" }, "The diagram of this network is too wide for paper: it is on the screen.") : "";
+    this.element.replaceChildren(picture, note);
+    this.parts = [
+      ...nodes.map((node, at) => ({ at, y: place(node).y, x: node.layer, node: new Shape(nodeShape) })),
+      ...devices.map((device, at) => ({ at, ...wayOf(device, nodes[device.a], nodes[device.b]), way: new Shape(wayShape), sign: new Shape(signShape) })),
+    ].sort((one, other) => one.y - other.y || one.x - other.x);
+    this.drawn = 0;
+    this.drawOn();
   }
 
-  fill() {
-    for (const shapes of [this.ways, this.nodes, this.signs]) this.picture.append(...shapes.map((shape) => shape.element));
-    this.element.replaceChildren(this.picture, this.note);
-    this.isNew = false;
+  /** Draws the next slice, and the others when there is time. */
+  drawOn() {
+    const { parts, drawn } = this;
+    const slice = parts.slice(drawn, drawn + SLICE);
+    slice.forEach((part) => this.draw(part));
+    for (const [name, layer] of Object.entries(this.layers)) layer.append(...slice.filter((part) => part[name]).map((part) => part[name].element));
+    this.drawn = drawn + slice.length;
+    this.element.setAttribute("aria-busy", String(this.drawn < parts.length));
+    if (this.drawn < parts.length) idle(() => parts === this.parts && this.drawOn());
+  }
+
+  draw({ at, node, way, sign }) {
+    const { nodes, devices } = this.shown;
+    if (node) {
+      node.show(nodes[at]);
+      return;
+    }
+    const device = devices[at], a = nodes[device.a], b = nodes[device.b];
+    way.show(device, a, b);
+    sign.show(device, a, b);
+    sign.element.setAttribute("href", this.link(device));
+    sign.giveFocus();
   }
 }
 

@@ -56,8 +56,19 @@ function commandForm() {
 
 let form = null;
 
+const drawn = new Map();
+
+/** Whether a list isn't drawn yet as it is to be: most commands change neither. */
+function isNew(place, seen) {
+  const told = JSON.stringify(seen);
+  const found = drawn.get(place) !== told;
+  drawn.set(place, told);
+  return found;
+}
+
 function showNodes() {
   const seen = known.book.nodes.filter((node) => node.name.includes(searched));
+  if (!isNew(nodes, seen)) return;
   const rows = seen.map((node) => [
     node.name, ["source", "bus", "section"][node.kind], node.feeder ? String(node.feeder) : "",
     node.kind === 2 ? el("button", { type: "button", class: "small", click: () => showCustomers(node.name) }, "Customers") : "",
@@ -67,6 +78,7 @@ function showNodes() {
 
 function showDevices() {
   const seen = known.book.devices.filter((device) => device.name.includes(searched));
+  if (!isNew(devices, seen)) return;
   const name = (node) => known.book.nodes[node].name;
   const rows = seen.map((device) => [
     device.name, `${name(device.a)} \u2013 ${name(device.b)}`, device.normal, device.since || "always", device.until || "without end",

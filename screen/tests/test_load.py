@@ -13,10 +13,13 @@ import unittest
 from functools import lru_cache
 from pathlib import Path
 
+import browser
 import support
 
 SECONDS = float(os.environ.get("SCREEN_SECONDS", "8"))
 CLIENTS = 20
+TIMES = 5
+BUSY_SECONDS = 5.0  # for a page where other programs have the processors
 YEAR = ("2024-01-01", "366", "UTC0")
 MEMORY = Path("/dev/shm")
 
@@ -148,8 +151,35 @@ class Load(unittest.TestCase):
         self.assertLess(slowest, 0.5)
         lines = Path(f"/proc/{screen.process.pid}/status").read_text().splitlines()
         memory = next(int(line.split()[1]) // 1_024 for line in lines if line.startswith("VmHWM"))
-        print(f"a year: started in {started:.1f} s, {memory} MB, slowest page {max(pages.values()):.2f} s,", end=" ")
+        print(f"a year: started in {started:.1f} s, {memory} MB, slowest answer {max(pages.values()):.2f} s,", end=" ")
         print(f"slowest event {max(0.0, slowest):.3f} s after its reply", flush=True)
+        self.pages_of_a_year(screen)
+
+    def pages_of_a_year(self, screen: support.Screen) -> None:
+        """Each page of the year in Chromium, from its address to all that it shows at first: the least of some times. In
+        under a second where the machine has a processor for it."""
+        page = browser.Browser()
+        self.addCleanup(page.end)
+        found = {}
+        for name, route in {
+            "Now": "/",
+            **{name: f"/{name.lower()}" for name in ("Sheet", "Enter", "Network", "Year")},
+        }.items():
+            times = []
+            for _ in range(TIMES):
+                begun = time.monotonic()
+                page.open(screen.url + route)
+                times.append(time.monotonic() - begun)
+            found[name] = min(times)
+        load, processors = os.getloadavg()[0], len(os.sched_getaffinity(0))
+        print(
+            f"a year in Chromium at load {load:.0f}:", ", ".join(f"{name} {took:.2f} s" for name, took in found.items())
+        )
+        self.assertLess(max(found.values()), 1.0 if load < processors else BUSY_SECONDS)
+        page.open(f"{screen.url}/")
+        page.wait(lambda: page.find(".diagram-place").get_attribute("aria-busy") == "false", "the whole diagram")
+        self.assertEqual(len(page.all(".diagram a")), 1_500)
+        self.assertEqual(page.complaints(), [])
 
 
 if __name__ == "__main__":
