@@ -1,6 +1,7 @@
 // What all pages share: the head, requests with the page's token, the events, and elements whose texts are set as text.
 
 export const known = { me: null, book: null };
+export const own = new Set(); // references of this page: their answers are shown where they were sent
 const listeners = [];
 
 /** An element: attributes, listeners where a value is a function, and children, which are texts or elements. */
@@ -310,6 +311,7 @@ window.addEventListener("unhandledrejection", (event) => {
 
 function tell(event) {
   const command = event.command;
+  if (event.count === 1 && own.has(command.ref)) return;
   const words = event.count > 1 ? `${event.count} commands, the last one ${command.no}` : `Command ${command.no}`;
   showSaid(`${words}: ${command.kind} ${command.fields.slice(0, 2).join(" ")} (${command.ref}) moved W by ${signed(event.moved)}`);
 }

@@ -1,5 +1,5 @@
 // A command on its way: what it would do, computed here; then, under one reference, the desk's answer beside it.
-import { el, get, HERE, known, moment, momentWords, newReference, number, onCommands, post, PROGRAM, scrolling, settled, signed, table, duration } from "./common.js";
+import { el, get, HERE, known, moment, momentWords, newReference, number, onCommands, own, post, PROGRAM, scrolling, settled, signed, table, duration } from "./common.js";
 
 const KEPT = "outagebook-unanswered";
 
@@ -36,8 +36,9 @@ export const total = (moved) => moved.filter(([dim]) => dim === "cause").reduce(
 
 /** `read` answers the command, or null where a field is missing. */
 export class Sender {
-  constructor({ read, lock, after = () => {}, label = "Send" }) {
+  constructor({ read, lock, after = () => {}, label = "Send", missing = "Fill in the fields: what it would do is shown here before it is sent." }) {
     this.read = read;
+    this.missing = missing;
     this.lock = lock || (() => {});
     this.after = after;
     this.intent = null;
@@ -67,7 +68,7 @@ export class Sender {
     }
     this.told = told;
     if (!command) {
-      this.forecast.replaceChildren(el("p", { class: "note" }, "Fill in the fields: what it would do is shown here before it is sent."));
+      this.forecast.replaceChildren(el("p", { class: "note" }, this.missing));
       return;
     }
     try {
@@ -103,7 +104,9 @@ export class Sender {
     if (this.intent) return;
     const command = this.read();
     if (!command || !this.shown) return;
-    this.intent = { command: { ...command, ref: newReference() }, forecast: this.shown, path: location.pathname };
+    const ref = newReference();
+    own.add(ref);
+    this.intent = { command: { ...command, ref }, forecast: this.shown, path: location.pathname };
     sessionStorage.setItem(KEPT, JSON.stringify(this.intent));
     await this.tryIt();
   }
@@ -118,7 +121,8 @@ export class Sender {
       if (trouble.status === 0 || trouble.status >= 500) this.unknown(trouble);
       else this.refused(trouble);
     }
-    this.outcome.focus();
+    this.outcome.focus({ preventScroll: true });
+    this.outcome.scrollIntoView();
   }
 
   unknown(trouble) {

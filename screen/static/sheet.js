@@ -76,39 +76,44 @@ async function lookAgain() {
 async function open(no, focus = true) {
   const entry = await get(`/api/entries/${no}`);
   opened = { no: entry.no, revision: entry.revision, sender: null };
-  const parts = [el("h2", {}, `Entry ${entry.no} `, tags(entry)), el("p", {}, entryWords(entry))];
+  const words = el("p", {}, entryWords(entry));
+  const parts = [el("h2", {}, `Entry ${entry.no} `, tags(entry)), words];
   for (const command of entry.history) {
     const reply = command.text ? JSON.parse(command.text) : null;
     const words = `Command ${command.no}, ${command.kind}, ${command.ref}${command.second ? `, ${momentWords(command.second)}` : ""}`;
     parts.push(el("details", {}, el("summary", {}, words, " ", PROGRAM()), reply ? scrolling("What it moved", movesTable(reply.moved)) : "the desk gives no reply"));
   }
-  if (entry.kept && known.me.may_send) parts.push(work(entry));
+  if (entry.kept && known.me.may_send) parts.push(work(entry, words));
   parts.push(el("div", { class: "buttons" }, el("button", { type: "button", click: () => { opened = null; detail.replaceChildren(); rows.querySelector(`[data-entry="${no}"]`)?.focus(); } }, "Close")));
   detail.replaceChildren(el("div", { class: "card" }, parts));
   if (focus) detail.focus();
 }
 
 /** A correction or a withdrawal, from the revision that is seen. */
-function work(entry) {
+function work(entry, words) {
   const kind = choice([["correct", "Correct it"], ["withdraw", "Withdraw it"]]);
   const position = choice([["open", "open"], ["close", "close"]], entry.action);
   const cause = choice(causes(), String(entry.cause));
   const crew = text({ list: "crews", maxlength: 16, value: entry.crew });
   const changed = () => sender.update();
-  const second = new MomentField("Second", entry.second.text, changed);
+  const second = new MomentField("Second", momentWords(entry.second.text), changed);
   const told = el("div", {}, second.element, field("Position", position), field("Cause", cause), field("Crew", crew));
   const read = () => {
     const seen = { f1: String(entry.no), f2: String(entry.revision) };
     if (kind.value === "withdraw") return { kind: "withdraw", ...seen };
-    const command = { kind: "correct", ...seen, f3: position.value, f4: second.second, f5: cause.value, f6: crew.value.trim().toUpperCase() };
-    return command.f4 && command.f6 ? command : null;
+    const fields = [position.value, second.second, cause.value, crew.value.trim().toUpperCase()];
+    const as_it_is = [entry.action, entry.second.second, entry.cause, entry.crew].join();
+    if (fields.some((each) => !each) || fields.join() === as_it_is) return null;
+    const [f3, f4, f5, f6] = fields;
+    return { kind: "correct", ...seen, f3, f4, f5, f6 };
   };
   const inputs = [kind, position, cause, crew, second.input];
   const sender = new Sender({
     read,
+    missing: "Change a field, or choose to withdraw it: what that would do is shown here before it is sent.",
     lock: (locked) => inputs.forEach((input) => (input.disabled = locked)),
     after: (shown, refused) => {
-      if (shown) { opened.revision = entry.revision += 1; entry.kept = kind.value === "correct"; inputs.forEach((input) => (input.disabled = true)); }
+      if (shown) { opened.revision = entry.revision += 1; entry.kept = kind.value === "correct"; inputs.forEach((input) => (input.disabled = true)); get(`/api/entries/${entry.no}`).then((now) => words.replaceChildren(entryWords(now))); }
       if (refused?.entry) offerAnew(refused.entry);
     },
   });

@@ -67,6 +67,11 @@ def until(seen: Callable[[], Any], seconds: float = 20, what: str = "it") -> Any
         time.sleep(0.02)
 
 
+def limit(seconds: float) -> float:
+    """A limit of time as it is promised, where the machine has a processor for it; five times that where it is busy."""
+    return seconds if os.getloadavg()[0] < len(os.sched_getaffinity(0)) else 5 * seconds
+
+
 class Desk:
     """A desk of its own port."""
 

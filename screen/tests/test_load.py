@@ -19,7 +19,6 @@ import support
 SECONDS = float(os.environ.get("SCREEN_SECONDS", "8"))
 CLIENTS = 20
 TIMES = 5
-BUSY_SECONDS = 5.0  # for a page where other programs have the processors
 YEAR = ("2024-01-01", "366", "UTC0")
 MEMORY = Path("/dev/shm")
 
@@ -134,7 +133,7 @@ class Load(unittest.TestCase):
             begun = time.monotonic()
             self.assertEqual(screen.call(route)[0], 200)
             pages[route] = time.monotonic() - begun
-            self.assertLess(pages[route], 1.0, route)
+            self.assertLess(pages[route], support.limit(1.0), route)
         listeners = [Listener(screen.port) for _ in range(CLIENTS)]
         support.until(lambda: all(each.last for each in listeners), what="all pages")
         screen.log_in("ANNA")
@@ -148,7 +147,7 @@ class Load(unittest.TestCase):
             told = support.until(lambda: all(shown["reply"]["no"] in each.told for each in listeners), what="the event")
             self.assertTrue(told)
             slowest = max(slowest, *(each.told[shown["reply"]["no"]] - answered for each in listeners))
-        self.assertLess(slowest, 0.5)
+        self.assertLess(slowest, support.limit(0.5))
         lines = Path(f"/proc/{screen.process.pid}/status").read_text().splitlines()
         memory = next(int(line.split()[1]) // 1_024 for line in lines if line.startswith("VmHWM"))
         print(f"a year: started in {started:.1f} s, {memory} MB, slowest answer {max(pages.values()):.2f} s,", end=" ")
@@ -173,11 +172,11 @@ class Load(unittest.TestCase):
                 page.ready()
                 times.append(time.monotonic() - begun)
             found[name] = min(times)
-        load, processors = os.getloadavg()[0], len(os.sched_getaffinity(0))
         print(
-            f"a year in Chromium at load {load:.0f}:", ", ".join(f"{name} {took:.2f} s" for name, took in found.items())
+            f"a year in Chromium at load {os.getloadavg()[0]:.0f}:",
+            ", ".join(f"{name} {took:.2f} s" for name, took in found.items()),
         )
-        self.assertLess(max(found.values()), 1.0 if load < processors else BUSY_SECONDS)
+        self.assertLess(max(found.values()), support.limit(1.0))
         page.open(f"{screen.url}/")
         page.wait(lambda: page.find(".diagram-place").get_attribute("aria-busy") == "false", "the whole diagram")
         self.assertEqual(len(page.all(".diagram a")), 1_500)

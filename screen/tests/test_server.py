@@ -380,7 +380,7 @@ class Hostile(Case):
         try:
             begun = time.monotonic()
             self.assertEqual(screen.post({**LIGHTHOUSE, "ref": "SCR-ANNA-1"})[0], 200)
-            self.assertLess(time.monotonic() - begun, 2)
+            self.assertLess(time.monotonic() - begun, support.limit(1.0))
             self.assertTrue(half.recv(1_000).startswith(b"HTTP/1.1 408 "))
             self.assertEqual({connection.recv(10) for connection in silent}, {b""})
         finally:
@@ -476,6 +476,8 @@ class Moments(unittest.TestCase):
         self.assertEqual(
             [each.second for each in moments.read_moment(zone, "2025-10-26T02:30:00+01:00")], [both[1].second]
         )
+        for same in ("2025-10-26 02:30:00 +01:00", " 2025-10-26T01:30:00Z "):
+            self.assertEqual(moments.read_moment(zone, same), both[1:], same)
         self.assertEqual(len(moments.read_moment(zone, "2025-04-05 06:10")), 1)
         for wrong in ("2025-03-30 02:30:00", "tomorrow", "2025-02-30 10:00:00", "1900-01-01 00:00:00", ""):
             with self.assertRaises(Refused, msg=wrong):
