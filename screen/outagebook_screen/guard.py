@@ -1,23 +1,31 @@
-"""What stands between a socket and the web server: limits of a head, of a body, and of the time that both may take.
+"""What stands between a socket and the web server: limits of a head, of a body, and of the time that each side may take.
 
-Each connection has one request. A connection that says nothing, or half of something, is closed in time; one whose head
-is too long is told so. The web server behind it sees whole heads alone.
+Each connection has one request. A connection that says nothing, or half of something, is closed in time, and so is one
+that doesn't read what it is sent; one whose head is too long is told so. The web server behind it sees whole heads alone.
 """
 
 from __future__ import annotations
 
 import asyncio
 import re
+from dataclasses import dataclass
 from typing import cast
 
 HEAD_BYTES = 16_384
 BODY_BYTES = 4_194_304
-HEAD_SECONDS = 10.0
-BODY_SECONDS = 30.0
 MOST_CONNECTIONS = 2_000
 END_OF_HEAD = b"\r\n\r\n"
 FIRST_LINE = re.compile(rb"[A-Z]{1,20} /[!-~]{0,8000} HTTP/1\.[01]\r\n")
 MOST_FIELDS = 100
+
+
+@dataclass(frozen=True)
+class Limits:
+    """Seconds that a connection may take: for a whole head, for a whole body, and until it takes what it is sent."""
+
+    head: float = 10.0
+    body: float = 30.0
+    reading: float = 30.0
 
 
 def refusal(status: str) -> bytes:
@@ -29,23 +37,25 @@ class Guard(asyncio.Protocol):
 
     open_connections = 0
 
-    def __init__(self, inner: asyncio.Protocol, head_seconds: float = HEAD_SECONDS, body_seconds: float = BODY_SECONDS):
+    def __init__(self, inner: asyncio.Protocol, limits: Limits):
         self.inner = inner
-        self.seconds = head_seconds, body_seconds
+        self.limits = limits
         self.head = b""
         self.is_whole = False
         self.left = 0
         self.timer: asyncio.TimerHandle | None = None
+        self.unread: asyncio.TimerHandle | None = None
         self.transport: asyncio.Transport | None = None
         self.is_connected = False
 
     def connection_made(self, transport: asyncio.BaseTransport) -> None:
         self.transport = cast(asyncio.Transport, transport)
+        self.transport.set_write_buffer_limits(0)  # so that each byte that isn't taken at once is told
         Guard.open_connections += 1
         if Guard.open_connections > MOST_CONNECTIONS:
             self._close(refusal("503 Service Unavailable"))
             return
-        self._wait(self.seconds[0])
+        self._wait(self.limits.head)
 
     def _wait(self, seconds: float) -> None:
         if self.timer is not None:
@@ -89,7 +99,7 @@ class Guard(asyncio.Protocol):
         self.is_connected = True
         self.inner.data_received(head)
         if told:
-            self._wait(self.seconds[1])
+            self._wait(self.limits.body)
         elif self.timer is not None:
             self.timer.cancel()
         if rest:
@@ -121,15 +131,20 @@ class Guard(asyncio.Protocol):
 
     def connection_lost(self, error: Exception | None) -> None:
         Guard.open_connections -= 1
-        if self.timer is not None:
-            self.timer.cancel()
+        for timer in (self.timer, self.unread):
+            if timer is not None:
+                timer.cancel()
         if self.is_connected:
             self.inner.connection_lost(error)
 
     def pause_writing(self) -> None:
+        assert self.transport is not None
+        self.unread = asyncio.get_running_loop().call_later(self.limits.reading, self.transport.abort)
         if self.is_connected:
             self.inner.pause_writing()
 
     def resume_writing(self) -> None:
+        if self.unread is not None:
+            self.unread.cancel()
         if self.is_connected:
             self.inner.resume_writing()

@@ -13,7 +13,7 @@ from pathlib import Path
 from aiohttp import web
 
 from .desk import Away, Desk, OwnDesk
-from .guard import Guard
+from .guard import Guard, Limits
 from .journal import Journal
 from .office import Office, new_state
 from .reader import BookError, Differs, Parser
@@ -22,6 +22,15 @@ from .web import Settings, application
 FIRST_ANSWER_SECONDS = 600
 BETWEEN_TRIES = 0.5
 OPEN_FILES = 8_192
+LONGEST_LIMIT = 3_600
+
+
+def seconds(text: str) -> float:
+    """A limit of time: some seconds, an hour at most."""
+    found = float(text)
+    if not 0 < found <= LONGEST_LIMIT:
+        raise ValueError
+    return found
 
 
 def read_words() -> argparse.Namespace:
@@ -42,6 +51,10 @@ def read_words() -> argparse.Namespace:
     words.add_argument(
         "--log", metavar="FILE", type=Path, help="the screen's own log (the book's name and -screen.jsonl)"
     )
+    words.add_argument(
+        "--head-seconds", metavar="N", type=seconds, default=Limits.head, help="for a request's head (10)"
+    )
+    words.add_argument("--body-seconds", metavar="N", type=seconds, default=Limits.body, help="for its body (30)")
     given = words.parse_args()
     if given.desk and given.no_desk:
         words.error("--desk and --no-desk exclude each other")
@@ -109,8 +122,9 @@ async def listen(given: argparse.Namespace, office: Office, ended: asyncio.Event
     loop = asyncio.get_running_loop()
     assert runner.server is not None
     web_server: web.Server = runner.server
+    limits = Limits(given.head_seconds, given.body_seconds)
     try:
-        server = await loop.create_server(lambda: Guard(web_server()), "127.0.0.1", given.port, backlog=1_024)
+        server = await loop.create_server(lambda: Guard(web_server(), limits), "127.0.0.1", given.port, backlog=1_024)
     except OSError as error:
         raise BookError(f"port {given.port} can't be bound: {error.strerror}") from None
     port = server.sockets[0].getsockname()[1]

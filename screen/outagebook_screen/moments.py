@@ -9,7 +9,7 @@ from datetime import datetime
 from .reader import Zone
 from .state import Refused
 
-TYPED = re.compile(r"(\d{4}-\d\d-\d\d)[ T](\d\d:\d\d)(:\d\d)?(Z|[+-]\d\d:\d\d)?")
+TYPED = re.compile(r"(\d{4}-\d\d-\d\d)[ T](\d\d:\d\d)(:\d\d)? ?(Z|[+-]\d\d:\d\d)?")
 UNIX = re.compile(r"\d{1,11}")
 LAST = 99_999_999_999
 

@@ -1,6 +1,7 @@
 // What all pages share: the head, requests with the page's token, the events, and elements whose texts are set as text.
 
 export const known = { me: null, book: null };
+export const own = new Set(); // references of this page: their answers are shown where they were sent
 const listeners = [];
 
 /** An element: attributes, listeners where a value is a function, and children, which are texts or elements. */
@@ -83,10 +84,14 @@ export function signed(value) {
 }
 
 /** A moment as the server wrote it by the clock of the book's zone: date, time and offset. */
+const clock = (text) => [text.slice(0, 10), text.slice(11, 19), text.slice(19)];
+export const momentWords = (text) => clock(text).join(" ");
+
 export function moment(value) {
   const text = typeof value === "string" ? value : value.text;
   if (!text) return "";
-  return el("time", { datetime: text }, `${text.slice(0, 10)} ${text.slice(11, 19)} ${text.slice(19)}`);
+  const parts = clock(text).map((part) => [" ", el("span", { class: "nowrap" }, part)]);
+  return el("time", { datetime: text }, parts.flat().slice(1));
 }
 
 export function duration(seconds) {
@@ -99,14 +104,35 @@ export function duration(seconds) {
   return parts.map(([count, unit]) => `${count} ${unit}`).join(" ") || "0 s";
 }
 
-/** A table of rows of cells; heads that begin with # are of numbers. On a narrow page each row is a card. */
+/** A text that may be broken where a word of it is long. */
+export function breakable(words) {
+  const parts = words.match(/[^\s-]{1,8}[\s-]*|[\s-]+/g) || [];
+  return parts.flatMap((part, at) => (at && /[^\s-]$/.test(parts[at - 1]) ? [el("wbr"), part] : [part]));
+}
+
+/** Work for when the browser has time. */
+export const idle = window.requestIdleCallback ? (work) => requestIdleCallback(work, { timeout: 300 }) : (work) => setTimeout(work, 20);
+
+const BRIEF = 12; // letters, that stay in one line
+const SLICE = 100; // rows that are drawn in one go
+const COLUMNS = { "#": "n", "~": "no-print" };
+
+/** Draws rows into a table, a slice at a time, for as long as it is shown. */
+function drawRows(body, rows, draw) {
+  body.append(...rows.slice(0, SLICE).map(draw));
+  if (rows.length > SLICE) idle(() => body.isConnected && drawRows(body, rows.slice(SLICE), draw));
+}
+
+/** A table of rows of cells; heads that begin with # are of numbers, with ~ of what can be done. On a narrow page each row
+ * is a card. */
 export function table(heads, rows, caption = null, rowClasses = []) {
-  const names = heads.map((head) => head.replace(/^#/, ""));
-  const cells = (row, at) =>
-    row.map((cell, place) =>
-      el("td", { class: heads[place].startsWith("#") ? "n" : null, "data-label": names[place] }, cell),
-    );
-  const head = heads.map((name, place) => el("th", { scope: "col", class: name.startsWith("#") ? "n" : null }, names[place]));
+  const names = heads.map((head) => head.replace(/^[#~]/, ""));
+  const kinds = heads.map((head) => COLUMNS[head[0]]);
+  const brief = (cell) => ((cell.textContent ?? cell).length > BRIEF ? null : "brief");
+  const cells = (row) => row.map((cell, place) => el("td", { class: kinds[place] ?? brief(cell), "data-label": names[place] }, typeof cell === "string" ? breakable(cell) : cell));
+  const head = heads.map((_, place) => el("th", { scope: "col", class: kinds[place] }, names[place]));
+  const body = el("tbody", {});
+  drawRows(body, rows.map((row, at) => [row, rowClasses[at] || null]), ([row, kind]) => el("tr", { class: kind }, cells(row)));
   return el(
     "div",
     { class: "scroll" },
@@ -115,15 +141,48 @@ export function table(heads, rows, caption = null, rowClasses = []) {
       { class: heads.length > 3 ? "cards" : null },
       caption ? el("caption", {}, caption) : "",
       el("thead", {}, el("tr", {}, head)),
-      el("tbody", {}, rows.map((row, at) => el("tr", { class: rowClasses[at] || null }, cells(row, at)))),
+      body,
     ),
   );
 }
 
-/** A label with its field. */
+let made = 0;
+const newId = (words) => `f-${words.toLowerCase().replace(/[^a-z0-9]+/g, "-")}-${(made += 1)}`;
+
+/** A label with its field, and a note of which a reader of the screen hears with the field. */
 export function field(label, input, note = null) {
-  input.id ||= `f-${label.toLowerCase().replace(/[^a-z0-9]+/g, "-")}-${(field.count = (field.count || 0) + 1)}`;
-  return el("div", { class: "field" }, el("label", { for: input.id }, label), input, note ? el("div", { class: "note" }, note) : "");
+  input.id ||= newId(label);
+  const beside = typeof note === "string" ? el("div", { class: "note" }, note) : note;
+  if (beside) {
+    beside.id ||= newId("note");
+    input.setAttribute("aria-describedby", beside.id);
+  }
+  return el("div", { class: "field" }, el("label", { for: input.id }, label), input, beside);
+}
+
+/** What is higher than its place scrolls, by the keyboard too. */
+export function scrolling(label, ...children) {
+  return el("div", { class: "tall scroll", tabindex: "0", role: "region", "aria-label": `${label}, scrolls` }, children);
+}
+
+const nameOf = (element) => `${element.tagName} ${element.getAttribute("href") || element.getAttribute("aria-label") || element.textContent}`;
+
+/** Puts new children in the place of old ones: what had the focus keeps it, where it is there again, and what was scrolled
+ * stays so. */
+export function renew(place, ...children) {
+  const had = place.contains(document.activeElement) ? nameOf(document.activeElement) : null;
+  const scrolled = [...place.querySelectorAll(".scroll")].map((each) => [each.scrollLeft, each.scrollTop]);
+  place.replaceChildren(...children);
+  if (had) [...place.querySelectorAll("a, button, summary, [tabindex]")].find((each) => nameOf(each) === had)?.focus({ preventScroll: true });
+  place.querySelectorAll(".scroll").forEach((each, at) => scrolled[at] && each.scrollTo(...scrolled[at]));
+}
+
+/** Lets the browser show what is there, before more work is done; a page that isn't looked at shows nothing. */
+export function painted() {
+  return new Promise((resolve) => {
+    requestAnimationFrame(() => setTimeout(resolve));
+    setTimeout(resolve, 100);
+  });
 }
 
 export function choice(options, chosen = "") {
@@ -175,15 +234,20 @@ function head() {
   document.body.append(said);
 }
 
+/** Sets a text where it is another one: what is set again would be read out again. */
+function say(place, words) {
+  if (place.textContent !== words) place.textContent = words;
+}
+
 export function showDesk(shown) {
   const words = { here: "Desk: here", away: "Desk: AWAY", none: "No desk: a copy" };
-  state.replaceChildren(`${words[shown.desk]}, ${number(shown.number)} commands`);
+  say(state, `${words[shown.desk]}, ${number(shown.number)} commands`);
   const parts = [];
   if (shown.desk === "away") {
     parts.push(el("p", { class: "bad" }, `The desk is away; the screen tries again each second. What is shown is as of command ${shown.number}. (${shown.why})`));
   }
   if (shown.differs) parts.push(el("p", { class: "bad" }, `The screen's own count differs from the desk: ${shown.differs}. Believe the desk.`));
-  banner.replaceChildren(...parts);
+  if (banner.textContent !== parts.map((part) => part.textContent).join("")) banner.replaceChildren(...parts);
 }
 
 function askName(again = false) {
@@ -227,17 +291,29 @@ function listen() {
     if (event.what === "commands" || (event.what === "hello" && heard)) listeners.forEach((work) => work(event));
     heard = true;
   });
-  source.addEventListener("error", () => state.replaceChildren("The screen's server is away"));
+  source.addEventListener("error", () => say(state, "The screen's server is away"));
 }
 
 let hush = null;
 
-function tell(event) {
-  const command = event.command;
-  const words = event.count > 1 ? `${event.count} commands, the last one ${command.no}` : `Command ${command.no}`;
-  said.replaceChildren(`${words}: ${command.kind} ${command.fields.slice(0, 2).join(" ")} (${command.ref}) moved W by ${signed(event.moved)}`);
+function showSaid(words, kind = null) {
+  said.replaceChildren(kind ? el("span", { class: kind }, words) : words);
   clearTimeout(hush);
   hush = setTimeout(() => said.replaceChildren(), 12000);
+}
+
+// What no part of a page has dealt with is told all the same.
+window.addEventListener("unhandledrejection", (event) => {
+  if (!(event.reason instanceof Trouble)) return;
+  event.preventDefault();
+  showSaid(event.reason.message, "bad");
+});
+
+function tell(event) {
+  const command = event.command;
+  if (event.count === 1 && own.has(command.ref)) return;
+  const words = event.count > 1 ? `${event.count} commands, the last one ${command.no}` : `Command ${command.no}`;
+  showSaid(`${words}: ${command.kind} ${command.fields.slice(0, 2).join(" ")} (${command.ref}) moved W by ${signed(event.moved)}`);
 }
 
 /** Begins a page: who asks, the book's names, the head, the events. */

@@ -1,7 +1,9 @@
 // The one-line diagram: GRID at the left, each layer of normally closed devices a column further, ties as arcs.
-import { el, svg } from "./common.js";
+import { el, idle, svg } from "./common.js";
 
-const COLUMN = 224, ROW = 62, WIDTH = 122, HEIGHT = 36, EDGE = 14;
+const COLUMN = 224, ROW = 62, WIDTH = 122, HEIGHT = 36, EDGE = 14, HIT = 44;
+const WIDEST_ON_PAPER = 1500; // of a picture that can still be read there
+const SLICE = 150; // nodes and devices that are drawn in one go
 
 const place = (node) => ({ x: EDGE + node.layer * COLUMN, y: EDGE + 14 + node.row * ROW });
 
@@ -38,41 +40,116 @@ function wayOf(device, a, b) {
   return { d: `M${sx} ${y1 + 7}C${reach} ${y1 + 7} ${reach} ${y2 - 7} ${ex} ${y2 - 7}`, x: (sx + ex) / 8 + (reach * 6) / 8, y: (y1 + y2) / 2 };
 }
 
-function deviceShapes(device, nodes, link) {
-  const a = nodes[device.a], b = nodes[device.b];
+const isDead = (device, a, b) => device.tree && device.closed && !(a.supplied && b.supplied);
+
+function wayShape(device, a, b) {
+  const kinds = ["way", isDead(device, a, b) && "dead", !device.tree && "tie", !device.closed && "open", !device.alive && "gone"];
+  return svg("path", { class: kinds.filter(Boolean).join(" "), d: wayOf(device, a, b).d });
+}
+
+function signShape(device, a, b) {
   const way = wayOf(device, a, b);
-  const dead = device.tree && !(a.supplied && b.supplied) && device.closed;
-  const kinds = ["way", dead && "dead", !device.tree && "tie", !device.closed && "open", !device.alive && "gone"].filter(Boolean);
   const odd = device.alive && device.closed !== device.normal;
   const words = [device.closed && "closed", odd && "odd", !device.alive && "gone"].filter(Boolean);
   const state = !device.alive ? "not in the network" : `${device.closed ? "closed" : "open"}${odd ? ", not its normal position" : ""}`;
   const mark = odd ? [svg("path", { class: "ring", d: `M${way.x} ${way.y - 13}l13 13l-13 13l-13 -13z` })] : [];
-  const shown = svg(
+  return svg(
     "a",
-    { href: link(device), class: words.join(" "), "aria-label": `${device.name}: ${state}. Enter a switching.` },
-    svg("rect", { class: "hit", x: way.x - 15, y: way.y - 15, width: 30, height: 30 }),
+    { class: words.join(" "), "aria-label": `${device.name}: ${state}. Enter a switching.` },
+    svg("rect", { class: "hit", x: way.x - HIT / 2, y: way.y - HIT / 2, width: HIT, height: HIT }),
     ...mark,
     svg("rect", { class: "box", x: way.x - 6, y: way.y - 6, width: 12, height: 12 }),
     svg("text", device.tree ? { x: way.x, y: way.y - 16, "text-anchor": "middle" } : { x: way.x + 17, y: way.y + 4 }, `${device.name}${odd ? (device.closed ? " closed!" : " open!") : ""}`),
   );
-  return [svg("path", { class: kinds.join(" "), d: way.d }), shown];
 }
 
-/** The diagram of a network; where there is room it is drawn larger. */
-export function diagram(shown, link, room) {
-  const layers = Math.max(...shown.nodes.map((node) => node.layer)) + 1;
-  const rows = Math.max(...shown.nodes.map((node) => node.row)) + 1;
-  const width = EDGE * 2 + layers * COLUMN + 130, height = EDGE * 2 + rows * ROW + 24;
-  const scale = Math.min(1.5, Math.max(1, room / width));
-  const parts = shown.devices.map((device) => deviceShapes(device, shown.nodes, link));
-  const picture = svg(
-    "svg",
-    { class: "diagram", width: width * scale, height: height * scale, viewBox: `0 0 ${width} ${height}`, role: "group", "aria-label": "One-line diagram" },
-    parts.map(([way]) => way),
-    shown.nodes.map(nodeShape),
-    parts.map(([, device]) => device),
-  );
-  return el("div", { class: "scroll tall", tabindex: "0", "aria-label": "One-line diagram, scrolls" }, picture);
+/** A shape is drawn anew where what it is drawn from has changed. */
+class Shape {
+  constructor(draw) {
+    this.draw = draw;
+    this.told = null;
+    this.element = null;
+    this.hadFocus = false;
+  }
+
+  show(...from) {
+    const told = JSON.stringify(from);
+    if (told === this.told) return;
+    const old = this.element;
+    this.element = this.draw(...from);
+    this.told = told;
+    if (!old) return;
+    this.hadFocus = old === document.activeElement;
+    old.replaceWith(this.element);
+  }
+
+  /** A link that was drawn anew takes the focus again: it needs its address for that. */
+  giveFocus() {
+    if (this.hadFocus) this.element.focus({ preventScroll: true });
+    this.hadFocus = false;
+  }
+}
+
+/** The diagram of a network, drawn larger where there is room: from the top on, a slice at a time, so that a large one
+ * keeps nobody waiting. Shown again, it draws what has changed: the rest stays, and with it what has the focus and how far
+ * it is scrolled. */
+export class Diagram {
+  constructor() {
+    this.element = el("div", { class: "scroll tall diagram-place", tabindex: "0", role: "region", "aria-label": "One-line diagram, scrolls" });
+    this.network = "";
+  }
+
+  show(shown, link, room) {
+    const network = JSON.stringify([shown.nodes.map(({ name, layer, row }) => [name, layer, row]), shown.devices.map(({ name, a, b, tree }) => [name, a, b, tree])]);
+    Object.assign(this, { shown, link });
+    if (network !== this.network) this.begin(room);
+    else this.parts.slice(0, this.drawn).forEach((part) => this.draw(part));
+    this.network = network;
+  }
+
+  begin(room) {
+    const { nodes, devices } = this.shown;
+    const layers = Math.max(...nodes.map((node) => node.layer)) + 1;
+    const rows = Math.max(...nodes.map((node) => node.row)) + 1;
+    const width = EDGE * 2 + layers * COLUMN + 130, height = EDGE * 2 + rows * ROW + 24;
+    const scale = Math.min(1.5, Math.max(1, room / width));
+    const on_paper = width > WIDEST_ON_PAPER ? " no-print" : "";
+    const picture = svg("svg", { class: `diagram${on_paper}`, width: width * scale, height: height * scale, viewBox: `0 0 ${width} ${height}`, role: "group", "aria-label": "One-line diagram" });
+    this.layers = { way: svg("g"), node: svg("g"), sign: svg("g") };
+    picture.append(...Object.values(this.layers));
+    const note = on_paper ? el("p", { class: "print-only" }, "The diagram of this network is too wide for paper: it is on the screen.") : "";
+    this.element.replaceChildren(picture, note);
+    this.parts = [
+      ...nodes.map((node, at) => ({ at, y: place(node).y, x: node.layer, node: new Shape(nodeShape) })),
+      ...devices.map((device, at) => ({ at, ...wayOf(device, nodes[device.a], nodes[device.b]), way: new Shape(wayShape), sign: new Shape(signShape) })),
+    ].sort((one, other) => one.y - other.y || one.x - other.x);
+    this.drawn = 0;
+    this.drawOn();
+  }
+
+  /** Draws the next slice, and the others when there is time. */
+  drawOn() {
+    const { parts, drawn } = this;
+    const slice = parts.slice(drawn, drawn + SLICE);
+    slice.forEach((part) => this.draw(part));
+    for (const [name, layer] of Object.entries(this.layers)) layer.append(...slice.filter((part) => part[name]).map((part) => part[name].element));
+    this.drawn = drawn + slice.length;
+    this.element.setAttribute("aria-busy", String(this.drawn < parts.length));
+    if (this.drawn < parts.length) idle(() => parts === this.parts && this.drawOn());
+  }
+
+  draw({ at, node, way, sign }) {
+    const { nodes, devices } = this.shown;
+    if (node) {
+      node.show(nodes[at]);
+      return;
+    }
+    const device = devices[at], a = nodes[device.a], b = nodes[device.b];
+    way.show(device, a, b);
+    sign.show(device, a, b);
+    sign.element.setAttribute("href", this.link(device));
+    sign.giveFocus();
+  }
 }
 
 export function legend() {

@@ -1,5 +1,5 @@
 // A switching: what was switched, at the second at which it was.
-import { begin, causes, choice, el, field, get, known, list, onCommands, reloadBook, settled, text } from "./common.js";
+import { begin, causes, choice, el, field, get, known, list, momentWords, onCommands, reloadBook, settled, text } from "./common.js";
 import { MomentField } from "./moments.js";
 import { Sender } from "./sender.js";
 
@@ -41,7 +41,7 @@ begin(async () => {
   }, 60);
   device.addEventListener("input", look);
   for (const input of [position, cause, crew]) input.addEventListener("input", sender.update);
-  const now = el("button", { type: "button", click: () => get("/api/now").then((shown) => second.set(shown.at.text)) }, "Now");
+  const now = el("button", { type: "button", click: () => get("/api/now").then((shown) => second.set(momentWords(shown.at.text))) }, "Now");
   const form = el(
     "form",
     { class: "card", submit: (event) => { event.preventDefault(); sender.send(); } },
@@ -60,7 +60,7 @@ begin(async () => {
   );
   onCommands(() => reloadBook());
   const at = wanted.get("at");
-  await second.set(at || (await get("/api/now")).at.text);
+  await second.set(at || momentWords((await get("/api/now")).at.text));
   sender.resume();
   device.focus();
 });

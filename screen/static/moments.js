@@ -1,14 +1,14 @@
 // A field for a moment, typed by the clock of the book's zone. The server reads it: the browser's zone has no part in it.
-import { el, field, get, settled, text } from "./common.js";
+import { el, field, get, momentWords, settled, text } from "./common.js";
 
 export class MomentField {
   constructor(label, value, changed, { may_be_empty = false } = {}) {
     this.second = null;
-    this.input = text({ value, placeholder: "2025-04-05 06:10:00", "aria-describedby": "" });
+    this.input = text({ value, placeholder: "2025-04-05 06:10:00", });
     this.told = el("div", { class: "note", role: "status" });
     this.changed = changed;
     this.may_be_empty = may_be_empty;
-    this.element = el("div", { class: "moment" }, field(label, this.input), this.told);
+    this.element = el("div", { class: "moment" }, field(label, this.input, this.told));
     this.count = 0;
     const read = settled(() => this.read());
     this.input.addEventListener("input", () => {
@@ -17,9 +17,11 @@ export class MomentField {
     });
   }
 
-  set(value) {
+  /** Sets a moment, also one as a number of seconds: it is shown as it would be typed. */
+  async set(value) {
     this.input.value = value;
-    return this.read();
+    const found = await this.read();
+    if (found?.length === 1 && this.input.value === value) this.input.value = momentWords(found[0].text);
   }
 
   async read() {
@@ -49,6 +51,7 @@ export class MomentField {
       this.ask(found);
     }
     this.changed();
+    return found;
   }
 
   /** The clock shows this hour twice: which one is meant? */

@@ -1,5 +1,5 @@
 // The network: nodes, devices with their lives, customers by section; and the commands that change them.
-import { begin, choice, el, field, get, HERE, known, list, number, onCommands, reloadBook, settled, table, text } from "./common.js";
+import { begin, choice, el, field, get, HERE, known, list, number, onCommands, reloadBook, renew, scrolling, settled, table, text } from "./common.js";
 import { MomentField } from "./moments.js";
 import { Sender } from "./sender.js";
 
@@ -56,30 +56,42 @@ function commandForm() {
 
 let form = null;
 
+const drawn = new Map();
+
+/** Whether a list isn't drawn yet as it is to be: most commands change neither. */
+function isNew(place, seen) {
+  const told = JSON.stringify(seen);
+  const found = drawn.get(place) !== told;
+  drawn.set(place, told);
+  return found;
+}
+
 function showNodes() {
   const seen = known.book.nodes.filter((node) => node.name.includes(searched));
+  if (!isNew(nodes, seen)) return;
   const rows = seen.map((node) => [
     node.name, ["source", "bus", "section"][node.kind], node.feeder ? String(node.feeder) : "",
     node.kind === 2 ? el("button", { type: "button", class: "small", click: () => showCustomers(node.name) }, "Customers") : "",
   ]);
-  nodes.replaceChildren(el("h2", {}, `${number(seen.length)} nodes `, HERE()), el("div", { class: "tall scroll", tabindex: "0", "aria-label": "Nodes, scrolls" }, table(["node", "kind", "#feeder", "customers"], rows)));
+  renew(nodes, el("h2", {}, `${number(seen.length)} nodes `, HERE()), scrolling("Nodes", table(["node", "kind", "#feeder", "~customers"], rows)));
 }
 
 function showDevices() {
   const seen = known.book.devices.filter((device) => device.name.includes(searched));
+  if (!isNew(devices, seen)) return;
   const name = (node) => known.book.nodes[node].name;
   const rows = seen.map((device) => [
     device.name, `${name(device.a)} \u2013 ${name(device.b)}`, device.normal, device.since || "always", device.until || "without end",
     form ? el("button", { type: "button", class: "small", click: () => form.choose("life", device.name, device.since, device.until) }, "Set its life") : "",
   ]);
-  devices.replaceChildren(el("h2", {}, `${number(seen.length)} devices `, HERE()), el("div", { class: "tall scroll", tabindex: "0", "aria-label": "Devices, scrolls" }, table(["device", "between", "normal", "in the network from", "until before", "life"], rows)));
+  renew(devices, el("h2", {}, `${number(seen.length)} devices `, HERE()), scrolling("Devices", table(["device", "between", "normal", "in the network from", "until before", "~life"], rows)));
 }
 
 async function showCustomers(section) {
   const shown = await get("/api/customers", { section });
   const rows = shown.customers.map((row) => [String(row.no), row.since, row.until || "without end"]);
   const more = shown.found > shown.customers.length ? ` The first ${shown.customers.length} are shown.` : "";
-  customers.replaceChildren(el("div", { class: "card", tabindex: "-1" }, el("h2", {}, `${number(shown.found)} customers of ${section} `, HERE()), el("p", {}, more), el("div", { class: "tall scroll" }, table(["#customer", "in service from", "until before"], rows))));
+  customers.replaceChildren(el("div", { class: "card", tabindex: "-1" }, el("h2", {}, `${number(shown.found)} customers of ${section} `, HERE()), el("p", {}, more), scrolling("Customers", table(["#customer", "in service from", "until before"], rows))));
   customers.firstElementChild.focus();
 }
 

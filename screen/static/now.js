@@ -1,14 +1,16 @@
 // Who is out at a second, and how the network stands.
-import { begin, el, get, HERE, known, moment, number, onCommands, settled, table, duration } from "./common.js";
+import { begin, breakable, el, get, HERE, known, moment, number, onCommands, painted, renew, settled, table, duration } from "./common.js";
 import { MomentField } from "./moments.js";
-import { diagram, legend } from "./diagram.js";
+import { Diagram, legend } from "./diagram.js";
 
 const main = document.getElementById("main");
 const tiles = el("div", { class: "tiles" });
 const list = el("section", { "aria-label": "Sections without supply" });
 const picture = el("section", { "aria-label": "The network" });
 const trouble = el("div", {});
-let at = "", field, slider;
+const diagram = new Diagram();
+let early = get("/api/now").catch(() => null); // is asked for while the page's head is
+let at = "", field, slider, count = 0;
 
 const link = (device) => `/enter?${new URLSearchParams({ device: device.name, ...(at ? { at } : {}) })}`;
 
@@ -23,33 +25,34 @@ function outageTable(shown) {
     row.device || "no switching",
     row.device ? `${row.cause} ${row.cause_name}` : "0 UNASSIGNED",
     row.crew || "",
-    row.entry ? el("a", { href: `/sheet?entry=${row.entry}` }, row.reference || `entry ${row.entry}`) : "",
+    row.entry ? el("a", { href: `/sheet?entry=${row.entry}` }, breakable(row.reference || `entry ${row.entry}`)) : "",
     row.until ? moment(row.until) : "not told yet",
   ]);
   return table(["section", "#feeder", "#customers", "since", "#for", "cut off by", "cause", "crew", "reference", "supplied again"], rows);
 }
 
 async function show() {
-  let shown;
+  const mine = ++count;
+  let shown = await early;
+  early = null;
   try {
-    shown = await get("/api/now", at ? { at } : {});
+    shown ??= await get("/api/now", at ? { at } : {});
   } catch (error) {
     trouble.replaceChildren(el("p", { class: "bad" }, error.message));
     return;
   }
+  if (mine !== count) return; // a later question was asked meanwhile
   trouble.replaceChildren();
   if (!at) slider.value = shown.at.second;
-  const scroll = picture.querySelector(".scroll");
-  const seen = scroll ? [scroll.scrollLeft, scroll.scrollTop] : [0, 0];
   tiles.replaceChildren(
     el("div", { class: shown.customers_out ? "tile out" : "tile" }, "Customers without supply", el("b", {}, number(shown.customers_out)), `of ${number(shown.customers_served)} in service`),
     el("div", { class: shown.outages.length ? "tile out" : "tile" }, "Sections without supply", el("b", {}, number(shown.outages.length))),
     el("div", { class: "tile" }, at ? "As of" : "As of now, or the period's end", el("b", { class: "when" }, moment(shown.at))),
   );
-  list.replaceChildren(el("h2", {}, "Sections without supply ", HERE()), outageTable(shown));
-  picture.replaceChildren(el("h2", {}, "The network ", HERE()), legend(), diagram(shown, link, main.clientWidth - 40));
-  picture.querySelector(".scroll").scrollTo(...seen);
+  renew(list, el("h2", {}, "Sections without supply ", HERE()), outageTable(shown));
   document.body.dataset.number = shown.number;
+  await painted();
+  if (mine === count) diagram.show(shown, link, main.clientWidth - 40);
 }
 
 function controls() {
@@ -70,6 +73,7 @@ function controls() {
 }
 
 begin(async () => {
+  picture.append(el("h2", {}, "The network ", HERE()), legend(), diagram.element);
   main.append(tiles, trouble, controls(), list, picture);
   onCommands(() => show());
   await show();

@@ -1,5 +1,5 @@
 // A command on its way: what it would do, computed here; then, under one reference, the desk's answer beside it.
-import { el, get, HERE, known, moment, newReference, number, onCommands, post, PROGRAM, settled, signed, table, duration } from "./common.js";
+import { el, get, HERE, known, moment, momentWords, newReference, number, onCommands, own, post, PROGRAM, scrolling, settled, signed, table, duration } from "./common.js";
 
 const KEPT = "outagebook-unanswered";
 
@@ -8,12 +8,11 @@ export function sectionsTable(sections) {
     row.section,
     row.loses && row.gets_back ? "loses and gets back" : row.loses ? "LOSES supply" : "gets back supply",
     String(row.customers),
-    moment(row.since),
-    moment(row.until),
+    el("span", {}, moment(row.since), " \u2013 ", moment(row.until)),
     duration(row.loses || row.gets_back),
     signed(row.customer_seconds),
   ]);
-  return table(["section", "what", "#customers", "from", "to", "#duration", "#customer-seconds"], rows);
+  return table(["section", "what", "#customers", "from \u2013 to", "#duration", "#customer-seconds"], rows);
 }
 
 const dayName = (key) => known.book.days[key] || key;
@@ -37,8 +36,9 @@ export const total = (moved) => moved.filter(([dim]) => dim === "cause").reduce(
 
 /** `read` answers the command, or null where a field is missing. */
 export class Sender {
-  constructor({ read, lock, after = () => {}, label = "Send" }) {
+  constructor({ read, lock, after = () => {}, label = "Send", missing = "Fill in the fields: what it would do is shown here before it is sent." }) {
     this.read = read;
+    this.missing = missing;
     this.lock = lock || (() => {});
     this.after = after;
     this.intent = null;
@@ -68,7 +68,7 @@ export class Sender {
     }
     this.told = told;
     if (!command) {
-      this.forecast.replaceChildren(el("p", { class: "note" }, "Fill in the fields: what it would do is shown here before it is sent."));
+      this.forecast.replaceChildren(el("p", { class: "note" }, this.missing));
       return;
     }
     try {
@@ -95,7 +95,7 @@ export class Sender {
       parts.push(el("p", {}, `${found.sections.length} section${found.sections.length > 1 ? "s" : ""}, ${number(customers)} customers, until `, found.to ? "the device's next entry at " : "the end of the period.", found.to ? moment(found.to) : ""));
       parts.push(sectionsTable(found.sections));
     }
-    parts.push(el("h3", {}, `W moves by ${signed(found.total)} customer-seconds`), el("div", { class: "tall scroll" }, movesTable(found.moved)));
+    parts.push(el("h3", {}, `W moves by ${signed(found.total)} customer-seconds`), scrolling("What it would move", movesTable(found.moved)));
     return parts;
   }
 
@@ -104,7 +104,9 @@ export class Sender {
     if (this.intent) return;
     const command = this.read();
     if (!command || !this.shown) return;
-    this.intent = { command: { ...command, ref: newReference() }, forecast: this.shown, path: location.pathname };
+    const ref = newReference();
+    own.add(ref);
+    this.intent = { command: { ...command, ref }, forecast: this.shown, path: location.pathname };
     sessionStorage.setItem(KEPT, JSON.stringify(this.intent));
     await this.tryIt();
   }
@@ -119,7 +121,8 @@ export class Sender {
       if (trouble.status === 0 || trouble.status >= 500) this.unknown(trouble);
       else this.refused(trouble);
     }
-    this.outcome.focus();
+    this.outcome.focus({ preventScroll: true });
+    this.outcome.scrollIntoView();
   }
 
   unknown(trouble) {
@@ -140,7 +143,7 @@ export class Sender {
     parts.push(el("p", { class: equal ? "good equal" : "bad differs" }, equal ? "The forecast is equal to the desk's reply." : "The forecast DIFFERS from the desk's reply: believe the desk."));
     if (!sameBook && !shown.again) parts.push(el("p", { class: "warn" }, "Another command came between; the count was made again for the book as the desk had it."));
     parts.push(el("p", {}, `W moved by ${signed(total(shown.reply.moved))} customer-seconds. Reference ${intent.command.ref}.`));
-    parts.push(el("div", { class: "tall scroll" }, movesTable(counted || [], shown.reply.moved)), el("p", { class: "mono reply" }, shown.text));
+    parts.push(scrolling("What it moved", movesTable(counted || [], shown.reply.moved)), el("p", { class: "mono reply" }, shown.text));
     this.outcome.replaceChildren(el("div", { class: "card" }, parts));
     this.forecast.replaceChildren();
     this.shown = null;
@@ -180,5 +183,5 @@ export class Sender {
 
 export function entryWords(entry) {
   const what = entry.kept ? "" : " (withdrawn)";
-  return `${entry.no}, revision ${entry.revision}: ${entry.device} ${entry.action} at ${entry.second.text}, cause ${entry.cause} ${entry.cause_name}, crew ${entry.crew}${what}`;
+  return `${entry.no}, revision ${entry.revision}: ${entry.device} ${entry.action} at ${momentWords(entry.second.text)}, cause ${entry.cause} ${entry.cause_name}, crew ${entry.crew}${what}`;
 }

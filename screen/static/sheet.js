@@ -1,12 +1,13 @@
 // The switching sheet: entries, what each command moved, corrections and withdrawals; and the screen's own log.
-import { begin, causes, choice, el, field, get, HERE, known, list, moment, number, onCommands, PROGRAM, settled, table, text } from "./common.js";
+import { begin, causes, choice, el, field, get, HERE, known, list, moment, momentWords, number, onCommands, PROGRAM, renew, scrolling, settled, table, text } from "./common.js";
 import { MomentField } from "./moments.js";
 import { entryWords, movesTable, Sender } from "./sender.js";
 
 const main = document.getElementById("main");
 const detail = el("section", { id: "detail", tabindex: "-1", "aria-label": "An entry" });
 const rows = el("section", { "aria-label": "Entries" });
-const log = el("section", { "aria-label": "The screen's log" });
+const logged = el("div", {});
+const log = el("section", { "aria-label": "The screen's log" }, el("details", {}, el("summary", {}, "The screen's own log: who sent what, when"), logged));
 const wanted = {};
 let from = 0;
 let opened = null;
@@ -21,7 +22,7 @@ function filters() {
   const order = make("order", choice([["newest", "newest first"], ["second", "by second"]]));
   return el(
     "form",
-    { class: "card short no-print", submit: (event) => event.preventDefault(), "aria-label": "Search" },
+    { class: "card short", submit: (event) => event.preventDefault(), "aria-label": "Search" },
     list("devices", known.book.devices.map((each) => each.name)),
     list("crews", known.book.crews),
     list("sections", known.book.nodes.filter((node) => node.kind === 2).map((node) => node.name)),
@@ -49,12 +50,13 @@ async function show() {
     `${entry.cause} ${entry.cause_name}`,
     entry.crew,
     String(entry.revision),
-    el("span", { class: "nowrap" }, entry.commands[0]?.ref || ""),
+    entry.commands[0]?.ref || "",
     tags(entry).length ? el("span", {}, tags(entry)) : "",
   ]);
   const classes = shown.rows.map((entry) => (entry.kept ? "" : "gone"));
   const turn = (by, words) => el("button", { type: "button", disabled: by < 0 ? from === 0 : from + 100 >= shown.found, click: () => { from += by; show(); } }, words);
-  rows.replaceChildren(
+  renew(
+    rows,
     el("h2", {}, `${number(shown.found)} of ${number(shown.of)} entries `, HERE()),
     table(["entry", "second", "device", "position", "cause", "crew", "#revision", "reference", "marks"], lines, null, classes),
     shown.found > 100 ? el("div", { class: "buttons" }, turn(-100, "Earlier rows"), turn(100, "Later rows")) : "",
@@ -74,39 +76,44 @@ async function lookAgain() {
 async function open(no, focus = true) {
   const entry = await get(`/api/entries/${no}`);
   opened = { no: entry.no, revision: entry.revision, sender: null };
-  const parts = [el("h2", {}, `Entry ${entry.no} `, tags(entry)), el("p", {}, entryWords(entry))];
+  const words = el("p", {}, entryWords(entry));
+  const parts = [el("h2", {}, `Entry ${entry.no} `, tags(entry)), words];
   for (const command of entry.history) {
     const reply = command.text ? JSON.parse(command.text) : null;
-    const words = `Command ${command.no}, ${command.kind}, ${command.ref}${command.second ? `, ${command.second}` : ""}`;
-    parts.push(el("details", {}, el("summary", {}, words, " ", PROGRAM()), reply ? el("div", { class: "tall scroll" }, movesTable(reply.moved)) : "the desk gives no reply"));
+    const words = `Command ${command.no}, ${command.kind}, ${command.ref}${command.second ? `, ${momentWords(command.second)}` : ""}`;
+    parts.push(el("details", {}, el("summary", {}, words, " ", PROGRAM()), reply ? scrolling("What it moved", movesTable(reply.moved)) : "the desk gives no reply"));
   }
-  if (entry.kept && known.me.may_send) parts.push(work(entry));
+  if (entry.kept && known.me.may_send) parts.push(work(entry, words));
   parts.push(el("div", { class: "buttons" }, el("button", { type: "button", click: () => { opened = null; detail.replaceChildren(); rows.querySelector(`[data-entry="${no}"]`)?.focus(); } }, "Close")));
   detail.replaceChildren(el("div", { class: "card" }, parts));
   if (focus) detail.focus();
 }
 
 /** A correction or a withdrawal, from the revision that is seen. */
-function work(entry) {
+function work(entry, words) {
   const kind = choice([["correct", "Correct it"], ["withdraw", "Withdraw it"]]);
   const position = choice([["open", "open"], ["close", "close"]], entry.action);
   const cause = choice(causes(), String(entry.cause));
   const crew = text({ list: "crews", maxlength: 16, value: entry.crew });
   const changed = () => sender.update();
-  const second = new MomentField("Second", entry.second.text, changed);
+  const second = new MomentField("Second", momentWords(entry.second.text), changed);
   const told = el("div", {}, second.element, field("Position", position), field("Cause", cause), field("Crew", crew));
   const read = () => {
     const seen = { f1: String(entry.no), f2: String(entry.revision) };
     if (kind.value === "withdraw") return { kind: "withdraw", ...seen };
-    const command = { kind: "correct", ...seen, f3: position.value, f4: second.second, f5: cause.value, f6: crew.value.trim().toUpperCase() };
-    return command.f4 && command.f6 ? command : null;
+    const fields = [position.value, second.second, cause.value, crew.value.trim().toUpperCase()];
+    const as_it_is = [entry.action, entry.second.second, entry.cause, entry.crew].join();
+    if (fields.some((each) => !each) || fields.join() === as_it_is) return null;
+    const [f3, f4, f5, f6] = fields;
+    return { kind: "correct", ...seen, f3, f4, f5, f6 };
   };
   const inputs = [kind, position, cause, crew, second.input];
   const sender = new Sender({
     read,
+    missing: "Change a field, or choose to withdraw it: what that would do is shown here before it is sent.",
     lock: (locked) => inputs.forEach((input) => (input.disabled = locked)),
     after: (shown, refused) => {
-      if (shown) { opened.revision = entry.revision += 1; entry.kept = kind.value === "correct"; inputs.forEach((input) => (input.disabled = true)); }
+      if (shown) { opened.revision = entry.revision += 1; entry.kept = kind.value === "correct"; inputs.forEach((input) => (input.disabled = true)); get(`/api/entries/${entry.no}`).then((now) => words.replaceChildren(entryWords(now))); }
       if (refused?.entry) offerAnew(refused.entry);
     },
   });
@@ -128,11 +135,12 @@ async function showLog() {
     row.sent ? `sent ${row.sent.kind} ${row.sent.f1 || ""} ${row.sent.f2 || ""}` : row.unanswered ? "not answered" : String(row.status),
     el("span", { class: "mono" }, JSON.stringify(row.answer ?? row.unanswered ?? "").slice(0, 160)),
   ]);
-  log.replaceChildren(el("details", {}, el("summary", {}, "The screen's own log: who sent what, when"), table(["time", "login", "reference", "what", "answer"], lines)));
+  logged.replaceChildren(table(["time", "login", "reference", "what", "answer"], lines));
 }
 
 begin(async () => {
-  main.append(filters(), detail, rows, log);
+  const narrow = matchMedia("(max-width: 40rem)").matches;
+  main.append(el("details", { class: "search no-print", open: !narrow }, el("summary", {}, "Search"), filters()), detail, rows, log);
   onCommands(() => { show(); showLog(); lookAgain(); });
   await show();
   await showLog();

@@ -1,5 +1,5 @@
 // The year as the desk answers it: indices, totals, days, causes, feeders; marks, imports, downloads.
-import { begin, choice, el, field, get, known, list, number, onCommands, post, PROGRAM, reloadBook, table, text } from "./common.js";
+import { begin, choice, el, field, get, known, list, number, onCommands, post, PROGRAM, reloadBook, renew, scrolling, table, text } from "./common.js";
 import { Sender } from "./sender.js";
 
 const main = document.getElementById("main");
@@ -25,14 +25,15 @@ async function show() {
   const days = shown.days.map((row) => (row[row.length - 1] === "marked" ? [`${row[0]} marked`, row[1]] : row));
   const tile = (name, words, unit) => el("div", { class: "tile" }, name, el("b", {}, words), unit);
   const decimal = (name) => shown.indices[name].all[1] || shown.indices[name].all[0];
-  figures.replaceChildren(
+  renew(
+    figures,
     el("p", { class: "mono" }, shown.heading),
     el("div", { class: "tiles" }, tile("SAIDI", decimal("SAIDI"), "minutes, all"), tile("SAIFI", decimal("SAIFI"), "interruptions, all"), tile("CAIDI", decimal("CAIDI"), "minutes, all"), tile("W", number(shown.totals.W), "customer-seconds"), tile("S", number(shown.totals.S), "customer-seconds in service"), tile("P", number(shown.totals.P), "seconds of the period")),
     el("div", { class: "two" },
       el("section", {}, el("h2", {}, "Indices ", PROGRAM()), table(["index", "#all", "#unmarked"], indices), el("p", { class: "note" }, "The fraction is the figure; the three decimals behind it are rounded. SAIDI and CAIDI in minutes.")),
       el("section", {}, el("h2", {}, "Causes ", PROGRAM()), amounts(shown.causes, (row) => [`${row[0]} ${row[1]}`], ["cause", "#customer-seconds", "share"]), el("h2", {}, "Feeders ", PROGRAM()), amounts(shown.feeders, (row) => [`feeder ${row[0]}`], ["feeder", "#customer-seconds", "share"])),
     ),
-    el("section", {}, el("h2", {}, "Days ", PROGRAM()), el("p", { class: "note" }, "Customer-seconds that fall on a day: not the standard's daily SAIDI. Days without any aren't listed."), el("div", { class: "tall scroll", tabindex: "0", "aria-label": "Days, scrolls" }, amounts(days, (row) => [row[0]], ["day", "#customer-seconds", "share"]))),
+    el("section", {}, el("h2", {}, "Days ", PROGRAM()), el("p", { class: "note" }, "Customer-seconds that fall on a day: not the standard's daily SAIDI. Days without any aren't listed."), scrolling("Days", amounts(days, (row) => [row[0]], ["day", "#customer-seconds", "share"]))),
   );
 }
 

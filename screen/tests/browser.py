@@ -2,8 +2,11 @@
 
 from __future__ import annotations
 
+import base64
 import tempfile
+import time
 from collections.abc import Callable
+from pathlib import Path
 from typing import Any
 
 import support
@@ -36,13 +39,19 @@ class Browser:
         options.set_capability("goog:loggingPrefs", {"browser": "ALL"})
         self.driver: Any = webdriver.Chrome(service=Service(DRIVER), options=options)
         self.resize(width, height)
-        scheme = [{"name": "prefers-color-scheme", "value": "dark" if dark else "light"}]
-        self.driver.execute_cdp_cmd("Emulation.setEmulatedMedia", {"features": scheme})
+        self.scheme = "dark" if dark else "light"
+        self.media("")
         self.driver.execute_cdp_cmd("Emulation.setTimezoneOverride", {"timezoneId": "Pacific/Kiritimati"})
 
     def resize(self, width: int, height: int) -> None:
         metrics = {"width": width, "height": height, "deviceScaleFactor": 1, "mobile": width < 500}
         self.driver.execute_cdp_cmd("Emulation.setDeviceMetricsOverride", metrics)
+        self.driver.execute_cdp_cmd("Emulation.setTouchEmulationEnabled", {"enabled": width < 500})
+
+    def media(self, media: str) -> None:
+        """Shows pages as for a screen (""), or as for paper ("print")."""
+        scheme = [{"name": "prefers-color-scheme", "value": self.scheme}]
+        self.driver.execute_cdp_cmd("Emulation.setEmulatedMedia", {"media": media, "features": scheme})
 
     def end(self) -> None:
         self.driver.quit()
@@ -113,6 +122,27 @@ class Browser:
         self.driver.execute_script("arguments[0].scrollIntoView({block: 'center'})", self.find(selector))
         self.find(selector).click()
 
+    def tap(self, element: WebElement) -> None:
+        """Taps on an element as a finger does; by its own clock, so that it is no long press where the machine is busy."""
+        middle = (
+            "arguments[0].scrollIntoView({ block: 'center' });"
+            "const box = arguments[0].getBoundingClientRect();"
+            "return { x: box.x + box.width / 2, y: box.y + box.height / 2 };"
+        )
+        point, now = self.driver.execute_script(middle, element), time.time()
+        for kind, points, moment in (("touchStart", [point], now), ("touchEnd", [], now + 0.05)):
+            touch = {"type": kind, "touchPoints": points, "timestamp": moment}
+            self.driver.execute_cdp_cmd("Input.dispatchTouchEvent", touch)
+
+    def tap_on(self, words: str) -> None:
+        """Taps on a link or a button by its words, once it can be tapped on."""
+        script = (
+            "return [...document.querySelectorAll('a, button, summary')].find((each) =>"
+            "  !each.disabled && (each.textContent.trim() === arguments[0] || each.ariaLabel?.startsWith(arguments[0])));"
+        )
+        found = support.until(lambda: self.driver.execute_script(script, words), what=f"{words!r} to be tapped on")
+        self.tap(found)
+
     def wait(self, seen: Callable[[], Any], what: str) -> Any:
         return support.until(seen, what=what)
 
@@ -120,6 +150,11 @@ class Browser:
         """What the browser's console complains of since the page was opened: scripts that failed, what the policy forbids."""
         rows = [row["message"] for row in self.driver.get_log("browser") if row["level"] == "SEVERE"]
         return [row for row in rows if "Failed to load resource" not in row]
+
+    def paper(self, path: str) -> None:
+        """The page as it is printed on A4, without backgrounds, as browsers print where nobody asks for them."""
+        shown = self.driver.execute_cdp_cmd("Page.printToPDF", {"paperWidth": 8.27, "paperHeight": 11.69})
+        Path(path).write_bytes(base64.b64decode(shown["data"]))
 
     def picture(self, path: str, whole: bool = True) -> None:
         if whole:

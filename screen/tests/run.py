@@ -38,6 +38,7 @@ IN_SHORT = (
 def missing() -> list[str]:
     """What the tests want and isn't there."""
     wanted = {"chromium": "/usr/bin/chromium", "chromium-driver": "/usr/bin/chromedriver"}
+    wanted["poppler-utils"] = "/usr/bin/pdftotext"
     found = [name for name, path in wanted.items() if not Path(path).exists()]
     found += [f"python3-{name}" for name in ("aiohttp", "selenium") if importlib.util.find_spec(name) is None]
     return found + ([] if shutil.which("nginx") or Path("/usr/sbin/nginx").exists() else ["nginx-light"])

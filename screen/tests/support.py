@@ -67,6 +67,11 @@ def until(seen: Callable[[], Any], seconds: float = 20, what: str = "it") -> Any
         time.sleep(0.02)
 
 
+def limit(seconds: float) -> float:
+    """A limit of time as it is promised, where the machine has a processor for it; five times that where it is busy."""
+    return seconds if os.getloadavg()[0] < len(os.sched_getaffinity(0)) else 5 * seconds
+
+
 class Desk:
     """A desk of its own port."""
 
@@ -118,21 +123,33 @@ class Screen:
         started = [str(command), "--book", str(book), "--port", "0", "--program", str(program)]
         started += ["--desk", desk.url] if desk else []
         self.book = book
-        self.process = subprocess.Popen([*started, *words], stdout=subprocess.PIPE, stderr=subprocess.PIPE, text=True)
-        assert self.process.stdout is not None and self.process.stderr is not None
+        self.said = tempfile.TemporaryFile("w+", dir=folder())
+        self.process = subprocess.Popen([*started, *words], stdout=subprocess.PIPE, stderr=self.said, text=True)
+        assert self.process.stdout is not None
         line = self.process.stdout.readline()
         if not line:
-            raise AssertionError(self.process.stderr.read())
+            raise AssertionError(self.errors())
         self.port = int(line.rpartition(":")[2])
         self.url = f"http://127.0.0.1:{self.port}"
         self.headers: dict[str, str] = {}
 
     def end(self) -> None:
+        """Ends it, and sees that it had nothing to complain of."""
+        if self.said.closed:
+            return
         self.process.terminate()
         self.process.wait(20)
-        for pipe in (self.process.stdout, self.process.stderr):
-            assert pipe is not None
-            pipe.close()
+        errors = self.errors()
+        self.said.close()
+        assert self.process.stdout is not None
+        self.process.stdout.close()
+        if errors:
+            raise AssertionError(errors)
+
+    def errors(self) -> str:
+        """What it said on standard error."""
+        self.said.seek(0)
+        return self.said.read()
 
     def call(self, route: str, body: bytes | None = None, headers: dict[str, str] | None = None) -> tuple[int, Any]:
         """The status and the JSON of a request."""

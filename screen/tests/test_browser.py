@@ -1,18 +1,58 @@
 """The pages in headless Chromium, over a real desk: what an operator sees and does."""
 
+import json
 import os
 import random
 import signal
+import subprocess
 import threading
 import time
 import unittest
+from http.server import BaseHTTPRequestHandler, ThreadingHTTPServer
 
 import browser
 import support
 from selenium.webdriver.common.keys import Keys
-from test_server import Cutter
+from test_server import LIGHTHOUSE, Cutter
 
 COMMANDS = int(os.environ.get("SCREEN_COMMANDS", "24"))
+NAMELESS = """
+const named = (each) => each.labels?.length || each.ariaLabel || each.textContent.trim();
+const controls = [...document.querySelectorAll("input, select, button, a, summary, [tabindex='0']")].filter((each) => !named(each));
+const landmarks = ["header", "main", "nav"].filter((each) => document.querySelectorAll(each).length !== 1);
+const outlines = [...document.querySelectorAll("h1")].length === 1 ? [] : ["h1"];
+return [...controls.map((each) => each.outerHTML.slice(0, 120)), ...landmarks, ...outlines];
+"""
+SMALL = """
+const tapped = [...document.querySelectorAll("button, input, select, summary, header a, .buttons a, td a, .diagram .hit")];
+return tapped.filter((each) => each.checkVisibility()).map((each) => [each, each.getBoundingClientRect()])
+  .filter(([, box]) => box.height < 43.5 || box.width < 43.5)
+  .map(([each, box]) => `${Math.round(box.width)} x ${Math.round(box.height)} ${each.outerHTML.slice(0, 120)}`);
+"""
+# Texts whose colour has less than 4.5 times the light of what is behind them, or the other way round, by WCAG's formula.
+FAINT = """
+const parts = (colour) => (colour.match(/[0-9.]+/g) || []).map(Number);
+const light = ([r, g, b]) => [r, g, b].map((x) => x / 255).map((x) => (x <= 0.04045 ? x / 12.92 : ((x + 0.055) / 1.055) ** 2.4))
+  .reduce((sum, x, at) => sum + x * [0.2126, 0.7152, 0.0722][at], 0);
+const behind = (each) => {
+  for (let at = each; at; at = at.parentElement) {
+    const found = parts(getComputedStyle(at).backgroundColor);
+    if (found.length === 3 || found[3] > 0) return found;
+  }
+  return [255, 255, 255];
+};
+const texts = [...document.querySelectorAll("body *")].filter((each) => !each.closest("svg, noscript, [disabled], .skip")
+  && each.checkVisibility() && [...each.childNodes].some((node) => node.nodeType === 3 && node.textContent.trim()));
+return texts.filter((each) => {
+  const [one, other] = [light(parts(getComputedStyle(each).color)), light(behind(each))].sort((x, y) => y - x);
+  return (one + 0.05) / (other + 0.05) < 4.5;
+}).map((each) => each.outerHTML.slice(0, 120));
+"""
+CUT_OFF = """
+return [...document.querySelectorAll("main .scroll")].filter((each) => !each.querySelector("svg") && each.scrollWidth > each.clientWidth)
+  .map((each) => each.innerText.slice(0, 80));
+"""
+A4 = 702  # pixels between its margins
 LATE = "/enter?device=LBS-22&at=2025-04-06T23:52:00%2B02:00"
 
 
@@ -53,8 +93,8 @@ class Operators(Case):
         self.one.find(".send")
         begun = time.monotonic()
         self.one.driver.execute_script("const b = document.querySelector('.send'); b.click(); b.click(); b.click();")
-        self.other.says("main", "All sections are supplied", 5)
-        self.assertLess(time.monotonic() - begun, 1.0)
+        self.other.says("main", "All sections are supplied")
+        self.assertLess(time.monotonic() - begun, support.limit(1.0))
         self.one.says(".outcome", "Command 103 stands")
         self.one.says(".outcome .equal", "equal to the desk's reply")
         self.assertEqual(screen.number(), 103)
@@ -95,21 +135,59 @@ class Operators(Case):
         self.tab_to(page, "Send to the desk")
         keys.active_element.send_keys(Keys.ENTER)
         page.says(".outcome .equal", "equal")
-        page.open(f"{screen.url}/sheet?entry=36")
-        self.tab_to(page, "Position", "close")
-        self.forecast_is_there(page)
-        self.tab_to(page, "Send")
-        keys.active_element.send_keys(Keys.ENTER)
-        page.says(".outcome .equal", "equal")
-        page.open(f"{screen.url}/sheet?entry=36")
-        page.says("#detail", "revision 2")
-        self.tab_to(page, "What", "Withdraw")
-        self.forecast_is_there(page)
-        self.tab_to(page, "Send")
-        keys.active_element.send_keys(Keys.ENTER)
-        page.says(".outcome .equal", "equal")
+        for revision, (field, typed) in enumerate((("Position", "close"), ("What", "Withdraw")), 1):
+            page.driver.execute_script("document.activeElement.blur()")  # from the page's top on
+            page.driver.find_element("tag name", "body").send_keys(Keys.HOME)
+            self.tab_to(page, "Sheet" if revision == 1 else "36")
+            keys.active_element.send_keys(Keys.ENTER)
+            if revision == 1:
+                page.wait(lambda: page.text("h1") == "Sheet" and page.all("[data-entry='36']"), "the sheet")
+                page.ready()
+                self.tab_to(page, "36")
+                keys.active_element.send_keys(Keys.ENTER)
+            page.says("#detail", f"36, revision {revision}")
+            page.wait(lambda: keys.active_element.get_attribute("id") == "detail", "the focus on the entry")
+            self.tab_to(page, field, typed)
+            self.forecast_is_there(page)
+            self.tab_to(page, "Send")
+            keys.active_element.send_keys(Keys.ENTER)
+            page.says(".outcome .equal", "equal")
         page.says("tr.gone", "36")
         self.assertEqual(screen.call("/api/year")[1]["totals"]["W"], "366070")
+
+    def test_by_a_finger_on_a_phone(self) -> None:
+        """The same on a phone's width by touch, from a name that isn't given yet on."""
+        screen = self.screen()
+        page = self.other
+        page.driver.delete_all_cookies()
+        page.open(f"{screen.url}/", None)
+        page.fill("Your name", "cleo")
+        page.tap_on("This is my name")
+        page.says("header", "You are CLEO")
+        page.tap_on("Enter")
+        page.wait(lambda: page.text("h1") == "Enter" and page.all(".sender"), "the form")
+        page.ready()
+        page.fill("Device", "lbs-22")
+        page.fill("Second", "2025-03-27 10:00:00")
+        page.says(".moment", "+01:00 from UTC")
+        page.says("form", "LBS-22 is closed then")
+        page.fill("Cause", "5")
+        page.says(".forecast", "LOSES supply")
+        page.tap_on("Send to the desk")
+        page.says(".outcome .equal", "equal")
+        page.tap_on("Sheet")
+        page.wait(lambda: page.all("[data-entry='36']"), "the sheet")
+        page.ready()
+        for revision, (field, value) in enumerate((("Position", "close"), ("What", "Withdraw")), 1):
+            page.tap_on("Entry 36")
+            page.says("#detail", f"36, revision {revision}")
+            page.fill(field, value)
+            self.forecast_is_there(page)
+            page.tap_on("Send")
+            page.says(".outcome .equal", "equal")
+        page.says("tr.gone", "36")
+        self.assertEqual(screen.call("/api/year")[1]["totals"]["W"], "366070")
+        self.assertEqual(page.complaints(), [])
 
     def forecast_is_there(self, page: browser.Browser) -> None:
         """Waits until the button could be pressed for a second: no forecast of what was chosen is on its way."""
@@ -238,6 +316,7 @@ class Breaks(Case):
         page.says(".outcome", "Command 103 stands")
         page.says(".outcome .equal", "equal")
         page.says(".state", "Desk: here")
+        self.assertEqual(screen.number(), 103)
 
     def test_the_screen_is_killed_while_a_command_is_in_work(self) -> None:
         desk = self.desk()
@@ -280,15 +359,98 @@ class Breaks(Case):
 class Pages(Case):
     def test_no_page_is_cut_off(self) -> None:
         screen = self.screen()
+        loses = "/enter?device=CB-1&at=2025-04-06T20:52:00%2B02:00"
         for page in self.browsers:
-            for route in ("/", "/sheet", "/sheet?entry=10", LATE, "/network", "/year"):
+            for route in ("/", "/sheet", "/sheet?entry=10", LATE, loses, "/network", "/year"):
+                page.open(screen.url + route)
+                if route == loses:
+                    page.fill("Cause", "5")
+                    page.says(".forecast", "LOSES supply")
+                page.find("main table")
+                self.assertLessEqual(*self.widths(page), route)
+                self.assertEqual(page.driver.execute_script(CUT_OFF), [], route)
+                self.assertEqual(page.complaints(), [], route)
+
+    def test_what_is_tapped_and_read(self) -> None:
+        """On a phone what is tapped is 44 pixels high, each field and control has a name, and texts stand out from what is
+        behind them."""
+        screen = self.screen()
+        for page in self.browsers:
+            for route in ("/", "/sheet?entry=10", LATE, "/network", "/year"):
                 page.open(screen.url + route)
                 page.find("main table")
-                wide, room = page.driver.execute_script(
-                    "return [document.documentElement.scrollWidth, window.innerWidth]"
-                )
-                self.assertLessEqual(wide, room, route)
-                self.assertEqual(page.complaints(), [], route)
+                time.sleep(0.3)
+                self.assertEqual(page.driver.execute_script(NAMELESS), [], route)
+                self.assertEqual(page.driver.execute_script(FAINT), [], route)
+                if page is self.other:
+                    self.assertEqual(page.driver.execute_script(SMALL), [], route)
+
+    def test_pages_on_paper(self) -> None:
+        """On A4 no column is cut off, forms aren't printed, and a dark page is printed dark on white."""
+        wanted = {
+            "/": ("Customers without supply", "OUT-0406-1", "not told yet", "TIE-1", "LIGHTHOUSE"),
+            "/sheet": ("35 of 35 entries", "marks", "withdrawn", "OUT-0406-1", "OUT-0325-1"),
+            "/network": ("12 devices", "until before", "without end", "10 nodes", "LIGHTHOUSE"),
+            "/year": ("OUTAGE BOOK 2025-03-24", "unmarked", "147.195", "CEMI-10", "8 UNKNOWN", "2025-04-06"),
+        }
+        screen = self.screen()
+        page = self.other
+        self.addCleanup(page.media, "")
+        self.addCleanup(page.resize, 390, 844)
+        for route, words in wanted.items():
+            page.open(screen.url + route)
+            paper = support.folder() / f"paper{route.replace('/', '-')}.pdf"
+            page.paper(str(paper))
+            text = subprocess.run(
+                ["pdftotext", "-layout", paper, "-"], check=True, capture_output=True, text=True
+            ).stdout
+            for each in words:
+                self.assertIn(each, text, route)
+            for each in ("Search", "Another second", "Mark a day", "Set its life", "To the page"):
+                self.assertNotIn(each, text, route)
+            grey = subprocess.run(["pdftoppm", "-gray", "-r", "40", paper], check=True, capture_output=True).stdout
+            shades = grey[len(grey) // 10 :]
+            self.assertGreater(sum(shade > 240 for shade in shades) / len(shades), 0.75, route)
+            self.assertLess(min(shades), 100, route)
+            page.media("print")
+            page.resize(A4, 1000)
+            wide = page.driver.execute_script(
+                "return [...document.querySelectorAll('main table, main svg')].map((each) => each.getBoundingClientRect().right)"
+            )
+            self.assertLessEqual(max(wide), A4, route)
+            page.resize(390, 844)
+            page.media("")
+
+    def test_the_longest_names_are_not_cut_off(self) -> None:
+        """Names of 24 characters, a crew of 16, references of 40: no page is wider than its window, nor than A4."""
+        word = "WWWW-WWWW-WWWW-WWWW-W"
+        rows = [f"cause,{'R' * 39}0,1,{word}-C1,,,,", f"section,{'R' * 39}1,{word}-S1,255,,,,"]
+        rows += [f"device,{'R' * 39}2,{word}-D1,GRID,{word}-S1,closed,,", f"connect,{'R' * 39}3,1,{word}-S1,0,,,"]
+        rows += [f"switch,{'R' * 39}4,{word}-D1,open,2025-03-25T10:00:00+01:00,1,{'M' * 16},"]
+        text = support.folder() / "long.csv"
+        text.write_text("kind,ref,f1,f2,f3,f4,f5,f6\n" + "\n".join(rows) + "\n")
+        screen = support.Screen(support.new_book("long-names", text))
+        self.addCleanup(screen.end)
+        self.addCleanup(self.one.media, "")
+        self.addCleanup(self.one.resize, 1280, 900)
+        for page in self.browsers:
+            for route in ("/", "/sheet?entry=1", f"/enter?device={word}-D1", "/network", "/year"):
+                page.open(screen.url + route, "M" * 16)
+                page.says("main", word)
+                self.assertLessEqual(*self.widths(page), route)
+        for route in ("/", "/sheet", "/network", "/year"):
+            self.one.open(screen.url + route, "M" * 16)
+            self.one.says("main", word)
+            self.one.media("print")
+            self.one.resize(A4, 1000)
+            self.assertLessEqual(*self.widths(self.one), route)
+            self.one.resize(1280, 900)
+            self.one.media("")
+
+    def widths(self, page: browser.Browser) -> tuple[int, int]:
+        """How wide a page is, and its window."""
+        wide, room = page.driver.execute_script("return [document.documentElement.scrollWidth, window.innerWidth]")
+        return int(wide), int(room)
 
     def test_now_at_another_second(self) -> None:
         screen = self.screen()
@@ -340,6 +502,86 @@ class Pages(Case):
         self.one.open(f"{copy.url}/year", None)
         self.one.says("main", "194.126")
         self.one.says(".state", "No desk: a copy")
+
+
+class Elsewhere(BaseHTTPRequestHandler):
+    """A page of another origin."""
+
+    def do_GET(self) -> None:
+        data = b"<!DOCTYPE html><title>elsewhere</title><body></body>"
+        self.send_response(200)
+        self.send_header("Content-Type", "text/html")
+        self.send_header("Content-Length", str(len(data)))
+        self.end_headers()
+        self.wfile.write(data)
+
+    def log_message(self, *_: object) -> None:
+        pass
+
+
+# Tries to read and to act from a page of another origin, with the cookie and even with the token of a login.
+TRIES = """
+const [url, body, token] = arguments, done = arguments[arguments.length - 1];
+const json = { "Content-Type": "application/json", "X-Screen-Token": token };
+const tries = [
+  ["/api/now", {}], ["/api/me", { credentials: "include" }], ["/api/me", { mode: "no-cors", credentials: "include" }],
+  ["/api/command", { method: "POST", body, mode: "no-cors", credentials: "include" }],
+  ["/api/command", { method: "POST", body, credentials: "include", headers: json }],
+  ["/api/import", { method: "POST", body, credentials: "include", headers: { "Content-Type": "text/csv" } }],
+];
+const seen = async ([route, options]) => {
+  try {
+    return await (await fetch(url + route, options)).text();
+  } catch {
+    return "";
+  }
+};
+const heard = () => new Promise((resolve) => {
+  const source = new EventSource(`${url}/events`, { withCredentials: true });
+  source.onmessage = (event) => resolve(event.data);
+  source.onerror = () => { source.close(); resolve(""); };
+});
+const framed = () => new Promise((resolve) => {
+  const frame = document.createElement("iframe");
+  frame.src = `${url}/enter`;
+  frame.onload = () => { try { resolve(frame.contentDocument.body.textContent); } catch { resolve(""); } };
+  document.body.append(frame);
+});
+(async () => {
+  const found = [];
+  for (const each of tries) found.push(await seen(each));
+  done([...found, await heard(), await framed()]);
+})();
+"""
+# A form of another origin, which a browser sends without asking the server first.
+FORM = """
+const [url, body] = arguments;
+const form = Object.assign(document.createElement("form"), { action: `${url}/api/command`, method: "POST", enctype: "text/plain" });
+form.append(Object.assign(document.createElement("input"), { name: body.slice(0, -1) + ',"x":"', value: '"}' }));
+document.body.append(form);
+form.submit();
+"""
+
+
+class Origins(Case):
+    def test_a_page_from_elsewhere_neither_reads_nor_acts(self) -> None:
+        screen = self.screen()
+        server = ThreadingHTTPServer(("127.0.0.1", 0), Elsewhere)
+        threading.Thread(target=server.serve_forever, daemon=True).start()
+        self.addCleanup(server.server_close)
+        self.addCleanup(server.shutdown)
+        page = self.one
+        page.open(f"{screen.url}/")
+        screen.log_in("ANNA")
+        body = json.dumps({**LIGHTHOUSE, "ref": "SCR-ANNA-1"})
+        for host in ("127.0.0.1", "localhost"):  # the same site on another port, and another site
+            page.driver.get(f"http://{host}:{server.server_port}/")
+            found = page.driver.execute_async_script(TRIES, screen.url, body, screen.headers["X-Screen-Token"])
+            self.assertEqual(found, [""] * len(found))
+            page.driver.execute_script(FORM, screen.url, body)
+            page.wait(lambda: "from elsewhere" in page.text("body"), "the refusal of the form")
+        self.assertEqual(screen.number(), 102)
+        self.assertEqual(screen.call("/api/log")[1], [])
 
 
 class Crowd(Case):

@@ -1,10 +1,15 @@
 """The screen as install.sh leaves it."""
 
 import json
+import shlex
+import shutil
 import subprocess
 import unittest
 
 import support
+
+UNITS = ("outagebook.service", "outagebook-screen.service", "outagebook@north.service")
+ANALYZE = shutil.which("systemd-analyze")
 
 
 class Installed(unittest.TestCase):
@@ -21,6 +26,36 @@ class Installed(unittest.TestCase):
         for route in ("/", "/static/now.js", "/static/screen.css", "/report", "/download/commands.csv"):
             self.assertEqual(support.call(screen.url + route)[0], 200, route)
         self.assertEqual(json.loads(support.call(f"{screen.url}/api/now")[1])["customers_out"], 3)
+
+    def test_the_units(self) -> None:
+        """The units of systemd are sound where install.sh's DESTDIR has put what they start, and the words with which the
+        screen's unit starts it, with the book and the ports of here, start it."""
+        root = support.folder() / "root"
+        words = ["sh", str(support.ROOT / "install.sh"), "/usr/local"]
+        told = {"PATH": "/usr/bin:/bin", "PROGRAM": str(support.PROGRAM), "DESTDIR": str(root)}
+        subprocess.run(words, check=True, capture_output=True, env=told)
+        shipped = root / "usr/local/share/doc/outagebook/examples"
+        units = root / "etc/systemd/system"
+        units.mkdir(parents=True)
+        for unit in UNITS:
+            text = (shipped / unit.replace("@north", "@")).read_text()
+            (units / unit).write_text(text.replace("/usr/local/", f"{root}/usr/local/"))
+        if ANALYZE is not None:
+            verify = [ANALYZE, "verify", *(str(units / unit) for unit in UNITS)]
+            done = subprocess.run(verify, capture_output=True, text=True, check=False)
+            self.assertEqual((done.returncode, done.stdout + done.stderr), (0, ""))
+        desk = support.Desk(support.fortnight("of-a-unit"))
+        self.addCleanup(desk.kill)
+        line = next(row for row in (units / UNITS[1]).read_text().splitlines() if row.startswith("ExecStart="))
+        line = line.replace("/var/lib/outagebook/book.db", str(desk.book)).replace("--port 8081", "--port 0")
+        started = shlex.split(line.partition("=")[2].replace("http://127.0.0.1:8080", desk.url))
+        with subprocess.Popen(started, stdout=subprocess.PIPE, text=True) as process:
+            assert process.stdout is not None
+            port = process.stdout.readline().strip().rpartition(":")[2]
+            headers = {"Host": "screen.example.org", "X-Remote-User": "desk-anna"}
+            status, me = support.call(f"http://127.0.0.1:{port}/api/me", headers=headers)
+            process.terminate()
+        self.assertEqual((status, json.loads(me)["may_send"], process.returncode), (200, True, 0))
 
     def test_words_and_statuses(self) -> None:
         def status(*words: str) -> tuple[int, str]:

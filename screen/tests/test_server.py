@@ -1,5 +1,6 @@
 """The screen's server without a browser: a real program, desk and screen, requests by sockets."""
 
+import asyncio
 import json
 import os
 import random
@@ -9,9 +10,10 @@ import threading
 import time
 import unittest
 from pathlib import Path
+from typing import cast
 
 import support
-from outagebook_screen import moments, reader
+from outagebook_screen import guard, moments, reader
 from outagebook_screen.state import Refused
 
 LIGHTHOUSE = {"kind": "switch", "f1": "LBS-22", "f2": "close", "f3": "1743976320", "f4": "5", "f5": "CREW-3"}
@@ -230,10 +232,10 @@ class Faults(Case):
 
 
 class Cutter:
-    """A proxy that hands requests to the desk, and cuts some replies of POSTs off."""
+    """A proxy that hands requests to the desk, counts the POSTs, and cuts some of their replies off."""
 
     def __init__(self, desk: int):
-        self.desk, self.cuts = desk, 0
+        self.desk, self.cuts, self.posts = desk, 0, 0
         self.socket = socket.create_server(("127.0.0.1", 0))
         self.port = self.socket.getsockname()[1]
         threading.Thread(target=self.run, daemon=True).start()
@@ -246,8 +248,9 @@ class Cutter:
                 return
             with client:
                 data = client.recv(65_536)
-                while data.startswith(b"POST") and b"}" not in data:
-                    data += client.recv(65_536)
+                while data.startswith(b"POST") and b"}" not in data and (more := client.recv(65_536)):
+                    data += more
+                self.posts += data.startswith(b"POST")
                 reply = talk(self.desk, data)
                 if data.startswith(b"POST") and self.cuts > 0:
                     self.cuts -= 1
@@ -256,6 +259,55 @@ class Cutter:
 
     def end(self) -> None:
         self.socket.close()
+
+
+def begin_post(screen: support.Screen, route: str, kind: str, body: bytes, length: int) -> socket.socket:
+    """A POST as the page sends it, but for the end of its body: its connection."""
+    told = {
+        **screen.headers,
+        "Host": f"127.0.0.1:{screen.port}",
+        "Content-Type": kind,
+        "Content-Length": str(len(body)),
+    }
+    head = f"POST {route} HTTP/1.1\r\n" + "".join(f"{name}: {value}\r\n" for name, value in told.items())
+    connection = socket.create_connection(("127.0.0.1", screen.port), timeout=30)
+    connection.sendall(f"{head}\r\n".encode() + body[:length])
+    return connection
+
+
+def send_where_open(connection: socket.socket, data: bytes) -> None:
+    try:
+        connection.sendall(data)
+    except OSError:
+        pass
+
+
+async def unread_reply() -> str:
+    """How a connection ends that is sent 32 MB and takes nothing of it."""
+    loop = asyncio.get_running_loop()
+    ended: asyncio.Future[str] = loop.create_future()
+
+    class Talker(asyncio.Protocol):
+        transport: asyncio.Transport
+
+        def connection_made(self, transport: asyncio.BaseTransport) -> None:
+            self.transport = cast(asyncio.Transport, transport)
+
+        def data_received(self, data: bytes) -> None:
+            self.transport.write(bytes(1 << 25))
+            self.transport.close()
+
+        def connection_lost(self, error: Exception | None) -> None:
+            ended.set_result("lost")
+
+    limits = guard.Limits(head=5.0, body=5.0, reading=1.0)
+    server = await loop.create_server(lambda: guard.Guard(Talker(), limits), "127.0.0.1", 0)
+    with socket.create_connection(server.sockets[0].getsockname()) as connection:
+        connection.sendall(b"GET / HTTP/1.1\r\n\r\n")
+        try:
+            return await asyncio.wait_for(ended, 10)
+        finally:
+            server.close()
 
 
 class Hostile(Case):
@@ -318,20 +370,66 @@ class Hostile(Case):
             self.assertTrue(reply == b"" or reply.split(b" ")[1][:1] in (b"4", b"5"), (text[:60], reply[:60]))
         self.assertEqual(self.seen.call("/health")[1]["desk"], "here")
 
-    def test_half_sent_and_silent_connections(self) -> None:
-        silent = [socket.create_connection(("127.0.0.1", self.seen.port)) for _ in range(1_000)]
-        half = socket.create_connection(("127.0.0.1", self.seen.port), timeout=60)
+    def test_a_thousand_connections_that_say_nothing(self) -> None:
+        """They are closed without a word, half a head is told why, and meanwhile a command is answered at once."""
+        screen = self.screen("silent", "--head-seconds", "3")
+        screen.log_in("ANNA")
+        silent = [socket.create_connection(("127.0.0.1", screen.port), timeout=30) for _ in range(1_000)]
+        half = socket.create_connection(("127.0.0.1", screen.port), timeout=30)
         half.sendall(b"GET / HTTP/1.1\r\nHo")
         try:
             begun = time.monotonic()
-            self.assertEqual(self.seen.post({**LIGHTHOUSE, "ref": "SCR-ANNA-1"})[0], 200)
-            self.assertLess(time.monotonic() - begun, 2)
-            self.assertIn(b"408", half.recv(1_000))
-            silent[0].settimeout(30)
-            self.assertEqual(silent[0].recv(10), b"")
+            self.assertEqual(screen.post({**LIGHTHOUSE, "ref": "SCR-ANNA-1"})[0], 200)
+            self.assertLess(time.monotonic() - begun, support.limit(1.0))
+            self.assertTrue(half.recv(1_000).startswith(b"HTTP/1.1 408 "))
+            self.assertEqual({connection.recv(10) for connection in silent}, {b""})
         finally:
             for connection in (*silent, half):
                 connection.close()
+        self.assertEqual(screen.number(), 103)
+
+    def test_bodies_that_stop_half_way(self) -> None:
+        """A body that stops is told so within the limit, also one that goes on too slowly, and one whose sender goes away
+        ends its connection. The desk hears of none of them."""
+        desk = self.desk("half-bodies")
+        between = Cutter(desk.port)
+        self.addCleanup(between.end)
+        url = f"http://127.0.0.1:{between.port}"
+        screen = support.Screen(desk.book, "--desk", url, "--body-seconds", "2")
+        self.addCleanup(screen.end)
+        screen.log_in("ANNA")
+        command = json.dumps({**LIGHTHOUSE, "ref": "SCR-ANNA-1"}).encode()
+        rows = (support.EXAMPLES / "corrections.csv").read_bytes()
+        begun = time.monotonic()
+        stopped: list[socket.socket] = []
+        gone: list[socket.socket] = []
+        slow: list[socket.socket] = []
+        for route, kind, body in (("command", "application/json", command), ("import", "text/csv", rows)):
+            slow.append(begin_post(screen, f"/api/{route}", kind, body, 1))
+            for length in (0, 1, len(body) // 2, len(body) - 1):
+                for among in (stopped, gone):
+                    among.append(begin_post(screen, f"/api/{route}", kind, body, length))
+        for connection in gone:
+            connection.shutdown(socket.SHUT_WR)
+        while time.monotonic() - begun < 3.0:
+            time.sleep(0.2)
+            for connection in slow:
+                send_where_open(connection, b" ")
+        for connection in gone:
+            self.assertEqual(connection.recv(1_000), b"")
+        for connection in stopped:
+            self.assertTrue(connection.recv(1_000).startswith(b"HTTP/1.1 408 "))
+        self.assertLess(time.monotonic() - begun, 10)
+        for connection in (*stopped, *gone, *slow):
+            connection.close()
+        self.assertEqual((between.posts, screen.number()), (0, 102))
+        self.assertEqual(support.call(f"{desk.url}/commands/103")[0], 404)
+        self.assertEqual(screen.post({**LIGHTHOUSE, "ref": "SCR-ANNA-1"})[0], 200)
+        self.assertEqual((between.posts, screen.number()), (1, 103))
+
+    def test_a_reply_that_nobody_reads(self) -> None:
+        """A connection whose other end takes nothing is closed in time, however much waits for it."""
+        self.assertEqual(asyncio.run(unread_reply()), "lost")
 
     def test_every_reply_has_its_policy(self) -> None:
         for route in ("/", "/api/me", "/static/screen.css", "/nowhere", "/report"):
@@ -378,6 +476,8 @@ class Moments(unittest.TestCase):
         self.assertEqual(
             [each.second for each in moments.read_moment(zone, "2025-10-26T02:30:00+01:00")], [both[1].second]
         )
+        for same in ("2025-10-26 02:30:00 +01:00", " 2025-10-26T01:30:00Z "):
+            self.assertEqual(moments.read_moment(zone, same), both[1:], same)
         self.assertEqual(len(moments.read_moment(zone, "2025-04-05 06:10")), 1)
         for wrong in ("2025-03-30 02:30:00", "tomorrow", "2025-02-30 10:00:00", "1900-01-01 00:00:00", ""):
             with self.assertRaises(Refused, msg=wrong):
