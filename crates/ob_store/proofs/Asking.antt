@@ -1,12 +1,12 @@
 -- A store that is asked keeps on what it kept, and what it answers comes of an open one.
 use Rattle.std.proofs.Common.{◌≡◌, ◌≢◌, ◌⊎◌, inl, inr, [], Result, Ok, Err, IsTrue, refl, sym, ap, subst, ◌∙◌}
-use Rattle.std.specs.Prelude.{⊤, IfErr}
+use Rattle.std.specs.Prelude.{⊤}
 use Rattle.sqlite_trees.specs.declared.store.Store.{Ghosts}
 use Rattle.sqlite.specs.Tree.{Trees}
 use Rattle.sqlite.specs.Schema.{Schema}
 use Rattle.sqlite.specs.Effect.{Database}
 use Rattle.sqlite.specs.Held.{Held, state}
-use Rattle.sqlite.specs.State.{State, HasCleanDisk, IsLive, IsNotRun, IsRolledBack, IsUnchanged, Survives}
+use Rattle.sqlite.specs.State.{State, HasCleanDisk, IsNotRun, IsRolledBack, IsUnchanged}
 use Rattle.sqlite.specs.declared.error.Error.{Error}
 use Rattle.sqlite.specs.declared.error.Error.TheVariants.{SqliteFailure}
 use Rattle.sqlite.specs.declared.error.ErrorCode.TheVariants as code
@@ -18,7 +18,7 @@ use Rattle.ob_base.specs.Stop.{out_of_memory}
 use Rattle.ob_base.specs.declared.stop.Stop.{Stop}
 use Rattle.ob_base.specs.declared.stop.Stop.TheVariants.{Refused, Fault}
 use Rattle.ob_tables.specs.Creation.{old_schema}
-use Rattle.ob_tables.specs.Schema.{book_schema, no_schema}
+use Rattle.ob_tables.specs.Schema.{no_schema}
 use Rattle.ob_tables.specs.Rows.{Tables}
 use Rattle.ob_tables.specs.Versions.{HoldsIn, schema_of}
 use Rattle.ob_tables.specs.declared.version.Version.{Version}
@@ -35,7 +35,7 @@ use Rattle.ob_compare.proofs.Listing.{still_then}
 use Rattle.ob_parts.specs.OldTables.{old_tables_of}
 use Rattle.ob_store.specs.Differing.{NoneSo}
 use Rattle.ob_store.specs.Finding.{Finds}
-use Rattle.ob_store.specs.Keeping.{Answers, IsAnswer, KeepsBook, KeepsEitherBook, KeepsEitherVersion, KeepsOldBook}
+use Rattle.ob_store.specs.Keeping.{Answers, IsAnswer}
 use Rattle.ob_store.specs.Versions.{AnyTrees, Asks, Looks, Tells}
 use Rattle.ob_store.proofs.Handing.{spared_unread}
 use Rattle.ob_store.proofs.Reading.{if_err, if_ok, no_more, on_ok}

@@ -1,8 +1,8 @@
 -- What becomes of the book of a keeper whose call was stopped, and what such a call answers then.
-use Rattle.std.proofs.Common.{◌≡◌, ◌≢◌, inl, inr, ℕ, List, Option, Some, None, Ok, Err, refl, sym, ap, subst, ◌∙◌}
+use Rattle.std.proofs.Common.{◌≡◌, ◌≢◌, inl, inr, ℕ, List, Option, Some, None, Err, refl, sym, ap, subst, ◌∙◌}
 use Rattle.std.specs.Prelude.{IfSome}
 use Rattle.sqlite_trees.specs.declared.store.Store.{Ghosts}
-use Rattle.sqlite.specs.Held.{Held, state}
+use Rattle.sqlite.specs.Held.{state}
 use Rattle.ob_base.specs.declared.stop.Refusal.{Refusal}
 use Rattle.ob_base.specs.declared.stop.Refusal.TheVariants.{BadField, UnknownName, NameTaken, OutOfPeriod, UnknownEntry, Stale, Withdrawn, UnknownCustomer, BadService, RefConflict, Full, MarkedAlready, NotMarked, UnknownCause, BadPeriod, BadBook, BadLife, OldVersion}
 use Rattle.ob_base.specs.declared.stop.Stop.{Stop}
@@ -16,7 +16,6 @@ use Rattle.ob_store.specs.Creating.{Created, Creates}
 use Rattle.ob_store.specs.Keeping.{IsBookAfter, KeeperValue, KeepsBook, Ties}
 use Rattle.ob_store.specs.MovingOut.{IsBookAfterMoves, MovesOut, Takes, TakesFront, all_moves}
 use Rattle.ob_store.specs.Replying.{Replied, Replies}
-use Rattle.ob_store.specs.declared.reply.Reply.{Reply as GivenReply}
 
 -- another stop than a fault of the store keeps it
 pub kept_after : (was is : Option BookState) (stop : Stop) → stop ≢ Fault Store → is ≡ was → IsBookAfter was is stop

@@ -1,6 +1,5 @@
 -- What becomes of a store whose tables of version 1 are to be made those of version 2.
 use Rattle.std.specs.Prelude.{◌≡◌, ◌⊎◌, List, [], ◌∷◌, length, map, Bool, true, false, Result, Ok, Err, IfErr, IsTrue}
-use Rattle.std.specs.List.{AllByRecursion}
 use Rattle.sqlite_trees.specs.declared.store.Store.{Ghosts}
 use Rattle.sqlite.specs.Tree.{Trees}
 use Rattle.sqlite.specs.Schema.{Schema}
@@ -17,14 +16,11 @@ use Rattle.ob_tables.specs.Rows.{table_name}
 use Rattle.ob_tables.specs.Schema.{no_schema}
 use Rattle.ob_tables.specs.declared.table.Table.{Table}
 use Rattle.ob_tables.specs.declared.table.Table.TheVariants.{Meta, Cause, Node, Device, Customer, Entry, Mark, Command, Moved, Posting}
-use Rattle.ob_tables.specs.declared.version.Version.TheVariants.{One}
-use Rattle.ob_commit.specs.Keeps.{KeepsIn, Leaves}
-use Rattle.ob_commit.specs.Upgrade.{KeepsOldOr}
-use Rattle.ob_record.specs.Naming.{IsReferenced}
+use Rattle.ob_commit.specs.Keeps.{Leaves}
 use Rattle.ob_record.specs.Tables.{tables_of}
 use Rattle.ob_compare.specs.Reading.{IsMissed}
 use Rattle.ob_compare.specs.Version.{HasVersion}
-use Rattle.ob_parts.specs.OldTables.{HasOldBook, IsOldReached, old_tables_of}
+use Rattle.ob_parts.specs.OldTables.{HasOldBook}
 use Rattle.ob_store.specs.Finding.{OnlyReads, ShowsTheSame}
 use Rattle.ob_store.specs.Keeping.{IsAnswer, KeepsBook, KeepsEitherBook}
 pub use Rattle.ob_store.specs.Keeping.{KeepsEitherVersion, KeepsOldBook}
