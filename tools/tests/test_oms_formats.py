@@ -112,8 +112,8 @@ class Files(unittest.TestCase):
     def test_columns_by_other_names(self) -> None:
         """Two files may have columns of one name, each for another one of the tool's."""
         oms = sample("oms").replace("ticket,step,device", "No,Part,Switch", 1).encode()
-        customers = sample("customers").replace("customer,section", "no,Line", 1).encode()
-        names = ["No=ticket", "part=step", "Switch=device", "No=customer", "Line=section"]
+        customers = sample("customers").replace("customer,section,since", "no,Line,From", 1).encode()
+        names = ["No=ticket", "part=step", "Switch=device", "No=customer", "Line=section", "From=since"]
         words = [word for name in names for word in ("--column", name)]
         self.same(*words, oms=oms, customers=customers)
         self.refused("oms.csv: the line of column names: it has no column device", *words[:4], *words[6:])

@@ -198,8 +198,10 @@ class Export:
         return {} if wrong else {name: place for place, name in enumerate(found) if name in self.columns}
 
     def own_name(self, name: str) -> str:
-        """The column for which a name stands in this file, or the name in small letters."""
+        """The column for which a name stands in this file, or the name in small letters. A column's own name stands for itself."""
         lowered = name.strip().lower()
+        if lowered in self.columns:
+            return lowered
         meant = (ours for theirs, ours in self.format.columns if theirs == lowered and ours in self.columns)
         return next(meant, lowered)
 
