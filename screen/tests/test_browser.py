@@ -97,6 +97,8 @@ class Operators(Case):
         self.assertLess(time.monotonic() - begun, support.limit(1.0))
         self.one.says(".outcome", "Command 103 stands")
         self.one.says(".outcome .equal", "equal to the desk's reply")
+        self.other.says(".said", "Command 103: switch LBS-22 close")
+        self.assertEqual(self.one.text(".said"), "")  # it stands where it was sent
         self.assertEqual(screen.number(), 103)
         self.assertIn('"no":103', self.one.text(".reply"))
         self.assertEqual(self.one.complaints() + self.other.complaints(), [])
@@ -147,6 +149,8 @@ class Operators(Case):
                 keys.active_element.send_keys(Keys.ENTER)
             page.says("#detail", f"36, revision {revision}")
             page.wait(lambda: keys.active_element.get_attribute("id") == "detail", "the focus on the entry")
+            page.says(".forecast", "Change a field")  # nothing that changes nothing is sent
+            self.assertFalse(page.find(".send").is_enabled())
             self.tab_to(page, field, typed)
             self.forecast_is_there(page)
             self.tab_to(page, "Send")
@@ -466,6 +470,12 @@ class Pages(Case):
             "return document.querySelector('.diagram a[aria-label^=TIE-1]').href.baseVal || ''"
         )
         self.assertIn("device=TIE-1", link)
+        self.one.driver.execute_script(
+            "const slider = document.querySelector('[type=range]');"
+            "slider.value = 1743085200; slider.dispatchEvent(new Event('input'));"
+        )
+        shown = "2025-03-27 15:20:00 +01:00"
+        self.one.wait(lambda: self.one.field("Another second").get_attribute("value") == shown, "the slider's moment")
 
     def test_a_tie_joins_and_a_day_is_marked(self) -> None:
         screen = self.screen()

@@ -159,7 +159,8 @@ class Commands(Case):
 
 class Faults(Case):
     def test_own_desk_is_killed_again_and_again(self) -> None:
-        """The desk is killed at random moments while commands are sent: none is lost, none acts twice."""
+        """The desk is killed at random moments while commands are sent: none is lost, none acts twice. One that had no answer
+        in all its tries is told as not known, and sent again under its reference."""
         times = int(os.environ.get("SCREEN_KILLS", "8"))
         screen = self.screen("killed")
         screen.log_in("ANNA")
@@ -182,10 +183,14 @@ class Faults(Case):
         while not ended.is_set() or sent < 20:
             command = {**LIGHTHOUSE, "f2": ("close", "open")[sent % 2], "f3": str(1_743_974_500 + sent)}
             status, shown = screen.post({**command, "ref": f"SCR-ANNA-{sent}"})
+            while status == 503:
+                self.assertIn("it isn't known whether this stands", shown["words"])
+                status, shown = screen.post({**command, "ref": f"SCR-ANNA-{sent}"})
             self.assertEqual(status, 200, shown)
             self.assertEqual((shown["reply"]["no"], shown["equal"]), (103 + sent, True))
             sent, tries = sent + 1, tries + shown["tries"]
         killer.join()
+        print(f"{sent} commands in {tries} tries while the desk was killed {times} times", flush=True)
         self.assertGreater(tries, sent)
         screen.end()
         self.assertEqual(support.run("audit", "--book", screen.book), "audit ok\n")
