@@ -10,6 +10,7 @@ from pathlib import Path
 from outagebook.errors import BookError
 from outagebook.sums import District, Sums, add_up, read_district, read_districts, table_lines
 from tests import many_books
+from tests.browser import assert_paper, needs_browser
 from tests.many_books import books_of, district_rows, figures_of, parts_of, run, table_of, with_tables
 
 
@@ -135,14 +136,31 @@ class BooksThatDontBelongTogether(unittest.TestCase):
         self.assertEqual(found["by_day"][1]["daily_saidi"], "60/1")
         self.assertEqual([each["district"] for each in found["districts"]], ["north", "other-names", "all"])
 
-    def test_a_page_of_all(self) -> None:
+    def page(self) -> Path:
+        """The page of two districts."""
         page = many_books.folder() / "all.html"
-        done = run("sum", *with_tables(self.of("north", "south")), "-o", page, "--name", "The <company>")
+        words = ["-o", page, "--name", "The <company>", "--date", "2025-04-07"]
+        done = run("sum", *with_tables(self.of("north", "south")), *words)
         self.assertEqual((done.returncode, done.stdout, done.stderr), (0, "", ""))
-        text = page.read_text()
+        return page
+
+    def test_a_page_of_all(self) -> None:
+        text = self.page().read_text()
         Nested().feed(text)
         for part in ("The &lt;company&gt;", "north", "south", "2025-03-25 is marked in south", "STORM"):
             self.assertIn(part, text)
+        self.assertIn('on <span class="whole">2025-04-07</span> from 2 districts&#x27; books of 29 commands', text)
+        self.assertIn("in no quotient of the annual table: MI", text)
+        self.assertEqual(run("sum", "a.db", "-o", "x.html", "--date", "7.4.2025").returncode, 64)
+
+    @needs_browser
+    def test_paper_has_the_title_the_date_the_books_state_and_numbers(self) -> None:
+        assert_paper(
+            self.page(),
+            "The <company> 2025-03-24 to 2025-04-06",
+            "2025-04-07",
+            "2 districts' books of 29 commands; compared with the program",
+        )
 
 
 class Nested(HTMLParser):

@@ -26,7 +26,8 @@ def major_days_part(years: Sequence[Sums]) -> Part:
     answer = answer_of(years)
     said = "".join(f"<li>{escape(line)}</li>" for line in about(years, answer))
     content = f"""
-<p>The threshold T_MED by IEEE Std 1366-2012, clause 3.5, and the days above it. It marks nothing: an engineer decides.</p>
+<p>The threshold T_MED by the 2.5 beta method of IEEE Std 1366-2012, and the days above it. It marks nothing: an engineer
+decides.</p>
 <ul class="soft">{said}</ul>
 {threshold_text(answer)}
 {histogram_text(answer.threshold)}"""
