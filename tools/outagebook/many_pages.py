@@ -100,6 +100,11 @@ seconds is sustained. {figures.TERMS}</p>
 {report.index_table(figures_of_sums(sums))}"""
 
 
+def cell_of(value: object) -> object:
+    """A whole number with its thousands apart; a quotient that isn't there is undefined."""
+    return report.number(value) if isinstance(value, int) else value or "undefined"
+
+
 def district_part(sums: Sums) -> str:
     """SAIDI of each district, and the table behind it."""
     rows = [dict(zip(DISTRICT_COLUMNS, row)) for row in district_rows(sums)]
@@ -122,7 +127,7 @@ def district_part(sums: Sums) -> str:
         "SAIDI, min": "saidi_3",
         "CAIDI, min": "caidi_3",
     }
-    cells = [TableRow([row[column] if row[column] != "" else "undefined" for column in shown.values()]) for row in rows]
+    cells = [TableRow([cell_of(row[column]) for column in shown.values()]) for row in rows]
     heads = [Column("district"), *report.numbers(*list(shown)[1:])]
     picture = charts.bars_below(bars, "SAIDI by district")
     note = "Minutes per customer served of the district, all interruptions of its sections."

@@ -186,6 +186,9 @@ class Pages(unittest.TestCase):
         self.assertIn(str(found.above[0].day.date), text)
         self.assertIn('on <span class="whole">2025-02-03</span> from 6 books of 6 periods', text)
         self.assertNotIn("clause", text)
+        years, found = answer([district("all", number, 1_000, [9_000, 60, 0]) for number in range(2)])
+        self.assertEqual(found.above, ())
+        self.assertIn("<h3>Days above it</h3>\n<p>There is none.</p>", major_days_page(years, "A"))
 
     @needs_browser
     def test_paper_has_the_title_the_date_the_books_state_and_numbers(self) -> None:

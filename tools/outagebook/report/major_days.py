@@ -41,12 +41,13 @@ def threshold_text(answer: Answer) -> str:
         TableRow([each.day.date, decimal_text(each.day.saidi), ", ".join(each.marked_in) or "nowhere"])
         for each in answer.above
     ]
+    days = table(DAY_HEADS, rows) if rows else "<p>There is none.</p>"
     return f"""
 {table(VALUE_HEADS, values, "The threshold")}
 <p>T_MED = exp(alpha + 2.5 beta), in minutes; alpha is the mean and beta the standard deviation of the logarithms of the
 {len(answer.threshold.days)} daily SAIDI of the periods before.</p>
 <h3>Days above it</h3>
-{table(DAY_HEADS, rows)}"""
+{days}"""
 
 
 def histogram_text(threshold: Threshold) -> str:
