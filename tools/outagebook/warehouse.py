@@ -72,10 +72,12 @@ def check_version(connection: Connection) -> None:
     (found,) = connection.execute("SELECT to_regclass('outagebook.version')::text").fetchone() or (None,)
     if found is None:
         raise BookError("there is no warehouse in this database: outagebook-warehouse create makes one")
-    versions = connection.execute("SELECT version FROM outagebook.version").fetchall()
-    if versions != [(VERSION,)]:
+    versions = [version for version, in connection.execute("SELECT version FROM outagebook.version")]
+    if versions != [VERSION]:
+        told = ", ".join(map(str, versions)) or "none"
         raise BookError(
-            f"the warehouse's tables have the version {versions}, not {VERSION}: load all books into a new one"
+            f"the warehouse's tables are of version {told}, not {VERSION}: drop the schema outagebook, create it, and load"
+            " all books again"
         )
 
 

@@ -481,7 +481,7 @@ class Roles(unittest.TestCase):
         warehouse(where, "create")
         self.assertEqual(warehouse(where, "create").returncode, 1)
         execute(where, "UPDATE outagebook.version SET version = 9", autocommit=True)
-        self.assertIn("version", warehouse(where, "list").stderr)
+        self.assertIn("the warehouse's tables are of version 9, not 2: ", warehouse(where, "list").stderr)
         done = warehouse({**where, "PGHOST": "/nowhere"}, "list")
         self.assertEqual(done.returncode, 1)
         self.assertIn("can't be reached", done.stderr)
