@@ -6,12 +6,14 @@ import re
 import shutil
 import ssl
 import subprocess
+import threading
 import time
 import unittest
 from collections import Counter
 from collections.abc import Iterable
 from contextlib import ExitStack, contextmanager, redirect_stdout
 from functools import lru_cache
+from http.server import BaseHTTPRequestHandler, ThreadingHTTPServer
 from io import StringIO
 from pathlib import Path
 from typing import Any
@@ -482,11 +484,11 @@ def wait_for(port: int) -> None:
         time.sleep(0.05)
 
 
-def status(url: str, user: str | None = None, data: bytes | None = None) -> tuple[int, bytes]:
-    """What an address answers to a login, by GET or with a body by POST."""
+def status(url: str, user: str | None = None, data: bytes | None = None, host: str = "") -> tuple[int, bytes]:
+    """What an address answers to a login, by GET or with a body by POST; `host` is another name that it is called by."""
     import base64
 
-    request = Request(url, data=data)
+    request = Request(url, data=data, headers={"Host": host} if host else {})
     if user is not None:
         request.add_header("Authorization", "Basic " + base64.b64encode(f"{user}:secret".encode()).decode())
     context = ssl.create_default_context()
@@ -577,17 +579,64 @@ class Desks(unittest.TestCase):
             self.assertEqual(status(f"{url}/south/commands/15", "anna")[0], 404)
 
 
-class Unit(unittest.TestCase):
-    def test_a_districts_unit_differs_from_the_single_one_in_its_book_and_port_alone(self) -> None:
-        one = (EXAMPLES / "outagebook.service").read_text().splitlines()
-        each = (EXAMPLES / "outagebook@.service").read_text().splitlines()
-        differing = [line for line in each if line not in one and not line.startswith("#")]
+class Screen(BaseHTTPRequestHandler):
+    """In the place of a screen: tells what it was asked by whom."""
+
+    def do_GET(self) -> None:
+        body = f"{self.headers['Host']} {self.headers['X-Remote-User']} {self.path}".encode()
+        self.send_response(200)
+        self.send_header("Content-Length", str(len(body)))
+        self.end_headers()
+        self.wfile.write(body)
+
+    def log_message(self, format: str, *args: Any) -> None:
+        """Nothing is logged."""
+
+
+@unittest.skipUnless(Path(NGINX).exists() and shutil.which("openssl"), "nginx or openssl isn't installed")
+class Screens(unittest.TestCase):
+    def test_each_screen_has_a_name_of_its_own_behind_the_proxy(self) -> None:
+        with ThreadingHTTPServer(("127.0.0.1", 0), Screen) as server:
+            threading.Thread(target=server.serve_forever).start()
+            try:
+                with proxy({"south": server.server_port, "harbour": free_port()}, ["anna"]) as url:
+                    for path in ("/sheet?page=2", "/events"):
+                        found = status(f"{url}{path}", "anna", host="south.screen.example.org")
+                        self.assertEqual(found, (200, f"south.screen.example.org anna {path}".encode()))
+                    self.assertEqual(status(f"{url}/", host="south.screen.example.org")[0], 401)
+                    self.assertEqual(status(f"{url}/", "anna", host="west.screen.example.org")[0], 404)
+                    self.assertEqual(status(f"{url}/events", "anna", host="west.screen.example.org")[0], 404)
+                    self.assertEqual(status(f"{url}/", "anna", host="harbour.screen.example.org")[0], 502)
+            finally:
+                server.shutdown()
+
+
+class Units(unittest.TestCase):
+    def differing(self, unit: str) -> list[str]:
+        """The lines of a district's unit that the single one hasn't."""
+        one = (EXAMPLES / f"{unit}.service").read_text().splitlines()
+        each = (EXAMPLES / f"{unit}@.service").read_text().splitlines()
+        return [line for line in each if line not in one and not line.startswith("#")]
+
+    def test_a_districts_units_differ_from_the_single_ones_in_book_ports_and_names_alone(self) -> None:
         self.assertEqual(
-            differing,
+            self.differing("outagebook"),
             [
                 "Description=The outage book's desk of %i",
                 "EnvironmentFile=/etc/outagebook/%i.env",
                 "ExecStart=/usr/local/bin/outagebook serve --book /var/lib/outagebook/%i.db --port ${PORT}",
+            ],
+        )
+        self.assertEqual(
+            self.differing("outagebook-screen"),
+            [
+                "Description=The outage book's screen of %i",
+                "After=outagebook@%i.service",
+                "Wants=outagebook@%i.service",
+                "EnvironmentFile=/etc/outagebook/%i.env",
+                "ExecStart=/usr/local/bin/outagebook-screen --book /var/lib/outagebook/%i.db --port ${SCREEN_PORT}"
+                " --desk http://127.0.0.1:${PORT} --program /usr/local/bin/outagebook --proxy 127.0.0.1 --senders %i-"
+                " --host %i.screen.example.org",
             ],
         )
 
