@@ -10,7 +10,8 @@ from typing import Any
 from outagebook.cli import Parser
 from outagebook.compare import Checked, open_book
 from outagebook.counts import SETS, Counts, amounts_of, counts_of, indices_of, quotient_text
-from outagebook.district_cut import TIE_COLUMNS, read_table
+from outagebook.district_cut import TIE_COLUMNS
+from outagebook.district_files import read_rows
 from outagebook.errors import BookError
 from outagebook.rows import CAUSE, GRID, Book, Device, Entry
 from outagebook.sums import add_up, district_of, name_of, tables_given
@@ -50,7 +51,7 @@ class TieTimes:
 def read_ties(path: str, books: dict[str, Book]) -> list[Tie]:
     """The ties of a cut, as the books have them: the same device in both, from GRID, with the same life and switchings."""
     ties = []
-    for place, row in enumerate(read_table(path, TIE_COLUMNS).rows, 1):
+    for place, row in enumerate(read_rows(path, TIE_COLUMNS), 1):
         places = row["district"], row["other_district"]
         strange = [name for name in places if name not in books]
         if strange:

@@ -1,6 +1,7 @@
 """A utility of any size as districts, each with a book of its own: cut, checked, and looked at.
 
     outagebook-districts cut GIS [CUSTOMERS] [--oms OMS] -o FOLDER [--room N] [--as districts.csv]
+                             [--delimiter D] [--encoding E]
     outagebook-districts check TIES BOOK.. [--table FILE .. | --program PATH]
     outagebook-districts desks DESKS [--compared FILE] [--wait SECONDS]
     outagebook-districts compare DESKS [--compared FILE] [--program PATH]
@@ -20,6 +21,8 @@ from outagebook.cli import Parser, run_job
 from outagebook.district_check import check
 from outagebook.district_cut import ROOM, cut
 from outagebook.district_desks import compare_desks, tell_desks
+from outagebook.oms.decoding import ENCODINGS
+from outagebook.oms.files import DELIMITERS
 
 
 def arguments() -> tuple[Parser, Any]:
@@ -40,6 +43,12 @@ def arguments() -> tuple[Parser, Any]:
         "--room", type=int, default=ROOM, metavar="N", help=f"per cent of a book to leave free ({ROOM})"
     )
     cutting.add_argument("--as", dest="earlier", metavar="FILE", help="districts.csv of an earlier cut, which stays")
+    cutting.add_argument(
+        "--delimiter", choices=DELIMITERS, help="what stands between fields (found by the column names)"
+    )
+    cutting.add_argument(
+        "--encoding", choices=ENCODINGS, help="of files without a mark of it at their beginning (utf-8)"
+    )
     checking = job("check", "tells what the ties cost that were cut")
     checking.add_argument("ties", metavar="TIES", help="ties.csv of the cut")
     checking.add_argument("books", nargs="+", metavar="BOOK", help="the books' files; a file's name is its district's")

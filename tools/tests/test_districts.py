@@ -207,6 +207,50 @@ class Cutting(unittest.TestCase):
         done = run("districts", "cut", folder / "gis.csv", "-o", folder / "cut")
         self.assertIn("hasn't the column type", done.stderr)
 
+    def test_exports_as_other_programs_write_them(self) -> None:
+        """Semicolons, an older encoding, names of columns in capitals: cut as the plain ones are, into UTF-8 and commas."""
+        exports = Exports(3)
+        plain, other = exports.write("plain"), exports.write("other")
+        for name in ("gis.csv", "customers.csv", "oms.csv"):
+            head, *rows = (plain / name).read_text().replace("substation", "sous-station \u00e9").splitlines()
+            (plain / name).write_text("\n".join([head, *rows]), encoding="utf-8")
+            text = "\n".join(["", head.upper(), *rows]).replace(",", ";")
+            (other / name).write_text(text, encoding="cp1252")
+        for folder, words in ((plain, list[str]()), (other, ["--encoding", "cp1252"])):
+            done = cut(folder, "--room", "90", *words)
+            self.assertEqual((done.returncode, done.stderr), (0, ""))
+        made = sorted(path.relative_to(plain) for path in (plain / "cut").rglob("*.csv"))
+        self.assertGreater(len(made), 9)
+        for path in made:
+            first, _, rest = (other / path).read_text(encoding="utf-8").partition("\n")
+            self.assertEqual(f"{first.lower()}\n{rest}", (plain / path).read_text(encoding="utf-8"))
+        done = cut(other, "--room", "90")
+        self.assertEqual(done.returncode, 1)
+        self.assertRegex(done.stderr, "gis.csv: row [0-9]+: it has bytes that aren't of the encoding utf-8")
+
+    def test_rows_that_are_none_are_refused_with_their_numbers(self) -> None:
+        folder = many_books.folder() / "none"
+        folder.mkdir()
+        gis = "type,name,feeder,from,to,normal\nbus,B,,,,\nsection,S,1,,,\ndevice,D1,,GRID,B,closed\n"
+        gis += "device,D2,,B,S,closed\n"
+        cases = {
+            "gis.csv": (gis + "section,S2,1,,,,too many\n", "row 5: it has 7 fields, and there are 6 columns"),
+            "customers.csv": ("customer,section\n1,S\n2\n", "row 2: it has 1 fields, and there are 2 columns"),
+            "oms.csv": ("ticket,device\nT1,D1\nT2,D9\n", "row 2: no device of the network is 'D9'"),
+        }
+        for name, (text, told) in cases.items():
+            (folder / "gis.csv").write_text(gis)
+            (folder / "customers.csv").write_text("customer,section\n1,S\n")
+            (folder / "oms.csv").write_text("ticket,device\nT1,D1\n")
+            (folder / name).write_text(text)
+            with self.subTest(name):
+                done = cut(folder)
+                self.assertEqual((done.returncode, done.stdout), (1, ""))
+                self.assertIn(f"{name}: {told}", done.stderr)
+                self.assertFalse((folder / "cut").exists())
+        (folder / "gis.csv").write_text(gis.replace("feeder", "name"))
+        self.assertIn("has two columns name", cut(folder).stderr)
+
     def test_wrong_words(self) -> None:
         for arguments in ("", "cut", "cut a.csv", "cut a.csv -o x --room 95", "check", "desks", "check t.csv"):
             self.assertEqual(run("districts", *arguments.split()).returncode, 64, arguments)
