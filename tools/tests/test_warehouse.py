@@ -108,11 +108,14 @@ class Views(unittest.TestCase):
         found = figures.FIGURES[name](opened(book))
         return [dict(zip(found.columns, row)) for row in found.rows]
 
+    def book_of(self, district: str) -> Path:
+        return next(book for book in self.books if book.stem == district)
+
     def seconds_of(self, sums: Sums, name: str, since: int = 0, cause: str | None = None) -> int:
         """The customer-seconds of a set's interruptions that lie in the days from `since` on, of one cause or of all."""
         total = 0
         for each in sums.districts:
-            found = opened(next(book for book in self.books if book.stem == each.name))
+            found = opened(self.book_of(each.name))
             begin = found.book.period.bounds[since]
             for one in counted(found, name):
                 if cause in (None, found.book.causes[one.run.cause]):
@@ -166,13 +169,14 @@ class Views(unittest.TestCase):
                 causes = {row["cause"]: row for row in self.view("causes", **when, set=name)}
                 expected = {cause.name: self.seconds_of(sums, name, cause=cause.name) for cause in sums.causes}
                 self.assertEqual({cause: row["customer_seconds"] for cause, row in causes.items()}, expected)
+                if sums.served_seconds:
+                    for index in ("SAIFI", "SAIDI"):
+                        value = sum(Fraction(row[index.lower()]) for row in causes.values())
+                        self.assertEqual(value, sums.indices(name)[index])
             causes = {row["cause"]: row for row in self.view("causes", **when, set="all")}
-            self.assertEqual(
-                {c.name: c.amount for c in sums.causes}, {n: r["customer_seconds"] for n, r in causes.items()}
-            )
-            if sums.served_seconds:
-                saidi = sum(Fraction(row["saidi"]) for row in causes.values())
-                self.assertEqual(saidi, sums.indices("all")["SAIDI"])
+            amounts = {cause.name: cause.amount for cause in sums.causes}
+            self.assertEqual(amounts, {name: row["customer_seconds"] for name, row in causes.items()})
+            self.assert_months(period, sums)
             days = {row["day"]: row for row in self.view("days", **when)}
             for number, (amount, daily) in enumerate(zip(sums.days, sums.daily_saidi())):
                 row = days.pop(period.day(number))
@@ -192,29 +196,41 @@ class Views(unittest.TestCase):
         (row,) = [each for each in rows if tuple(each[name] for name in names) == key]
         return row
 
+    def assert_months(self, period: PeriodKey, sums: Sums) -> None:
+        """The months of all districts are those that the tools have of each, added up."""
+        shown = [row for each in sums.districts for row in self.shown(self.book_of(each.name), "months")]
+        when = {"first_day": period.first, "days": period.days, "zone": period.zone}
+        for row in self.view("months", **when):
+            parts = [one for one in shown if (one["month"], one["set"]) == (f"{row['month']:%Y-%m}", row["set"])]
+            self.assertEqual(row["districts"], len(parts))
+            added = {"customer_seconds": "customer_seconds", "sustained": "sustained", "momentary": "momentary"}
+            added["sustained_seconds"] = "sustained_customer_seconds"
+            for here, there in added.items():
+                self.assertEqual(row[here], sum(one[there] for one in parts), here)
+            served = sum((Fraction(one["customers_served"]) for one in parts), Fraction(0))
+            self.assertEqual(row["customers_served"], fraction_text(served))
+            saidi = Fraction(int(row["sustained_seconds"])) / 60 / served if served else None
+            self.assertEqual(row["saidi"], fraction_text(saidi))
+
     def assert_ranges(self, period: PeriodKey, sums: Sums) -> None:
         """A part of the days, against a plain count over the books' interruptions and services."""
+        books = [opened(self.book_of(each.name)) for each in sums.districts]
         for first in range(period.days):
-            since, until = period.day(first), period.last
-            served, seconds, sustained, length = 0, 0, 0, 0
-            for book in self.books:
-                found = opened(book)
-                if district_of(str(book), found).period != period:
-                    continue
-                begin, end = found.book.period.bounds[first], found.book.period.end
-                length = end - begin
-                served += sum(block.seconds(begin, end) for block in found.book.blocks)
-                for each in found.interruptions:
-                    if each.is_sustained and each.since >= begin:
-                        sustained += each.customers
-                        seconds += each.customer_seconds
+            bounds = books[0].book.period
+            begin, end = bounds.bounds[first], bounds.end
+            length = end - begin
+            served = sum(block.seconds(begin, end) for found in books for block in found.book.blocks)
             for name in SETS:
-                seconds_in = self.between(period, since, until, name)["customer_seconds"]
-                self.assertEqual(seconds_in, self.seconds_of(sums, name, first))
-            row = self.between(period, since, until, "all")
-            self.assertEqual((row["seconds"], row["sustained"]), (length, sustained))
-            self.assertEqual(row["saidi"], fraction_text(quotient(seconds * length, 60 * served)))
-            self.assertEqual(row["customers_served"], fraction_text(quotient(served, length)))
+                of_set = [each for found in books for each in counted(found, name) if each.since >= begin]
+                sustained = [each for each in of_set if each.is_sustained]
+                seconds = sum(each.customer_seconds for each in sustained)
+                row = self.between(period, period.day(first), period.last, name)
+                self.assertEqual(row["customer_seconds"], self.seconds_of(sums, name, first))
+                self.assertEqual((row["seconds"], row["districts"]), (length, len(books)))
+                self.assertEqual(row["sustained"], sum(each.customers for each in sustained))
+                self.assertEqual(row["momentary"], sum(each.customers for each in of_set if not each.is_sustained))
+                self.assertEqual(row["saidi"], fraction_text(quotient(seconds * length, 60 * served)))
+                self.assertEqual(row["customers_served"], fraction_text(quotient(served, length)))
 
     def test_compare_says_equal(self) -> None:
         done = warehouse(self.where, "compare", *with_tables(self.books[:2]))
