@@ -2,7 +2,7 @@
 
     outagebook-districts cut GIS [CUSTOMERS] [--oms OMS] -o FOLDER [--room N] [--as districts.csv]
                              [--delimiter D] [--encoding E]
-    outagebook-districts check TIES BOOK.. [--table FILE .. | --program PATH]
+    outagebook-districts check TIES BOOK.. [--processes N] [--table FILE .. | --program PATH]
     outagebook-districts desks DESKS [--compared FILE] [--wait SECONDS]
     outagebook-districts compare DESKS [--compared FILE] [--program PATH]
 
@@ -54,6 +54,7 @@ def arguments() -> tuple[Parser, Any]:
     checking.add_argument("books", nargs="+", metavar="BOOK", help="the books' files; a file's name is its district's")
     checking.add_argument("--table", action="append", metavar="FILE", default=[], help="the books' annual tables")
     checking.add_argument("--program", metavar="PATH", default="outagebook", help="what prints the tables")
+    checking.add_argument("--processes", type=int, metavar="N", help="how many books are read at once")
     asking = job("desks", "asks each desk whether it is up, and how many commands it has")
     asking.add_argument("--wait", type=float, default=10, metavar="SECONDS", help="how long an answer may take (10)")
     comparing = job("compare", "compares each desk's book with its program's table")

@@ -21,9 +21,9 @@ from urllib.error import HTTPError
 from urllib.request import Request, urlopen
 
 from outagebook.counts import SETS, fraction_text, indices_of
-from outagebook.district_check import CheckedCut, check_cut, write_check
+from outagebook.district_check import CheckedCut, Part, check_cut, part_of, write_check
 from outagebook.errors import BookError
-from outagebook.sums import Sums, add_up, district_of
+from outagebook.sums import Sums, add_up
 from tests import many_books
 from tests.many_books import books_of, district_rows, figures_of, opened, parts_of, run, table_of, with_tables
 from tests.support import EXAMPLES, PROGRAM, needs_program
@@ -256,6 +256,11 @@ class Cutting(unittest.TestCase):
             self.assertEqual(run("districts", *arguments.split()).returncode, 64, arguments)
 
 
+def compared(books: dict[str, Path]) -> dict[str, Part]:
+    """Made books as `check` has them, by their districts."""
+    return {name: part_of(name, opened(book)) for name, book in books.items()}
+
+
 class Checking(unittest.TestCase):
     """Cut ties: what `check` says the cut cost is the difference from the whole network's book."""
 
@@ -264,9 +269,9 @@ class Checking(unittest.TestCase):
         tied, cost = 0, 0
         for seed in many_books.SEEDS:
             with self.subTest(seed=seed):
-                books = {book.stem: opened(book) for book in parts_of(where, seed)}
+                books = compared({book.stem: book for book in parts_of(where, seed)})
                 checked = check_cut(str(where / f"{seed}-ties.csv"), books)
-                sums = add_up([district_of(name, found) for name, found in books.items()])
+                sums = add_up([part.district for part in books.values()])
                 self.assert_whole(checked, sums, table_of(where / f"{seed}-whole.db"))
                 without = any(times.without for times in checked.times.values())
                 self.assertTrue(without or all(each.is_none for each in checked.costs))
@@ -320,7 +325,7 @@ class Checking(unittest.TestCase):
             "switch,T2,TIE,open,2025-03-25T10:30:00+01:00,3,CREW,",
         ]
         books = self.tied("worked-tie", said, said)
-        done = run("districts", "check", self.ties_file(), *with_tables(books.values()))
+        done = run("districts", "check", self.ties_file(), *with_tables(books.values()), "--processes", "2")
         self.assertEqual((done.returncode, done.stderr), (0, ""))
         lines = done.stdout.splitlines()
         self.assertEqual(
@@ -333,13 +338,16 @@ class Checking(unittest.TestCase):
         )
         self.assertIn("SAIDI all: 50/1 50.000 with the cut, 60/1 60.000 without", lines)
         self.assertNotIn("the cut cost nothing", lines)
+        twice = run("districts", "check", self.ties_file(), *with_tables([*books.values(), books["north"]]))
+        self.assertEqual((twice.returncode, twice.stdout), (1, ""))
+        self.assertIn("given twice", twice.stderr)
 
     def test_a_tie_whose_other_end_is_supplied_costs_nothing(self) -> None:
         said = [
             "switch,T1,TIE,close,2025-03-27T10:20:00+01:00,3,CREW,",
             "switch,T2,TIE,open,2025-03-27T10:30:00+01:00,3,CREW,",
         ]
-        books = {name: opened(book) for name, book in self.tied("free-tie", said, said).items()}
+        books = compared(self.tied("free-tie", said, said))
         shown = StringIO()
         with redirect_stdout(shown):
             write_check(check_cut(str(self.ties_file()), books))
@@ -348,12 +356,12 @@ class Checking(unittest.TestCase):
 
     def test_a_tie_that_one_book_was_told_alone_is_refused(self) -> None:
         said = ["switch,T1,TIE,close,2025-03-27T10:20:00+01:00,3,CREW,"]
-        books = {name: opened(book) for name, book in self.tied("lone-tie", said, []).items()}
+        books = compared(self.tied("lone-tie", said, []))
         with self.assertRaisesRegex(BookError, "TIE was told to close at the second 1743067200 in north alone"):
             check_cut(str(self.ties_file()), books)
 
     def test_a_book_or_a_device_that_is_missing_is_told(self) -> None:
-        books = {name: opened(book) for name, book in self.tied("missing-tie", [], []).items()}
+        books = compared(self.tied("missing-tie", [], []))
         with self.assertRaisesRegex(BookError, "joins south, whose book isn't given"):
             check_cut(str(self.ties_file()), {"north": books["north"]})
         other = many_books.folder() / "other-ties.csv"

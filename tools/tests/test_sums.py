@@ -4,9 +4,11 @@ import json
 import unittest
 from functools import lru_cache
 from html.parser import HTMLParser
+from io import StringIO
 from pathlib import Path
+from unittest.mock import patch
 
-
+from outagebook import parallel
 from outagebook.errors import BookError
 from outagebook.sums import District, Sums, add_up, read_district, read_districts, table_lines
 from tests import many_books
@@ -58,6 +60,33 @@ class PartsOfANetwork(unittest.TestCase):
         tables = [str(table_of(book)) for book in books]
         alone = [district_in(book) for book in books]
         self.assertEqual(read_districts([str(book) for book in books], tables, "", 2), alone)
+
+
+class AtOnce(unittest.TestCase):
+    """How many books are worked on at once."""
+
+    def test_as_many_as_processors_and_memory_allow(self) -> None:
+        book = many_books.folder() / "sized.db"
+        book.write_bytes(bytes(1_000_000))
+        paths = [str(book)] * 40
+        each = parallel.memory_of(str(book))
+        self.assertGreater(each, parallel.LEAST_MEMORY)
+        for processors, free, wanted in ((4, 10**12, 4), (64, 10**12, 40), (4, 3 * each, 3), (4, 1_000, 1)):
+            with (
+                patch("os.sched_getaffinity", return_value=set(range(processors))),
+                patch.object(parallel, "free_memory", return_value=free),
+            ):
+                self.assertEqual(parallel.processes_for(paths, None), wanted)
+                self.assertEqual(parallel.processes_for(paths, 2), 2)
+
+    def test_progress_is_told_at_a_terminal(self) -> None:
+        said = StringIO()
+        with patch("sys.stderr", said):
+            parallel.tell_progress(1, 3, "north.db")
+            self.assertEqual(said.getvalue(), "")
+            with patch.object(said, "isatty", return_value=True):
+                parallel.tell_progress(2, 3, "south.db")
+        self.assertEqual(said.getvalue(), "2 of 3: south.db\n")
 
 
 class BooksThatDontBelongTogether(unittest.TestCase):
