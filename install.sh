@@ -53,6 +53,7 @@ put 644 "$here/tools/installed/outagebook.fish" share/fish/vendor_completions.d/
 put 644 "$here/examples/outagebook.service" share/doc/outagebook/examples/outagebook.service
 put 644 "$here/examples/outagebook@.service" share/doc/outagebook/examples/outagebook@.service
 put 644 "$here/examples/outagebook-screen.service" share/doc/outagebook/examples/outagebook-screen.service
+put 644 "$here/examples/outagebook-screen@.service" share/doc/outagebook/examples/outagebook-screen@.service
 put 644 "$here/examples/nginx.conf" share/doc/outagebook/examples/nginx.conf
 put 644 "$here/examples/nginx-districts.conf" share/doc/outagebook/examples/nginx-districts.conf
 for page in "$here"/docs/*.md; do

@@ -7,6 +7,7 @@ import argparse
 import os
 import sys
 from collections.abc import Callable
+from datetime import date
 from typing import NoReturn
 
 from outagebook.errors import BookError, Differs
@@ -30,6 +31,23 @@ def add_table_arguments(parser: argparse.ArgumentParser) -> None:
         metavar="PATH",
         default="outagebook",
         help="the program that prints the table where --table isn't given (outagebook on the path)",
+    )
+
+
+def read_date(text: str) -> str:
+    """A date of the command line, as 2025-12-31."""
+    try:
+        return date.fromisoformat(text).isoformat()
+    except ValueError:
+        raise argparse.ArgumentTypeError(f"{text!r} is no date such as 2025-12-31") from None
+
+
+def add_page_arguments(parser: argparse.ArgumentParser, name: str) -> None:
+    """The words of a page: what its heading begins with, and its date."""
+    parser.add_argument("--name", default=name, help="what the page's heading begins with, as the utility's name")
+    today = date.today().isoformat()
+    parser.add_argument(
+        "--date", type=read_date, default=today, help="the page's date of writing, where it isn't today"
     )
 
 

@@ -105,15 +105,22 @@ def month_bounds(period: Period) -> dict[str, tuple[int, int]]:
     return bounds
 
 
+def unmarked_seconds(found: Checked) -> dict[int, int]:
+    """The customer-seconds of the unmarked interruptions that lie in each day."""
+    seconds: dict[int, int] = defaultdict(int)
+    for each in counted(found, "unmarked"):
+        for day, length in found.book.period.parts(each.since, each.until):
+            seconds[day] += each.customers * length
+    return seconds
+
+
 def month_seconds(found: Checked) -> dict[str, dict[str, int]]:
     """The customer-seconds that lie in each month: the book's, and those of the unmarked interruptions."""
-    book, months = found.book, months_of_days(found.book.period)
+    unmarked = unmarked_seconds(found)
     seconds: dict[str, dict[str, int]] = {name: defaultdict(int) for name in SETS}
-    for number, month in enumerate(months):
-        seconds["all"][month] += book.postings[DAY, number]
-    for each in counted(found, "unmarked"):
-        for day, length in book.period.parts(each.since, each.until):
-            seconds["unmarked"][months[day]] += each.customers * length
+    for number, month in enumerate(months_of_days(found.book.period)):
+        seconds["all"][month] += found.book.postings[DAY, number]
+        seconds["unmarked"][month] += unmarked[number]
     return seconds
 
 

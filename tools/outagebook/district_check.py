@@ -2,7 +2,6 @@
 
 from collections import defaultdict
 from collections.abc import Callable, Sequence
-from contextlib import ExitStack
 from dataclasses import dataclass, field
 from fractions import Fraction
 from typing import Any
@@ -10,11 +9,31 @@ from typing import Any
 from outagebook.cli import Parser
 from outagebook.compare import Checked, open_book
 from outagebook.counts import SETS, Counts, amounts_of, counts_of, indices_of, quotient_text
-from outagebook.district_cut import TIE_COLUMNS, read_table
+from outagebook.district_cut import TIE_COLUMNS
+from outagebook.district_files import read_rows
 from outagebook.errors import BookError
+from outagebook.parallel import over_books
 from outagebook.rows import CAUSE, GRID, Book, Device, Entry
-from outagebook.sums import add_up, district_of, name_of, tables_given
+from outagebook.sums import District, add_up, district_of, tables_given
 from outagebook.sweep import Run, Supply, bounds_of_lives, interruptions_of
+
+
+@dataclass(frozen=True)
+class Part:
+    """A compared book: what it adds to the sums, and what it holds."""
+
+    district: District
+    book: Book
+
+
+def part_of(path: str, found: Checked) -> Part:
+    return Part(district_of(path, found), found.book)
+
+
+def read_part(path: str, table: str | None, program: str) -> Part:
+    """The part of the book in a file, compared first."""
+    with open_book(path, table, program) as found:
+        return part_of(path, found)
 
 
 @dataclass(frozen=True)
@@ -50,7 +69,7 @@ class TieTimes:
 def read_ties(path: str, books: dict[str, Book]) -> list[Tie]:
     """The ties of a cut, as the books have them: the same device in both, from GRID, with the same life and switchings."""
     ties = []
-    for place, row in enumerate(read_table(path, TIE_COLUMNS).rows, 1):
+    for place, row in enumerate(read_rows(path, TIE_COLUMNS), 1):
         places = row["district"], row["other_district"]
         strange = [name for name in places if name not in books]
         if strange:
@@ -248,13 +267,13 @@ def difference(more: Counts, less: Counts) -> Counts:
     )
 
 
-def cost_of(name: str, found: Checked, runs: Sequence[Run]) -> Cost:
+def cost_of(name: str, found: Part, runs: Sequence[Run]) -> Cost:
     """What the true runs of a district have more than its book."""
-    book = found.book
+    book, here = found.book, found.district.counts
     amounts = amounts_of(book, interruptions_of(book, runs))
     more = sum(amount for (dim, _), amount in amounts.items() if dim == CAUSE)
     less = sum(book.postings[CAUSE, code] for code in book.causes)
-    counts = {each: difference(counts_of(book, runs, each == "unmarked"), found.counts[each]) for each in SETS}
+    counts = {each: difference(counts_of(book, runs, each == "unmarked"), here[each]) for each in SETS}
     return Cost(name, more - less, counts)
 
 
@@ -269,9 +288,9 @@ class CheckedCut:
     zone_text: Callable[[int], str]
 
 
-def check_cut(ties_path: str, books: dict[str, Checked]) -> CheckedCut:
+def check_cut(ties_path: str, books: dict[str, Part]) -> CheckedCut:
     """What the cut of books that belong together cost."""
-    sums = add_up([district_of(name, found) for name, found in books.items()], own_numbers=True)
+    sums = add_up([found.district for found in books.values()], own_numbers=True)
     plain = {name: found.book for name, found in books.items()}
     ties = read_ties(ties_path, plain)
     swept = TrueSweep(plain, ties)
@@ -316,10 +335,8 @@ def write_check(checked: CheckedCut) -> None:
 def check(parser: Parser, args: Any) -> None:
     """The job `check`."""
     tables = tables_given(parser, args.books, args.table)
-    with ExitStack() as stack:
-        books: dict[str, Checked] = {}
-        for path, table in zip(args.books, tables):
-            if name_of(path) in books:
-                raise BookError(f"{name_of(path)} is given twice")
-            books[name_of(path)] = stack.enter_context(open_book(path, table, args.program))
-        write_check(check_cut(args.ties, books))
+    parts = over_books(read_part, args.books, tables, args.program, args.processes)
+    books = {part.district.name: part for part in parts}
+    if len(books) < len(parts):
+        raise BookError("a district is one book, whose file has its name: one is given twice")
+    write_check(check_cut(args.ties, books))

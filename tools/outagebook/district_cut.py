@@ -1,58 +1,21 @@
 """Cutting a utility's exports into those of districts, each of which one book holds."""
 
-import csv
 from collections import Counter, defaultdict
-from collections.abc import Iterable, Iterator, Sequence
+from collections.abc import Iterator, Sequence
 from dataclasses import dataclass, field
 from pathlib import Path
 from typing import Any
 
+from outagebook.district_files import Export, Row, export_of, read_rows, write_rows, written_to
 from outagebook.errors import BookError
+from outagebook.oms.files import DELIMITERS
 
 MOST_NODES, MOST_DEVICES, MOST_CUSTOMERS, MOST_FEEDERS = 1_024, 2_048, 100_000, 255
 ROOM = 20  # per cent of each bound that a cut leaves free
 GRID_NAME = "GRID"
 TIE_COLUMNS = ("tie", "district", "node", "other_district", "other_node")
-
-Row = dict[str, str]
-
-
-# Exports.
-
-
-@dataclass(frozen=True)
-class Table:
-    """The rows of an export, with the columns as they came."""
-
-    path: str
-    columns: tuple[str, ...]
-    rows: tuple[Row, ...]
-
-
-def read_table(path: str, needed: Sequence[str]) -> Table:
-    """An export with all of its columns; those that are needed have to be there."""
-    try:
-        with open(path, newline="", encoding="utf-8-sig") as file:
-            reader = csv.DictReader(file)
-            columns = tuple(reader.fieldnames or ())
-            missing = [name for name in needed if name not in columns]
-            if missing:
-                raise BookError(f"{path} hasn't the column {missing[0]}")
-            rows = tuple({name: row.get(name) or "" for name in columns} for row in reader)
-    except (OSError, UnicodeDecodeError, csv.Error) as error:
-        raise BookError(f"{path} can't be read: {error}") from None
-    return Table(path, columns, rows)
-
-
-def write_table(path: Path, columns: Sequence[str], rows: Iterable[Sequence[object]]) -> None:
-    try:
-        path.parent.mkdir(parents=True, exist_ok=True)
-        with path.open("w", newline="", encoding="utf-8") as file:
-            writer = csv.writer(file, lineterminator="\n")
-            writer.writerow(columns)
-            writer.writerows(rows)
-    except OSError as error:
-        raise BookError(f"{path}: {error.strerror}") from None
+GIS_COLUMNS = ("type", "name", "feeder", "from", "to", "normal")
+UNREAD = "rows can't be read, and nothing was written:"
 
 
 def label(text: str) -> str:
@@ -86,45 +49,61 @@ class Network:
     customers: "Counter[str]" = field(default_factory=Counter)
 
 
-def read_network(gis: Table, customers: Table | None) -> Network:
-    """The network of the exports; rows that can't be read are all told."""
-    network, bad = Network(), []
+def read_network(gis: Export, customers: Export | None) -> Network:
+    """The network of the exports, and how many customers each section has; rows that can't be read are all told."""
+    network, bad = Network(), list[str]()
+    devices = read_nodes(network, gis, bad)
+    read_links(network, gis, devices, bad)
+    if customers:
+        count_customers(network, customers, bad)
+    if bad:
+        raise BookError("\n".join([UNREAD, *bad]))
+    return network
+
+
+def read_nodes(network: Network, gis: Export, bad: list[str]) -> list[tuple[int, Row]]:
+    """Puts the nodes into the network: the rows of the devices, whose ends may come later."""
     devices: list[tuple[int, Row]] = []
     names: set[tuple[bool, str]] = set()
-    for place, row in enumerate(gis.rows, 1):
+    for number, row in gis.rows(bad):
         kind, name = row["type"].strip().lower(), label(row["name"])
         if kind not in ("bus", "section", "device"):
-            bad.append(f"{gis.path}: row {place}: type {row['type']!r} is no bus, section or device")
+            bad.append(f"{gis.path}: row {number}: type {row['type']!r} is no bus, section or device")
         elif not name or (kind != "device" and name == GRID_NAME) or (kind == "device", name) in names:
-            bad.append(f"{gis.path}: row {place}: the name {row['name']!r} is empty, GRID, or comes twice")
+            bad.append(f"{gis.path}: row {number}: the name {row['name']!r} is empty, GRID, or comes twice")
         elif kind == "device":
-            devices.append((place, row))
+            devices.append((number, row))
         elif kind == "section" and not row["feeder"].strip():
-            bad.append(f"{gis.path}: row {place}: the section {row['name']!r} has no feeder")
+            bad.append(f"{gis.path}: row {number}: the section {row['name']!r} has no feeder")
         else:
             network.nodes.append(name)
             if kind == "section":
                 network.feeder[name] = row["feeder"].strip()
         names.add((kind == "device", name))
+    return devices
+
+
+def read_links(network: Network, gis: Export, devices: list[tuple[int, Row]], bad: list[str]) -> None:
+    """Puts the devices into the network."""
     known = {GRID_NAME, *network.nodes}
-    for place, row in devices:
+    for number, row in devices:
         ends = label(row["from"]), label(row["to"])
         normal = row["normal"].strip().lower()
-        strange = [end for end in ends if end not in known]
-        if strange or ends[0] == ends[1]:
-            bad.append(f"{gis.path}: row {place}: a device from {ends[0]!r} to {ends[1]!r}, which aren't two nodes")
+        if not set(ends) <= known or ends[0] == ends[1]:
+            bad.append(f"{gis.path}: row {number}: a device from {ends[0]!r} to {ends[1]!r}, which aren't two nodes")
         elif normal not in ("open", "closed"):
-            bad.append(f"{gis.path}: row {place}: normal {row['normal']!r} is neither open nor closed")
+            bad.append(f"{gis.path}: row {number}: normal {row['normal']!r} is neither open nor closed")
         else:
             network.links.append(Link(label(row["name"]), ends, normal == "closed"))
-    for place, row in enumerate(customers.rows if customers else (), 1):
-        section = label(row["section"])
+
+
+def count_customers(network: Network, customers: Export, bad: list[str]) -> None:
+    place = customers.place("section")
+    for number, record in customers.records(bad):
+        section = label(record[place])
         if section not in network.feeder:
-            bad.append(f"{customers.path if customers else ''}: row {place}: {row['section']!r} is no section")
+            bad.append(f"{customers.path}: row {number}: {record[place]!r} is no section")
         network.customers[section] += 1
-    if bad:
-        raise BookError("\n".join(["rows can't be read, and nothing was written:", *bad]))
-    return network
 
 
 # Cutting.
@@ -167,13 +146,36 @@ class Area:
         return f"the area of {self.nodes[0]} (feeders {', '.join(sorted(self.feeders)) or 'none'})"
 
 
-def size_of(areas: Sequence[Area]) -> Size:
-    return Size(
-        nodes=1 + sum(len(area.nodes) for area in areas),
-        devices=len(frozenset().union(*(area.devices for area in areas))),
-        customers=sum(area.customers for area in areas),
-        feeders=len(frozenset().union(*(area.feeders for area in areas))),
-    )
+class District:
+    """Areas that are gathered, and how much of a book they take."""
+
+    def __init__(self, areas: Sequence[Area] = ()) -> None:
+        self.areas: list[Area] = []
+        self.nodes, self.customers = 1, 0  # GRID among the nodes
+        self.devices: set[str] = set()
+        self.feeders: set[str] = set()
+        for area in areas:
+            self.add(area)
+
+    def add(self, area: Area) -> None:
+        self.areas.append(area)
+        self.nodes += len(area.nodes)
+        self.customers += area.customers
+        self.devices |= area.devices
+        self.feeders |= area.feeders
+
+    @property
+    def size(self) -> Size:
+        return Size(self.nodes, len(self.devices), self.customers, len(self.feeders))
+
+    def size_with(self, area: Area) -> Size:
+        """What it takes with an area more."""
+        return Size(
+            nodes=self.nodes + len(area.nodes),
+            devices=len(self.devices) + len(area.devices - self.devices),
+            customers=self.customers + area.customers,
+            feeders=len(self.feeders) + len(area.feeders - self.feeders),
+        )
 
 
 def joined_nodes(network: Network) -> list[list[str]]:
@@ -222,14 +224,14 @@ def areas_of(network: Network) -> list[Area]:
 
 @dataclass
 class Cut:
-    """The areas of each district by its name, and what is to be said of them."""
+    """The districts by their names, and what is to be said of them."""
 
-    districts: dict[str, list[Area]] = field(default_factory=dict)
+    districts: dict[str, District] = field(default_factory=dict)
     said: list[str] = field(default_factory=list)
 
     def district_of(self) -> dict[str, str]:
         """The district of each node."""
-        return {node: name for name, areas in self.districts.items() for area in areas for node in area.nodes}
+        return {node: name for name, each in self.districts.items() for area in each.areas for node in area.nodes}
 
 
 def keep_old(areas: Sequence[Area], old: dict[str, str], cut: Cut) -> list[Area]:
@@ -243,7 +245,7 @@ def keep_old(areas: Sequence[Area], old: dict[str, str], cut: Cut) -> list[Area]
                 f"{area.name} lies in several districts of the earlier cut ({told}): normally closed devices join them now"
             )
         if names:
-            cut.districts.setdefault(next(iter(names)), []).append(area)
+            cut.districts.setdefault(next(iter(names)), District()).add(area)
         else:
             others.append(area)
     return others
@@ -251,7 +253,8 @@ def keep_old(areas: Sequence[Area], old: dict[str, str], cut: Cut) -> list[Area]
 
 def refuse_large(areas: Sequence[Area]) -> None:
     """Areas that no book holds, all with their numbers."""
-    large = [f"{area.name}: {', '.join(size_of([area]).passes(100))}" for area in areas if size_of([area]).passes(100)]
+    passed = [(area.name, District([area]).size.passes(100)) for area in areas]
+    large = [f"{name}: {', '.join(bounds)}" for name, bounds in passed if bounds]
     if large:
         raise BookError("\n".join(["a book doesn't hold what normally closed devices join here:", *large]))
 
@@ -262,47 +265,60 @@ def cut_areas(network: Network, areas: Sequence[Area], old: dict[str, str], room
     cut = Cut()
     waiting = keep_old(areas, old, cut)
     for name, kept in cut.districts.items():
-        if size_of(kept).passes(100):
-            raise BookError(f"{name} has outgrown a book: {', '.join(size_of(kept).passes(100))}")
+        if kept.size.passes(100):
+            raise BookError(f"{name} has outgrown a book: {', '.join(kept.size.passes(100))}")
     ties = ties_between(network, areas)
-    for name in [*cut.districts]:
-        fill(cut.districts[name], waiting, ties, room)
+    for kept in cut.districts.values():
+        waiting = fill(kept, waiting, ties, room)
     number = 0
     while waiting:
         number += 1
         name = f"district-{number}"
         if name not in cut.districts:
-            cut.districts[name] = [waiting.pop(0)]
-            fill(cut.districts[name], waiting, ties, room)
+            cut.districts[name] = District(waiting[:1])
+            waiting = fill(cut.districts[name], waiting[1:], ties, room)
     for name, kept in cut.districts.items():
-        if size_of(kept).passes(100 - room):
-            cut.said.append(
-                f"{name} has less than {room} per cent of room: {', '.join(size_of(kept).passes(100 - room))}"
-            )
+        passed = kept.size.passes(100 - room)
+        if passed:
+            cut.said.append(f"{name} has less than {room} per cent of room: {', '.join(passed)}")
     return cut
 
 
-def ties_between(network: Network, areas: Sequence[Area]) -> dict[tuple[str, str], int]:
-    """How many devices join two areas, by the first nodes of both."""
+Ties = dict[str, dict[str, int]]  # how many devices join two areas, by the first nodes of both
+
+
+def ties_between(network: Network, areas: Sequence[Area]) -> Ties:
     first = {node: area.nodes[0] for area in areas for node in area.nodes}
-    found: dict[tuple[str, str], int] = Counter()
+    found: Ties = defaultdict(lambda: defaultdict(int))
     for link in network.links:
         if len(link.nodes) == 2:
             a, b = (first[node] for node in link.ends)
-            found[a, b] += 1
-            found[b, a] += 1
+            found[a][b] += 1
+            found[b][a] += 1
     return found
 
 
-def fill(district: list[Area], waiting: list[Area], ties: dict[tuple[str, str], int], room: int) -> None:
-    """Takes areas that wait into a district while they fit."""
+def fill(district: District, waiting: Sequence[Area], ties: Ties, room: int) -> list[Area]:
+    """Takes areas that wait into a district while they fit, those with most ties to it first: the others."""
+    joined: dict[str, int] = defaultdict(int)  # ties to the district, by the first node of an area
+    for area in district.areas:
+        for other, count in ties[area.nodes[0]].items():
+            joined[other] += count
+    taken: set[str] = set()
+    fitting = list(waiting)
     while True:
-        fitting = [area for area in waiting if not size_of([*district, area]).passes(100 - room)]
+        # what doesn't fit now won't fit later
+        fitting = [
+            area for area in fitting
+            if area.nodes[0] not in taken and not district.size_with(area).passes(100 - room)
+        ]  # fmt: skip
         if not fitting:
-            return
-        best = max(fitting, key=lambda area: sum(ties.get((area.nodes[0], one.nodes[0]), 0) for one in district))
-        district.append(best)
-        waiting.remove(best)
+            return [area for area in waiting if area.nodes[0] not in taken]
+        best = max(fitting, key=lambda area: joined[area.nodes[0]])
+        district.add(best)
+        taken.add(best.nodes[0])
+        for other, count in ties[best.nodes[0]].items():
+            joined[other] += count
 
 
 # Writing the exports of the districts.
@@ -311,8 +327,8 @@ def fill(district: list[Area], waiting: list[Area], ties: dict[tuple[str, str], 
 def numbers_of_feeders(cut: Cut) -> dict[tuple[str, str], int]:
     """The number of each district's feeders in its book: the export's own where all are numbers that a book takes."""
     numbers: dict[tuple[str, str], int] = {}
-    for name, areas in cut.districts.items():
-        feeders = list(dict.fromkeys(feeder for area in areas for feeder in sorted(area.feeders)))
+    for name, each in cut.districts.items():
+        feeders = list(dict.fromkeys(feeder for area in each.areas for feeder in sorted(area.feeders)))
         if all(feeder.isdigit() and 1 <= int(feeder) <= MOST_FEEDERS for feeder in feeders):
             numbers.update({(name, feeder): int(feeder) for feeder in feeders})
         else:
@@ -320,25 +336,69 @@ def numbers_of_feeders(cut: Cut) -> dict[tuple[str, str], int]:
     return numbers
 
 
-def gis_rows(
-    gis: Table, district: dict[str, str], name: str, numbers: dict[tuple[str, str], int]
-) -> Iterator[list[str]]:
-    """The rows of a district's network: its nodes, and the devices that have an end in it."""
-    for row in gis.rows:
-        told = dict(row)
-        if row["type"].strip().lower() == "device":
-            ends = {column: label(row[column]) for column in ("from", "to")}
-            here = [node for node in ends.values() if district.get(node) == name]
-            if not here:
-                continue
-            for column, node in ends.items():
-                if district.get(node, name) != name:
-                    told[column] = GRID_NAME
-        elif district[label(row["name"])] != name:
-            continue
-        elif row["type"].strip().lower() == "section":
-            told["feeder"] = str(numbers[name, row["feeder"].strip()])
-        yield [told[column] for column in gis.columns]
+@dataclass(frozen=True)
+class Exports:
+    """A utility's exports."""
+
+    gis: Export
+    customers: Export | None
+    oms: Export | None
+
+
+class Writing:
+    """What the files of a cut's districts are written from."""
+
+    def __init__(self, exports: Exports, network: Network, cut: Cut, folder: Path) -> None:
+        self.exports, self.folder, self.names = exports, folder, list(cut.districts)
+        self.district = cut.district_of()
+        self.numbers = numbers_of_feeders(cut)
+        self.of_device = {
+            link.name: sorted({self.district[node] for node in link.nodes}) for link in network.links
+        }  # fmt: skip
+
+    def write_gis(self) -> None:
+        """Each district's nodes, and the devices that have an end in it; the other end of a tie becomes GRID."""
+        gis = self.exports.gis
+        kind, name, feeder, *ends = (gis.place(column) for column in GIS_COLUMNS[:5])
+        with written_to(self.folder, self.names, "gis.csv", gis.header) as writers:
+            for _, record in gis.records([]):
+                if record[kind].strip().lower() == "device":
+                    for district in self.of_device[label(record[name])]:
+                        told = list(record)
+                        for end in ends:
+                            if self.district.get(label(record[end]), district) != district:
+                                told[end] = GRID_NAME
+                        writers[district].writerow(told)
+                    continue
+                district = self.district[label(record[name])]
+                if record[kind].strip().lower() == "section":
+                    record[feeder] = str(self.numbers[district, record[feeder].strip()])
+                writers[district].writerow(record)
+
+    def write_customers(self, customers: Export) -> None:
+        place = customers.place("section")
+        with written_to(self.folder, self.names, "customers.csv", customers.header) as writers:
+            for _, record in customers.records([]):
+                writers[self.district[label(record[place])]].writerow(record)
+
+    def write_oms(self, oms: Export) -> None:
+        """The outages of each district: those of a tie go to both of its districts."""
+        place = oms.place("device")
+        with written_to(self.folder, self.names, "oms.csv", oms.header) as writers:
+            for _, record in oms.records([]):
+                for district in self.of_device[label(record[place])]:
+                    writers[district].writerow(record)
+
+
+def check_outages(oms: Export, network: Network) -> None:
+    """Rows of outages that can't be read, or are of no device."""
+    bad: list[str] = []
+    devices, place = {link.name for link in network.links}, oms.place("device")
+    for number, record in oms.records(bad):
+        if label(record[place]) not in devices:
+            bad.append(f"{oms.path}: row {number}: no device of the network is {record[place]!r}")
+    if bad:
+        raise BookError("\n".join([UNREAD, *bad]))
 
 
 def tie_rows(network: Network, district: dict[str, str]) -> Iterator[list[str]]:
@@ -349,69 +409,35 @@ def tie_rows(network: Network, district: dict[str, str]) -> Iterator[list[str]]:
             yield [link.name, places[0], link.ends[0], places[1], link.ends[1]]
 
 
-def oms_rows(oms: Table, devices: dict[str, list[str]]) -> dict[str, list[list[str]]]:
-    """The outages of each district: those of a tie go to both of its districts."""
-    found: dict[str, list[list[str]]] = defaultdict(list)
-    bad = []
-    for place, row in enumerate(oms.rows, 1):
-        names = devices.get(label(row["device"]))
-        if names is None:
-            bad.append(f"{oms.path}: row {place}: no device of the network is {row['device']!r}")
-        for name in names or ():
-            found[name].append([row[column] for column in oms.columns])
-    if bad:
-        raise BookError("\n".join(["rows can't be read, and nothing was written:", *bad]))
-    return found
-
-
-@dataclass(frozen=True)
-class Exports:
-    """A utility's exports."""
-
-    gis: Table
-    customers: Table | None
-    oms: Table | None
-
-
 def write_cut(exports: Exports, network: Network, cut: Cut, folder: Path) -> None:
     """The exports of each district, with the lists of districts, feeders and ties."""
-    district = cut.district_of()
-    numbers = numbers_of_feeders(cut)
-    devices = {link.name: sorted({district[node] for node in link.nodes}) for link in network.links}
-    outages = oms_rows(exports.oms, devices) if exports.oms else {}
-    for name in cut.districts:
-        gis = exports.gis
-        write_table(folder / name / "gis.csv", gis.columns, gis_rows(gis, district, name, numbers))
-        if exports.customers:
-            rows = (
-                [row[column] for column in exports.customers.columns]
-                for row in exports.customers.rows
-                if district[label(row["section"])] == name
-            )
-            write_table(folder / name / "customers.csv", exports.customers.columns, rows)
-        if exports.oms:
-            write_table(folder / name / "oms.csv", exports.oms.columns, outages.get(name, []))
-    write_table(folder / "districts.csv", ("node", "district"), sorted(district.items()))
-    feeders = ((name, number, feeder) for (name, feeder), number in numbers.items())
-    write_table(folder / "feeders.csv", ("district", "number", "feeder"), feeders)
-    write_table(folder / "ties.csv", TIE_COLUMNS, tie_rows(network, district))
+    writing = Writing(exports, network, cut, folder)
+    writing.write_gis()
+    if exports.customers:
+        writing.write_customers(exports.customers)
+    if exports.oms:
+        writing.write_oms(exports.oms)
+    write_rows(folder / "districts.csv", ("node", "district"), sorted(writing.district.items()))
+    feeders = ((name, number, feeder) for (name, feeder), number in writing.numbers.items())
+    write_rows(folder / "feeders.csv", ("district", "number", "feeder"), feeders)
+    write_rows(folder / "ties.csv", TIE_COLUMNS, tie_rows(network, writing.district))
 
 
 def cut(args: Any) -> None:
     """The job `cut`: tells each district's size and the ties that were cut."""
-    gis = read_table(args.gis, ("type", "name", "feeder", "from", "to", "normal"))
-    customers = read_table(args.customers, ("customer", "section")) if args.customers else None
-    oms = read_table(args.oms, ("device",)) if args.oms else None
-    old = (
-        {label(row["node"]): row["district"] for row in read_table(args.earlier, ("node", "district")).rows}
-        if args.earlier
-        else {}
-    )
+    form = args.encoding, DELIMITERS.get(args.delimiter)
+    gis = export_of(args.gis, GIS_COLUMNS, *form)
+    customers = export_of(args.customers, ("customer", "section"), *form) if args.customers else None
+    oms = export_of(args.oms, ("device",), *form) if args.oms else None
+    earlier = read_rows(args.earlier, ("node", "district")) if args.earlier else []
     network = read_network(gis, customers)
+    if oms:
+        check_outages(oms, network)
+    old = {label(row["node"]): row["district"] for row in earlier}
     made = cut_areas(network, areas_of(network), old, args.room)
     write_cut(Exports(gis, customers, oms), network, made, Path(args.output))
     ties = Counter(name for row in tie_rows(network, made.district_of()) for name in (row[1], row[3]))
-    for name, areas in made.districts.items():
-        print(f"{name}: {size_of(areas)}, {ties[name]} ties to others")
+    for name, each in made.districts.items():
+        print(f"{name}: {each.size}, {ties[name]} ties to others")
     for line in made.said:
         print(line)

@@ -12,7 +12,7 @@ from urllib.error import HTTPError, URLError
 from urllib.request import urlopen
 
 from outagebook.compare import open_book
-from outagebook.district_cut import Row, read_table, write_table
+from outagebook.district_files import Row, read_rows, write_rows
 from outagebook.errors import BookError, Differs
 
 MOST_COMMANDS = 1_000_000
@@ -28,7 +28,7 @@ class Desk:
 
 
 def read_desks(path: str) -> list[Desk]:
-    rows = read_table(path, ("district", "url")).rows
+    rows = read_rows(path, ("district", "url"))
     desks = [Desk(row["district"].strip(), row["url"].strip().rstrip("/"), row.get("book", "").strip()) for row in rows]
     for place, desk in enumerate(desks, 1):
         if not desk.district or not desk.url.startswith(("http://", "https://")):
@@ -74,7 +74,7 @@ def state_of(desk: Desk, wait: float) -> tuple[str, str]:
 
 def last_compared(path: Path) -> dict[str, Row]:
     """What was kept last of each district's comparison."""
-    return {row["district"]: row for row in read_table(str(path), ("district",)).rows} if path.exists() else {}
+    return {row["district"]: row for row in read_rows(str(path), ("district",))} if path.exists() else {}
 
 
 def compared_path(args: Any) -> Path:
@@ -124,7 +124,7 @@ def compare_desks(args: Any) -> None:
         print(f"{desk.district}: {result}{f', {commands} commands' if commands else ''}")
         results.append(result)
     columns = ("district", "moment", "commands", "result")
-    write_table(path, columns, ([row[column] for column in columns] for row in compared.values()))
+    write_rows(path, columns, ([row[column] for column in columns] for row in compared.values()))
     if any(result.startswith("differs") for result in results):
         raise Differs("books", sum(result != "equal" for result in results), "all to be equal")
     if any(result != "equal" for result in results):

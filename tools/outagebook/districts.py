@@ -1,7 +1,8 @@
 """A utility of any size as districts, each with a book of its own: cut, checked, and looked at.
 
     outagebook-districts cut GIS [CUSTOMERS] [--oms OMS] -o FOLDER [--room N] [--as districts.csv]
-    outagebook-districts check TIES BOOK.. [--table FILE .. | --program PATH]
+                             [--delimiter D] [--encoding E]
+    outagebook-districts check TIES BOOK.. [--processes N] [--table FILE .. | --program PATH]
     outagebook-districts desks DESKS [--compared FILE] [--wait SECONDS]
     outagebook-districts compare DESKS [--compared FILE] [--program PATH]
 
@@ -20,6 +21,8 @@ from outagebook.cli import Parser, run_job
 from outagebook.district_check import check
 from outagebook.district_cut import ROOM, cut
 from outagebook.district_desks import compare_desks, tell_desks
+from outagebook.oms.decoding import ENCODINGS
+from outagebook.oms.files import DELIMITERS
 
 
 def arguments() -> tuple[Parser, Any]:
@@ -40,11 +43,18 @@ def arguments() -> tuple[Parser, Any]:
         "--room", type=int, default=ROOM, metavar="N", help=f"per cent of a book to leave free ({ROOM})"
     )
     cutting.add_argument("--as", dest="earlier", metavar="FILE", help="districts.csv of an earlier cut, which stays")
+    cutting.add_argument(
+        "--delimiter", choices=DELIMITERS, help="what stands between fields (found by the column names)"
+    )
+    cutting.add_argument(
+        "--encoding", choices=ENCODINGS, help="of files without a mark of it at their beginning (utf-8)"
+    )
     checking = job("check", "tells what the ties cost that were cut")
     checking.add_argument("ties", metavar="TIES", help="ties.csv of the cut")
     checking.add_argument("books", nargs="+", metavar="BOOK", help="the books' files; a file's name is its district's")
     checking.add_argument("--table", action="append", metavar="FILE", default=[], help="the books' annual tables")
     checking.add_argument("--program", metavar="PATH", default="outagebook", help="what prints the tables")
+    checking.add_argument("--processes", type=int, metavar="N", help="how many books are read at once")
     asking = job("desks", "asks each desk whether it is up, and how many commands it has")
     asking.add_argument("--wait", type=float, default=10, metavar="SECONDS", help="how long an answer may take (10)")
     comparing = job("compare", "compares each desk's book with its program's table")

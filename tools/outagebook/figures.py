@@ -44,7 +44,7 @@ INDEX_MEANINGS = {
     "CAIFI": ("interruptions per customer that had one", "CI / CN"),
     "ASAI": ("share of the demanded customer time that was served", "(S - CSI) / S"),
     "SUSTAINED": ("customers' interruptions of more than 300 seconds", "CI"),
-    "MOMENTARY": ("customers' interruptions of at most 300 seconds, in no index", "MI"),
+    "MOMENTARY": ("customers' interruptions of at most 300 seconds, in no quotient of the annual table", "MI"),
 }
 TERMS = (
     "P are the seconds of the period, S the customer-seconds in service, S / P the customers served; CI customers'"

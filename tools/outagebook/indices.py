@@ -5,7 +5,6 @@ same line between sustained and momentary interruptions. Each is an exact quotie
 to divide by.
 """
 
-import csv
 import re
 import sqlite3
 from collections import defaultdict
@@ -16,12 +15,14 @@ from fractions import Fraction
 from outagebook.compare import Checked
 from outagebook.counts import SETS, Counts, quotient
 from outagebook.errors import BookError
+from outagebook.lists import heads_of, read_list
 from outagebook.rows import Book
 from outagebook.sweep import LONGEST_MOMENTARY, Run
 
 HOUR = 3_600
 HOURS = (Fraction(4), Fraction(8), Fraction(12), Fraction(24))  # of CELID, where none are asked for
 MOST_CEMSMI = 10
+KVA_KINDS = ("section", "customer")
 
 TERMS = (
     "MI are customers' momentary interruptions, each counted by itself; CNS_t customers with a sustained interruption of t"
@@ -157,25 +158,19 @@ class Loads:
 
 def read_kva(path: str) -> tuple[str, dict[str, Fraction]]:
     """The kVA of a file by section or by customer, with which of the two its column is."""
-    try:
-        with open(path, newline="", encoding="utf-8-sig") as file:
-            rows = csv.DictReader(file)
-            names = [name for name in ("section", "customer") if name in (rows.fieldnames or ())]
-            if len(names) != 1 or "kva" not in (rows.fieldnames or ()):
-                raise BookError(f"{path} has to have the column kva, and either section or customer")
-            found: dict[str, Fraction] = {}
-            for place, row in enumerate(rows, 1):
-                key, text = (row[names[0]] or "").strip().upper(), (row["kva"] or "").strip()
-                if not key:
-                    raise BookError(f"{path}: row {place}: the {names[0]} is empty")
-                if key in found:
-                    raise BookError(f"{path}: row {place}: {names[0]} {key} comes twice")
-                if not re.fullmatch(r"[0-9]{1,9}(\.[0-9]{1,6})?", text):
-                    raise BookError(f"{path}: row {place}: kva {text!r} is no number")
-                found[key] = Fraction(text)
-    except (OSError, UnicodeDecodeError, csv.Error) as error:
-        raise BookError(f"{path} can't be read: {error}") from None
-    return names[0], found
+    heads = heads_of(path)
+    kind = next((name for name in KVA_KINDS if name in heads), None)
+    if kind is None or "kva" not in heads:
+        raise BookError(f"{path} has to have the column kva, and either section or customer")
+    found: dict[str, Fraction] = {}
+    for row in read_list(path, (kind, "kva")):
+        key = row.filled(kind).upper()
+        if key in found:
+            raise row.refused(f"{kind} {key} comes twice")
+        if not re.fullmatch(r"[0-9]{1,9}(\.[0-9]{1,6})?", row["kva"]):
+            raise row.refused(f"kva {row['kva']!r} is no number")
+        found[key] = Fraction(row["kva"])
+    return kind, found
 
 
 def loads_of(path: str, book: Book, database: sqlite3.Connection) -> Loads:

@@ -6,6 +6,7 @@ its number; nothing is left out. What the book has and a list doesn't is told wi
 
 import csv
 from collections.abc import Iterable, Iterator
+from contextlib import contextmanager
 from dataclasses import dataclass
 
 from outagebook.errors import BookError
@@ -39,17 +40,34 @@ class ListRow:
         return self[column]
 
 
-def read_list(path: str, columns: tuple[str, ...]) -> list[ListRow]:
-    """The rows of a list; lines without any field are no rows."""
+@contextmanager
+def lines_of(path: str) -> Iterator[Iterator[list[str]]]:
+    """The lines of a list, cut into fields."""
     try:
         with open(path, newline="", encoding="utf-8-sig") as file:
-            return list(list_rows(path, csv.reader(file, strict=True), columns))
+            yield csv.reader(file, strict=True)
     except (OSError, UnicodeDecodeError, csv.Error) as error:
         raise BookError(f"{path} can't be read: {error}") from None
 
 
+def heads_in(lines: Iterator[list[str]]) -> list[str]:
+    return [head.strip().lower() for head in next(lines, [])]
+
+
+def heads_of(path: str) -> list[str]:
+    """The names of a list's columns, of a list that may have some or others."""
+    with lines_of(path) as lines:
+        return heads_in(lines)
+
+
+def read_list(path: str, columns: tuple[str, ...]) -> list[ListRow]:
+    """The rows of a list; lines without any field are no rows."""
+    with lines_of(path) as lines:
+        return list(list_rows(path, lines, columns))
+
+
 def list_rows(path: str, lines: Iterator[list[str]], columns: tuple[str, ...]) -> Iterator[ListRow]:
-    heads = [head.strip().lower() for head in next(lines, [])]
+    heads = heads_in(lines)
     if sorted(heads) != sorted(columns):
         raise BookError(f"{path} has the columns {', '.join(heads)}; it wants just {', '.join(columns)}, with commas")
     for number, fields in enumerate((line for line in lines if line), 1):

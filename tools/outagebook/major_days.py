@@ -1,4 +1,4 @@
-"""Major event days by the method of IEEE Std 1366-2012 (clause 3.5): a threshold by the days of up to five years before.
+"""Major event days by the 2.5 beta method of IEEE Std 1366-2012: a threshold by the days of up to five years before.
 
     outagebook-major-days BOOK.. [--csv | --json] [--rows ENGINEER -o FOLDER] [--page FILE [--name NAME]]
                           [--own-numbers] [--processes N] [--table FILE .. | --program PATH]
@@ -21,7 +21,7 @@ from datetime import date, timedelta
 from fractions import Fraction
 from pathlib import Path
 
-from outagebook.cli import Parser, run_job
+from outagebook.cli import Parser, add_page_arguments, run_job
 from outagebook.counts import decimal_text, fraction_text
 from outagebook.errors import BookError
 from outagebook.sums import District, PeriodKey, Sums, add_book_arguments, add_up, read_districts, tables_given
@@ -288,7 +288,7 @@ def main() -> int:
     parser.add_argument("--rows", metavar="ENGINEER", help="write rows that mark the days, in an engineer's name")
     parser.add_argument("-o", "--output", metavar="FOLDER", help="where --rows writes a file for each district")
     parser.add_argument("--page", metavar="FILE", help="write a page with the histogram too")
-    parser.add_argument("--name", default="Major event days", help="what the page's heading begins with")
+    add_page_arguments(parser, "Major event days")
     args = parser.parse_args()
     tables = tables_given(parser, args.books, args.table)
     if (args.rows is None) != (args.output is None):
@@ -305,7 +305,7 @@ def main() -> int:
             from outagebook.many_pages import major_days_page
             from outagebook.report import write
 
-            write(args.page, major_days_page(years, args.name))
+            write(args.page, major_days_page(years, args.name, args.date))
         args.write(years, answer)
 
     return run_job(job)

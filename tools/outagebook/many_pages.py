@@ -6,7 +6,7 @@ from html import escape
 from outagebook import charts, figures, report
 from outagebook.counts import SETS, decimal_text, quotient, quotient_text
 from outagebook.report import Column, TableRow
-from outagebook.sums import DISTRICT_COLUMNS, Sums, about, district_rows, marks_that_differ
+from outagebook.sums import DISTRICT_COLUMNS, District, PeriodKey, Sums, about, district_rows, marks_that_differ
 
 ADDED = (
     "Each district's book was compared with its program's annual table before anything was added up; the sums, and the"
@@ -14,31 +14,48 @@ ADDED = (
 )
 
 
-def page_of(title: str, body: Sequence[str]) -> str:
-    """A whole page, in the style of the report of one book."""
+def page_of(title: str, body: Sequence[str], state: str, date: str) -> str:
+    """A whole page, in the style of the report of one book; on paper its title, the books' state and the date at the edges."""
+    style = f"{report.STYLE}{report.paper_style(title, state, date)}"
     return (
         '<!DOCTYPE html>\n<html lang="en"><head><meta charset="utf-8">'
         '<meta name="viewport" content="width=device-width, initial-scale=1">'
-        f"<title>{escape(title)}</title><style>{report.STYLE}</style></head>\n<body>{''.join(body)}\n</body></html>\n"
+        f"<title>{escape(title)}</title><style>{style}</style></head>\n<body>{''.join(body)}\n</body></html>\n"
     )
+
+
+def title_of(name: str, period: PeriodKey) -> str:
+    return f"{name} {period.first} to {period.last}"
+
+
+def top(name: str, period: PeriodKey, state: str, date: str) -> str:
+    """The heading, and below it which books the page was written from, and when."""
+    on = f'on <span class="whole">{escape(date)}</span> ' if date else ""
+    return f"""
+<h1>{escape(name)}: <span class="whole">{period.first}</span> to <span class="whole">{period.last}</span></h1>
+<p class="soft">Written {on}from {escape(state)}.</p>"""
+
+
+def state_of(districts: Sequence[District], what: str) -> str:
+    """Which state of the books a page shows."""
+    return f"{what} of {report.number(sum(each.commands for each in districts))} commands; compared with the program"
 
 
 # The sums.
 
 
-def sums_page(sums: Sums, name: str) -> str:
+def sums_page(sums: Sums, name: str, date: str = "") -> str:
     """The page of all districts of a period."""
-    title = f"{name} {sums.period.first} to {sums.period.last}"
-    parts = [heading(sums, name), tiles(sums), index_part(sums), district_part(sums), day_part(sums)]
-    parts += [cause_part(sums), feeder_part(sums)]
+    state = state_of(sums.districts, f"{len(sums.districts)} districts' books")
+    parts = [top(name, sums.period, state, date), heading(sums), tiles(sums), index_part(sums), district_part(sums)]
+    parts += [day_part(sums), cause_part(sums), feeder_part(sums)]
     parts.append(f"\n<footer><p>{report.COMPUTED} {escape(ADDED)}</p></footer>")
-    return page_of(title, parts)
+    return page_of(title_of(name, sums.period), parts, state, date)
 
 
-def heading(sums: Sums, name: str) -> str:
+def heading(sums: Sums) -> str:
     served = decimal_text(quotient(sums.served_seconds, sums.length)) or "undefined"
     return f"""
-<h1>{escape(name)}: <span class="whole">{sums.period.first}</span> to <span class="whole">{sums.period.last}</span></h1>
 <p class="soft">{sums.period.days} days, zone {escape(sums.period.zone)}, {len(sums.districts)} districts. P is
 {report.number(sums.length)} seconds, S is {report.number(sums.served_seconds)} customer-seconds in service, so {served}
 customers (S / P) were served on average. W is {report.number(sums.total)} customer-seconds without supply, or
@@ -83,6 +100,11 @@ seconds is sustained. {figures.TERMS}</p>
 {report.index_table(figures_of_sums(sums))}"""
 
 
+def cell_of(value: object) -> object:
+    """A whole number with its thousands apart; a quotient that isn't there is undefined."""
+    return report.number(value) if isinstance(value, int) else value or "undefined"
+
+
 def district_part(sums: Sums) -> str:
     """SAIDI of each district, and the table behind it."""
     rows = [dict(zip(DISTRICT_COLUMNS, row)) for row in district_rows(sums)]
@@ -105,7 +127,7 @@ def district_part(sums: Sums) -> str:
         "SAIDI, min": "saidi_3",
         "CAIDI, min": "caidi_3",
     }
-    cells = [TableRow([row[column] if row[column] != "" else "undefined" for column in shown.values()]) for row in rows]
+    cells = [TableRow([cell_of(row[column]) for column in shown.values()]) for row in rows]
     heads = [Column("district"), *report.numbers(*list(shown)[1:])]
     picture = charts.bars_below(bars, "SAIDI by district")
     note = "Minutes per customer served of the district, all interruptions of its sections."
@@ -182,9 +204,9 @@ def feeder_part(sums: Sums) -> str:
 # Major event days.
 
 
-def major_days_page(years: Sequence[Sums], name: str) -> str:
+def major_days_page(years: Sequence[Sums], name: str, date: str = "") -> str:
     """The page of a year's days against the threshold of the years before it."""
-    period = years[-1].period
-    title = f"""
-<h1>{escape(name)}: <span class="whole">{period.first}</span> to <span class="whole">{period.last}</span></h1>"""
-    return page_of(f"{name} {period.first} to {period.last}", [title, report.major_days_part(years).text])
+    period, books = years[-1].period, [each for year in years for each in year.districts]
+    state = state_of(books, f"{len(books)} books of {len(years)} periods")
+    parts = [top(name, period, state, date), report.major_days_part(years).text]
+    return page_of(title_of(name, period), parts, state, date)

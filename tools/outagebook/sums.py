@@ -23,7 +23,7 @@ from itertools import pairwise, repeat
 from operator import add
 from pathlib import Path
 
-from outagebook.cli import Parser, run_job
+from outagebook.cli import Parser, add_page_arguments, run_job
 from outagebook.compare import Checked, open_book
 from outagebook.counts import SETS, Counts, decimal_text, fraction_text, indices_of, quotient, quotient_text
 from outagebook.errors import BookError
@@ -421,7 +421,7 @@ def main() -> int:
     )
     form.add_argument("-o", "--output", metavar="FILE", help="write a page of all books in place of the table")
     parser.add_argument("--hours", nargs="+", type=read_hours, metavar="H", default=HOURS, help="those of CELID")
-    parser.add_argument("--name", default="All districts", help="what the page's heading begins with")
+    add_page_arguments(parser, "All districts")
     args = parser.parse_args()
     tables = tables_given(parser, args.books, args.table)
     if args.processes is not None and args.processes < 1:
@@ -433,7 +433,7 @@ def main() -> int:
             from outagebook.many_pages import sums_page
             from outagebook.report import write
 
-            write(args.output, sums_page(sums, args.name))
+            write(args.output, sums_page(sums, args.name, args.date))
         else:
             args.write(sums)
 

@@ -25,15 +25,17 @@ from outagebook.cli import Parser, run_job
 from outagebook.compare import Checked, figures_of_table, open_book
 from outagebook.copies import copy_of
 from outagebook.counts import SETS
+from outagebook.days import unmarked_seconds
 from outagebook.errors import BookError, Differs
 from outagebook.parallel import over_books
+from outagebook.rates import counted
 from outagebook.rows import CAUSE, DAY, FEEDER, Book
 from outagebook.sums import PeriodKey, name_of, tables_given
 
 if TYPE_CHECKING:
     import psycopg
 
-VERSION = 1
+VERSION = 2
 TABLES = Path(__file__).with_name("warehouse.sql")
 
 Connection: TypeAlias = "psycopg.Connection[tuple[Any, ...]]"
@@ -70,10 +72,12 @@ def check_version(connection: Connection) -> None:
     (found,) = connection.execute("SELECT to_regclass('outagebook.version')::text").fetchone() or (None,)
     if found is None:
         raise BookError("there is no warehouse in this database: outagebook-warehouse create makes one")
-    versions = connection.execute("SELECT version FROM outagebook.version").fetchall()
-    if versions != [(VERSION,)]:
+    versions = [version for version, in connection.execute("SELECT version FROM outagebook.version")]
+    if versions != [VERSION]:
+        told = ", ".join(map(str, versions)) or "none"
         raise BookError(
-            f"the warehouse's tables have the version {versions}, not {VERSION}: load all books into a new one"
+            f"the warehouse's tables are of version {told}, not {VERSION}: drop the schema outagebook, create it, and load"
+            " all books again"
         )
 
 
@@ -142,18 +146,20 @@ def month_bounds(book: Book) -> dict[str, tuple[int, int]]:
 
 def counts_rows(found: Checked) -> Rows:
     for name in SETS:
-        counts = found.counts[name]
-        yield name, counts.sustained, counts.sustained_seconds, counts.momentary, list(counts.with_some)
+        counts, seconds = found.counts[name], sum(each.customer_seconds for each in counted(found, name))
+        yield name, counts.sustained, counts.sustained_seconds, counts.momentary, seconds, list(counts.with_some)
 
 
-def day_rows(book: Book) -> Rows:
+def day_rows(found: Checked) -> Rows:
+    book, period = found.book, found.book.period
     steps: Steps = defaultdict(int)
     for block in book.blocks:
         add_step(steps, block.since, block.until, block.customers)
-    period = book.period
+    unmarked = unmarked_seconds(found)
     for number, served in enumerate(served_between(steps, period.bounds)):
         seconds = period.bounds[number + 1] - period.bounds[number]
-        yield period.days[number], seconds, book.postings[DAY, number], served, book.marks.get(number)
+        amounts = book.postings[DAY, number], unmarked[number]
+        yield period.days[number], seconds, *amounts, served, book.marks.get(number)
 
 
 def served_day_rows(book: Book) -> Rows:
@@ -196,7 +202,10 @@ def interruption_rows(found: Checked) -> Rows:
 def rows_of(found: Checked) -> Iterator[tuple[str, Rows]]:
     """The rows of each table behind the period and the district, with the names of their columns."""
     book = found.book
-    yield 'counts (period_id, district, "set", sustained, sustained_seconds, momentary, with_some)', counts_rows(found)
+    yield (
+        'counts (period_id, district, "set", sustained, sustained_seconds, momentary, customer_seconds, with_some)',
+        counts_rows(found),
+    )
     yield (
         "cause (period_id, district, code, name, customer_seconds)",
         ((code, name, book.postings[CAUSE, code]) for code, name in book.causes.items()),
@@ -209,7 +218,10 @@ def rows_of(found: Checked) -> Iterator[tuple[str, Rows]]:
         "section (period_id, district, section, name, feeder)",
         ((each.node, each.name, each.feeder) for each in book.sections.values()),
     )
-    yield "day (period_id, district, day, seconds, customer_seconds, served_seconds, engineer)", day_rows(book)
+    yield (
+        "day (period_id, district, day, seconds, customer_seconds, unmarked_seconds, served_seconds, engineer)",
+        day_rows(found),
+    )
     yield "served_day (period_id, district, feeder, day, served_seconds)", served_day_rows(book)
     yield "served_month (period_id, district, section, month, served_seconds)", served_month_rows(book)
     yield (
@@ -345,6 +357,11 @@ def sums_of_rows(connection: Connection, key: BookKey) -> dict[str, str]:
             FROM outagebook.feeder AS f JOIN b USING (period_id, district)
         UNION ALL SELECT 'W of days', coalesce(sum(d.customer_seconds), 0)
             FROM outagebook.day AS d JOIN b USING (period_id, district)
+        UNION ALL SELECT 'W of ' || c."set", c.customer_seconds
+            FROM outagebook.counts AS c JOIN b USING (period_id, district)
+        UNION ALL SELECT 'W of unmarked interruptions', coalesce(sum(customers * seconds) FILTER (WHERE NOT marked), 0) FROM i
+        UNION ALL SELECT 'W of unmarked days', coalesce(sum(d.unmarked_seconds), 0)
+            FROM outagebook.day AS d JOIN b USING (period_id, district)
         UNION ALL SELECT 'S of days', coalesce(sum(d.served_seconds), 0)
             FROM outagebook.day AS d JOIN b USING (period_id, district)
         UNION ALL SELECT 'S of feeders', coalesce(sum(d.served_seconds), 0)
@@ -365,7 +382,9 @@ def compare_views(connection: Connection, key: BookKey, found: Checked) -> None:
     table = {which: text for which, text in figures_of_table(found.table).items() if which.split()[-1] in SETS}
     total = sum(found.book.postings[CAUSE, code] for code in found.book.causes)
     counts = found.counts["all"]
-    wanted = {f"W of {part}": str(total) for part in ("interruptions", "causes", "feeders", "days")}
+    unmarked = sum(each.customer_seconds for each in counted(found, "unmarked"))
+    wanted = {f"W of {part}": str(total) for part in ("interruptions", "causes", "feeders", "days", "all")}
+    wanted |= {f"W of {part}": str(unmarked) for part in ("unmarked", "unmarked interruptions", "unmarked days")}
     wanted |= {f"S of {part}": str(found.book.served_seconds()) for part in ("days", "feeders", "sections")}
     wanted |= {
         "CI of interruptions": str(counts.sustained),

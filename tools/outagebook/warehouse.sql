@@ -3,7 +3,7 @@
 CREATE SCHEMA outagebook;
 
 CREATE TABLE outagebook.version (version integer NOT NULL);
-INSERT INTO outagebook.version VALUES (1);
+INSERT INTO outagebook.version VALUES (2);
 
 CREATE TABLE outagebook.period (
     period_id integer GENERATED ALWAYS AS IDENTITY PRIMARY KEY,
@@ -32,6 +32,7 @@ CREATE TABLE outagebook.counts (
     sustained bigint NOT NULL,  -- CI
     sustained_seconds bigint NOT NULL,  -- CSI
     momentary bigint NOT NULL,  -- MI
+    customer_seconds bigint NOT NULL,  -- of the set's interruptions: of all, W
     with_some bigint[] NOT NULL CHECK (cardinality(with_some) = 10),  -- CN_1 to CN_10
     PRIMARY KEY (period_id, district, "set"),
     FOREIGN KEY (period_id, district) REFERENCES outagebook.book ON DELETE CASCADE
@@ -72,6 +73,7 @@ CREATE TABLE outagebook.day (
     day date NOT NULL,
     seconds integer NOT NULL,  -- how long the day is
     customer_seconds bigint NOT NULL,  -- those that fall on it
+    unmarked_seconds bigint NOT NULL,  -- of these, those of unmarked interruptions
     served_seconds bigint NOT NULL,
     engineer text,  -- who marked it
     PRIMARY KEY (period_id, district, day),
@@ -173,7 +175,7 @@ CREATE FUNCTION outagebook.whole_indices(
 $$;
 
 CREATE VIEW outagebook.district AS
-SELECT p.first_day, p.days, p.zone, b.district, c."set", b.commands, b.customer_seconds,
+SELECT p.first_day, p.days, p.zone, b.district, c."set", b.commands, c.customer_seconds,
     outagebook.fraction(b.served_seconds, p.seconds) AS customers_served,
     outagebook.decimals(b.served_seconds, p.seconds) AS customers_served_3,
     c.sustained, c.momentary, c.sustained_seconds, i.*, w.*
@@ -191,7 +193,7 @@ SELECT p.first_day, p.days, p.zone, t."set", t.districts, t.commands, t.customer
     t.sustained, t.momentary, t.sustained_seconds, i.*, w.*
 FROM (
     SELECT b.period_id, c."set", count(*) AS districts, sum(b.commands) AS commands,
-        sum(b.customer_seconds) AS customer_seconds, sum(b.served_seconds) AS served_seconds,
+        sum(c.customer_seconds) AS customer_seconds, sum(b.served_seconds) AS served_seconds,
         sum(c.sustained) AS sustained, sum(c.momentary) AS momentary, sum(c.sustained_seconds) AS sustained_seconds,
         ARRAY[sum(c.with_some[1]), sum(c.with_some[2]), sum(c.with_some[3]), sum(c.with_some[4]),
             sum(c.with_some[5]), sum(c.with_some[6]), sum(c.with_some[7]), sum(c.with_some[8]),
@@ -252,41 +254,44 @@ CROSS JOIN LATERAL outagebook.indices(
 
 CREATE VIEW outagebook.district_months AS
 SELECT p.first_day, p.days, p.zone, d.district, d.month, k."set",
-    CASE k."set" WHEN 'all' THEN d.customer_seconds ELSE coalesce(t.customer_seconds, 0) END AS customer_seconds,
+    CASE k."set" WHEN 'all' THEN d.customer_seconds ELSE d.unmarked_seconds END AS customer_seconds,
     outagebook.fraction(d.served_seconds, d.seconds) AS customers_served,
     outagebook.decimals(d.served_seconds, d.seconds) AS customers_served_3,
     coalesce(t.sustained, 0) AS sustained, coalesce(t.momentary, 0) AS momentary,
     coalesce(t.sustained_seconds, 0) AS sustained_seconds, i.*
 FROM (
     SELECT period_id, district, date_trunc('month', day)::date AS month, sum(seconds) AS seconds,
-        sum(served_seconds) AS served_seconds, sum(customer_seconds) AS customer_seconds
+        sum(served_seconds) AS served_seconds, sum(customer_seconds) AS customer_seconds,
+        sum(unmarked_seconds) AS unmarked_seconds
     FROM outagebook.day GROUP BY 1, 2, 3
 ) AS d
 JOIN outagebook.period AS p USING (period_id)
 CROSS JOIN (VALUES ('all'), ('unmarked')) AS k ("set")
 LEFT JOIN (
     SELECT period_id, district, date_trunc('month', day)::date AS month, "set", sum(sustained) AS sustained,
-        sum(momentary) AS momentary, sum(sustained_seconds) AS sustained_seconds,
-        sum(customer_seconds) AS customer_seconds
+        sum(momentary) AS momentary, sum(sustained_seconds) AS sustained_seconds
     FROM outagebook.counted GROUP BY 1, 2, 3, 4
 ) AS t ON t.period_id = d.period_id AND t.district = d.district AND t.month = d.month AND t."set" = k."set"
 CROSS JOIN LATERAL outagebook.indices(
     coalesce(t.sustained, 0), coalesce(t.sustained_seconds, 0), d.served_seconds, d.seconds) AS i;
 
--- Months of all districts: an interruption counts whole in the month in which it begins.
+-- Months of all districts: an interruption counts whole in the month in which it begins; customer_seconds are those that
+-- lie in the month.
 CREATE VIEW outagebook.months AS
 SELECT p.first_day, p.days, p.zone, d.month, k."set", d.districts,
-    CASE k."set" WHEN 'all' THEN d.customer_seconds ELSE coalesce(t.customer_seconds, 0) END AS customer_seconds,
+    CASE k."set" WHEN 'all' THEN d.customer_seconds ELSE d.unmarked_seconds END AS customer_seconds,
     outagebook.fraction(d.served_seconds, d.seconds) AS customers_served,
     outagebook.decimals(d.served_seconds, d.seconds) AS customers_served_3,
     coalesce(t.sustained, 0) AS sustained, coalesce(t.momentary, 0) AS momentary,
     coalesce(t.sustained_seconds, 0) AS sustained_seconds, i.*
 FROM (
     SELECT e.period_id, e.month, count(*) AS districts, min(e.seconds) AS seconds,
-        sum(e.served_seconds) AS served_seconds, sum(e.customer_seconds) AS customer_seconds
+        sum(e.served_seconds) AS served_seconds, sum(e.customer_seconds) AS customer_seconds,
+        sum(e.unmarked_seconds) AS unmarked_seconds
     FROM (
         SELECT period_id, district, date_trunc('month', day)::date AS month, sum(seconds) AS seconds,
-            sum(served_seconds) AS served_seconds, sum(customer_seconds) AS customer_seconds
+            sum(served_seconds) AS served_seconds, sum(customer_seconds) AS customer_seconds,
+            sum(unmarked_seconds) AS unmarked_seconds
         FROM outagebook.day GROUP BY 1, 2, 3
     ) AS e GROUP BY e.period_id, e.month
 ) AS d
@@ -294,28 +299,31 @@ JOIN outagebook.period AS p USING (period_id)
 CROSS JOIN (VALUES ('all'), ('unmarked')) AS k ("set")
 LEFT JOIN (
     SELECT period_id, date_trunc('month', day)::date AS month, "set", sum(sustained) AS sustained,
-        sum(momentary) AS momentary, sum(sustained_seconds) AS sustained_seconds,
-        sum(customer_seconds) AS customer_seconds
+        sum(momentary) AS momentary, sum(sustained_seconds) AS sustained_seconds
     FROM outagebook.counted GROUP BY 1, 2, 3
 ) AS t ON t.period_id = d.period_id AND t.month = d.month AND t."set" = k."set"
 CROSS JOIN LATERAL outagebook.indices(
     coalesce(t.sustained, 0), coalesce(t.sustained_seconds, 0), d.served_seconds, d.seconds) AS i;
 
--- The days from one to another: those of each period that lie between them, a row a period, all districts added up.
+-- The days from one to another: those of each period that lie between them, a row a period, all districts added up. As in
+-- months, interruptions count where they begin, and customer_seconds in the days in which they lie.
 CREATE FUNCTION outagebook.between(from_day date, to_day date) RETURNS TABLE (
     first_day date, days integer, zone text, since date, until date, "set" text, districts bigint, seconds bigint, customer_seconds numeric,
     customers_served text, customers_served_3 numeric, sustained numeric, momentary numeric, sustained_seconds numeric,
     saifi text, saifi_3 numeric, saidi text, saidi_3 numeric, caidi text, caidi_3 numeric
 ) LANGUAGE sql STABLE AS $$
-    SELECT p.first_day, p.days, p.zone, d.since, d.until, k."set", d.districts, d.seconds, d.customer_seconds,
+    SELECT p.first_day, p.days, p.zone, d.since, d.until, k."set", d.districts, d.seconds,
+        CASE k."set" WHEN 'all' THEN d.customer_seconds ELSE d.unmarked_seconds END,
         outagebook.fraction(d.served_seconds, d.seconds), outagebook.decimals(d.served_seconds, d.seconds),
         coalesce(t.sustained, 0), coalesce(t.momentary, 0), coalesce(t.sustained_seconds, 0), i.*
     FROM (
         SELECT e.period_id, min(e.since) AS since, max(e.until) AS until, count(*) AS districts,
-            min(e.seconds) AS seconds, sum(e.served_seconds) AS served_seconds, sum(e.customer_seconds) AS customer_seconds
+            min(e.seconds) AS seconds, sum(e.served_seconds) AS served_seconds,
+            sum(e.customer_seconds) AS customer_seconds, sum(e.unmarked_seconds) AS unmarked_seconds
         FROM (
             SELECT period_id, district, min(day) AS since, max(day) AS until, sum(seconds) AS seconds,
-                sum(served_seconds) AS served_seconds, sum(customer_seconds) AS customer_seconds
+                sum(served_seconds) AS served_seconds, sum(customer_seconds) AS customer_seconds,
+                sum(unmarked_seconds) AS unmarked_seconds
             FROM outagebook.day WHERE day BETWEEN from_day AND to_day GROUP BY period_id, district
         ) AS e GROUP BY e.period_id
     ) AS d
@@ -332,7 +340,8 @@ $$;
 
 -- Causes by their names, of all districts: their parts of the company's SAIFI and SAIDI add up to it.
 CREATE VIEW outagebook.causes AS
-SELECT p.first_day, p.days, p.zone, c.name AS cause, k."set", c.customer_seconds,
+SELECT p.first_day, p.days, p.zone, c.name AS cause, k."set",
+    CASE k."set" WHEN 'all' THEN c.customer_seconds ELSE coalesce(t.customer_seconds, 0) END AS customer_seconds,
     coalesce(t.sustained, 0) AS sustained, coalesce(t.momentary, 0) AS momentary,
     coalesce(t.sustained_seconds, 0) AS sustained_seconds, i.*
 FROM (
@@ -345,7 +354,7 @@ JOIN (
 CROSS JOIN (VALUES ('all'), ('unmarked')) AS k ("set")
 LEFT JOIN (
     SELECT d.period_id, n.name, d."set", sum(d.sustained) AS sustained, sum(d.momentary) AS momentary,
-        sum(d.sustained_seconds) AS sustained_seconds
+        sum(d.sustained_seconds) AS sustained_seconds, sum(d.customer_seconds) AS customer_seconds
     FROM outagebook.counted AS d JOIN outagebook.cause AS n
         ON n.period_id = d.period_id AND n.district = d.district AND n.code = d.cause
     GROUP BY d.period_id, n.name, d."set"

@@ -33,6 +33,10 @@ class Zone:
         self.text = text
         self.info = zone_info(text)
 
+    def __reduce__(self) -> tuple[type["Zone"], tuple[str]]:
+        """Between processes its rule alone goes: a zone that came from no file can't be sent."""
+        return Zone, (self.text,)
+
     def offset_at(self, second: int) -> int:
         """By how many seconds the clock is ahead of UTC."""
         offset = datetime.fromtimestamp(second, self.info).utcoffset()

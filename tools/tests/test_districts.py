@@ -6,12 +6,14 @@ import re
 import shutil
 import ssl
 import subprocess
+import threading
 import time
 import unittest
 from collections import Counter
 from collections.abc import Iterable
 from contextlib import ExitStack, contextmanager, redirect_stdout
 from functools import lru_cache
+from http.server import BaseHTTPRequestHandler, ThreadingHTTPServer
 from io import StringIO
 from pathlib import Path
 from typing import Any
@@ -19,9 +21,9 @@ from urllib.error import HTTPError
 from urllib.request import Request, urlopen
 
 from outagebook.counts import SETS, fraction_text, indices_of
-from outagebook.district_check import CheckedCut, check_cut, write_check
+from outagebook.district_check import CheckedCut, Part, check_cut, part_of, write_check
 from outagebook.errors import BookError
-from outagebook.sums import Sums, add_up, district_of
+from outagebook.sums import Sums, add_up
 from tests import many_books
 from tests.many_books import books_of, district_rows, figures_of, opened, parts_of, run, table_of, with_tables
 from tests.support import EXAMPLES, PROGRAM, needs_program
@@ -205,9 +207,58 @@ class Cutting(unittest.TestCase):
         done = run("districts", "cut", folder / "gis.csv", "-o", folder / "cut")
         self.assertIn("hasn't the column type", done.stderr)
 
+    def test_exports_as_other_programs_write_them(self) -> None:
+        """Semicolons, an older encoding, names of columns in capitals: cut as the plain ones are, into UTF-8 and commas."""
+        exports = Exports(3)
+        plain, other = exports.write("plain"), exports.write("other")
+        for name in ("gis.csv", "customers.csv", "oms.csv"):
+            head, *rows = (plain / name).read_text().replace("substation", "sous-station \u00e9").splitlines()
+            (plain / name).write_text("\n".join([head, *rows]), encoding="utf-8")
+            text = "\n".join(["", head.upper(), *rows]).replace(",", ";")
+            (other / name).write_text(text, encoding="cp1252")
+        for folder, words in ((plain, list[str]()), (other, ["--encoding", "cp1252"])):
+            done = cut(folder, "--room", "90", *words)
+            self.assertEqual((done.returncode, done.stderr), (0, ""))
+        made = sorted(path.relative_to(plain) for path in (plain / "cut").rglob("*.csv"))
+        self.assertGreater(len(made), 9)
+        for path in made:
+            first, _, rest = (other / path).read_text(encoding="utf-8").partition("\n")
+            self.assertEqual(f"{first.lower()}\n{rest}", (plain / path).read_text(encoding="utf-8"))
+        done = cut(other, "--room", "90")
+        self.assertEqual(done.returncode, 1)
+        self.assertRegex(done.stderr, "gis.csv: row [0-9]+: it has bytes that aren't of the encoding utf-8")
+
+    def test_rows_that_are_none_are_refused_with_their_numbers(self) -> None:
+        folder = many_books.folder() / "none"
+        folder.mkdir()
+        gis = "type,name,feeder,from,to,normal\nbus,B,,,,\nsection,S,1,,,\ndevice,D1,,GRID,B,closed\n"
+        gis += "device,D2,,B,S,closed\n"
+        cases = {
+            "gis.csv": (gis + "section,S2,1,,,,too many\n", "row 5: it has 7 fields, and there are 6 columns"),
+            "customers.csv": ("customer,section\n1,S\n2\n", "row 2: it has 1 fields, and there are 2 columns"),
+            "oms.csv": ("ticket,device\nT1,D1\nT2,D9\n", "row 2: no device of the network is 'D9'"),
+        }
+        for name, (text, told) in cases.items():
+            (folder / "gis.csv").write_text(gis)
+            (folder / "customers.csv").write_text("customer,section\n1,S\n")
+            (folder / "oms.csv").write_text("ticket,device\nT1,D1\n")
+            (folder / name).write_text(text)
+            with self.subTest(name):
+                done = cut(folder)
+                self.assertEqual((done.returncode, done.stdout), (1, ""))
+                self.assertIn(f"{name}: {told}", done.stderr)
+                self.assertFalse((folder / "cut").exists())
+        (folder / "gis.csv").write_text(gis.replace("feeder", "name"))
+        self.assertIn("has two columns name", cut(folder).stderr)
+
     def test_wrong_words(self) -> None:
         for arguments in ("", "cut", "cut a.csv", "cut a.csv -o x --room 95", "check", "desks", "check t.csv"):
             self.assertEqual(run("districts", *arguments.split()).returncode, 64, arguments)
+
+
+def compared(books: dict[str, Path]) -> dict[str, Part]:
+    """Made books as `check` has them, by their districts."""
+    return {name: part_of(name, opened(book)) for name, book in books.items()}
 
 
 class Checking(unittest.TestCase):
@@ -218,9 +269,9 @@ class Checking(unittest.TestCase):
         tied, cost = 0, 0
         for seed in many_books.SEEDS:
             with self.subTest(seed=seed):
-                books = {book.stem: opened(book) for book in parts_of(where, seed)}
+                books = compared({book.stem: book for book in parts_of(where, seed)})
                 checked = check_cut(str(where / f"{seed}-ties.csv"), books)
-                sums = add_up([district_of(name, found) for name, found in books.items()])
+                sums = add_up([part.district for part in books.values()])
                 self.assert_whole(checked, sums, table_of(where / f"{seed}-whole.db"))
                 without = any(times.without for times in checked.times.values())
                 self.assertTrue(without or all(each.is_none for each in checked.costs))
@@ -274,7 +325,7 @@ class Checking(unittest.TestCase):
             "switch,T2,TIE,open,2025-03-25T10:30:00+01:00,3,CREW,",
         ]
         books = self.tied("worked-tie", said, said)
-        done = run("districts", "check", self.ties_file(), *with_tables(books.values()))
+        done = run("districts", "check", self.ties_file(), *with_tables(books.values()), "--processes", "2")
         self.assertEqual((done.returncode, done.stderr), (0, ""))
         lines = done.stdout.splitlines()
         self.assertEqual(
@@ -287,13 +338,16 @@ class Checking(unittest.TestCase):
         )
         self.assertIn("SAIDI all: 50/1 50.000 with the cut, 60/1 60.000 without", lines)
         self.assertNotIn("the cut cost nothing", lines)
+        twice = run("districts", "check", self.ties_file(), *with_tables([*books.values(), books["north"]]))
+        self.assertEqual((twice.returncode, twice.stdout), (1, ""))
+        self.assertIn("given twice", twice.stderr)
 
     def test_a_tie_whose_other_end_is_supplied_costs_nothing(self) -> None:
         said = [
             "switch,T1,TIE,close,2025-03-27T10:20:00+01:00,3,CREW,",
             "switch,T2,TIE,open,2025-03-27T10:30:00+01:00,3,CREW,",
         ]
-        books = {name: opened(book) for name, book in self.tied("free-tie", said, said).items()}
+        books = compared(self.tied("free-tie", said, said))
         shown = StringIO()
         with redirect_stdout(shown):
             write_check(check_cut(str(self.ties_file()), books))
@@ -302,12 +356,12 @@ class Checking(unittest.TestCase):
 
     def test_a_tie_that_one_book_was_told_alone_is_refused(self) -> None:
         said = ["switch,T1,TIE,close,2025-03-27T10:20:00+01:00,3,CREW,"]
-        books = {name: opened(book) for name, book in self.tied("lone-tie", said, []).items()}
+        books = compared(self.tied("lone-tie", said, []))
         with self.assertRaisesRegex(BookError, "TIE was told to close at the second 1743067200 in north alone"):
             check_cut(str(self.ties_file()), books)
 
     def test_a_book_or_a_device_that_is_missing_is_told(self) -> None:
-        books = {name: opened(book) for name, book in self.tied("missing-tie", [], []).items()}
+        books = compared(self.tied("missing-tie", [], []))
         with self.assertRaisesRegex(BookError, "joins south, whose book isn't given"):
             check_cut(str(self.ties_file()), {"north": books["north"]})
         other = many_books.folder() / "other-ties.csv"
@@ -482,11 +536,11 @@ def wait_for(port: int) -> None:
         time.sleep(0.05)
 
 
-def status(url: str, user: str | None = None, data: bytes | None = None) -> tuple[int, bytes]:
-    """What an address answers to a login, by GET or with a body by POST."""
+def status(url: str, user: str | None = None, data: bytes | None = None, host: str = "") -> tuple[int, bytes]:
+    """What an address answers to a login, by GET or with a body by POST; `host` is another name that it is called by."""
     import base64
 
-    request = Request(url, data=data)
+    request = Request(url, data=data, headers={"Host": host} if host else {})
     if user is not None:
         request.add_header("Authorization", "Basic " + base64.b64encode(f"{user}:secret".encode()).decode())
     context = ssl.create_default_context()
@@ -577,17 +631,64 @@ class Desks(unittest.TestCase):
             self.assertEqual(status(f"{url}/south/commands/15", "anna")[0], 404)
 
 
-class Unit(unittest.TestCase):
-    def test_a_districts_unit_differs_from_the_single_one_in_its_book_and_port_alone(self) -> None:
-        one = (EXAMPLES / "outagebook.service").read_text().splitlines()
-        each = (EXAMPLES / "outagebook@.service").read_text().splitlines()
-        differing = [line for line in each if line not in one and not line.startswith("#")]
+class Screen(BaseHTTPRequestHandler):
+    """In the place of a screen: tells what it was asked by whom."""
+
+    def do_GET(self) -> None:
+        body = f"{self.headers['Host']} {self.headers['X-Remote-User']} {self.path}".encode()
+        self.send_response(200)
+        self.send_header("Content-Length", str(len(body)))
+        self.end_headers()
+        self.wfile.write(body)
+
+    def log_message(self, format: str, *args: Any) -> None:
+        """Nothing is logged."""
+
+
+@unittest.skipUnless(Path(NGINX).exists() and shutil.which("openssl"), "nginx or openssl isn't installed")
+class Screens(unittest.TestCase):
+    def test_each_screen_has_a_name_of_its_own_behind_the_proxy(self) -> None:
+        with ThreadingHTTPServer(("127.0.0.1", 0), Screen) as server:
+            threading.Thread(target=server.serve_forever).start()
+            try:
+                with proxy({"south": server.server_port, "harbour": free_port()}, ["anna"]) as url:
+                    for path in ("/sheet?page=2", "/events"):
+                        found = status(f"{url}{path}", "anna", host="south.screen.example.org")
+                        self.assertEqual(found, (200, f"south.screen.example.org anna {path}".encode()))
+                    self.assertEqual(status(f"{url}/", host="south.screen.example.org")[0], 401)
+                    self.assertEqual(status(f"{url}/", "anna", host="west.screen.example.org")[0], 404)
+                    self.assertEqual(status(f"{url}/events", "anna", host="west.screen.example.org")[0], 404)
+                    self.assertEqual(status(f"{url}/", "anna", host="harbour.screen.example.org")[0], 502)
+            finally:
+                server.shutdown()
+
+
+class Units(unittest.TestCase):
+    def differing(self, unit: str) -> list[str]:
+        """The lines of a district's unit that the single one hasn't."""
+        one = (EXAMPLES / f"{unit}.service").read_text().splitlines()
+        each = (EXAMPLES / f"{unit}@.service").read_text().splitlines()
+        return [line for line in each if line not in one and not line.startswith("#")]
+
+    def test_a_districts_units_differ_from_the_single_ones_in_book_ports_and_names_alone(self) -> None:
         self.assertEqual(
-            differing,
+            self.differing("outagebook"),
             [
                 "Description=The outage book's desk of %i",
                 "EnvironmentFile=/etc/outagebook/%i.env",
                 "ExecStart=/usr/local/bin/outagebook serve --book /var/lib/outagebook/%i.db --port ${PORT}",
+            ],
+        )
+        self.assertEqual(
+            self.differing("outagebook-screen"),
+            [
+                "Description=The outage book's screen of %i",
+                "After=outagebook@%i.service",
+                "Wants=outagebook@%i.service",
+                "EnvironmentFile=/etc/outagebook/%i.env",
+                "ExecStart=/usr/local/bin/outagebook-screen --book /var/lib/outagebook/%i.db --port ${SCREEN_PORT}"
+                " --desk http://127.0.0.1:${PORT} --program /usr/local/bin/outagebook --proxy 127.0.0.1 --senders %i-"
+                " --host %i.screen.example.org",
             ],
         )
 

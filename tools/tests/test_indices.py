@@ -127,7 +127,10 @@ class Worked(unittest.TestCase):
             "customer,kva\n1,1\n": "hasn't the customer 2, and 2",
             "section,kva\nN-S1,1\nN-S1,2\n": "row 2: section N-S1 comes twice",
             "section,kva\nN-S1,-1\n": "row 1: kva '-1' is no number",
-            "section,kva\n,1\n": "row 1: the section is empty",
+            "section,kva\n,1\n": "row 1: section is empty",
+            "section,kva\nN-S1,1,5\nN-S2,2\n": "row 1: it has 3 fields, not 2",
+            "section,kva\nN-S1,\nN-S2,2\n": "row 1: kva '' is no number",
+            "section,customer,kva\nN-S1,1,5\n": "it wants just section, kva",
             "name,kva\nN-S1,1\n": "either section or customer",
         }
         for text, told in cases.items():

@@ -18,6 +18,7 @@ from outagebook.many_pages import major_days_page
 from outagebook.report.major_days import histogram
 from outagebook.sums import District, PeriodKey, Sums
 from tests import many_books
+from tests.browser import assert_paper, needs_browser
 from tests.many_books import books_of, district_rows, run, with_tables
 from tests.support import PROGRAM, TESTS, needs_program
 
@@ -179,10 +180,23 @@ class Pages(unittest.TestCase):
 
     def test_the_page_is_whole(self) -> None:
         years, found = answer([district("all", number, *each) for number, each in series()["five"].items()])
-        text = major_days_page(years, "A & B")
+        text = major_days_page(years, "A & B", "2025-02-03")
         self.assertIn("A &amp; B", text)
         self.assertIn(facts(found)["T_MED"], text)
         self.assertIn(str(found.above[0].day.date), text)
+        self.assertIn('on <span class="whole">2025-02-03</span> from 6 books of 6 periods', text)
+        self.assertNotIn("clause", text)
+        years, found = answer([district("all", number, 1_000, [9_000, 60, 0]) for number in range(2)])
+        self.assertEqual(found.above, ())
+        self.assertIn("<h3>Days above it</h3>\n<p>There is none.</p>", major_days_page(years, "A"))
+
+    @needs_browser
+    def test_paper_has_the_title_the_date_the_books_state_and_numbers(self) -> None:
+        years, _ = answer([district("all", number, *each) for number, each in series()["five"].items()])
+        page = many_books.folder() / "major-paper.html"
+        page.write_text(major_days_page(years, "A & B", "2025-02-03"), encoding="utf-8")
+        title = f"A & B {years[-1].period.first} to {years[-1].period.last}"
+        assert_paper(page, title, "2025-02-03", "6 books of 6 periods of 6 commands; compared with the program")
 
 
 class Books(unittest.TestCase):

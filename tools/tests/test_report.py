@@ -3,9 +3,7 @@
 import html
 import json
 import re
-import shutil
 import subprocess
-import tempfile
 import unittest
 from html.parser import HTMLParser
 from pathlib import Path
@@ -19,12 +17,10 @@ from outagebook.report import Asked, page
 from outagebook.report.head import value_text
 from outagebook.report.style import css_string
 from tests import support
+from tests.browser import chromium, needs_browser, printed_pages
 from tests.test_user_lists import TOWNS
 
 Attributes = list[tuple[str, str | None]]
-
-CHROMIUM = shutil.which("chromium")
-needs_browser = unittest.skipUnless(CHROMIUM and shutil.which("pdftotext"), "chromium or pdftotext isn't installed")
 
 
 class Tags(HTMLParser):
@@ -192,20 +188,6 @@ FRAMES = """<!DOCTYPE html><title>{}</title>
 )
 
 
-def chromium(*words: str) -> str:
-    """What a run of the browser prints, in a folder of its own."""
-    with tempfile.TemporaryDirectory() as profile:
-        command = [
-            str(CHROMIUM),
-            "--headless=new",
-            "--no-sandbox",
-            "--disable-gpu",
-            f"--user-data-dir={profile}",
-            *words,
-        ]
-        return subprocess.run(command, check=True, capture_output=True, text=True, timeout=120).stdout
-
-
 @needs_browser
 class InBrowser(unittest.TestCase):
     """The page of all parts as Chromium lays it out."""
@@ -246,12 +228,9 @@ class InBrowser(unittest.TestCase):
 
     def printed(self) -> list[str]:
         """The pages that are printed, as text with their layout."""
-        out = support.folder() / "printed.pdf"
         whole = support.folder() / "whole.html"
         whole.write_text(self.text, encoding="utf-8")
-        chromium("--no-pdf-header-footer", f"--print-to-pdf={out}", whole.as_uri())
-        command = ["pdftotext", "-layout", str(out), "-"]
-        return subprocess.run(command, check=True, capture_output=True, text=True).stdout.rstrip("\f").split("\f")
+        return printed_pages(whole, support.folder() / "printed.pdf")
 
     def test_paper_has_numbers_state_and_whole_ends_of_tables(self) -> None:
         pages = self.printed()
@@ -281,10 +260,7 @@ class InBrowser(unittest.TestCase):
         self.assertNotEqual(closed, self.text)
         path, out = support.folder() / "closed.html", support.folder() / "closed.pdf"
         path.write_text(closed, encoding="utf-8")
-        chromium("--no-pdf-header-footer", f"--print-to-pdf={out}", path.as_uri())
-        text = subprocess.run(
-            ["pdftotext", "-layout", str(out), "-"], check=True, capture_output=True, text=True
-        ).stdout
+        text = "".join(printed_pages(path, out))
         self.assertRegex(text, "2025-03-30 +147\\s?600 .*marked by ENG-4")
 
 

@@ -4,12 +4,15 @@ import json
 import unittest
 from functools import lru_cache
 from html.parser import HTMLParser
+from io import StringIO
 from pathlib import Path
+from unittest.mock import patch
 
-
+from outagebook import parallel
 from outagebook.errors import BookError
 from outagebook.sums import District, Sums, add_up, read_district, read_districts, table_lines
 from tests import many_books
+from tests.browser import assert_paper, needs_browser
 from tests.many_books import books_of, district_rows, figures_of, parts_of, run, table_of, with_tables
 
 
@@ -57,6 +60,33 @@ class PartsOfANetwork(unittest.TestCase):
         tables = [str(table_of(book)) for book in books]
         alone = [district_in(book) for book in books]
         self.assertEqual(read_districts([str(book) for book in books], tables, "", 2), alone)
+
+
+class AtOnce(unittest.TestCase):
+    """How many books are worked on at once."""
+
+    def test_as_many_as_processors_and_memory_allow(self) -> None:
+        book = many_books.folder() / "sized.db"
+        book.write_bytes(bytes(1_000_000))
+        paths = [str(book)] * 40
+        each = parallel.memory_of(str(book))
+        self.assertGreater(each, parallel.LEAST_MEMORY)
+        for processors, free, wanted in ((4, 10**12, 4), (64, 10**12, 40), (4, 3 * each, 3), (4, 1_000, 1)):
+            with (
+                patch("os.sched_getaffinity", return_value=set(range(processors))),
+                patch.object(parallel, "free_memory", return_value=free),
+            ):
+                self.assertEqual(parallel.processes_for(paths, None), wanted)
+                self.assertEqual(parallel.processes_for(paths, 2), 2)
+
+    def test_progress_is_told_at_a_terminal(self) -> None:
+        said = StringIO()
+        with patch("sys.stderr", said):
+            parallel.tell_progress(1, 3, "north.db")
+            self.assertEqual(said.getvalue(), "")
+            with patch.object(said, "isatty", return_value=True):
+                parallel.tell_progress(2, 3, "south.db")
+        self.assertEqual(said.getvalue(), "2 of 3: south.db\n")
 
 
 class BooksThatDontBelongTogether(unittest.TestCase):
@@ -135,14 +165,31 @@ class BooksThatDontBelongTogether(unittest.TestCase):
         self.assertEqual(found["by_day"][1]["daily_saidi"], "60/1")
         self.assertEqual([each["district"] for each in found["districts"]], ["north", "other-names", "all"])
 
-    def test_a_page_of_all(self) -> None:
+    def page(self) -> Path:
+        """The page of two districts."""
         page = many_books.folder() / "all.html"
-        done = run("sum", *with_tables(self.of("north", "south")), "-o", page, "--name", "The <company>")
+        words = ["-o", page, "--name", "The <company>", "--date", "2025-04-07"]
+        done = run("sum", *with_tables(self.of("north", "south")), *words)
         self.assertEqual((done.returncode, done.stdout, done.stderr), (0, "", ""))
-        text = page.read_text()
+        return page
+
+    def test_a_page_of_all(self) -> None:
+        text = self.page().read_text()
         Nested().feed(text)
         for part in ("The &lt;company&gt;", "north", "south", "2025-03-25 is marked in south", "STORM"):
             self.assertIn(part, text)
+        self.assertIn('on <span class="whole">2025-04-07</span> from 2 districts&#x27; books of 29 commands', text)
+        self.assertIn("in no quotient of the annual table: MI", text)
+        self.assertEqual(run("sum", "a.db", "-o", "x.html", "--date", "7.4.2025").returncode, 64)
+
+    @needs_browser
+    def test_paper_has_the_title_the_date_the_books_state_and_numbers(self) -> None:
+        assert_paper(
+            self.page(),
+            "The <company> 2025-03-24 to 2025-04-06",
+            "2025-04-07",
+            "2 districts' books of 29 commands; compared with the program",
+        )
 
 
 class Nested(HTMLParser):

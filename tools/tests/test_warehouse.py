@@ -15,7 +15,8 @@ from typing import Any
 
 
 from outagebook import figures
-from outagebook.counts import decimal_text, fraction_text, quotient
+from outagebook.counts import SETS, decimal_text, fraction_text, quotient
+from outagebook.rates import counted
 from outagebook.sums import PeriodKey, Sums, add_up, district_of
 from tests import many_books, own_postgres
 from tests.many_books import books_of, district_rows, opened, parts_of, run, table_of, with_tables
@@ -107,6 +108,20 @@ class Views(unittest.TestCase):
         found = figures.FIGURES[name](opened(book))
         return [dict(zip(found.columns, row)) for row in found.rows]
 
+    def book_of(self, district: str) -> Path:
+        return next(book for book in self.books if book.stem == district)
+
+    def seconds_of(self, sums: Sums, name: str, since: int = 0, cause: str | None = None) -> int:
+        """The customer-seconds of a set's interruptions that lie in the days from `since` on, of one cause or of all."""
+        total = 0
+        for each in sums.districts:
+            found = opened(self.book_of(each.name))
+            begin = found.book.period.bounds[since]
+            for one in counted(found, name):
+                if cause in (None, found.book.causes[one.run.cause]):
+                    total += one.customers * max(0, one.until - max(one.since, begin))
+        return total
+
     def test_districts_and_company(self) -> None:
         districts = 0
         for period, sums in self.by_period().items():
@@ -123,7 +138,7 @@ class Views(unittest.TestCase):
                 for index, value in expected.indices(name).items():
                     here = row["cemi"][int(index[5:]) - 1] if index.startswith("CEMI") else row[index.lower()]
                     self.assertEqual(here, fraction_text(value), (index, row))
-                self.assertEqual(row["customer_seconds"], expected.total)
+                self.assertEqual(row["customer_seconds"], self.seconds_of(expected, name))
                 self.assertEqual(row["sustained"], expected.counts[name].sustained)
                 self.assertEqual(row["momentary"], expected.counts[name].momentary)
         self.assertEqual(districts, len(self.books))
@@ -142,7 +157,7 @@ class Views(unittest.TestCase):
                     row = rows.pop((str(shown[key]), str(shown["set"])))
                     self.assert_indices(row, shown)
                     self.assertEqual(row["customers_served"], shown["customers_served"])
-                    self.assertEqual(row["customer_seconds"], shown["customer_seconds"]) if view != "sections" else None
+                    self.assertEqual(row["customer_seconds"], shown["customer_seconds"], (view, row))
                     seen += 1
                 self.assertEqual(rows, {})
         self.assertGreater(seen, 100)
@@ -150,13 +165,18 @@ class Views(unittest.TestCase):
     def test_causes_months_days_and_ranges_of_all_districts(self) -> None:
         for period, sums in self.by_period().items():
             when = {"first_day": period.first, "days": period.days, "zone": period.zone}
+            for name in SETS:
+                causes = {row["cause"]: row for row in self.view("causes", **when, set=name)}
+                expected = {cause.name: self.seconds_of(sums, name, cause=cause.name) for cause in sums.causes}
+                self.assertEqual({cause: row["customer_seconds"] for cause, row in causes.items()}, expected)
+                if sums.served_seconds:
+                    for index in ("SAIFI", "SAIDI"):
+                        value = sum(Fraction(row[index.lower()]) for row in causes.values())
+                        self.assertEqual(value, sums.indices(name)[index])
             causes = {row["cause"]: row for row in self.view("causes", **when, set="all")}
-            self.assertEqual(
-                {c.name: c.amount for c in sums.causes}, {n: r["customer_seconds"] for n, r in causes.items()}
-            )
-            if sums.served_seconds:
-                saidi = sum(Fraction(row["saidi"]) for row in causes.values())
-                self.assertEqual(saidi, sums.indices("all")["SAIDI"])
+            amounts = {cause.name: cause.amount for cause in sums.causes}
+            self.assertEqual(amounts, {name: row["customer_seconds"] for name, row in causes.items()})
+            self.assert_months(period, sums)
             days = {row["day"]: row for row in self.view("days", **when)}
             for number, (amount, daily) in enumerate(zip(sums.days, sums.daily_saidi())):
                 row = days.pop(period.day(number))
@@ -176,31 +196,88 @@ class Views(unittest.TestCase):
         (row,) = [each for each in rows if tuple(each[name] for name in names) == key]
         return row
 
+    def assert_months(self, period: PeriodKey, sums: Sums) -> None:
+        """The months of all districts are those that the tools have of each, added up."""
+        shown = [row for each in sums.districts for row in self.shown(self.book_of(each.name), "months")]
+        when = {"first_day": period.first, "days": period.days, "zone": period.zone}
+        for row in self.view("months", **when):
+            parts = [one for one in shown if (one["month"], one["set"]) == (f"{row['month']:%Y-%m}", row["set"])]
+            self.assertEqual(row["districts"], len(parts))
+            added = {"customer_seconds": "customer_seconds", "sustained": "sustained", "momentary": "momentary"}
+            added["sustained_seconds"] = "sustained_customer_seconds"
+            for here, there in added.items():
+                self.assertEqual(row[here], sum(one[there] for one in parts), here)
+            served = sum((Fraction(one["customers_served"]) for one in parts), Fraction(0))
+            self.assertEqual(row["customers_served"], fraction_text(served))
+            saidi = Fraction(int(row["sustained_seconds"])) / 60 / served if served else None
+            self.assertEqual(row["saidi"], fraction_text(saidi))
+
     def assert_ranges(self, period: PeriodKey, sums: Sums) -> None:
         """A part of the days, against a plain count over the books' interruptions and services."""
+        books = [opened(self.book_of(each.name)) for each in sums.districts]
         for first in range(period.days):
-            since, until = period.day(first), period.last
-            served, seconds, sustained, length = 0, 0, 0, 0
-            for book in self.books:
-                found = opened(book)
-                if district_of(str(book), found).period != period:
-                    continue
-                begin, end = found.book.period.bounds[first], found.book.period.end
-                length = end - begin
-                served += sum(block.seconds(begin, end) for block in found.book.blocks)
-                for each in found.interruptions:
-                    if each.is_sustained and each.since >= begin:
-                        sustained += each.customers
-                        seconds += each.customer_seconds
-            row = self.between(period, since, until, "all")
-            self.assertEqual((row["seconds"], row["sustained"]), (length, sustained))
-            self.assertEqual(row["saidi"], fraction_text(quotient(seconds * length, 60 * served)))
-            self.assertEqual(row["customers_served"], fraction_text(quotient(served, length)))
+            bounds = books[0].book.period
+            begin, end = bounds.bounds[first], bounds.end
+            length = end - begin
+            served = sum(block.seconds(begin, end) for found in books for block in found.book.blocks)
+            for name in SETS:
+                of_set = [each for found in books for each in counted(found, name) if each.since >= begin]
+                sustained = [each for each in of_set if each.is_sustained]
+                seconds = sum(each.customer_seconds for each in sustained)
+                row = self.between(period, period.day(first), period.last, name)
+                self.assertEqual(row["customer_seconds"], self.seconds_of(sums, name, first))
+                self.assertEqual((row["seconds"], row["districts"]), (length, len(books)))
+                self.assertEqual(row["sustained"], sum(each.customers for each in sustained))
+                self.assertEqual(row["momentary"], sum(each.customers for each in of_set if not each.is_sustained))
+                self.assertEqual(row["saidi"], fraction_text(quotient(seconds * length, 60 * served)))
+                self.assertEqual(row["customers_served"], fraction_text(quotient(served, length)))
 
     def test_compare_says_equal(self) -> None:
         done = warehouse(self.where, "compare", *with_tables(self.books[:2]))
         self.assertEqual((done.returncode, done.stderr), (0, ""))
         self.assertEqual(done.stdout.count(": equal, "), 2)
+
+
+MARK = "mark,M1,2025-03-31,ENG,,,,"
+
+
+class OverAMonthsEnd(unittest.TestCase):
+    """Two hours before a month's end to an hour behind it, in two districts, one of which marks the day: the seconds of the
+    unmarked set lie in both months, those of one district alone, in views as in the tools."""
+
+    def rows(self, prefix: str, customer: int) -> list[str]:
+        rows = [row for row in district_rows(prefix, customer) if not row.startswith("switch")]
+        rows.append(f"switch,E1,{prefix}-B1,open,2025-03-31T22:00:00+02:00,3,CREW,")
+        return [*rows, f"switch,E2,{prefix}-B1,close,2025-04-01T01:00:00+02:00,3,CREW,"]
+
+    def test_by_hand_and_as_the_tools(self) -> None:
+        where = database("months_end")
+        books = books_of("months-end", {"north": self.rows("N", 1), "south": [*self.rows("S", 11), MARK]})
+        warehouse(where, "create")
+        self.assertEqual(warehouse(where, "load", *with_tables(books.values())).stderr, "")
+        query = 'SELECT {}, "set", customer_seconds, sustained FROM outagebook.{} ORDER BY 1, 2'
+        march, april = date(2025, 3, 1), date(2025, 4, 1)
+        self.assertEqual(
+            execute(where, query.format("month", "months")),
+            [(march, "all", 43_200, 6), (march, "unmarked", 21_600, 3), (april, "all", 21_600, 0)]
+            + [(april, "unmarked", 10_800, 0)],
+        )
+        whole = [("all", 64_800, 6), ("unmarked", 32_400, 3)]
+        self.assertEqual(execute(where, query.format(1, "company")), [(1, *row) for row in whole])
+        self.assertEqual(
+            execute(where, query.format("district", "district")),
+            [("north", "all", 32_400, 3), ("north", "unmarked", 32_400, 3)]
+            + [("south", "all", 32_400, 3), ("south", "unmarked", 0, 0)],
+        )
+        april_alone = query.format(1, "between('2025-04-01', '2025-04-06')")
+        self.assertEqual(execute(where, april_alone), [(1, "all", 21_600, 0), (1, "unmarked", 10_800, 0)])
+        self.assertEqual(execute(where, query.format("cause", "causes"))[:2], [("STORM", *row) for row in whole])
+        for name, book in books.items():
+            shown = figures.months(opened(book))
+            by_tool = [(row[0], row[1], row[2]) for row in shown.rows]
+            here = execute(where, 'SELECT month, "set", customer_seconds FROM outagebook.district_months'
+                           f" WHERE district = '{name}' ORDER BY 1, 2")  # fmt: skip
+            self.assertEqual([(f"{month:%Y-%m}", each, seconds) for month, each, seconds in here], by_tool)
 
 
 class Fractions(unittest.TestCase):
@@ -420,7 +497,7 @@ class Roles(unittest.TestCase):
         warehouse(where, "create")
         self.assertEqual(warehouse(where, "create").returncode, 1)
         execute(where, "UPDATE outagebook.version SET version = 9", autocommit=True)
-        self.assertIn("version", warehouse(where, "list").stderr)
+        self.assertIn("the warehouse's tables are of version 9, not 2: ", warehouse(where, "list").stderr)
         done = warehouse({**where, "PGHOST": "/nowhere"}, "list")
         self.assertEqual(done.returncode, 1)
         self.assertIn("can't be reached", done.stderr)

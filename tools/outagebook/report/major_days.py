@@ -26,7 +26,8 @@ def major_days_part(years: Sequence[Sums]) -> Part:
     answer = answer_of(years)
     said = "".join(f"<li>{escape(line)}</li>" for line in about(years, answer))
     content = f"""
-<p>The threshold T_MED by IEEE Std 1366-2012, clause 3.5, and the days above it. It marks nothing: an engineer decides.</p>
+<p>The threshold T_MED by the 2.5 beta method of IEEE Std 1366-2012, and the days above it. It marks nothing: an engineer
+decides.</p>
 <ul class="soft">{said}</ul>
 {threshold_text(answer)}
 {histogram_text(answer.threshold)}"""
@@ -40,12 +41,13 @@ def threshold_text(answer: Answer) -> str:
         TableRow([each.day.date, decimal_text(each.day.saidi), ", ".join(each.marked_in) or "nowhere"])
         for each in answer.above
     ]
+    days = table(DAY_HEADS, rows) if rows else "<p>There is none.</p>"
     return f"""
 {table(VALUE_HEADS, values, "The threshold")}
 <p>T_MED = exp(alpha + 2.5 beta), in minutes; alpha is the mean and beta the standard deviation of the logarithms of the
 {len(answer.threshold.days)} daily SAIDI of the periods before.</p>
 <h3>Days above it</h3>
-{table(DAY_HEADS, rows)}"""
+{days}"""
 
 
 def histogram_text(threshold: Threshold) -> str:

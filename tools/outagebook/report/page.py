@@ -11,12 +11,11 @@ computed here says so, and was compared with the book's postings and that table 
 import argparse
 from collections.abc import Sequence
 from dataclasses import dataclass
-from datetime import date
 from html import escape
 from pathlib import Path
 
 from outagebook.agree import Agreement, add_count_arguments, agreement_of, counts_of
-from outagebook.cli import Parser, add_table_arguments, run_job
+from outagebook.cli import Parser, add_page_arguments, add_table_arguments, run_job
 from outagebook.compare import Checked, figures_of_table, open_book
 from outagebook.counts import SETS
 from outagebook.errors import BookError
@@ -126,14 +125,6 @@ def asked_for(found: Checked, args: argparse.Namespace) -> Asked:
     )
 
 
-def read_date(text: str) -> str:
-    """A date of the command line, as 2025-12-31."""
-    try:
-        return date.fromisoformat(text).isoformat()
-    except ValueError:
-        raise argparse.ArgumentTypeError(f"{text!r} is no date such as 2025-12-31") from None
-
-
 def write(path: str, text: str) -> None:
     try:
         Path(path).write_text(text, encoding="utf-8")
@@ -148,9 +139,7 @@ def parser_of_report() -> Parser:
     parser.add_argument(
         "--picture", metavar="FILE", help="write the picture of the days too, as an SVG file of its own"
     )
-    parser.add_argument("--name", default="Outage book", help="what the heading begins with, as the utility's name")
-    today = date.today().isoformat()
-    parser.add_argument("--date", type=read_date, default=today, help="the date of writing, where it isn't today")
+    add_page_arguments(parser, "Outage book")
     add_list_arguments(parser)
     parser.add_argument("--by", metavar="FILE", help="a CSV of section and group: the indices of each group too")
     parser.add_argument("--events", action="store_true", help="the events with the most customer-minutes too")
