@@ -1,4 +1,5 @@
 //! The keeper of a book: its accepted commands in a store, and the book in memory.
+//! A stop is passed on by an arm of its own: behind `?` the proofs would know less of it.
 #![tactic(auto)]
 
 mod acting;

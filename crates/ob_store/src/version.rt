@@ -98,10 +98,10 @@ pub(crate) fn look_at<S: Alter>(conn: &mut Connection<S>) -> Result<(), Stop>
 {
     // what is open is a whole database
     let _schema = conn.schema();
-    match conn.prepare("SELECT id, version, day0, days, zone FROM meta ORDER BY id") {
-        Ok(_) => return Ok(()),
-        Err(error) => return Err(stop_of_look(error)),
+    if let Err(error) = conn.prepare("SELECT id, version, day0, days, zone FROM meta ORDER BY id") {
+        return Err(stop_of_look(error));
     }
+    Ok(())
 }
 
 /// Refuses a book of version 1 as `OldVersion`, where its heading is the only one and tells that version; and then one without

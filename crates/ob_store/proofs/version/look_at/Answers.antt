@@ -6,18 +6,18 @@ use Rattle.ob_compare.proofs.Headings.{meta_listing, no_meaning}
 use Rattle.ob_store.proofs.Asking.{looked_empty, looked_foreign, looked_same, looked_still}
 use Rattle.ob_store.proofs.version.look_at.Goals as goal
 
-pub returns-in-Ok : goal.returns-in-Ok
-returns-in-Ok g c = record {
+pub returns : goal.returns
+returns g c = record {
   mode = c.prepare.ensures.mode;
   clean = λ clean. omega (arith, c.prepare.ensures.survives.clean, clean);
   survives = c.prepare.ensures.survives;
   faults = tt;
   whole = c.schema-schema.ensures.live;
   left = λ live trees may. g.met.S.Store.settled c.args.conn.now.store trees live may;
-  still = λ clean. inl (c.in-Ok.ensures.ok clean).1;
-  same = λ clean answer. (c.in-Ok.ensures.ok clean).1;
+  still = λ clean. inl (c.in_default.ensures.ok clean).1;
+  same = λ clean answer. (c.in_default.ensures.ok clean).1;
   foreign = λ clean. tt;
-  empty = λ clean none. absurd (no_outline (understood c.args.conn.now.schema meta_listing.text) _ (no_meaning c.args.conn.now.schema meta_listing.text none refl) (c.in-Ok.ensures.shape clean));
+  empty = λ clean none. absurd (no_outline (understood c.args.conn.now.schema meta_listing.text) _ (no_meaning c.args.conn.now.schema meta_listing.text none refl) (c.in_default.ensures.shape clean));
 }
 
 pub returns-in-Err : goal.returns-in-Err
