@@ -1,5 +1,5 @@
 //! Queries of the rows of a table.
-ghost use Rattle.std.specs.Prelude.{◌≡◌, ◌≢◌, false, IfOk, IfErr};
+ghost use Rattle.std.specs.Prelude.{◌≡◌, ◌≢◌, ◌↔◌, false, IfOk, IfErr};
 ghost use Rattle.sqlite.specs.Held.{state};
 ghost use Rattle.sqlite.specs.Schema.{Schema};
 ghost use Rattle.sqlite.specs.State.{HasCleanDisk, IsUnchanged, Survives};
@@ -20,7 +20,7 @@ fn stop_of_prepare(error: Error) -> Stop
     ensures faults { IsReadFault result }
     ensures foreign { result ≡ bad_book → IsInputError error }
     ensures missed { IsInputError error → result ≡ bad_book }
-    ensures memory { error ≡ Error.SqliteFailure ErrorCode.OutOfMemory → result ≡ out_of_memory }
+    ensures memory { (error ≡ Error.SqliteFailure ErrorCode.OutOfMemory) ↔ (result ≡ out_of_memory) }
 {
     match error {
         Error::SqlInputError(_) => Stop::Refused(Refusal::BadBook),

@@ -10,7 +10,7 @@ returns-in-Err-clause-foreign g c clean bad =
 
 pub returns-in-Err-clause-missed : goal.returns-in-Err-clause-missed
 returns-in-Err-clause-missed g c clean none =
-    missed (state g.S.Store c.args.conn.now) (state g.S.Store c.prepare.new.self) c.args.sql.now [] c.in-Err.error c.stop_of_prepare.result c.stop_of_prepare.ensures.missed c.stop_of_prepare.ensures.memory none (c.in-Err.ensures.err clean [])
+    missed (state g.S.Store c.args.conn.now) (state g.S.Store c.prepare.new.self) c.args.sql.now [] c.in-Err.error c.stop_of_prepare.result c.stop_of_prepare.ensures.missed c.stop_of_prepare.ensures.memory.0 none (c.in-Err.ensures.err clean [])
 
 pub returns-in-Ok-clause-missed : goal.returns-in-Ok-clause-missed
 returns-in-Ok-clause-missed g c clean none = no_outline _ _ none (c.in-Ok.ensures.shape clean)
