@@ -1,12 +1,12 @@
 -- A store that is asked keeps on what it kept, and what it answers comes of an open one.
 use Rattle.std.proofs.Common.{◌≡◌, ◌≢◌, ◌⊎◌, inl, inr, [], Result, Ok, Err, IsTrue, refl, sym, ap, subst, ◌∙◌}
-use Rattle.std.specs.Prelude.{⊤, IfErr}
+use Rattle.std.specs.Prelude.{⊤}
 use Rattle.sqlite_trees.specs.declared.store.Store.{Ghosts}
 use Rattle.sqlite.specs.Tree.{Trees}
 use Rattle.sqlite.specs.Schema.{Schema}
 use Rattle.sqlite.specs.Effect.{Database}
 use Rattle.sqlite.specs.Held.{Held, state}
-use Rattle.sqlite.specs.State.{State, HasCleanDisk, IsLive, IsNotRun, IsRolledBack, IsUnchanged, Survives}
+use Rattle.sqlite.specs.State.{State, HasCleanDisk, IsNotRun, IsRolledBack, IsUnchanged}
 use Rattle.sqlite.specs.declared.error.Error.{Error}
 use Rattle.sqlite.specs.declared.error.Error.TheVariants.{SqliteFailure}
 use Rattle.sqlite.specs.declared.error.ErrorCode.TheVariants as code
@@ -18,7 +18,7 @@ use Rattle.ob_base.specs.Stop.{out_of_memory}
 use Rattle.ob_base.specs.declared.stop.Stop.{Stop}
 use Rattle.ob_base.specs.declared.stop.Stop.TheVariants.{Refused, Fault}
 use Rattle.ob_tables.specs.Creation.{old_schema}
-use Rattle.ob_tables.specs.Schema.{book_schema, no_schema}
+use Rattle.ob_tables.specs.Schema.{no_schema}
 use Rattle.ob_tables.specs.Rows.{Tables}
 use Rattle.ob_tables.specs.Versions.{HoldsIn, schema_of}
 use Rattle.ob_tables.specs.declared.version.Version.{Version}
@@ -35,22 +35,22 @@ use Rattle.ob_compare.proofs.Listing.{still_then}
 use Rattle.ob_parts.specs.OldTables.{old_tables_of}
 use Rattle.ob_store.specs.Differing.{NoneSo}
 use Rattle.ob_store.specs.Finding.{Finds}
-use Rattle.ob_store.specs.Keeping.{Answers, IsAnswer, KeepsBook, KeepsEitherBook, KeepsEitherVersion, KeepsOldBook}
+use Rattle.ob_store.specs.Keeping.{Answers, IsAnswer}
 use Rattle.ob_store.specs.Versions.{AnyTrees, Asks, Looks, Tells}
 use Rattle.ob_store.proofs.Handing.{spared_unread}
 use Rattle.ob_store.proofs.Reading.{if_err, if_ok, no_more, on_ok}
 use Rattle.ob_store.proofs.Telling.{unversioned}
 
 -- ---- a refusal is one whatever is answered
-pub refused_as : {X Y : Type 0} (stop : Stop) → IsAnswer {X = X} (Err stop) → IsAnswer {X = Y} (Err stop)
-refused_as (Refused refusal) answer = tt
-refused_as (Fault fault) answer = absurd answer
+pub refused_as : (X Y : Type 0) (stop : Stop) → IsAnswer {X = X} (Err stop) → IsAnswer {X = Y} (Err stop)
+refused_as X Y (Refused refusal) answer = tt
+refused_as X Y (Fault fault) answer = absurd answer
 
 -- a refusal of a reading says that the tables are those of no book
-refused_bad : {X : Type 0} (stop : Stop) → IsReadFault stop → IsAnswer {X = X} (Err stop) → stop ≡ bad_book
-refused_bad {X} stop (inl (inl memory)) answer = absurd (subst (λ s. IsAnswer {X = X} (Err s)) memory answer)
-refused_bad {X} stop (inl (inr store)) answer = absurd (subst (λ s. IsAnswer {X = X} (Err s)) store answer)
-refused_bad {X} stop (inr bad) answer = bad
+refused_bad : (X : Type 0) (stop : Stop) → IsReadFault stop → IsAnswer {X = X} (Err stop) → stop ≡ bad_book
+refused_bad X stop (inl (inl memory)) answer = absurd (subst (λ s. IsAnswer {X = X} (Err s)) memory answer)
+refused_bad X stop (inl (inr store)) answer = absurd (subst (λ s. IsAnswer {X = X} (Err s)) store answer)
+refused_bad X stop (inr bad) answer = bad
 
 -- ---- what is shown once nothing changed, or all was undone
 still_settled : (v : Version) (old new : State) (t : Tables) → IsTrue new.is_open → IsUnchanged old new ⊎ IsRolledBack old new → (IsTrue old.is_open → IsSettledIn v old t) → IsSettledIn v new t
@@ -81,7 +81,7 @@ module _ (old new : State) (e : Error) (fails : IsNotRun old new meta_listing.te
   looked_still = spared_unread old new meta_listing.text [] e fails
 
   pub looked_same : (stop : Stop) → IsReadFault stop → (stop ≡ bad_book → IsInputError e) → IsAnswer {X = ⊤} (Err stop) → IsUnchanged old new
-  looked_same stop fault input answer = (not_understood old new meta_listing.text [] e (input (refused_bad {X = ⊤} stop fault answer)) fails).1
+  looked_same stop fault input answer = (not_understood old new meta_listing.text [] e (input (refused_bad ⊤ stop fault answer)) fails).1
 
   pub looked_foreign : IsInputError e → ¬ (IsOfBook old.now.schema)
   looked_foreign input of =
@@ -182,15 +182,15 @@ module _ {S : Type 0} (g : Ghosts S) where
   -- ---- a refusal ends it
   pub asks_err : {X Y : Type 0} (old mid : Held S) (stop : Stop) → Asks g {X = X} old mid (Err stop) → Asks g {X = Y} old mid (Err stop)
   asks_err {X} {Y} old mid stop it = record {
-    live = λ clean answer. it.live clean (refused_as {Y} {X} stop answer);
+    live = λ clean answer. it.live clean (refused_as Y X stop answer);
     kept = it.kept;
     either = it.either;
-    first = λ clean answer. it.first clean (refused_as {Y} {X} stop answer);
+    first = λ clean answer. it.first clean (refused_as Y X stop answer);
     empty = it.empty;
   }
 
   pub asked_err : {Y : Type 0} (old mid : Held S) (stop : Stop) → Looks g old mid (Err stop) → Asks g {X = Y} old mid (Err stop)
-  asked_err {Y} old mid stop look = asks_err {⊤} {Y} old mid stop (asked_once old mid (Err stop) look)
+  asked_err {Y} old mid stop look = asks_err {X = ⊤} {Y = Y} old mid stop (asked_once old mid (Err stop) look)
 
   -- ---- and then the tables of version 2 were read
   module _ {X : Type 0} (Good : Trees → X → Type 0) (Bad : Trees → Type 0) (old mid new : Held S) (r : Result X Stop) (told : Tells g AnyTrees NoneSo old mid (Ok tt)) (asks : Asks g {X = ⊤} old mid (Ok tt)) (second : Finds g Two Good Bad mid new r) where
@@ -257,8 +257,8 @@ module _ {S : Type 0} (g : Ghosts S) where
 
   pub answers_err : {X Y : Type 0} (old new : Held S) (stop : Stop) → Answers g {X = X} old new (Err stop) → Answers g {X = Y} old new (Err stop)
   answers_err {X} {Y} old new stop it = record {
-    live = λ clean answer. it.live clean (refused_as {Y} {X} stop answer);
+    live = λ clean answer. it.live clean (refused_as Y X stop answer);
     keeps = it.keeps;
-    first = λ clean answer. it.first clean (refused_as {Y} {X} stop answer);
+    first = λ clean answer. it.first clean (refused_as Y X stop answer);
     empty = it.empty;
   }

@@ -1,8 +1,8 @@
 -- What becomes of the book of a keeper whose call was stopped, and what such a call answers then.
-use Rattle.std.proofs.Common.{◌≡◌, ◌≢◌, inl, inr, ℕ, List, Option, Some, None, Result, Ok, Err, refl, sym, ap, subst, ◌∙◌}
-use Rattle.std.specs.Prelude.{◌↔◌, ⊤, IfSome, IsSome}
+use Rattle.std.proofs.Common.{◌≡◌, ◌≢◌, inl, inr, ℕ, List, Option, Some, None, Err, refl, sym, ap, subst, ◌∙◌}
+use Rattle.std.specs.Prelude.{IfSome}
 use Rattle.sqlite_trees.specs.declared.store.Store.{Ghosts}
-use Rattle.sqlite.specs.Held.{Held, state}
+use Rattle.sqlite.specs.Held.{state}
 use Rattle.ob_base.specs.declared.stop.Refusal.{Refusal}
 use Rattle.ob_base.specs.declared.stop.Refusal.TheVariants.{BadField, UnknownName, NameTaken, OutOfPeriod, UnknownEntry, Stale, Withdrawn, UnknownCustomer, BadService, RefConflict, Full, MarkedAlready, NotMarked, UnknownCause, BadPeriod, BadBook, BadLife, OldVersion}
 use Rattle.ob_base.specs.declared.stop.Stop.{Stop}
@@ -16,7 +16,6 @@ use Rattle.ob_store.specs.Creating.{Created, Creates}
 use Rattle.ob_store.specs.Keeping.{IsBookAfter, KeeperValue, KeepsBook, Ties}
 use Rattle.ob_store.specs.MovingOut.{IsBookAfterMoves, MovesOut, Takes, TakesFront, all_moves}
 use Rattle.ob_store.specs.Replying.{Replied, Replies}
-use Rattle.ob_store.specs.declared.reply.Reply.{Reply as GivenReply}
 
 -- another stop than a fault of the store keeps it
 pub kept_after : (was is : Option BookState) (stop : Stop) → stop ≢ Fault Store → is ≡ was → IsBookAfter was is stop
@@ -35,19 +34,6 @@ by_after was is (Fault Store) P book other store = store book
 by_after was is (Fault Reopen) P book other store = other (λ e. cc) book
 by_after was is (Fault Input) P book other store = other (λ e. cc) book
 by_after was is (Fault Output) P book other store = other (λ e. cc) book
-
--- where there was one there is none after a fault of the store alone
-module _ {X : Type 0} (was is : Option BookState) (some : IsSome was) where
-  abbrev IsFault : Stop → Type 0
-  IsFault stop = ◌≡◌ {A = Result X Stop} (Err stop) (Err (Fault Store))
-
-  fault_of : (stop : Stop) → IsFault stop → stop ≡ Fault Store
-  fault_of stop e = cc
-
-  pub dropped_at : (stop : Stop) → IsBookAfter was is stop → (is ≡ None) ↔ IsFault stop
-  dropped_at stop book = by_after was is stop (λ s. (is ≡ None) ↔ IsFault s) book
-      (λ other same. (λ none. absurd (subst IsSome (sym same ∙ none) some), λ e. absurd (other (fault_of stop e))))
-      (λ none. (λ _. refl, λ _. none))
 
 -- the same of a handing out
 pub after_moves : {V : Type 0} (takes : Takes V) (sink : V) (was is : Option BookState) (stop : Stop) → IsStoreFault stop → IsBookAfter was is stop → IsBookAfterMoves takes sink was is (Err stop)
@@ -122,6 +108,6 @@ module _ {S : Type 0} (g : Ghosts S) (old new : KeeperValue S) where
       pub moved_err : (stop : Stop) → IsStoreFault stop → IsBookAfter old.book new.book stop → MovesOut g takes old new was is b (Err stop)
       moved_err stop (inl memory) book =
           let same : new.book ≡ old.book = subst (IsBookAfter old.book new.book) memory book in
-          subst (λ s. MovesOut g takes old new was is b (Err s)) (sym memory) (inr (front, tied b ties keeps same, same))
+          subst (λ s. MovesOut g takes old new was is b (Err s)) (sym memory) (inr (front, (tied b ties keeps same, same)))
       moved_err stop (inr store) book =
-          subst (λ s. MovesOut g takes old new was is b (Err s)) (sym store) (inr (front, keeps, subst (IsBookAfter old.book new.book) store book))
+          subst (λ s. MovesOut g takes old new was is b (Err s)) (sym store) (inr (front, (keeps, subst (IsBookAfter old.book new.book) store book)))

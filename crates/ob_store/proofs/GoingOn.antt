@@ -15,7 +15,7 @@ use Rattle.ob_record.specs.Tables.{tables_of}
 use Rattle.ob_compare.specs.Reading.{IsReadFault}
 use Rattle.ob_parts.specs.OldTables.{old_tables_of}
 use Rattle.ob_store.specs.Finding.{Finds}
-use Rattle.ob_store.specs.Keeping.{IsAnswer, KeepsBook, KeepsEitherBook, KeepsEitherVersion, KeepsOldBook}
+use Rattle.ob_store.specs.Keeping.{KeepsBook, KeepsEitherBook, KeepsEitherVersion, KeepsOldBook}
 use Rattle.ob_store.specs.Migrating.{MigratesKept, MigratesOn}
 use Rattle.ob_store.specs.Upgrading.{IsTold, IsUntold, Migrates}
 use Rattle.ob_store.specs.Versions.{Asks}

@@ -1,6 +1,5 @@
 -- What becomes of a store whose tables of version 1 are to be made those of version 2.
-use Rattle.std.specs.Prelude.{◌≡◌, ◌⊎◌, List, [], ◌∷◌, map, Bool, true, false, Result, Ok, Err, IfErr, IsTrue}
-use Rattle.std.specs.List.{AllByRecursion}
+use Rattle.std.specs.Prelude.{◌≡◌, ◌⊎◌, List, [], ◌∷◌, length, map, Bool, true, false, Result, Ok, Err, IfErr, IsTrue}
 use Rattle.sqlite_trees.specs.declared.store.Store.{Ghosts}
 use Rattle.sqlite.specs.Tree.{Trees}
 use Rattle.sqlite.specs.Schema.{Schema}
@@ -17,14 +16,11 @@ use Rattle.ob_tables.specs.Rows.{table_name}
 use Rattle.ob_tables.specs.Schema.{no_schema}
 use Rattle.ob_tables.specs.declared.table.Table.{Table}
 use Rattle.ob_tables.specs.declared.table.Table.TheVariants.{Meta, Cause, Node, Device, Customer, Entry, Mark, Command, Moved, Posting}
-use Rattle.ob_tables.specs.declared.version.Version.TheVariants.{One}
-use Rattle.ob_commit.specs.Keeps.{KeepsIn, Leaves}
-use Rattle.ob_commit.specs.Upgrade.{KeepsOldOr}
-use Rattle.ob_record.specs.Naming.{IsReferenced}
+use Rattle.ob_commit.specs.Keeps.{Leaves}
 use Rattle.ob_record.specs.Tables.{tables_of}
 use Rattle.ob_compare.specs.Reading.{IsMissed}
 use Rattle.ob_compare.specs.Version.{HasVersion}
-use Rattle.ob_parts.specs.OldTables.{HasOldBook, IsOldReached, old_tables_of}
+use Rattle.ob_parts.specs.OldTables.{HasOldBook}
 use Rattle.ob_store.specs.Finding.{OnlyReads, ShowsTheSame}
 use Rattle.ob_store.specs.Keeping.{IsAnswer, KeepsBook, KeepsEitherBook}
 pub use Rattle.ob_store.specs.Keeping.{KeepsEitherVersion, KeepsOldBook}
@@ -46,13 +42,13 @@ LeavesUpgradeOf was trees = (b : ActState) × HoldsOldBook was b × Leaves (tabl
 abbrev pub old_tables : List Table
 old_tables = Meta ∷ Cause ∷ Node ∷ Device ∷ Customer ∷ Entry ∷ Mark ∷ Command ∷ Moved ∷ Posting ∷ []
 
--- the tables have the names of those of version 1, in that order; there is no other one, no index and no view
+-- the tables have the names of those of version 1, in that order, and as many indexes; there is no other one and no view
 abbrev pub IsOldShape : Schema → Type 0
 IsOldShape s =
-    (map (λ (t : Stored). t.name) s.tables ≡ map table_name old_tables) × (s.indexes ≡ []) × (s.views ≡ [])
+    (map (λ (t : Stored). t.name) s.tables ≡ map table_name old_tables) × (length s.indexes ≡ 6) × (s.views ≡ [])
 
--- the store was open and its tables had the names of those of version 1; where they were these, a whole database of version 2, of
--- the one book that they held
+-- the store was open and its tables had the names of those of version 1, and as many indexes; where they were these, a whole
+-- database of version 2, of the one book that they held
 abbrev pub LeavesKept : State → Trees → Type 0
 LeavesKept s trees =
     IsTrue s.is_open × IsOldShape s.now.schema × (s.now.schema ≡ old_schema → LeavesUpgradeOf s.now.trees trees)

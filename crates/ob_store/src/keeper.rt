@@ -49,7 +49,7 @@ fn settle<T: Timeline>(book: &mut Option<Book<T>>, stop: Stop)
     ensures { IsBookAfter (option_map (λ b. b.state) book.old) (option_map (λ b. b.state) book.new)
         stop }
 {
-    if stop == Stop::Fault(Fault::Store) {
+    if let Stop::Fault(Fault::Store) = stop {
         *book = None;
     }
 }

@@ -38,6 +38,9 @@ const OLD_TABLES: [Table; 10] = [
     Table::Posting,
 ];
 
+/// How many indexes they have, those that keep names, references and keys of several columns apart.
+const OLD_INDEXES: usize = 6;
+
 /// Whether the database has a table with the name of that of lives.
 fn has_lives<S: Alter>(conn: &Connection<S>) -> bool
     ensures { result ≡ is_some (table_named (state S.Store conn.now).now.schema (codes "life")) }
@@ -60,14 +63,18 @@ fn are_named(tables: &[schema::Table], known: &[Table]) -> bool
     true
 }
 
-/// Whether the tables have the names of those of version 1, and there is no other one, no index and no view.
+/// Whether the tables have the names of those of version 1, with as many indexes, and there is no other one and no view.
 pub(crate) fn has_old_shape<S: Alter>(conn: &Connection<S>) -> bool
     ensures { IsTrue result ↔ IsOldShape (state S.Store conn.now).now.schema }
 {
     let schema = conn.schema();
+    if schema.indexes.len() != OLD_INDEXES {
+        return false;
+    }
+    if !schema.views.is_empty() {
+        return false;
+    }
     are_named(schema.tables.as_slice(), &OLD_TABLES)
-        && schema.indexes.is_empty()
-        && schema.views.is_empty()
 }
 
 /// Why the columns of a heading weren't found: the tables lack them, as those of no book, or the store failed.
@@ -92,8 +99,8 @@ pub(crate) fn look_at<S: Alter>(conn: &mut Connection<S>) -> Result<(), Stop>
     // what is open is a whole database
     let _schema = conn.schema();
     match conn.prepare("SELECT id, version, day0, days, zone FROM meta ORDER BY id") {
-        Ok(_) => Ok(()),
-        Err(error) => Err(stop_of_look(error)),
+        Ok(_) => return Ok(()),
+        Err(error) => return Err(stop_of_look(error)),
     }
 }
 

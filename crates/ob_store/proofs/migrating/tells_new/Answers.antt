@@ -11,20 +11,20 @@ returns-in-Err-clause-finds g c v = looked_err g.S.Store v c.args.conn.now c.loo
 pub returns-in-Err-clause-asks : goal.returns-in-Err-clause-asks
 returns-in-Err-clause-asks g c = asked_err g.S.Store c.args.conn.now c.look_at.new.conn c.in-Err.stop c.in-Err.ensures
 
-pub returns-in-Ok-clause-finds : goal.returns-in-Ok-clause-finds
-returns-in-Ok-clause-finds g c v = looked_then g.S.Store v c.args.conn.now c.look_at.new.conn c.tell_heading.new.conn c.tell_heading.result c.in-Ok.ensures (c.tell_heading.ensures.finds v)
+pub returns-clause-finds : goal.returns-clause-finds
+returns-clause-finds g c v = looked_then g.S.Store v c.args.conn.now c.look_at.new.conn c.tell_heading.new.conn c.tell_heading.result c.in-Ok.ensures (c.tell_heading.ensures.finds v)
 
-pub returns-in-Ok-clause-asks : goal.returns-in-Ok-clause-asks
-returns-in-Ok-clause-asks g c =
+pub returns-clause-asks : goal.returns-clause-asks
+returns-clause-asks g c =
     asked_more g.S.Store c.args.conn.now c.look_at.new.conn (Ok tt) c.in-Ok.ensures tt c.in-Ok.ensures.empty c.tell_heading.new.conn c.tell_heading.result (c.tell_heading.ensures.finds One).clean (λ v. (c.tell_heading.ensures.finds v).kept)
 
 pub returns-in-Err-clause-first : goal.returns-in-Err-clause-first
 returns-in-Err-clause-first g c opened v t u keeps = open_keeps g.S.Store c.args.conn.now c.look_at.new.conn (Err c.in-Err.stop) c.in-Err.ensures v t u opened keeps
 
-pub returns-in-Ok-clause-first : goal.returns-in-Ok-clause-first
-returns-in-Ok-clause-first g c opened v t u keeps = open_keeps g.S.Store c.args.conn.now c.look_at.new.conn (Ok tt) c.in-Ok.ensures v t u opened keeps
+pub returns-clause-first : goal.returns-clause-first
+returns-clause-first g c opened v t u keeps = open_keeps g.S.Store c.args.conn.now c.look_at.new.conn (Ok tt) c.in-Ok.ensures v t u opened keeps
 
-pub returns-in-Ok-clause-shape : goal.returns-in-Ok-clause-shape
-returns-in-Ok-clause-shape g c clean =
+pub returns-clause-shape : goal.returns-clause-shape
+returns-clause-shape g c clean =
     if_ok c.tell_heading.result c.tell_heading.ensures.shape
-    (λ is so no. looked_shape g.S.Store c.args.conn.now c.look_at.new.conn c.in-Ok.ensures ((c.tell_heading.ensures.finds One).clean clean) (c.has_old_shape.ensures.0 (so no)))
+    (λ is so no. looked_shape g.S.Store c.args.conn.now c.look_at.new.conn c.in-Ok.ensures ((c.tell_heading.ensures.finds One).clean clean) (c.has_old_shape-is_old.ensures.0 (so no)))
