@@ -7,7 +7,7 @@
 set -eu
 packages="python3 python3-aiohttp nginx-light"
 if [ "${1:-}" != --screen-only ]; then
-    packages="$packages chromium chromium-driver python3-selenium openssl poppler-utils sqlite3 black mypy"
+    packages="$packages chromium chromium-driver python3-selenium curl openssl poppler-utils sqlite3 black mypy"
 fi
 apt-get update
 # shellcheck disable=SC2086

@@ -41,6 +41,7 @@ def missing() -> list[str]:
     wanted["poppler-utils"] = "/usr/bin/pdftotext"
     found = [name for name, path in wanted.items() if not Path(path).exists()]
     found += [f"python3-{name}" for name in ("aiohttp", "selenium") if importlib.util.find_spec(name) is None]
+    found += [] if shutil.which("curl") else ["curl"]
     return found + ([] if shutil.which("nginx") or Path("/usr/sbin/nginx").exists() else ["nginx-light"])
 
 

@@ -624,7 +624,9 @@ class Crowd(Case):
                 "f2": chance.choice(["open", "close"]),
                 "f3": second,
             }
-            desk.post({"kind": "switch", "ref": f"CURL-{number}", **fields, "f4": "2", "f5": "CREW-9"})
+            command = json.dumps({"kind": "switch", "ref": f"CURL-{number}", **fields, "f4": "2", "f5": "CREW-9"})
+            words = ["curl", "-s", "-S", "--fail", "--data-binary", command, f"{desk.url}/commands"]
+            subprocess.run(words, check=True, stdout=subprocess.DEVNULL)
             if number == COMMANDS // 8:
                 rows = (support.EXAMPLES / "corrections.csv").read_bytes()
                 support.call(f"{desk.url}/import", rows)

@@ -41,6 +41,12 @@ def year() -> Path:
     return book
 
 
+def processor_seconds(process: int) -> float:
+    """What a process has taken of a processor so far."""
+    user, system = Path(f"/proc/{process}/stat").read_text().rpartition(")")[2].split()[11:13]
+    return (int(user) + int(system)) / os.sysconf("SC_CLK_TCK")
+
+
 class Listener(threading.Thread):
     """A page's events, with the time at which each command was told."""
 
@@ -120,7 +126,7 @@ class Load(unittest.TestCase):
         begun = time.monotonic()
         screen = support.Screen(book, desk=desk)
         self.addCleanup(screen.end)
-        started = time.monotonic() - begun
+        started, processor = time.monotonic() - begun, processor_seconds(screen.process.pid)
         pages = {}
         for route in (
             "/api/now",
@@ -150,7 +156,10 @@ class Load(unittest.TestCase):
         self.assertLess(slowest, support.limit(0.5))
         lines = Path(f"/proc/{screen.process.pid}/status").read_text().splitlines()
         memory = next(int(line.split()[1]) // 1_024 for line in lines if line.startswith("VmHWM"))
-        print(f"a year: started in {started:.1f} s, {memory} MB, slowest answer {max(pages.values()):.2f} s,", end=" ")
+        print(
+            f"a year: started in {started:.1f} s, {processor:.1f} of a processor, {memory} MB, slowest answer {max(pages.values()):.2f} s,",
+            end=" ",
+        )
         print(f"slowest event {max(0.0, slowest):.3f} s after its reply", flush=True)
         self.pages_of_a_year(screen)
 
