@@ -7,12 +7,15 @@ to one shell for the whole page, in a folder of its own that has the repository'
 `outagebook`. What lies between two of them is what the first one should print, its messages among it. A block without
 such lines is pasted as a whole where the page goes on with `It prints` and a block, which is what it should print.
 
+What a page says takes its files away (`rm ..` in its text) is pasted at its end, and nothing may be left then.
+
 A block below a line `<!-- not pasted: WHY -->` is not pasted, as one that wants root; how many those are is told. It
 ends with status 1 where a block prints something else. Wants a built program, `sqlite3` and, for the desk, `curl`.
 """
 
 import argparse
 import os
+import re
 import subprocess
 import sys
 import tempfile
@@ -25,6 +28,8 @@ from places import PROGRAM, ROOT
 END = "---- end of a command ----"
 NOT_PASTED = "<!-- not pasted: "
 SHOWN_NEXT = "It prints"
+GOES_AWAY = re.compile("`(rm [^`]+)`")
+GIVEN = {"examples", "tools", "bin"}  # what the folder has before anything is pasted
 
 
 @dataclass
@@ -134,8 +139,15 @@ class Shell:
         self.child.communicate("kill $(jobs -p) 2> /dev/null\n")
 
 
+def left_behind(page: Path, shell: Shell, folder: Path) -> list[str]:
+    """The files of a page that are there still once its own words have taken them away."""
+    for words in GOES_AWAY.findall(page.read_text(encoding="utf-8")):
+        shell.paste(words)
+    return sorted(path.name for path in folder.iterdir() if path.name not in GIVEN)
+
+
 def paste_page(page: Path, program: Path) -> int:
-    """Pastes a page and tells what prints something else; answers how many commands do."""
+    """Pastes a page and tells what prints something else, or is left behind; answers how many commands do."""
     wrong = 0
     commands, left_out = commands_of(page)
     with tempfile.TemporaryDirectory() as folder:
@@ -145,6 +157,10 @@ def paste_page(page: Path, program: Path) -> int:
             if said != command.wanted:
                 wrong += 1
                 print(f"{page}:{command.number}: {command.text}\n  shows:  {command.wanted}\n  prints: {said}")
+        left = left_behind(page, shell, Path(folder))
+        if left:
+            wrong += 1
+            print(f"{page}: leaves behind {', '.join(left)}")
         shell.close()
     marked = f"; {left_out} blocks are marked not to be pasted" if left_out else ""
     print(f"{page}: {len(commands)} commands pasted, {wrong} print something else{marked}", flush=True)

@@ -195,7 +195,11 @@ class Worked(unittest.TestCase):
         self.found(("OMS-T-1-1-O", "DA", "open", 1_000), ("OMS-T-1-1-C", "DA", "close", 2_000))
         counts = written("counts.csv", "ticket,customers,customer_minutes\nT-1,9,149.5\nT-2,5,83.3\n")
         page = support.folder() / "agreement.html"
+        theirs = written("theirs.csv", "Meldung;Kunden;Minuten;Stand\nT-1;9;149,5;\nT-2;5;83,3;\nT-3;8;90;Storno\n")
+        names = ["Meldung=ticket", "Kunden=customers", "Minuten=customer_minutes", "Stand=status"]
+        spelling = [word for name in names for word in ("--column", name)]
         listed: list[tuple[list[object], bool]] = [([], False), (["--oms", counts], True)]
+        listed.append((["--oms", theirs, *spelling, "--cancelled", "storno"], True))
         for words, is_there in listed:
             done = support.run_tool("report", self.book, "-o", page, *words, *PROGRAM)
             self.assertEqual((done.returncode, done.stderr), (0, ""))

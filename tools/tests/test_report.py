@@ -141,6 +141,13 @@ class Page(unittest.TestCase):
         when = "2025-03-26 18:05:00 to 2025-03-26 19:20:00"
         self.assertTrue(f"late outage LATE-0326-1, LATE-0326-2 LBS-22 {when} +13 500 {halves}" in text)
 
+    def test_no_late_work_is_said_without_a_table(self) -> None:
+        """A book whose switchings came in the order of their seconds."""
+        text = page(support.opened(support.edges()))
+        part = text.partition('<section id="late">')[2].partition("</section>")[0]
+        self.assertIn("No switching is late, corrected or withdrawn.", part)
+        self.assertNotIn("<table", part)
+
     def test_a_page_is_written_by_the_program_or_not_at_all(self) -> None:
         made, out = support.fortnight(), support.folder() / "page.html"
         self.assertEqual(support.run_tool("report", made.book, "-o", out, table=made).returncode, 0)
