@@ -257,6 +257,11 @@ def second_within(request: web.Request) -> int:
     return at
 
 
+async def second(request: web.Request) -> web.StreamResponse:
+    """The second that is now, or the one of the period that is nearest to it."""
+    return answer(200, views.moment(office_of(request).state, second_within(request)))
+
+
 async def now(request: web.Request) -> web.StreamResponse:
     at = second_within(request)
     return answer(200, views.now_view(office_of(request).state, at))
@@ -418,6 +423,7 @@ GETS: dict[str, Handler] = {
     "/download/{name}": download,
     "/api/me": me,
     "/api/book": book,
+    "/api/second": second,
     "/api/now": now,
     "/api/sheet": sheet,
     r"/api/entries/{no:\d{1,6}}": entry,

@@ -41,7 +41,7 @@ begin(async () => {
   }, 60);
   device.addEventListener("input", look);
   for (const input of [position, cause, crew]) input.addEventListener("input", sender.update);
-  const now = el("button", { type: "button", click: () => get("/api/now").then((shown) => second.set(momentWords(shown.at.text))) }, "Now");
+  const now = el("button", { type: "button", click: () => get("/api/second").then((now) => second.set(momentWords(now.text))) }, "Now");
   const form = el(
     "form",
     { class: "card", submit: (event) => { event.preventDefault(); sender.send(); } },
@@ -60,7 +60,7 @@ begin(async () => {
   );
   onCommands(() => reloadBook());
   const at = wanted.get("at");
-  await second.set(at || momentWords((await get("/api/now")).at.text));
+  await second.set(at || momentWords((await get("/api/second")).text));
   sender.resume();
   device.focus();
 });

@@ -142,8 +142,7 @@ begin(async () => {
   const narrow = matchMedia("(max-width: 40rem)").matches;
   main.append(el("details", { class: "search no-print", open: !narrow }, el("summary", {}, "Search"), filters()), detail, rows, log);
   onCommands(() => { show(); showLog(); lookAgain(); });
-  await show();
-  await showLog();
+  await Promise.all([show(), showLog()]);
   const asked = new URLSearchParams(location.search).get("entry");
   if (asked) await open(asked);
 });
