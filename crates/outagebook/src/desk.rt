@@ -1,9 +1,10 @@
 //! The job that serves a book over HTTP.
-ghost use Rattle.outagebook.specs.Serving.{IsPortTaken};
+ghost use Rattle.std.specs.Prelude.{◌≡◌};
+ghost use Rattle.outagebook.specs.Serving.{IsPortTaken, stop_of_end};
 
 use crate::tell_stop;
 use ob_base::{Fault, Stop};
-use ob_desk::{FaultLog, Listener, run_serve};
+use ob_desk::{FaultLog, Listener, Unserved, run_serve};
 use ob_jobs::ServeBook;
 use ob_store::Keeper;
 use ob_sweep::Timeline;
@@ -54,10 +55,17 @@ impl<S: Alter, T: Timeline> ServeBook<S, T> for Server<'_> {
         let rt = self.rt;
         let mut listener = Listener::new(&port, self.streams);
         let mut log = Complaints { rt };
-        match run_serve(rt.alloc(), &mut listener, keeper, &mut log) {
-            Ok(()) => Ok(()),
-            Err(end) => Err(Stop::Fault(end.fault())),
-        }
+        stop_of(run_serve(rt.alloc(), &mut listener, keeper, &mut log))
+    }
+}
+
+/// How a desk's end stops the job.
+fn stop_of(end: Result<(), Unserved>) -> Result<(), Stop>
+    ensures { result ≡ stop_of_end end }
+{
+    match end {
+        Ok(()) => Ok(()),
+        Err(end) => Err(Stop::Fault(end.fault())),
     }
 }
 
