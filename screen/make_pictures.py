@@ -3,12 +3,12 @@
 
     OUTAGEBOOK=FILE python3 screen/make_pictures.py          # writes docs/pictures/
 
-Wants what the screen's tests want, and ImageMagick's `convert`, which makes the pictures small.
+Wants what the screen's tests want. The pictures are WebP, so that they are small.
 """
 
 from __future__ import annotations
 
-import subprocess
+import base64
 import sys
 from pathlib import Path
 
@@ -18,6 +18,7 @@ import browser  # noqa: E402
 import support  # noqa: E402
 
 PICTURES = support.ROOT / "docs/pictures"
+QUALITY = 75
 
 
 def now(page: browser.Browser, url: str) -> None:
@@ -63,13 +64,12 @@ def main() -> int:
             page = browser.Browser(width, height, dark)
             try:
                 shown(page, screen.url)
-                raw = support.folder() / f"{name}.png"
-                page.picture(str(raw), whole=False)
+                kind = {"format": "webp", "quality": QUALITY}
+                picture = page.driver.execute_cdp_cmd("Page.captureScreenshot", kind)["data"]
             finally:
                 page.end()
-            small = ["convert", str(raw), "-strip", "+dither", "-colors", "48", f"PNG8:{PICTURES / name}.png"]
-            subprocess.run(small, check=True)
-            print(PICTURES / f"{name}.png")
+            (PICTURES / f"{name}.webp").write_bytes(base64.b64decode(picture))
+            print(PICTURES / f"{name}.webp")
     finally:
         screen.end()
     return 0

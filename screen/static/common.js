@@ -104,16 +104,19 @@ export function duration(seconds) {
   return parts.map(([count, unit]) => `${count} ${unit}`).join(" ") || "0 s";
 }
 
-/** A text that may be broken where a word of it is long. */
+const BRIEF = 12; // letters, that stay in one line
+
+/** A text that may be broken within its long words. */
 export function breakable(words) {
-  const parts = words.match(/[^\s-]{1,8}[\s-]*|[\s-]+/g) || [];
-  return parts.flatMap((part, at) => (at && /[^\s-]$/.test(parts[at - 1]) ? [el("wbr"), part] : [part]));
+  return (words.match(/[^\s-]+[\s-]*|[\s-]+/g) || []).flatMap((word) => {
+    if (word.length <= BRIEF) return [word];
+    return word.match(/.{1,8}/gs).flatMap((part, at) => (at ? [el("wbr"), part] : [part]));
+  });
 }
 
 /** Work for when the browser has time. */
 export const idle = window.requestIdleCallback ? (work) => requestIdleCallback(work, { timeout: 300 }) : (work) => setTimeout(work, 20);
 
-const BRIEF = 12; // letters, that stay in one line
 const SLICE = 100; // rows that are drawn in one go
 const COLUMNS = { "#": "n", "~": "no-print" };
 

@@ -4,6 +4,7 @@ import { Sender } from "./sender.js";
 
 const main = document.getElementById("main");
 const figures = el("div", {});
+let early = get("/api/year").catch(() => null); // is asked for while the page's head is
 
 const indexText = (value) => (value ? value.join(" ") : "");
 const bar = (amount, most) => el("meter", { min: 0, max: Math.max(1, most), value: amount, "aria-hidden": "true" });
@@ -14,9 +15,10 @@ function amounts(rows, nameOf, heads) {
 }
 
 async function show() {
-  let shown;
+  let shown = await early;
+  early = null;
   try {
-    shown = await get("/api/year");
+    shown ??= await get("/api/year");
   } catch (trouble) {
     figures.replaceChildren(el("p", { class: "bad" }, trouble.message));
     return;
