@@ -146,16 +146,18 @@ CREATE FUNCTION outagebook.indices(
         outagebook.decimals(sustained_seconds, 60 * sustained)
 $$;
 
--- The interruptions of both sets, added up as far as every view does.
+CREATE VIEW outagebook.sets ("set") AS VALUES ('all'), ('unmarked');
+
+-- Each interruption in the sets that it is of. The views below put such rows below those of what was served, and add up:
+-- without a join between sums, each costs one reading of its rows, whatever the planner takes their numbers to be.
 CREATE VIEW outagebook.counted AS
-SELECT i.period_id, i.district, s."set", i.section, i.cause, i.day,
-    sum(i.customers) FILTER (WHERE i.sustained) AS sustained,
-    sum(i.customers * i.seconds) FILTER (WHERE i.sustained) AS sustained_seconds,
-    sum(i.customers) FILTER (WHERE NOT i.sustained) AS momentary,
-    sum(i.customers * i.seconds) AS customer_seconds
+SELECT i.period_id, i.district, k."set", i.section, i.cause, i.day,
+    CASE WHEN i.sustained THEN i.customers::bigint ELSE 0 END AS sustained,
+    CASE WHEN i.sustained THEN 0 ELSE i.customers::bigint END AS momentary,
+    CASE WHEN i.sustained THEN i.customers * i.seconds ELSE 0 END AS sustained_seconds,
+    i.customers * i.seconds AS customer_seconds
 FROM outagebook.interruption AS i
-JOIN (VALUES ('all'), ('unmarked')) AS s ("set") ON s."set" = 'all' OR NOT i.marked
-GROUP BY i.period_id, i.district, s."set", i.section, i.cause, i.day;
+JOIN outagebook.sets AS k ON k."set" = 'all' OR NOT i.marked;
 
 -- Whole books: the fifteen quotients of the annual table.
 
@@ -209,175 +211,148 @@ CROSS JOIN LATERAL outagebook.whole_indices(
 -- Parts of books: SAIFI, SAIDI and CAIDI over the customers served of the part.
 
 CREATE VIEW outagebook.feeders AS
-SELECT p.first_day, p.days, p.zone, s.district, s.feeder, k."set",
-    CASE k."set" WHEN 'all' THEN f.customer_seconds ELSE coalesce(t.customer_seconds, 0) END AS customer_seconds,
-    outagebook.fraction(s.served_seconds, p.seconds) AS customers_served,
-    outagebook.decimals(s.served_seconds, p.seconds) AS customers_served_3,
-    coalesce(t.sustained, 0) AS sustained, coalesce(t.momentary, 0) AS momentary,
-    coalesce(t.sustained_seconds, 0) AS sustained_seconds, i.*
+SELECT p.first_day, p.days, p.zone, a.district, a.feeder, a."set", a.customer_seconds,
+    outagebook.fraction(a.served_seconds, p.seconds) AS customers_served,
+    outagebook.decimals(a.served_seconds, p.seconds) AS customers_served_3,
+    a.sustained, a.momentary, a.sustained_seconds, i.*
 FROM (
-    SELECT period_id, district, feeder, sum(served_seconds) AS served_seconds
-    FROM outagebook.served_day GROUP BY period_id, district, feeder
-) AS s
+    SELECT period_id, district, feeder, "set", sum(served_seconds) AS served_seconds, sum(sustained) AS sustained,
+        sum(momentary) AS momentary, sum(sustained_seconds) AS sustained_seconds, sum(customer_seconds) AS customer_seconds
+    FROM (
+        SELECT s.period_id, s.district, s.feeder, k."set", s.served_seconds, 0::bigint AS sustained,
+            0::bigint AS momentary, 0::bigint AS sustained_seconds, 0::bigint AS customer_seconds
+        FROM outagebook.served_day AS s CROSS JOIN outagebook.sets AS k
+        UNION ALL
+        SELECT c.period_id, c.district, n.feeder, c."set", 0, c.sustained, c.momentary, c.sustained_seconds, c.customer_seconds
+        FROM outagebook.counted AS c JOIN outagebook.section AS n USING (period_id, district, section)
+    ) AS u GROUP BY period_id, district, feeder, "set"
+) AS a
 JOIN outagebook.period AS p USING (period_id)
-JOIN outagebook.feeder AS f USING (period_id, district, feeder)
-CROSS JOIN (VALUES ('all'), ('unmarked')) AS k ("set")
-LEFT JOIN (
-    SELECT c.period_id, c.district, n.feeder, c."set", sum(c.sustained) AS sustained, sum(c.momentary) AS momentary,
-        sum(c.sustained_seconds) AS sustained_seconds, sum(c.customer_seconds) AS customer_seconds
-    FROM outagebook.counted AS c JOIN outagebook.section AS n USING (period_id, district, section)
-    GROUP BY c.period_id, c.district, n.feeder, c."set"
-) AS t ON t.period_id = s.period_id AND t.district = s.district AND t.feeder = s.feeder AND t."set" = k."set"
-CROSS JOIN LATERAL outagebook.indices(
-    coalesce(t.sustained, 0), coalesce(t.sustained_seconds, 0), s.served_seconds, p.seconds) AS i;
+CROSS JOIN LATERAL outagebook.indices(a.sustained, a.sustained_seconds, a.served_seconds, p.seconds) AS i;
 
 CREATE VIEW outagebook.sections AS
-SELECT p.first_day, p.days, p.zone, n.district, n.name AS section, n.feeder, k."set",
-    outagebook.fraction(s.served_seconds, p.seconds) AS customers_served,
-    outagebook.decimals(s.served_seconds, p.seconds) AS customers_served_3,
-    coalesce(t.customer_seconds, 0) AS customer_seconds, coalesce(t.sustained, 0) AS sustained,
-    coalesce(t.momentary, 0) AS momentary, coalesce(t.sustained_seconds, 0) AS sustained_seconds, i.*
+SELECT p.first_day, p.days, p.zone, a.district, n.name AS section, n.feeder, a."set",
+    outagebook.fraction(a.served_seconds, p.seconds) AS customers_served,
+    outagebook.decimals(a.served_seconds, p.seconds) AS customers_served_3,
+    a.customer_seconds, a.sustained, a.momentary, a.sustained_seconds, i.*
 FROM (
-    SELECT period_id, district, section, sum(served_seconds) AS served_seconds
-    FROM outagebook.served_month GROUP BY period_id, district, section
-) AS s
-JOIN outagebook.period AS p USING (period_id)
+    SELECT period_id, district, section, "set", sum(served_seconds) AS served_seconds, sum(sustained) AS sustained,
+        sum(momentary) AS momentary, sum(sustained_seconds) AS sustained_seconds, sum(customer_seconds) AS customer_seconds
+    FROM (
+        SELECT s.period_id, s.district, s.section, k."set", s.served_seconds, 0::bigint AS sustained,
+            0::bigint AS momentary, 0::bigint AS sustained_seconds, 0::bigint AS customer_seconds
+        FROM outagebook.served_month AS s CROSS JOIN outagebook.sets AS k
+        UNION ALL
+        SELECT period_id, district, section, "set", 0, sustained, momentary, sustained_seconds, customer_seconds
+        FROM outagebook.counted
+    ) AS u GROUP BY period_id, district, section, "set"
+) AS a
 JOIN outagebook.section AS n USING (period_id, district, section)
-CROSS JOIN (VALUES ('all'), ('unmarked')) AS k ("set")
-LEFT JOIN (
-    SELECT period_id, district, section, "set", sum(sustained) AS sustained, sum(momentary) AS momentary,
-        sum(sustained_seconds) AS sustained_seconds, sum(customer_seconds) AS customer_seconds
-    FROM outagebook.counted GROUP BY period_id, district, section, "set"
-) AS t ON t.period_id = s.period_id AND t.district = s.district AND t.section = s.section AND t."set" = k."set"
-CROSS JOIN LATERAL outagebook.indices(
-    coalesce(t.sustained, 0), coalesce(t.sustained_seconds, 0), s.served_seconds, p.seconds) AS i;
+JOIN outagebook.period AS p USING (period_id)
+CROSS JOIN LATERAL outagebook.indices(a.sustained, a.sustained_seconds, a.served_seconds, p.seconds) AS i;
+
+-- Days in both sets: what was served and what fell on them, and what began on them. An interruption counts whole where it
+-- begins; customer_seconds are those that lie in the day.
+CREATE VIEW outagebook.day_counts AS
+SELECT d.period_id, d.district, d.day, k."set", d.seconds::bigint AS seconds, d.served_seconds,
+    CASE k."set" WHEN 'all' THEN d.customer_seconds ELSE d.unmarked_seconds END AS customer_seconds,
+    0::bigint AS sustained, 0::bigint AS momentary, 0::bigint AS sustained_seconds, d.engineer
+FROM outagebook.day AS d CROSS JOIN outagebook.sets AS k
+UNION ALL
+SELECT period_id, district, day, "set", 0, 0, 0, sustained, momentary, sustained_seconds, NULL
+FROM outagebook.counted;
+
+CREATE VIEW outagebook.month_counts AS
+SELECT period_id, district, date_trunc('month', day)::date AS month, "set", sum(seconds) AS seconds,
+    sum(served_seconds) AS served_seconds, sum(customer_seconds) AS customer_seconds, sum(sustained) AS sustained,
+    sum(momentary) AS momentary, sum(sustained_seconds) AS sustained_seconds
+FROM outagebook.day_counts GROUP BY 1, 2, 3, 4;
 
 CREATE VIEW outagebook.district_months AS
-SELECT p.first_day, p.days, p.zone, d.district, d.month, k."set",
-    CASE k."set" WHEN 'all' THEN d.customer_seconds ELSE d.unmarked_seconds END AS customer_seconds,
-    outagebook.fraction(d.served_seconds, d.seconds) AS customers_served,
-    outagebook.decimals(d.served_seconds, d.seconds) AS customers_served_3,
-    coalesce(t.sustained, 0) AS sustained, coalesce(t.momentary, 0) AS momentary,
-    coalesce(t.sustained_seconds, 0) AS sustained_seconds, i.*
-FROM (
-    SELECT period_id, district, date_trunc('month', day)::date AS month, sum(seconds) AS seconds,
-        sum(served_seconds) AS served_seconds, sum(customer_seconds) AS customer_seconds,
-        sum(unmarked_seconds) AS unmarked_seconds
-    FROM outagebook.day GROUP BY 1, 2, 3
-) AS d
+SELECT p.first_day, p.days, p.zone, a.district, a.month, a."set", a.customer_seconds,
+    outagebook.fraction(a.served_seconds, a.seconds) AS customers_served,
+    outagebook.decimals(a.served_seconds, a.seconds) AS customers_served_3,
+    a.sustained, a.momentary, a.sustained_seconds, i.*
+FROM outagebook.month_counts AS a
 JOIN outagebook.period AS p USING (period_id)
-CROSS JOIN (VALUES ('all'), ('unmarked')) AS k ("set")
-LEFT JOIN (
-    SELECT period_id, district, date_trunc('month', day)::date AS month, "set", sum(sustained) AS sustained,
-        sum(momentary) AS momentary, sum(sustained_seconds) AS sustained_seconds
-    FROM outagebook.counted GROUP BY 1, 2, 3, 4
-) AS t ON t.period_id = d.period_id AND t.district = d.district AND t.month = d.month AND t."set" = k."set"
-CROSS JOIN LATERAL outagebook.indices(
-    coalesce(t.sustained, 0), coalesce(t.sustained_seconds, 0), d.served_seconds, d.seconds) AS i;
+CROSS JOIN LATERAL outagebook.indices(a.sustained, a.sustained_seconds, a.served_seconds, a.seconds) AS i;
 
--- Months of all districts: an interruption counts whole in the month in which it begins; customer_seconds are those that
--- lie in the month.
+-- Months of all districts.
 CREATE VIEW outagebook.months AS
-SELECT p.first_day, p.days, p.zone, d.month, k."set", d.districts,
-    CASE k."set" WHEN 'all' THEN d.customer_seconds ELSE d.unmarked_seconds END AS customer_seconds,
-    outagebook.fraction(d.served_seconds, d.seconds) AS customers_served,
-    outagebook.decimals(d.served_seconds, d.seconds) AS customers_served_3,
-    coalesce(t.sustained, 0) AS sustained, coalesce(t.momentary, 0) AS momentary,
-    coalesce(t.sustained_seconds, 0) AS sustained_seconds, i.*
+SELECT p.first_day, p.days, p.zone, a.month, a."set", a.districts, a.customer_seconds,
+    outagebook.fraction(a.served_seconds, a.seconds) AS customers_served,
+    outagebook.decimals(a.served_seconds, a.seconds) AS customers_served_3,
+    a.sustained, a.momentary, a.sustained_seconds, i.*
 FROM (
-    SELECT e.period_id, e.month, count(*) AS districts, min(e.seconds) AS seconds,
-        sum(e.served_seconds) AS served_seconds, sum(e.customer_seconds) AS customer_seconds,
-        sum(e.unmarked_seconds) AS unmarked_seconds
-    FROM (
-        SELECT period_id, district, date_trunc('month', day)::date AS month, sum(seconds) AS seconds,
-            sum(served_seconds) AS served_seconds, sum(customer_seconds) AS customer_seconds,
-            sum(unmarked_seconds) AS unmarked_seconds
-        FROM outagebook.day GROUP BY 1, 2, 3
-    ) AS e GROUP BY e.period_id, e.month
-) AS d
-JOIN outagebook.period AS p USING (period_id)
-CROSS JOIN (VALUES ('all'), ('unmarked')) AS k ("set")
-LEFT JOIN (
-    SELECT period_id, date_trunc('month', day)::date AS month, "set", sum(sustained) AS sustained,
+    SELECT period_id, month, "set", count(*) AS districts, min(seconds) AS seconds,
+        sum(served_seconds) AS served_seconds, sum(customer_seconds) AS customer_seconds, sum(sustained) AS sustained,
         sum(momentary) AS momentary, sum(sustained_seconds) AS sustained_seconds
-    FROM outagebook.counted GROUP BY 1, 2, 3
-) AS t ON t.period_id = d.period_id AND t.month = d.month AND t."set" = k."set"
-CROSS JOIN LATERAL outagebook.indices(
-    coalesce(t.sustained, 0), coalesce(t.sustained_seconds, 0), d.served_seconds, d.seconds) AS i;
+    FROM outagebook.month_counts GROUP BY period_id, month, "set"
+) AS a
+JOIN outagebook.period AS p USING (period_id)
+CROSS JOIN LATERAL outagebook.indices(a.sustained, a.sustained_seconds, a.served_seconds, a.seconds) AS i;
 
--- The days from one to another: those of each period that lie between them, a row a period, all districts added up. As in
--- months, interruptions count where they begin, and customer_seconds in the days in which they lie.
+-- The days from one to another: those of each period that lie between them, a row a period, all districts added up.
 CREATE FUNCTION outagebook.between(from_day date, to_day date) RETURNS TABLE (
-    first_day date, days integer, zone text, since date, until date, "set" text, districts bigint, seconds bigint, customer_seconds numeric,
-    customers_served text, customers_served_3 numeric, sustained numeric, momentary numeric, sustained_seconds numeric,
-    saifi text, saifi_3 numeric, saidi text, saidi_3 numeric, caidi text, caidi_3 numeric
+    first_day date, days integer, zone text, since date, until date, "set" text, districts bigint, seconds numeric,
+    customer_seconds numeric, customers_served text, customers_served_3 numeric, sustained numeric, momentary numeric,
+    sustained_seconds numeric, saifi text, saifi_3 numeric, saidi text, saidi_3 numeric, caidi text, caidi_3 numeric
 ) LANGUAGE sql STABLE AS $$
-    SELECT p.first_day, p.days, p.zone, d.since, d.until, k."set", d.districts, d.seconds,
-        CASE k."set" WHEN 'all' THEN d.customer_seconds ELSE d.unmarked_seconds END,
-        outagebook.fraction(d.served_seconds, d.seconds), outagebook.decimals(d.served_seconds, d.seconds),
-        coalesce(t.sustained, 0), coalesce(t.momentary, 0), coalesce(t.sustained_seconds, 0), i.*
+    SELECT p.first_day, p.days, p.zone, a.since, a.until, a."set", a.districts, a.seconds, a.customer_seconds,
+        outagebook.fraction(a.served_seconds, a.seconds), outagebook.decimals(a.served_seconds, a.seconds),
+        a.sustained, a.momentary, a.sustained_seconds, i.*
     FROM (
-        SELECT e.period_id, min(e.since) AS since, max(e.until) AS until, count(*) AS districts,
+        SELECT e.period_id, e."set", min(e.since) AS since, max(e.until) AS until, count(*) AS districts,
             min(e.seconds) AS seconds, sum(e.served_seconds) AS served_seconds,
-            sum(e.customer_seconds) AS customer_seconds, sum(e.unmarked_seconds) AS unmarked_seconds
+            sum(e.customer_seconds) AS customer_seconds, sum(e.sustained) AS sustained, sum(e.momentary) AS momentary,
+            sum(e.sustained_seconds) AS sustained_seconds
         FROM (
-            SELECT period_id, district, min(day) AS since, max(day) AS until, sum(seconds) AS seconds,
-                sum(served_seconds) AS served_seconds, sum(customer_seconds) AS customer_seconds,
-                sum(unmarked_seconds) AS unmarked_seconds
-            FROM outagebook.day WHERE day BETWEEN from_day AND to_day GROUP BY period_id, district
-        ) AS e GROUP BY e.period_id
-    ) AS d
+            SELECT c.period_id, c.district, c."set", min(c.day) AS since, max(c.day) AS until, sum(c.seconds) AS seconds,
+                sum(c.served_seconds) AS served_seconds, sum(c.customer_seconds) AS customer_seconds,
+                sum(c.sustained) AS sustained, sum(c.momentary) AS momentary, sum(c.sustained_seconds) AS sustained_seconds
+            FROM outagebook.day_counts AS c WHERE c.day BETWEEN from_day AND to_day
+            GROUP BY c.period_id, c.district, c."set"
+        ) AS e GROUP BY e.period_id, e."set"
+    ) AS a
     JOIN outagebook.period AS p USING (period_id)
-    CROSS JOIN (VALUES ('all'), ('unmarked')) AS k ("set")
-    LEFT JOIN (
-        SELECT c.period_id, c."set", sum(c.sustained) AS sustained, sum(c.momentary) AS momentary,
-            sum(c.sustained_seconds) AS sustained_seconds
-        FROM outagebook.counted AS c WHERE c.day BETWEEN from_day AND to_day GROUP BY c.period_id, c."set"
-    ) AS t ON t.period_id = d.period_id AND t."set" = k."set"
-    CROSS JOIN LATERAL outagebook.indices(
-        coalesce(t.sustained, 0), coalesce(t.sustained_seconds, 0), d.served_seconds, d.seconds) AS i
+    CROSS JOIN LATERAL outagebook.indices(a.sustained, a.sustained_seconds, a.served_seconds, a.seconds) AS i
 $$;
 
 -- Causes by their names, of all districts: their parts of the company's SAIFI and SAIDI add up to it.
 CREATE VIEW outagebook.causes AS
-SELECT p.first_day, p.days, p.zone, c.name AS cause, k."set",
-    CASE k."set" WHEN 'all' THEN c.customer_seconds ELSE coalesce(t.customer_seconds, 0) END AS customer_seconds,
-    coalesce(t.sustained, 0) AS sustained, coalesce(t.momentary, 0) AS momentary,
-    coalesce(t.sustained_seconds, 0) AS sustained_seconds, i.*
+SELECT p.first_day, p.days, p.zone, a.name AS cause, a."set", a.customer_seconds, a.sustained, a.momentary,
+    a.sustained_seconds, i.*
 FROM (
-    SELECT period_id, name, sum(customer_seconds) AS customer_seconds FROM outagebook.cause GROUP BY period_id, name
-) AS c
+    SELECT period_id, name, "set", sum(sustained) AS sustained, sum(momentary) AS momentary,
+        sum(sustained_seconds) AS sustained_seconds, sum(customer_seconds) AS customer_seconds
+    FROM (
+        SELECT n.period_id, n.name, k."set", 0::bigint AS sustained, 0::bigint AS momentary,
+            0::bigint AS sustained_seconds, 0::bigint AS customer_seconds
+        FROM outagebook.cause AS n CROSS JOIN outagebook.sets AS k
+        UNION ALL
+        SELECT c.period_id, n.name, c."set", c.sustained, c.momentary, c.sustained_seconds, c.customer_seconds
+        FROM outagebook.counted AS c JOIN outagebook.cause AS n
+            ON n.period_id = c.period_id AND n.district = c.district AND n.code = c.cause
+    ) AS u GROUP BY period_id, name, "set"
+) AS a
 JOIN outagebook.period AS p USING (period_id)
 JOIN (
     SELECT period_id, sum(served_seconds) AS served_seconds FROM outagebook.book GROUP BY period_id
 ) AS b USING (period_id)
-CROSS JOIN (VALUES ('all'), ('unmarked')) AS k ("set")
-LEFT JOIN (
-    SELECT d.period_id, n.name, d."set", sum(d.sustained) AS sustained, sum(d.momentary) AS momentary,
-        sum(d.sustained_seconds) AS sustained_seconds, sum(d.customer_seconds) AS customer_seconds
-    FROM outagebook.counted AS d JOIN outagebook.cause AS n
-        ON n.period_id = d.period_id AND n.district = d.district AND n.code = d.cause
-    GROUP BY d.period_id, n.name, d."set"
-) AS t ON t.period_id = c.period_id AND t.name = c.name AND t."set" = k."set"
-CROSS JOIN LATERAL outagebook.indices(
-    coalesce(t.sustained, 0), coalesce(t.sustained_seconds, 0), b.served_seconds, p.seconds) AS i;
+CROSS JOIN LATERAL outagebook.indices(a.sustained, a.sustained_seconds, b.served_seconds, p.seconds) AS i;
 
 -- Days of all districts: what fell on each, and the standard's daily SAIDI.
 CREATE VIEW outagebook.days AS
-SELECT p.first_day, p.days, p.zone, d.day, d.customer_seconds, d.marked_in,
-    coalesce(t.sustained, 0) AS sustained, coalesce(t.sustained_seconds, 0) AS sustained_seconds,
-    outagebook.fraction(coalesce(t.sustained_seconds, 0) * p.seconds, 60 * b.served_seconds) AS daily_saidi,
-    outagebook.decimals(coalesce(t.sustained_seconds, 0) * p.seconds, 60 * b.served_seconds) AS daily_saidi_3
+SELECT p.first_day, p.days, p.zone, a.day, a.customer_seconds, a.marked_in, a.sustained, a.sustained_seconds,
+    outagebook.fraction(a.sustained_seconds * p.seconds, 60 * b.served_seconds) AS daily_saidi,
+    outagebook.decimals(a.sustained_seconds * p.seconds, 60 * b.served_seconds) AS daily_saidi_3
 FROM (
-    SELECT period_id, day, sum(customer_seconds) AS customer_seconds,
+    SELECT period_id, day, sum(customer_seconds) AS customer_seconds, sum(sustained) AS sustained,
+        sum(sustained_seconds) AS sustained_seconds,
         coalesce(array_agg(district ORDER BY district) FILTER (WHERE engineer IS NOT NULL), '{}') AS marked_in
-    FROM outagebook.day GROUP BY period_id, day
-) AS d
+    FROM outagebook.day_counts WHERE "set" = 'all' GROUP BY period_id, day
+) AS a
 JOIN outagebook.period AS p USING (period_id)
 JOIN (
     SELECT period_id, sum(served_seconds) AS served_seconds FROM outagebook.book GROUP BY period_id
-) AS b USING (period_id)
-LEFT JOIN (
-    SELECT period_id, day, sum(sustained) AS sustained, sum(sustained_seconds) AS sustained_seconds
-    FROM outagebook.counted WHERE "set" = 'all' GROUP BY period_id, day
-) AS t USING (period_id, day);
+) AS b USING (period_id);
