@@ -48,13 +48,13 @@ module _ {S R : Type 0} (g : Ghosts S) (h : Ghosts R) (settles : Settles g) (set
   finds_none : (state g old.conn).may_leave (trees_in h next.conn) → IsErr found
   finds_none may =
       let same : trees_in h next.conn ≡ (state g old.conn).now.trees =
-          settles old.conn held.live (trees_in h next.conn) may ∙ ap (λ d. d.trees) (sym held.committed) in
+      settles old.conn held.live (trees_in h next.conn) may ∙ ap (λ d. d.trees) (sym held.committed) in
       let sound = subst (λ trees. IsSound old.conn.schema trees) (sym same) (held.whole held.live).0 in
       let empty = one_schema next.conn.schema old.conn.schema (trees_in h next.conn) (it.opens.live it.opens.opens.is_open).0 sound ∙ held.schema in
       is_missed found (loads.answers.empty clean empty)
 
   unchanged : Stays (state g old.conn) (state g made.conn) → (state g old.conn).may_leave (trees_in h next.conn)
-  unchanged stays = elim (stays.survives.crash it.opens.clean (trees_in h next.conn) it.opens.left) [ | inl may ↦ may | inr never ↦ absurd never ]
+  unchanged stays = elim (stays.survives.crash it.opens.clean (trees_in h next.conn) it.opens.left) [ inl may ↦ may | inr never ↦ absurd never ]
 
   pub begun : (first : List ℕ) (days : ℕ) (zone : List ℕ) (r : Result ⊤ Stop) → Created g old made first days zone r → Begun h first days zone r new found
   begun first days zone (Ok done) created =
@@ -78,11 +78,14 @@ module _ {S R : Type 0} (g : Ghosts S) (h : Ghosts R) (settles : Settles g) (set
   begun first days zone (Err (Refused BadLife)) created = absurd created
   begun first days zone (Err (Refused (OldVersion version))) created = absurd created
   begun first days zone (Err (Fault OutOfMemory)) created = finds_none (unchanged created.0.stays)
-  begun first days zone (Err (Fault Store)) created =
-      (created.0.0, created.0.1, elim (created.0.4.left it.opens.clean (trees_in h next.conn) it.opens.left) [
-        | inl may ↦ inr (finds_none may)
-        | inr begins ↦ inl (finds_left created.0.0 created.0.2 begins.2)
-      ])
+  begun first days zone (Err (Fault Store)) created = (
+    created.0.0,
+    created.0.1,
+    elim (created.0.4.left it.opens.clean (trees_in h next.conn) it.opens.left) [
+      | inl may ↦ inr (finds_none may)
+      | inr begins ↦ inl (finds_left created.0.0 created.0.2 begins.2)
+    ],
+  )
   begun first days zone (Err (Fault Reopen)) created = absurd created
   begun first days zone (Err (Fault Input)) created = absurd created
   begun first days zone (Err (Fault Output)) created = absurd created

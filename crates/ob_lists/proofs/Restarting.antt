@@ -24,9 +24,6 @@ abbrev pub Settles : {R : Type 0} → Ghosts R → Type 0
 Settles {R} h = (conn : Held R) → IsTrue (state h conn).is_open → (trees : Trees) → (state h conn).may_leave trees → trees ≡ (state h conn).committed.trees
 
 module _ {S R : Type 0} (g : Ghosts S) (h : Ghosts R) (settles : Settles h) (old : KeeperValue S) (new : KeeperValue R) (it : Restarts g h old new) where
-
-
-
   -- the tables that the crash left are kept
   pub kept_in : (v : Version) (t : Tables) → LeavesIn v t (trees_in h new.conn) → KeepsIn v (state h new.conn) t
   kept_in v t leaves = record {

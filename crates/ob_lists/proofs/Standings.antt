@@ -144,9 +144,9 @@ module _ {S : Type 0} (g : Ghosts S) (old new : KeeperValue S) where
     load_fault : (f : AFault) → IsLoadFault (Fault f) → LoadsOne g Is old new (Err (Fault f))
     load_fault OutOfMemory may = tt
     load_fault Store may = tt
-    load_fault Reopen may = elim may [ | inl read ↦ elim read [ | inl store ↦ elim store [ | inl e ↦ absurd cc | inr e ↦ absurd cc ] | inr e ↦ absurd cc ] | inr e ↦ absurd cc ]
-    load_fault Input may = elim may [ | inl read ↦ elim read [ | inl store ↦ elim store [ | inl e ↦ absurd cc | inr e ↦ absurd cc ] | inr e ↦ absurd cc ] | inr e ↦ absurd cc ]
-    load_fault Output may = elim may [ | inl read ↦ elim read [ | inl store ↦ elim store [ | inl e ↦ absurd cc | inr e ↦ absurd cc ] | inr e ↦ absurd cc ] | inr e ↦ absurd cc ]
+    load_fault Reopen may = elim may [ inl read ↦ elim read [ inl store ↦ elim store [ inl e ↦ absurd cc | inr e ↦ absurd cc ] | inr e ↦ absurd cc ] | inr e ↦ absurd cc ]
+    load_fault Input may = elim may [ inl read ↦ elim read [ inl store ↦ elim store [ inl e ↦ absurd cc | inr e ↦ absurd cc ] | inr e ↦ absurd cc ] | inr e ↦ absurd cc ]
+    load_fault Output may = elim may [ inl read ↦ elim read [ inl store ↦ elim store [ inl e ↦ absurd cc | inr e ↦ absurd cc ] | inr e ↦ absurd cc ] | inr e ↦ absurd cc ]
 
     pub loads_one : LoadLaw g → (r : Result ⊤ Stop) → Loads g old new r → HasCleanDisk (state g new.conn) → Stands g Is old → LoadsOne g Is old new r
     loads_one law (Ok done) loads clean stands = load_found law loads clean stands

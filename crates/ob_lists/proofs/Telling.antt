@@ -44,7 +44,7 @@ holds_repeated : (b : ActState) (a : Referenced) (place : ℕ) → position (λ 
     → is_repeat b (place + 1) a.command ≡ true → Holds b a
 holds_repeated b a place found again =
     let same : option_map_or (λ (c : Referenced). is_same c.command a.command) (slice_get b.accepted place) false ≡ true =
-        subst (λ n. option_map_or (λ (c : Referenced). is_same c.command a.command) (slice_get b.accepted n) false ≡ true) (omega (arith)) again in
+    subst (λ n. option_map_or (λ (c : Referenced). is_same c.command a.command) (slice_get b.accepted n) false ≡ true) (omega (arith)) again in
     let it = item_at b.accepted place (λ (c : Referenced). is_same c.command a.command) same in
     let under = position-Some (λ (c : Referenced). bytes_eq c.reference a.reference) b.accepted place a found in
     (it.0, it.1, (bytes_eq-Decides it.0.reference a.reference).0 (subst (λ (c : Referenced). bytes_eq c.reference a.reference ≡ true) (it.3 a) under.1), it.2)
@@ -60,17 +60,17 @@ holds_again : (b : ActState) (a : Referenced) (place : ℕ) (reply : Reply) → 
     → answer_again b a.command (place + 1) ≡ Ok reply → Holds b a
 holds_again b a place reply found = elim (is_repeat b (place + 1) a.command) as (λ t. is_repeat b (place + 1) a.command ≡ t
     → (if t then Ok (reply_of b (place + 1)) else Err (RefConflict (place + 1))) ≡ Ok reply → Holds b a) [
-  | true ↦ λ again answered. holds_repeated b a place found again
-  | false ↦ λ again answered. absurd cc
-] refl
+      | true ↦ λ again answered. holds_repeated b a place found again
+      | false ↦ λ again answered. absurd cc
+    ] refl
 
 holds_answered : (b : ActState) (a : Referenced) → IsAnswered b a → Holds (act b a) a
 holds_answered b a (reply, answered) = elim (position (λ c. bytes_eq c.reference a.reference) b.accepted) as (λ o.
     position (λ c. bytes_eq c.reference a.reference) b.accepted ≡ o → answer_under b a (option_map (λ place. place + 1) o) ≡ Ok reply
     → Holds (if is_none (option_map (λ place. place + 1) o) && is_none (refusal b.book a.command) then take_on b a else b) a) [
-  | None ↦ λ found answered. holds_new b a (refusal b.book a.command) reply answered
-  | Some place ↦ λ found answered. holds_again b a place reply found answered
-] refl answered
+      | None ↦ λ found answered. holds_new b a (refusal b.book a.command) reply answered
+      | Some place ↦ λ found answered. holds_again b a place reply found answered
+    ] refl answered
 
 -- ---- what was told
 abbrev told_of : Told → Referenced

@@ -44,7 +44,10 @@ pub fn audit<S: Alter, T: Timeline>(keeper: &mut Keeper<S, T>) -> Result<Option<
 }
 
 /// Asks for a stored reply.
-pub fn reply_of<S: Alter, T: Timeline>(keeper: &mut Keeper<S, T>, no: u32) -> Result<Option<Reply>, Stop>
+pub fn reply_of<S: Alter, T: Timeline>(
+    keeper: &mut Keeper<S, T>,
+    no: u32,
+) -> Result<Option<Reply>, Stop>
     ensures { Goes S.Store S.Store [] keeper.old keeper.new }
 {
     keeper.reply_of(no)

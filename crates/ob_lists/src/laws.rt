@@ -14,11 +14,9 @@ pub fn restart_law<S: Alter, R: Alter>()
 /// One list of calls after another is a list of calls.
 pub fn join_law<S: Alter, M: Alter, R: Alter>()
     ensures { JoinLaw S.Store M.Store R.Store }
-{
-}
+{}
 
 /// Whatever book there may be once a list of calls was answered, each command that was acknowledged is in it.
 pub fn told_law()
     ensures { ToldLaw }
-{
-}
+{}

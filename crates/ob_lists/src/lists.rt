@@ -96,7 +96,9 @@ pub fn migrate_restart_migrate_load<S: Alter, R: Alter, T: Timeline, C: Restart<
 }
 
 /// A migration, a load and an audit: the audit ends as it may, and the book stands.
-pub fn migrate_load_audit<S: Alter, T: Timeline>(keeper: &mut Keeper<S, T>) -> Result<Option<Table>, Stop>
+pub fn migrate_load_audit<S: Alter, T: Timeline>(
+    keeper: &mut Keeper<S, T>,
+) -> Result<Option<Table>, Stop>
     ensures { HasCleanDisk (state S.Store keeper.new.conn) → (b : ActState) (told : List Told)
         → Stands S.Store (MayBe b told) keeper.old
         → Stands S.Store (MayBe b told) keeper.new }

@@ -15,4 +15,4 @@ returns-clause-goes g c =
 pub returns-clause-refused : goal.returns-clause-refused
 returns-clause-refused g c =
     λ clean b told stands. create_refused g.S.Store c.args.keeper.now c.create.new.self (MayBe b told) c.args.first.now c.args.days c.args.zone.now c.create.result c.create.ensures.created clean
-        (c.create.ensures.clean clean) stands
+    (c.create.ensures.clean clean) stands
