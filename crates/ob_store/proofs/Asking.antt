@@ -1,6 +1,6 @@
 -- A store that is asked keeps on what it kept, and what it answers comes of an open one.
 use Rattle.std.proofs.Common.{◌≡◌, ◌≢◌, ◌⊎◌, inl, inr, [], Result, Ok, Err, IsTrue, refl, sym, ap, subst, ◌∙◌}
-use Rattle.std.specs.Prelude.{⊤}
+use Rattle.std.specs.Prelude.{⊤, OnOk}
 use Rattle.sqlite_trees.specs.declared.store.Store.{Ghosts}
 use Rattle.sqlite.specs.Tree.{Trees}
 use Rattle.sqlite.specs.Schema.{Schema}
@@ -36,10 +36,16 @@ use Rattle.ob_parts.specs.OldTables.{old_tables_of}
 use Rattle.ob_store.specs.Differing.{NoneSo}
 use Rattle.ob_store.specs.Finding.{Finds}
 use Rattle.ob_store.specs.Keeping.{Answers, IsAnswer}
+use Rattle.ob_store.specs.Shapes.{IsShapeOf}
 use Rattle.ob_store.specs.Versions.{AnyTrees, Asks, Looks, Tells}
 use Rattle.ob_store.proofs.Handing.{spared_unread}
 use Rattle.ob_store.proofs.Reading.{if_err, if_ok, no_more, on_ok}
 use Rattle.ob_store.proofs.Telling.{unversioned}
+
+-- ---- what holds is so of each answer
+pub whatever : {X : Type 0} {P : Type 0} (r : Result X Stop) → P → OnOk r P
+whatever (Ok x) p = p
+whatever (Err stop) p = tt
 
 -- ---- a refusal is one whatever is answered
 pub refused_as : (X Y : Type 0) (stop : Stop) → IsAnswer {X = X} (Err stop) → IsAnswer {X = Y} (Err stop)
@@ -229,8 +235,8 @@ module _ {S : Type 0} (g : Ghosts S) where
     }
 
   -- ---- what was kept of tables was kept of books
-  pub answers : {X : Type 0} (old new : Held S) (r : Result X Stop) → Asks g old new r → Answers g old new r
-  answers old new r it = record {
+  pub answers : {X : Type 0} (old new : Held S) (r : Result X Stop) → Asks g old new r → (HasCleanDisk (state g new) → OnOk r (IsShapeOf Two old.schema)) → Answers g old new r
+  answers old new r it shape = record {
     live = it.live;
     keeps = record {
       book = λ b k. record { kept = it.kept Two (tables_of b) k.kept; reached = k.reached; valid = k.valid };
@@ -248,17 +254,19 @@ module _ {S : Type 0} (g : Ghosts S) where
       either = λ b c k. record { kept = it.first clean answer Two (tables_of b) (tables_of c) k.kept; reached = k.reached; valid = k.valid };
       version = λ b k. record { kept = it.first clean answer One (old_tables_of b) (tables_of b) k.kept; reached = k.reached; valid = k.valid };
     };
+    shape = shape;
     empty = it.empty;
   }
 
   -- the same of what a keeper answers then
   pub answers_ok : {X Y : Type 0} (old new : Held S) (x : X) (y : Y) → Answers g old new (Ok x) → Answers g old new (Ok y)
-  answers_ok old new x y it = record { live = it.live; keeps = it.keeps; first = it.first; empty = it.empty }
+  answers_ok old new x y it = record { live = it.live; keeps = it.keeps; first = it.first; shape = it.shape; empty = it.empty }
 
   pub answers_err : {X Y : Type 0} (old new : Held S) (stop : Stop) → Answers g {X = X} old new (Err stop) → Answers g {X = Y} old new (Err stop)
   answers_err {X} {Y} old new stop it = record {
     live = λ clean answer. it.live clean (refused_as Y X stop answer);
     keeps = it.keeps;
     first = λ clean answer. it.first clean (refused_as Y X stop answer);
+    shape = λ clean. tt;
     empty = it.empty;
   }

@@ -1,6 +1,6 @@
 -- What a migration leaves of what the store kept.
-use Rattle.std.proofs.Common.{◌≡◌, ◌≢◌, inl, inr, Bool, false, Result, Ok, Err, IsTrue, subst}
-use Rattle.std.specs.Prelude.{IfErr}
+use Rattle.std.proofs.Common.{◌≡◌, ◌≢◌, inl, inr, Bool, true, false, true≢false, Result, Ok, Err, IsTrue, sym, subst}
+use Rattle.std.specs.Prelude.{IfOk, IfErr}
 use Rattle.sqlite_trees.specs.declared.store.Store.{Ghosts}
 use Rattle.sqlite.specs.Held.{Held, state}
 use Rattle.sqlite.specs.State.{HasCleanDisk}
@@ -17,6 +17,7 @@ use Rattle.ob_parts.specs.OldTables.{old_tables_of}
 use Rattle.ob_store.specs.Finding.{Finds}
 use Rattle.ob_store.specs.Keeping.{KeepsBook, KeepsEitherBook, KeepsEitherVersion, KeepsOldBook}
 use Rattle.ob_store.specs.Migrating.{MigratesKept, MigratesOn}
+use Rattle.ob_store.specs.Shapes.{IsShapeOf}
 use Rattle.ob_store.specs.Upgrading.{IsTold, IsUntold, Migrates}
 use Rattle.ob_store.specs.Versions.{Asks}
 use Rattle.ob_store.proofs.Upgrading.{as_either}
@@ -24,9 +25,10 @@ use Rattle.ob_store.proofs.Upgrading.{as_either}
 module _ {S : Type 0} (g : Ghosts S) where
   -- the store was asked alone
   module _ (old new : Held S) where
-    pub on_ok : (is told : Bool) → Asks g {X = Bool} old new (Ok told) → MigratesOn g old new (Ok is)
-    on_ok is told it = record {
+    pub on_ok : (told : Bool) → Asks g {X = Bool} old new (Ok told) → MigratesOn g old new (Ok false)
+    on_ok told it = record {
       live = λ clean answer. it.live clean tt;
+      shape = λ clean so. absurd (true≢false (sym so));
       book = λ b k. record { kept = it.kept Two (tables_of b) k.kept; reached = k.reached; valid = k.valid };
       either = λ b c k. record {
         kept = it.either Two (tables_of b) (tables_of c) k.kept;
@@ -42,6 +44,7 @@ module _ {S : Type 0} (g : Ghosts S) where
     pub on_err : (stop : Stop) → Asks g {X = Bool} old new (Err stop) → MigratesOn g old new (Err stop)
     on_err stop it = record {
       live = it.live;
+      shape = λ clean. tt;
       book = λ b k. record { kept = it.kept Two (tables_of b) k.kept; reached = k.reached; valid = k.valid };
       either = λ b c k. record {
         kept = it.either Two (tables_of b) (tables_of c) k.kept;
@@ -61,7 +64,8 @@ module _ {S : Type 0} (g : Ghosts S) where
   -- the tables were read, and perhaps written
   module _ (old new : Held S) (r : Result Bool Stop) (opened : HasCleanDisk (state g new) → IsTrue (state g old).is_open)
       (first : IsTrue (state g old).is_open → (v : Version) (t u : Tables) → KeepsEitherIn v (state g old) t u → KeepsIn v (state g old) t) (other : HasCleanDisk (state g new) → old.schema ≡ book_schema → ⊥)
-      (filled : HasCleanDisk (state g new) → old.schema ≢ no_schema) (it : Migrates g old new r) where
+      (filled : HasCleanDisk (state g new) → old.schema ≢ no_schema)
+      (shape : HasCleanDisk (state g new) → IfOk r (λ done. IsTrue done → IsShapeOf One old.schema)) (it : Migrates g old new r) where
     not_now : HasCleanDisk (state g new) → (b c : ActState) → KeepsEitherBook (state g old) b c → ⊥
     not_now clean b c k = other clean (k.kept.settled (it.clean clean) (opened clean)).schema
 
@@ -86,6 +90,7 @@ module _ {S : Type 0} (g : Ghosts S) where
     pub on_more : MigratesOn g old new r
     on_more = record {
       live = λ clean answer. opened clean;
+      shape = shape;
       book = λ b k. record {
         kept = record { settled = λ clean live. absurd (no_book clean b k); left = λ clean trees may. absurd (no_book clean b k) };
         reached = k.reached;

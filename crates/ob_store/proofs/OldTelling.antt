@@ -20,7 +20,7 @@ use Rattle.ob_compare.specs.Reading.{IsReadFault, bad_book}
 use Rattle.ob_compare.specs.Version.{HasVersion, IsOfBook}
 use Rattle.ob_store.specs.Differing.{NoneSo}
 use Rattle.ob_store.specs.Finding.{Finds}
-use Rattle.ob_store.specs.Migrating.{IsOldShape}
+use Rattle.ob_store.specs.Shapes.{IsShapeOf}
 use Rattle.ob_store.specs.Upgrading.{IsTold, IsUntold}
 use Rattle.ob_store.specs.Versions.{Looks}
 use Rattle.ob_store.proofs.Asking.{looked_kept}
@@ -39,22 +39,22 @@ untold One trees two one = (two, one)
 untold Two trees two one = two
 
 -- the schema of version 1 has its shape, and that of version 2 hasn't
-shape_old : IsOldShape old_schema
+shape_old : IsShapeOf One old_schema
 unfolding everything
 shape_old = (refl, refl, refl)
 
-shape_now : IsOldShape book_schema → ⊥
+shape_now : IsShapeOf One book_schema → ⊥
 unfolding everything
 shape_now shape = absurd (let n : ◌≡◌ {A = ℕ} 11 10 = ap length shape.0 in omega (arith, n))
 
 -- with another shape the tables aren't those of version 1, and with this one they aren't those of version 2
-untold_there : (v : Version) (schema : Schema) → schema ≡ schema_of v → ¬ (IsOldShape schema) → (trees : Trees) → ¬ (HasVersion 2 trees) → IsUntold v trees
-untold_there One schema is other trees two = absurd (other (subst IsOldShape (sym is) shape_old))
+untold_there : (v : Version) (schema : Schema) → schema ≡ schema_of v → ¬ (IsShapeOf One schema) → (trees : Trees) → ¬ (HasVersion 2 trees) → IsUntold v trees
+untold_there One schema is other trees two = absurd (other (subst (IsShapeOf One) (sym is) shape_old))
 untold_there Two schema is other trees two = two
 
-told_old : (v : Version) (schema : Schema) → schema ≡ schema_of v → IsOldShape schema → (trees : Trees) → ¬ (HasVersion 2 trees) → IsTold v trees false
+told_old : (v : Version) (schema : Schema) → schema ≡ schema_of v → IsShapeOf One schema → (trees : Trees) → ¬ (HasVersion 2 trees) → IsTold v trees false
 told_old One schema is shape trees two = two
-told_old Two schema is shape trees two = absurd (shape_now (subst IsOldShape is shape))
+told_old Two schema is shape trees two = absurd (shape_now (subst (IsShapeOf One) is shape))
 
 module _ {S : Type 0} (g : Ghosts S) where
   -- ---- one version was looked for
@@ -106,7 +106,7 @@ module _ {S : Type 0} (g : Ghosts S) where
       told_other one not_one second =
           then_bad g v Both Neither (IsTold v) (IsUntold v) old new one (both (Ok one) second) (λ trees so. untold v trees (not_two trees so.0) (λ has. true≢false (sym (so.1.1 has) ∙ not_one)))
 
-      module _ (one : Bool) (second : Finds g v (Decides 1) NoneSo mid new (Ok one)) (is_old : Bool) (shape : IsTrue is_old ↔ IsOldShape old.schema) where
+      module _ (one : Bool) (second : Finds g v (Decides 1) NoneSo mid new (Ok one)) (is_old : Bool) (shape : IsTrue is_old ↔ IsShapeOf One old.schema) where
         read : Finds g v Both Neither old new (Ok one)
         read = both (Ok one) second
 
@@ -147,5 +147,5 @@ module _ {S : Type 0} (g : Ghosts S) where
       find_as g v (λ trees z. ⊤ × IsTold v trees z) (IsTold v) (λ trees. ⊤ × IsUntold v trees) (IsUntold v) old new r (λ trees x found. found.1) (λ trees none. none.1)
       (then_more g v (λ trees (done : ⊤). ⊤) NoneSo (IsTold v) (IsUntold v) old mid new tt r first it)
 
-  pub looked_shape : (old mid : Held S) → Looks g old mid (Ok tt) → HasCleanDisk (state g mid) → IsOldShape mid.schema → IsOldShape old.schema
-  looked_shape old mid look clean shape = subst IsOldShape (ap (λ (d : Database). d.schema) (look.same clean tt).0.now_is) shape
+  pub looked_shape : (v : Version) (old mid : Held S) → Looks g old mid (Ok tt) → HasCleanDisk (state g mid) → IsShapeOf v mid.schema → IsShapeOf v old.schema
+  looked_shape v old mid look clean shape = subst (IsShapeOf v) (ap (λ (d : Database). d.schema) (look.same clean tt).0.now_is) shape

@@ -1,7 +1,6 @@
 -- The version of a book, and then its tables.
-use Rattle.std.proofs.Common.{◌≡◌, ◌≢◌, ◌⊎◌, inl, inr, Bool, true, false, true≢false, IsTrue, is_some, Result, Ok, Err, refl, sym, ap, subst, ◌∙◌}
-use Rattle.std.specs.Prelude.{codes, IfErr}
-use Rattle.sqlite_schema.specs.Names.{table_named}
+use Rattle.std.proofs.Common.{◌≡◌, ◌≢◌, ◌⊎◌, inl, inr, ℕ, length, Bool, true, false, true≢false, IsTrue, Result, Ok, Err, refl, sym, ap, subst, ◌∙◌, arith}
+use Rattle.std.specs.Prelude.{◌↔◌, IfErr}
 use Rattle.sqlite_tied.specs.Compute.{everything}
 use Rattle.sqlite_trees.specs.declared.store.Store.{Ghosts}
 use Rattle.sqlite.specs.Tree.{Trees}
@@ -24,20 +23,18 @@ use Rattle.ob_tables.specs.declared.version.Version.TheVariants.{Two}
 use Rattle.ob_compare.proofs.Listing.{still_then}
 use Rattle.ob_store.specs.Finding.{Finds}
 use Rattle.ob_store.specs.Differing.{NoneSo}
+use Rattle.ob_store.specs.Shapes.{IsShapeOf}
 use Rattle.ob_store.specs.Versions.{AnyTrees, Tells, old_version}
 use Rattle.ob_store.proofs.Reading.{if_err, if_ok, on_ok}
 
--- ---- the schema tells whether there is a table of lives
-abbrev pub has_lives : Schema → Bool
-has_lives schema = is_some (table_named schema (codes "life"))
-
-pub lives_now : has_lives book_schema ≡ true
+-- ---- the tables of version 2 have their names, and those of version 1 haven't
+pub now_shape : IsShapeOf Two book_schema
 unfolding everything
-lives_now = refl
+now_shape = (refl, refl, refl)
 
-pub no_lives : has_lives old_schema ≡ false
+pub no_old_shape : IsShapeOf Two old_schema → ⊥
 unfolding everything
-no_lives = refl
+no_old_shape shape = absurd (let n : ◌≡◌ {A = ℕ} 10 11 = ap length shape.0 in omega (arith, n))
 
 -- ---- one stop is no other
 read_alone : (stop : Stop) → IsReadFault stop → stop ≢ old_version
@@ -91,16 +88,13 @@ module _ {S : Type 0} (g : Ghosts S) where
         lacking = λ c bad has. absurd (bad_alone (sym bad));
       }
 
-      module _ (other : is ≡ false) (lives : Bool) (tells : lives ≡ is_some (table_named (state g new).now.schema (codes "life"))) where
+      module _ (other : is ≡ false) (is_book : Bool) (shape : IsTrue is_book ↔ IsShapeOf Two old.schema) where
         none : HasCleanDisk (state g new) → IsOfBook old.schema → ¬ (HasVersion 1 (state g old).now.trees)
         none c of has = true≢false (sym ((version c of).1 has) ∙ other)
 
-        at : HasCleanDisk (state g new) → IsOfBook old.schema → lives ≡ has_lives old.schema
-        at c of = tells ∙ ap (λ (d : Database). has_lives d.schema) (same c of).0.now_is
-
-        -- it isn't, and there is a table of lives
-        pub current : lives ≡ true → Tells g AnyTrees NoneSo old new (Ok tt)
-        current there = record {
+        -- it isn't, and the tables have the names of those of version 2
+        pub current : is_book ≡ true → Tells g AnyTrees NoneSo old new (Ok tt)
+        current so = record {
           mode = mode;
           clean = clean;
           survives = survives;
@@ -111,13 +105,13 @@ module _ {S : Type 0} (g : Ghosts S) where
           good = λ c has. (none c (inl has), tt);
           bad = λ c. tt;
           outdated = λ c. tt;
-          never = λ c has. true≢false (sym there ∙ at c (inr has) ∙ ap has_lives has ∙ no_lives);
+          never = λ c has. no_old_shape (subst (IsShapeOf Two) has (shape.0 so));
           lacking = λ c. tt;
         }
 
-        -- it isn't, and there is none
-        pub lacks : lives ≡ false → Tells g AnyTrees NoneSo old new (Err bad_book)
-        lacks missing = record {
+        -- it isn't, and they haven't
+        pub lacks : is_book ≡ false → Tells g AnyTrees NoneSo old new (Err bad_book)
+        lacks off = record {
           mode = mode;
           clean = clean;
           survives = survives;
@@ -126,7 +120,7 @@ module _ {S : Type 0} (g : Ghosts S) where
           same = λ c. tt;
           same_bad = λ c stop of. (same c of).0.now_is;
           good = λ c. tt;
-          bad = λ c stop has. absurd (true≢false (sym (at c (inl has) ∙ ap has_lives has ∙ lives_now) ∙ missing));
+          bad = λ c stop has. absurd (true≢false (sym (shape.1 (subst (IsShapeOf Two) (sym has) now_shape)) ∙ off));
           outdated = λ c stop of. absurd (bad_alone stop);
           never = λ c. tt;
           lacking = λ c stop has. none c (inr has);

@@ -1,5 +1,5 @@
 -- What is left of the tables of version 1 once they were to be made those of version 2.
-use Rattle.std.proofs.Common.{◌≡◌, ◌⊎◌, inl, inr, ℕ, [], ◌∷◌, Bool, true, false, true≢false, Result, Ok, Err, IsTrue, sym, ap, subst, ◌∙◌, arith}
+use Rattle.std.proofs.Common.{◌≡◌, ◌⊎◌, inl, inr, ℕ, [], ◌∷◌, Bool, true, false, Result, Ok, Err, IsTrue, sym, ap, subst, ◌∙◌, arith}
 use Rattle.std.specs.Prelude.{⊤, IfErr, OnOk}
 use Rattle.std.proofs.lemmas.List.Sorted.{IsPermutation-sym, IsPermutation-trans}
 use Rattle.sqlite_trees.specs.declared.store.Store.{Ghosts}
@@ -33,13 +33,14 @@ use Rattle.ob_parts.specs.OldTables.{HasOldBook, old_tables_of}
 use Rattle.ob_store.specs.declared.migrating.Upgrade.{Upgrade}
 use Rattle.ob_store.specs.Finding.{Finds, OnlyReads}
 use Rattle.ob_store.specs.Keeping.{KeepsBook}
-use Rattle.ob_store.specs.Migrating.{HoldsNoOldBook, IsOldShape, KeepsEitherVersion, KeepsOldBook, LeavesKept, LeftAsItWas, Migrated, MigratesKept, OnlyReadsOld, StaysOrUpgrades}
+use Rattle.ob_store.specs.Migrating.{HoldsNoOldBook, KeepsEitherVersion, KeepsOldBook, LeavesKept, LeftAsItWas, Migrated, MigratesKept, OnlyReadsOld, StaysOrUpgrades}
+use Rattle.ob_store.specs.Shapes.{IsShapeOf}
 use Rattle.ob_store.specs.Upgrading.{IsTold, IsUntold, IsUpgradeOf, LeavesWritten, Migrates, Upgradable, Upgraded}
 use Rattle.ob_store.proofs.Accepting.{keeps_as, leaves_as}
 use Rattle.ob_store.proofs.Crashing.{one_schema}
 use Rattle.ob_store.proofs.OldBooks.{has_one}
 use Rattle.ob_store.proofs.Reading.{fails, no_more, then_more}
-use Rattle.ob_store.proofs.Telling.{has_lives, lives_now, no_lives}
+use Rattle.ob_store.proofs.Telling.{no_old_shape, now_shape}
 
 -- ---- the tables that a store shows outside a transaction it keeps
 pub keeps_old : (s : State) (t : Tables) → IsTrue s.is_open → IsLive s → (IsTrue s.is_open → s.now ≡ s.committed) → (IsTrue s.is_open → (trees : Trees) → s.may_leave trees → trees ≡ s.committed.trees) → s.now.schema ≡ old_schema
@@ -72,7 +73,7 @@ survives_as old new P Q f s = record {
 not_both : (trees : Trees) (t u : Tables) → LeavesIn One t trees → Leaves u trees → ⊥
 not_both trees t u one two =
     let same : book_schema ≡ old_schema = one_schema book_schema old_schema trees two.sound one.sound in
-    true≢false (sym lives_now ∙ ap has_lives same ∙ no_lives)
+    no_old_shape (subst (IsShapeOf Two) same now_shape)
 
 -- a heading tells one version
 two_rows : (row other : Columns) → row ∷ [] ≡ other ∷ [] → column row 1 ≡ number 1 → column other 1 ≡ number 2 → ⊥
@@ -296,7 +297,7 @@ module _ {S : Type 0} (g : Ghosts S) where
         no_more_read = no_more (state g old) (state g end) read.survives (clean_then clean)
 
       -- a crash leaves the tables of version 2 of no book but the one that was found
-      kept_leaves : (HasCleanDisk (state g mid) → IsTrue (state g old).is_open) → (HasCleanDisk (state g mid) → IsOldShape old.schema) → HasCleanDisk (state g new) → (trees : Trees) → LeavesWritten g end up trees → LeavesKept (state g old) trees
+      kept_leaves : (HasCleanDisk (state g mid) → IsTrue (state g old).is_open) → (HasCleanDisk (state g mid) → IsShapeOf One old.schema) → HasCleanDisk (state g new) → (trees : Trees) → LeavesWritten g end up trees → LeavesKept (state g old) trees
       kept_leaves opened shape clean trees leaves =
           let early = second.clean (clean_then clean) in (
             opened early,
@@ -311,7 +312,7 @@ module _ {S : Type 0} (g : Ghosts S) where
                 ),
           )
 
-      all_survives : (HasCleanDisk (state g mid) → IsTrue (state g old).is_open) → (HasCleanDisk (state g mid) → IsOldShape old.schema) → Survives (state g old) (state g new) (LeavesKept (state g old))
+      all_survives : (HasCleanDisk (state g mid) → IsTrue (state g old).is_open) → (HasCleanDisk (state g mid) → IsShapeOf One old.schema) → Survives (state g old) (state g new) (LeavesKept (state g old))
       all_survives opened shape =
           survives_then (state g old) (state g end) (state g new) _ _ (LeavesKept (state g old)) (λ _ db none. absurd none) (λ clean db leaves. kept_leaves opened shape clean db leaves) read.survives survives
 
@@ -326,7 +327,7 @@ module _ {S : Type 0} (g : Ghosts S) where
 
   module _ (old mid : Held S) (is : Bool) (other : is ≡ false) (told : (v : Version) → Finds g v (IsTold v) (IsUntold v) old mid (Ok is)) (end : Held S) (up : Upgrade) (second : Finds g One Upgradable HoldsNoOldBook mid end (Ok up))
       (new : Held S) (clean_then : HasCleanDisk (state g new) → HasCleanDisk (state g end)) (survives : Survives (state g end) (state g new) (LeavesWritten g end up))
-      (opened : HasCleanDisk (state g mid) → IsTrue (state g old).is_open) (shape : HasCleanDisk (state g mid) → IsOldShape old.schema) where
+      (opened : HasCleanDisk (state g mid) → IsTrue (state g old).is_open) (shape : HasCleanDisk (state g mid) → IsShapeOf One old.schema) where
     abbrev UpgradesTo : Result ⊤ Stop → Type 0
     UpgradesTo r = HasCleanDisk (state g new) → IsTrue (state g end).is_open → end.schema ≡ old_schema → (b : ActState) → HasOldBook (state g end).now.trees b → AreApart ((state g end).now.trees 14) → IsUpgradeOf b up → Upgraded g end new b r
 

@@ -1,5 +1,5 @@
 -- What a store keeps of a book, and how a keeper is tied to it.
-use Rattle.std.specs.Prelude.{◌≡◌, ⊤, Option, None, IfSome, Result, Ok, Err, IsTrue, refl}
+use Rattle.std.specs.Prelude.{◌≡◌, ⊤, Option, None, IfSome, Result, Ok, Err, IsTrue, OnOk, refl}
 use Rattle.std.specs.List.{AllByRecursion}
 use Rattle.std.specs.Coded.{Coded, code_by, coded×, coded_option}
 use Rattle.sqlite_trees.specs.declared.store.Store.{Ghosts}
@@ -11,7 +11,7 @@ use Rattle.ob_base.specs.declared.stop.Fault.TheVariants.{Store}
 use Rattle.ob_state.specs.State.{BookState}
 use Rattle.ob_book.specs.Acts.{ActState}
 use Rattle.ob_tables.specs.Schema.{no_schema}
-use Rattle.ob_tables.specs.declared.version.Version.TheVariants.{One}
+use Rattle.ob_tables.specs.declared.version.Version.TheVariants.{One, Two}
 use Rattle.ob_commit.specs.Keeps.{Keeps, KeepsEither, KeepsIn}
 use Rattle.ob_commit.specs.Upgrade.{KeepsOldOr}
 use Rattle.ob_compare.specs.Reading.{IsMissed}
@@ -19,6 +19,7 @@ use Rattle.ob_record.specs.Tables.{tables_of}
 use Rattle.ob_record.specs.Naming.{IsReferenced}
 use Rattle.ob_record.specs.Reached.{IsReached}
 use Rattle.ob_parts.specs.OldTables.{IsOldReached, old_tables_of}
+use Rattle.ob_store.specs.Shapes.{IsShapeOf}
 
 -- the store keeps the tables of a book and its accepted commands, and a crash leaves nothing else
 pub record KeepsBook (s : State) (b : ActState) : Type 0 where
@@ -85,11 +86,13 @@ IsBookAfter was is (Fault fault) = is ≡ was
 
 module _ {S : Type 0} (g : Ghosts S) where
   -- the tables were read: what the store kept it keeps on; an answer or a refusal is given by an open store alone, which then
-  -- keeps the first of two that it may have kept; an empty database is told as that of no book, unless other trouble came before
+  -- keeps the first of two that it may have kept, and an answer over tables that have the names of those of version 2; an empty
+  -- database is told as that of no book, unless other trouble came before
   pub record Answers {X : Type 0} (old new : Held S) (result : Result X Stop) : Type 0 where
     pub live : HasCleanDisk (state g new) → IsAnswer result → IsTrue (state g old).is_open
     pub keeps : KeepsOn (state g old) (state g new)
     pub first : HasCleanDisk (state g new) → IsAnswer result → KeepsFirst (state g old) (state g new)
+    pub shape : HasCleanDisk (state g new) → OnOk result (IsShapeOf Two old.schema)
     pub empty : HasCleanDisk (state g new) → old.schema ≡ no_schema → IsMissed (state g old) (state g new) result
 
   -- the keeper's store keeps the tables of the book and its commands, and its book, where there is one, has their state

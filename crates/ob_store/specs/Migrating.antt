@@ -1,9 +1,7 @@
 -- What becomes of a store whose tables of version 1 are to be made those of version 2.
-use Rattle.std.specs.Prelude.{◌≡◌, ◌⊎◌, List, [], ◌∷◌, length, map, Bool, true, false, Result, Ok, Err, IfErr, IsTrue}
+use Rattle.std.specs.Prelude.{◌≡◌, ◌⊎◌, Bool, true, false, Result, Ok, Err, IfOk, IfErr, IsTrue}
 use Rattle.sqlite_trees.specs.declared.store.Store.{Ghosts}
 use Rattle.sqlite.specs.Tree.{Trees}
-use Rattle.sqlite.specs.Schema.{Schema}
-use Rattle.sqlite.specs.Table.{Table as Stored}
 use Rattle.sqlite.specs.Held.{Held, state}
 use Rattle.sqlite.specs.State.{State, HasCleanDisk}
 use Rattle.ob_base.specs.declared.stop.Stop.{Stop}
@@ -12,10 +10,8 @@ use Rattle.ob_base.specs.declared.stop.Refusal.TheVariants.{BadBook}
 use Rattle.ob_base.specs.declared.stop.Fault.TheVariants.{OutOfMemory, Store}
 use Rattle.ob_book.specs.Acts.{ActState}
 use Rattle.ob_tables.specs.Creation.{old_schema}
-use Rattle.ob_tables.specs.Rows.{table_name}
 use Rattle.ob_tables.specs.Schema.{no_schema}
-use Rattle.ob_tables.specs.declared.table.Table.{Table}
-use Rattle.ob_tables.specs.declared.table.Table.TheVariants.{Meta, Cause, Node, Device, Customer, Entry, Mark, Command, Moved, Posting}
+use Rattle.ob_tables.specs.declared.version.Version.TheVariants.{One}
 use Rattle.ob_commit.specs.Keeps.{Leaves}
 use Rattle.ob_record.specs.Tables.{tables_of}
 use Rattle.ob_compare.specs.Reading.{IsMissed}
@@ -25,6 +21,7 @@ use Rattle.ob_store.specs.Finding.{OnlyReads, ShowsTheSame}
 use Rattle.ob_store.specs.Keeping.{IsAnswer, KeepsBook, KeepsEitherBook}
 pub use Rattle.ob_store.specs.Keeping.{KeepsEitherVersion, KeepsOldBook}
 use Rattle.ob_store.specs.Loading.{trees_in}
+use Rattle.ob_store.specs.Shapes.{IsShapeOf}
 
 -- the tables are those of no book of version 1
 abbrev pub HoldsNoOldBook : Trees → Type 0
@@ -38,20 +35,11 @@ HoldsOldBook trees b = HasOldBook trees b × ((other : ActState) → HasOldBook 
 abbrev pub LeavesUpgradeOf : Trees → Trees → Type 0
 LeavesUpgradeOf was trees = (b : ActState) × HoldsOldBook was b × Leaves (tables_of b) trees
 
--- the tables of version 1, in the order in which they are made
-abbrev pub old_tables : List Table
-old_tables = Meta ∷ Cause ∷ Node ∷ Device ∷ Customer ∷ Entry ∷ Mark ∷ Command ∷ Moved ∷ Posting ∷ []
-
--- the tables have the names of those of version 1, in that order, and as many indexes; there is no other one and no view
-abbrev pub IsOldShape : Schema → Type 0
-IsOldShape s =
-    (map (λ (t : Stored). t.name) s.tables ≡ map table_name old_tables) × (length s.indexes ≡ 6) × (s.views ≡ [])
-
 -- the store was open and its tables had the names of those of version 1, and as many indexes; where they were these, a whole
 -- database of version 2, of the one book that they held
 abbrev pub LeavesKept : State → Trees → Type 0
 LeavesKept s trees =
-    IsTrue s.is_open × IsOldShape s.now.schema × (s.now.schema ≡ old_schema → LeavesUpgradeOf s.now.trees trees)
+    IsTrue s.is_open × IsShapeOf One s.now.schema × (s.now.schema ≡ old_schema → LeavesUpgradeOf s.now.trees trees)
 
 module _ {S : Type 0} (g : Ghosts S) where
   -- nothing was written: a book of version 1 that the store keeps it keeps on, and a crash leaves no more than before
@@ -102,11 +90,12 @@ module _ {S : Type 0} (g : Ghosts S) where
   MigratesKept new b (Err (Fault Store)) = KeepsEitherVersion (state g new) b
   MigratesKept new b (Err (Fault fault)) = ⊥
 
-  -- an answer or a refusal comes of an open store alone. A book of version 2 that the store kept it keeps on, and so it does either
+  -- an answer or a refusal comes of an open store alone, and true over tables that have the names of those of version 1. A book of version 2 that the store kept it keeps on, and so it does either
   -- of two; and where there is no answer, a book in the tables of either version. An empty database is told as that of no book,
   -- unless other trouble came before
   pub record MigratesOn (old new : Held S) (result : Result Bool Stop) : Type 0 where
     pub live : HasCleanDisk (state g new) → IsAnswer result → IsTrue (state g old).is_open
+    pub shape : HasCleanDisk (state g new) → IfOk result (λ done. IsTrue done → IsShapeOf One old.schema)
     pub book : (b : ActState) → KeepsBook (state g old) b → KeepsBook (state g new) b
     pub either : (b c : ActState) → KeepsEitherBook (state g old) b c → KeepsEitherBook (state g new) b c
     pub version : HasCleanDisk (state g new) → IfErr result (λ stop. (b : ActState) → KeepsEitherVersion (state g old) b

@@ -16,13 +16,14 @@ ghost use Rattle.ob_store.specs.Differing.{NoneSo};
 ghost use Rattle.ob_store.specs.Finding.{Finds, IsNamed};
 ghost use Rattle.ob_store.specs.Laws.{Laws};
 ghost use Rattle.ob_store.specs.Leading.{HasParts, IsLedIn};
-ghost use Rattle.ob_store.specs.Migrating.{HoldsNoOldBook, IsOldShape, MigratesOn};
+ghost use Rattle.ob_store.specs.Migrating.{HoldsNoOldBook, MigratesOn};
+ghost use Rattle.ob_store.specs.Shapes.{IsShapeOf};
 ghost use Rattle.ob_store.specs.Upgrading.{HasOldParts, HasOldRows, IsTold, IsUntold, IsUpgradeOf, LeavesWritten, Migrates, Upgradable, Upgraded};
 ghost use Rattle.ob_store.specs.Versions.{Asks};
 
 use crate::led::{Led, follow};
 use crate::named::{BAD_BOOK, Named, read_named};
-use crate::version::{NEW, OLD, has_old_shape, look_at};
+use crate::version::{NEW, OLD, OLD_TABLES, has_shape, look_at};
 use ob_base::{Fault, Stop};
 use ob_book::next_law;
 use ob_commit::{NewBody, commit_upgrade};
@@ -70,7 +71,7 @@ fn old_books_law()
 /// Whether the heading tells version 2. If not it tells version 1, and the tables have the names of that version, or they are
 /// those of no book of version 1.
 fn tell_heading<S: Alter>(conn: &mut Connection<S>, is_old: bool) -> Result<bool, Stop>
-    requires { IsTrue is_old ↔ IsOldShape conn.old.schema }
+    requires { IsTrue is_old ↔ IsShapeOf AVersion.One conn.old.schema }
     ensures finds { (v : AVersion) → Finds S.Store v (IsTold v) (IsUntold v) conn.old conn.new
         result }
     ensures shape { IfOk result (λ is. is ≡ false → IsTrue is_old) }
@@ -96,13 +97,13 @@ fn tells_new<S: Alter>(conn: &mut Connection<S>) -> Result<bool, Stop>
     ensures first { IsTrue (state S.Store conn.old).is_open → (v : AVersion) (t u : Tables)
         → KeepsEitherIn v (state S.Store conn.old) t u → KeepsIn v (state S.Store conn.old) t }
     ensures shape { HasCleanDisk (state S.Store conn.new)
-        → IfOk result (λ is. is ≡ false → IsOldShape conn.old.schema) }
+        → IfOk result (λ is. is ≡ false → IsShapeOf AVersion.One conn.old.schema) }
 {
     match look_at(conn) {
         Ok(()) => {}
         Err(stop) => return Err(stop),
     }
-    let is_old = has_old_shape(conn);
+    let is_old = has_shape(conn, &OLD_TABLES);
     tell_heading(conn, is_old)
 }
 

@@ -1,14 +1,14 @@
 //! The version of a book, which is looked at before its tables are read.
-ghost use Rattle.std.specs.Prelude.{◌≡◌, ◌↔◌, codes, is_some, map, IsTrue};
+ghost use Rattle.std.specs.Prelude.{◌≡◌, ◌↔◌, map, IsTrue, OnOk};
 ghost use Rattle.sqlite.specs.Held.{state};
-ghost use Rattle.sqlite_schema.specs.Names.{table_named};
+ghost use Rattle.sqlite.specs.State.{HasCleanDisk};
 ghost use Rattle.ob_base.specs.Stop.{out_of_memory};
 ghost use Rattle.ob_commit.specs.Keeps.{KeepsIn};
 ghost use Rattle.ob_compare.specs.Reading.{IsInputError, IsReadFault, bad_book};
 ghost use Rattle.ob_tables.specs.Rows.{Tables, table_name};
 ghost use Rattle.ob_tables.specs.declared.version.Version.{Version as AVersion};
 ghost use Rattle.ob_store.specs.Differing.{NoneSo};
-ghost use Rattle.ob_store.specs.Migrating.{IsOldShape};
+ghost use Rattle.ob_store.specs.Shapes.{HasShape, IsShapeOf};
 ghost use Rattle.ob_store.specs.Versions.{AnyTrees, Asks, Looks, Tells};
 
 use crate::named::BAD_BOOK;
@@ -25,7 +25,7 @@ pub(crate) const OLD: u32 = 1;
 pub(crate) const NEW: u32 = 2;
 
 /// The tables of version 1, in the order in which they are made.
-const OLD_TABLES: [Table; 10] = [
+pub(crate) const OLD_TABLES: [Table; 10] = [
     Table::Meta,
     Table::Cause,
     Table::Node,
@@ -38,15 +38,23 @@ const OLD_TABLES: [Table; 10] = [
     Table::Posting,
 ];
 
-/// How many indexes they have, those that keep names, references and keys of several columns apart.
-const OLD_INDEXES: usize = 6;
+/// The tables of this version, in the order in which they are made: that of lives is the last.
+const TABLES: [Table; 11] = [
+    Table::Meta,
+    Table::Cause,
+    Table::Node,
+    Table::Device,
+    Table::Customer,
+    Table::Entry,
+    Table::Mark,
+    Table::Command,
+    Table::Moved,
+    Table::Posting,
+    Table::Life,
+];
 
-/// Whether the database has a table with the name of that of lives.
-fn has_lives<S: Alter>(conn: &Connection<S>) -> bool
-    ensures { result ≡ is_some (table_named (state S.Store conn.now).now.schema (codes "life")) }
-{
-    conn.schema().table_named(b"life").is_some()
-}
+/// How many indexes the tables of either version have, those that keep names, references and keys of several columns apart.
+const INDEXES: usize = 6;
 
 /// Whether the tables have the names of these, in this order, and there is no other one.
 fn are_named(tables: &[schema::Table], known: &[Table]) -> bool
@@ -63,18 +71,19 @@ fn are_named(tables: &[schema::Table], known: &[Table]) -> bool
     true
 }
 
-/// Whether the tables have the names of those of version 1, with as many indexes, and there is no other one and no view.
-pub(crate) fn has_old_shape<S: Alter>(conn: &Connection<S>) -> bool
-    ensures { IsTrue result ↔ IsOldShape (state S.Store conn.now).now.schema }
+/// Whether the tables have the names of these, in this order, with as many indexes as a version's have, and there is no other
+/// one and no view.
+pub(crate) fn has_shape<S: Alter>(conn: &Connection<S>, known: &[Table]) -> bool
+    ensures { IsTrue result ↔ HasShape known.now (state S.Store conn.now).now.schema }
 {
     let schema = conn.schema();
-    if schema.indexes.len() != OLD_INDEXES {
+    if schema.indexes.len() != INDEXES {
         return false;
     }
     if !schema.views.is_empty() {
         return false;
     }
-    are_named(schema.tables.as_slice(), &OLD_TABLES)
+    are_named(schema.tables.as_slice(), known)
 }
 
 /// Why the columns of a heading weren't found: the tables lack them, as those of no book, or the store failed.
@@ -104,32 +113,34 @@ pub(crate) fn look_at<S: Alter>(conn: &mut Connection<S>) -> Result<(), Stop>
     Ok(())
 }
 
-/// Refuses a book of version 1 as `OldVersion`, where its heading is the only one and tells that version; and then one without
-/// the table of lives as `BadBook`. Nothing is written.
-fn tell_version<S: Alter>(conn: &mut Connection<S>) -> Result<(), Stop>
+/// Refuses a book of version 1 as `OldVersion`, where its heading is the only one and tells that version; and then whatever
+/// hasn't the names of this version's tables as `BadBook`. Nothing is written.
+fn tell_version<S: Alter>(conn: &mut Connection<S>, is_book: bool) -> Result<(), Stop>
+    requires { IsTrue is_book ↔ IsShapeOf AVersion.Two conn.old.schema }
     ensures tells { Tells S.Store AnyTrees NoneSo conn.old conn.new result }
     ensures kept { (v : AVersion) (t : Tables) → KeepsIn v (state S.Store conn.old) t
         → KeepsIn v (state S.Store conn.new) t }
+    ensures shape { OnOk result (IsTrue is_book) }
 {
     match has_version(conn, OLD) {
         Ok(true) => return Err(Stop::Refused(Refusal::OldVersion(OLD))),
         Ok(false) => {}
         Err(stop) => return Err(stop),
     }
-    if has_lives(conn) {
-        Ok(())
-    } else {
-        Err(BAD_BOOK)
-    }
+    if is_book { Ok(()) } else { Err(BAD_BOOK) }
 }
 
 /// The same, where the store is open. Nothing is written.
 pub(crate) fn check_version<S: Alter>(conn: &mut Connection<S>) -> Result<(), Stop>
     ensures tells { Tells S.Store AnyTrees NoneSo conn.old conn.new result }
     ensures asks { Asks S.Store conn.old conn.new result }
+    ensures shape { HasCleanDisk (state S.Store conn.new)
+        → OnOk result (IsShapeOf AVersion.Two conn.old.schema) }
 {
     match look_at(conn) {
-        Ok(()) => tell_version(conn),
-        Err(stop) => Err(stop),
+        Ok(()) => {}
+        Err(stop) => return Err(stop),
     }
+    let is_book = has_shape(conn, &TABLES);
+    tell_version(conn, is_book)
 }

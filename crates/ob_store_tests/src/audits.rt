@@ -66,11 +66,6 @@ const MORE_OR_LESS: &'static [Case] = &[
 // Another heading of the same period, and commands under other numbers.
 const RENAMED: &'static [Case] = &[
     ("UPDATE meta SET version = 3", "meta"),
-    (
-        "DROP TABLE meta; CREATE VIEW meta AS SELECT 2 AS id, 2 AS version, '2024-01-01' AS day0, \
-         1 AS days, 'UTC0' AS zone FROM mark",
-        "meta",
-    ),
     ("UPDATE cmd SET id = 27 WHERE id = 26", "cmd"),
 ];
 

@@ -4,7 +4,7 @@ use crate::office::{BAD_BOOK, NO_OLD_BOOK, OLD_VERSION};
 use crate::scripts::{
     CORRECTED, JOINS_IN_OUTAGE, OPENED_BEFORE, PARTS_JOIN, REFUSED, TIE_STAYS, WITHDRAWN,
 };
-use crate::steps::{Step, tell};
+use crate::steps::{NEW, Step, tell};
 use ob_net::Stop;
 use std::alloc::Global;
 use std::process::Abort;
@@ -59,44 +59,30 @@ fn commands_in_a_loaded_book(rt: HostRuntime) -> Result<(), Stop> {
     go_on(&rt, rt.alloc(), TOLD)
 }
 
-// The heading's row, but while there are 26 commands it is of another version.
-const OTHER_VERSION: &'static str =
-    "DROP TABLE meta; CREATE VIEW meta AS SELECT 1 AS id, CASE max(id) WHEN 26 THEN 3 ELSE 2 END \
-     AS version, '2024-01-01' AS day0, 1 AS days, 'UTC0' AS zone FROM cmd";
+// Tables under the same names, in the same order, but an engineer who is marked under a numeral is kept as a number.
+const NUMBERED_ENGINEERS: &'static str =
+    "DROP TABLE mark; DROP TABLE moved; DROP TABLE cmd; DROP TABLE posting; DROP TABLE life; \
+     CREATE TABLE mark (day INTEGER PRIMARY KEY, engineer INTEGER NOT NULL); \
+     CREATE TABLE cmd (id INTEGER PRIMARY KEY, ref TEXT NOT NULL UNIQUE, body TEXT NOT NULL) \
+     STRICT; CREATE TABLE moved (cmd INTEGER NOT NULL REFERENCES cmd (id), dim INTEGER NOT NULL, \
+     k INTEGER NOT NULL, delta INTEGER NOT NULL CHECK (delta <> 0), PRIMARY KEY (cmd, dim, k)) \
+     STRICT; CREATE TABLE posting (dim INTEGER NOT NULL, k INTEGER NOT NULL, amount INTEGER NOT \
+     NULL CHECK (amount >= 0), PRIMARY KEY (dim, k)) STRICT; CREATE TABLE life (device INTEGER \
+     PRIMARY KEY REFERENCES device (id), since INTEGER NOT NULL, until INTEGER) STRICT";
 
-// The same, but then it is of version 1.
-const VERSION_ONE: &'static str =
-    "DROP TABLE meta; CREATE VIEW meta AS SELECT 1 AS id, CASE max(id) WHEN 26 THEN 1 ELSE 2 END \
-     AS version, '2024-01-01' AS day0, 1 AS days, 'UTC0' AS zone FROM cmd";
-
-// The outage is loaded under such a heading. After a correction the tables are audited and loaded as this and can't be migrated,
-// and the keeper goes on with the book that it has.
-const OVER_ANOTHER_VERSION: &[Step] = &[
-    Step::Change(OTHER_VERSION),
+// A new book is loaded over such tables. Once such an engineer is marked the tables are those of no book, and the keeper goes on
+// with the book that it has.
+const OVER_NUMBERED_ENGINEERS: &[Step] = &[
+    Step::Change(NUMBERED_ENGINEERS),
     Step::Load(Ok(())),
-    Step::Tell(CORRECTED),
+    Step::Tell("N1 mark 2024-01-01 12 => 1"),
     Step::Note,
-    Step::Audit("meta"),
+    Step::Audit("mark"),
     Step::Load(BAD_BOOK),
-    Step::Migrate(NO_OLD_BOOK),
+    Step::Migrate(Ok(false)),
     Step::Same,
-    Step::Tell(CORRECTED),
-    Step::Tell("N27 mark 2024-01-01 E1 => 27"),
-    Step::Reopen,
-];
-
-const OVER_VERSION_ONE: &[Step] = &[
-    Step::Change(VERSION_ONE),
-    Step::Load(Ok(())),
-    Step::Tell(CORRECTED),
-    Step::Note,
-    Step::Audit("OldVersion"),
-    Step::Load(OLD_VERSION),
-    Step::Migrate(NO_OLD_BOOK),
-    Step::Same,
-    Step::Tell(CORRECTED),
-    Step::Tell("N27 mark 2024-01-01 E1 => 27"),
-    Step::Reopen,
+    Step::Tell("N1 mark 2024-01-01 12 => 1"),
+    Step::Tell("N2 mark 2024-01-01 E1 => no: 13 MarkedAlready"),
 ];
 
 #[test]
@@ -104,21 +90,61 @@ fn a_book_stays(rt: HostRuntime) -> Result<(), Stop> {
     tell(
         &rt,
         rt.alloc(),
-        "version 3",
-        OUTAGE_BOOK,
-        OVER_ANOTHER_VERSION,
+        "numbered engineers",
+        &[NEW],
+        OVER_NUMBERED_ENGINEERS,
         &[],
     )
 }
 
+// What stands beside the tables of a book or in place of one: it isn't a book's then, and nothing is changed.
+const BESIDE: &'static [&'static str] = &[
+    "CREATE INDEX by_second ON entry (second)",
+    "CREATE TABLE note (id INTEGER PRIMARY KEY) STRICT",
+    "CREATE VIEW marks AS SELECT day FROM mark",
+    "DROP TABLE meta; CREATE VIEW meta AS SELECT 1 AS id, 2 AS version, '2024-01-01' AS day0, \
+     1 AS days, 'UTC0' AS zone FROM cmd WHERE id = 1",
+    "DROP TABLE mark; CREATE TABLE mark (day INTEGER PRIMARY KEY, engineer TEXT NOT NULL) STRICT",
+];
+
 #[test]
-fn a_book_stays_over_an_old_version(rt: HostRuntime) -> Result<(), Stop> {
+fn other_tables_beside_those_of_a_book(rt: HostRuntime) -> Result<(), Stop> {
+    for sql in BESIDE {
+        tell(
+            &rt,
+            rt.alloc(),
+            sql,
+            OUTAGE_BOOK,
+            &[
+                Step::Change(*sql),
+                Step::Audit("BadBook"),
+                Step::Load(BAD_BOOK),
+                Step::Has(false),
+                Step::Migrate(Ok(false)),
+            ],
+            &[],
+        )?;
+    }
+    Ok(())
+}
+
+// The same where the heading tells version 1: that is told first.
+const OLD_BESIDE: &[Step] = &[
+    Step::Change("UPDATE meta SET version = 1; CREATE VIEW marks AS SELECT day FROM mark"),
+    Step::Audit("OldVersion"),
+    Step::Load(OLD_VERSION),
+    Step::Has(false),
+    Step::Migrate(NO_OLD_BOOK),
+];
+
+#[test]
+fn an_old_version_beside_a_view(rt: HostRuntime) -> Result<(), Stop> {
     tell(
         &rt,
         rt.alloc(),
         "version 1",
         OUTAGE_BOOK,
-        OVER_VERSION_ONE,
+        OLD_BESIDE,
         &[],
     )
 }

@@ -1,7 +1,7 @@
 use Rattle.std.proofs.Common.{Err}
 use Rattle.ob_store.specs.Finding.{HasNoBook}
 use Rattle.ob_store.specs.Loading.{Finding}
-use Rattle.ob_store.proofs.Asking.{answers, asks_err, asks_then}
+use Rattle.ob_store.proofs.Asking.{answers, asks_err, asks_then, whatever}
 use Rattle.ob_store.proofs.Telling.{tells_err, then_tables}
 use Rattle.ob_store.proofs.loading.audit_on.Goals as goal
 
@@ -13,10 +13,11 @@ pub returns-in-Ok-clause-answers : goal.returns-in-Ok-clause-answers
 returns-in-Ok-clause-answers g c =
     answers g.S.Store c.args.conn.now c.find_off.new.conn c.find_off.result
     (asks_then g.S.Store Finding HasNoBook c.args.conn.now c.check_version.new.conn c.find_off.new.conn c.find_off.result c.in-Ok.ensures.tells c.in-Ok.ensures.asks c.find_off.ensures)
+    (λ clean. whatever c.find_off.result (c.in-Ok.ensures.shape (c.find_off.ensures.clean clean)))
 
 pub returns-in-Err-clause-tells : goal.returns-in-Err-clause-tells
 returns-in-Err-clause-tells g c = tells_err g.S.Store Finding HasNoBook c.args.conn.now c.check_version.new.conn c.in-Err.stop c.in-Err.ensures.tells
 
 pub returns-in-Err-clause-answers : goal.returns-in-Err-clause-answers
 returns-in-Err-clause-answers g c =
-    answers g.S.Store c.args.conn.now c.check_version.new.conn (Err c.in-Err.stop) (asks_err g.S.Store c.args.conn.now c.check_version.new.conn c.in-Err.stop c.in-Err.ensures.asks)
+    answers g.S.Store c.args.conn.now c.check_version.new.conn (Err c.in-Err.stop) (asks_err g.S.Store c.args.conn.now c.check_version.new.conn c.in-Err.stop c.in-Err.ensures.asks) (λ clean. tt)

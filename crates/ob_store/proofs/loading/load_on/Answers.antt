@@ -1,7 +1,7 @@
 use Rattle.std.proofs.Common.{Err}
 use Rattle.ob_book.specs.declared.book.Book.{Book}
 use Rattle.ob_store.specs.Loading.{Holding, HoldsNoBook}
-use Rattle.ob_store.proofs.Asking.{answers, asks_err, asks_then}
+use Rattle.ob_store.proofs.Asking.{answers, asks_err, asks_then, whatever}
 use Rattle.ob_store.proofs.Telling.{tells_err, then_tables}
 use Rattle.ob_store.proofs.loading.load_on.Goals as goal
 
@@ -13,6 +13,7 @@ pub returns-in-Ok-clause-answers : goal.returns-in-Ok-clause-answers
 returns-in-Ok-clause-answers g c =
     answers g.S.Store c.args.conn.now c.load_tables.new.conn c.load_tables.result
     (asks_then g.S.Store (λ trees (b : Book g.row.T.Denot). Holding trees b.state) HoldsNoBook c.args.conn.now c.check_version.new.conn c.load_tables.new.conn c.load_tables.result c.in-Ok.ensures.tells c.in-Ok.ensures.asks c.load_tables.ensures)
+    (λ clean. whatever c.load_tables.result (c.in-Ok.ensures.shape (c.load_tables.ensures.clean clean)))
 
 pub returns-in-Err-clause-tells : goal.returns-in-Err-clause-tells
 returns-in-Err-clause-tells g c =
@@ -20,4 +21,4 @@ returns-in-Err-clause-tells g c =
 
 pub returns-in-Err-clause-answers : goal.returns-in-Err-clause-answers
 returns-in-Err-clause-answers g c =
-    answers g.S.Store c.args.conn.now c.check_version.new.conn (Err c.in-Err.stop) (asks_err g.S.Store c.args.conn.now c.check_version.new.conn c.in-Err.stop c.in-Err.ensures.asks)
+    answers g.S.Store c.args.conn.now c.check_version.new.conn (Err c.in-Err.stop) (asks_err g.S.Store c.args.conn.now c.check_version.new.conn c.in-Err.stop c.in-Err.ensures.asks) (λ clean. tt)

@@ -44,7 +44,7 @@ write_upgrade-requires g c = record { mode = c.in-Ok.ensures.mode ((c.in-Ok-fals
 
 -- ---- what the store kept
 pub returns-in-Ok-true-clause-goes_on : goal.returns-in-Ok-true-clause-goes_on
-returns-in-Ok-true-clause-goes_on g c = on_ok g.S.Store c.args.conn.now c.tells_new.new.conn false c.in-Ok-true.field-0 c.in-Ok-true.ensures.asks
+returns-in-Ok-true-clause-goes_on g c = on_ok g.S.Store c.args.conn.now c.tells_new.new.conn c.in-Ok-true.field-0 c.in-Ok-true.ensures.asks
 
 pub returns-in-Err-clause-goes_on : goal.returns-in-Err-clause-goes_on
 returns-in-Err-clause-goes_on g c = on_err g.S.Store c.args.conn.now c.tells_new.new.conn c.in-Err.stop c.in-Err.ensures.asks
@@ -55,7 +55,7 @@ returns-in-Err-find_old-clause-goes_on g c =
     let clean : HasCleanDisk (state g.S.Store c.find_old.new.conn) → HasCleanDisk (state g.S.Store c.tells_new.new.conn) = c.in-Err-find_old.ensures.clean in
     on_more g.S.Store c.args.conn.now c.find_old.new.conn (Err c.in-Err-find_old.stop) (λ late. it.ensures.asks.live (clean late) tt) it.ensures.first
     (λ late schema. now_told g.S.Store c.args.conn.now c.tells_new.new.conn it.field-0 it.field-0-test it.ensures.finds (clean late) schema)
-    (λ late none. it.ensures.asks.empty (clean late) none)
+    (λ late none. it.ensures.asks.empty (clean late) none) (λ late. tt)
     (unfound g.S.Store c.args.conn.now c.tells_new.new.conn it.field-0 it.field-0-test it.ensures.finds c.find_old.new.conn c.in-Err-find_old.stop c.in-Err-find_old.ensures)
 
 pub returns-in-Ok-write_upgrade-clause-goes_on : goal.returns-in-Ok-write_upgrade-clause-goes_on
@@ -65,7 +65,7 @@ returns-in-Ok-write_upgrade-clause-goes_on g c =
     let clean : HasCleanDisk (state g.S.Store c.write_upgrade.new.conn) → HasCleanDisk (state g.S.Store c.tells_new.new.conn) = λ late. c.in-Ok.ensures.clean (omega (arith, e.survives.clean, late)) in
     on_more g.S.Store c.args.conn.now c.write_upgrade.new.conn (Ok true) (λ late. it.ensures.asks.live (clean late) tt) it.ensures.first
     (λ late schema. now_told g.S.Store c.args.conn.now c.tells_new.new.conn it.field-0 it.field-0-test it.ensures.finds (clean late) schema)
-    (λ late none. it.ensures.asks.empty (clean late) none)
+    (λ late none. it.ensures.asks.empty (clean late) none) (λ late so. it.ensures.shape (clean late) it.field-0-test)
     (was_old g.S.Store c.args.conn.now c.tells_new.new.conn it.field-0 it.field-0-test it.ensures.finds c.find_old.new.conn c.in-Ok.found c.in-Ok.ensures c.write_upgrade.new.conn
     (λ late. omega (arith, e.survives.clean, late)) e.survives (λ late. it.ensures.asks.live late tt) (λ late. it.ensures.shape late it.field-0-test) e.upgraded)
 
@@ -76,6 +76,6 @@ returns-clause-goes_on g c =
     let clean : HasCleanDisk (state g.S.Store c.write_upgrade.new.conn) → HasCleanDisk (state g.S.Store c.tells_new.new.conn) = λ late. c.in-Ok.ensures.clean (omega (arith, e.survives.clean, late)) in
     on_more g.S.Store c.args.conn.now c.write_upgrade.new.conn (Err c.in-Err-write_upgrade.stop) (λ late. it.ensures.asks.live (clean late) tt) it.ensures.first
     (λ late schema. now_told g.S.Store c.args.conn.now c.tells_new.new.conn it.field-0 it.field-0-test it.ensures.finds (clean late) schema)
-    (λ late none. it.ensures.asks.empty (clean late) none)
+    (λ late none. it.ensures.asks.empty (clean late) none) (λ late. tt)
     (failed g.S.Store c.args.conn.now c.tells_new.new.conn it.field-0 it.field-0-test it.ensures.finds c.find_old.new.conn c.in-Ok.found c.in-Ok.ensures c.write_upgrade.new.conn
     (λ late. omega (arith, e.survives.clean, late)) e.survives (λ late. it.ensures.asks.live late tt) (λ late. it.ensures.shape late it.field-0-test) c.in-Err-write_upgrade.stop e.upgraded e.faults)

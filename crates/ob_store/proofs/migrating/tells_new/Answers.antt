@@ -27,4 +27,4 @@ returns-clause-first g c opened v t u keeps = open_keeps g.S.Store c.args.conn.n
 pub returns-clause-shape : goal.returns-clause-shape
 returns-clause-shape g c clean =
     if_ok c.tell_heading.result c.tell_heading.ensures.shape
-    (λ is so no. looked_shape g.S.Store c.args.conn.now c.look_at.new.conn c.in-Ok.ensures ((c.tell_heading.ensures.finds One).clean clean) (c.has_old_shape-is_old.ensures.0 (so no)))
+    (λ is so no. looked_shape g.S.Store One c.args.conn.now c.look_at.new.conn c.in-Ok.ensures ((c.tell_heading.ensures.finds One).clean clean) (c.has_shape-is_old.ensures.0 (so no)))

@@ -13,14 +13,14 @@ returns-in-Err-clause-tells g c =
     let e = c.in-Err.ensures in
     unversioned g.S.Store c.args.conn.now c.has_version.new.conn e.mode e.survives e.clean (e.kept Two) c.in-Err.stop e.faults e.foreign
 
-pub returns-then-has_lives-clause-tells : goal.returns-then-has_lives-clause-tells
-returns-then-has_lives-clause-tells g c =
+pub returns-then-is_book-clause-tells : goal.returns-then-is_book-clause-tells
+returns-then-is_book-clause-tells g c =
     let it = c.in-Ok-false in
     let e = it.ensures in
-    current g.S.Store c.args.conn.now c.has_version.new.conn e.mode e.survives e.clean (e.kept Two) e.same it.field-0 e.version it.field-0-test c.has_lives.result c.has_lives.ensures c.if-has_lives.true
+    current g.S.Store c.args.conn.now c.has_version.new.conn e.mode e.survives e.clean (e.kept Two) e.same it.field-0 e.version it.field-0-test c.args.is_book c.requires c.if-is_book.true
 
-pub returns-else-has_lives-clause-tells : goal.returns-else-has_lives-clause-tells
-returns-else-has_lives-clause-tells g c =
+pub returns-else-is_book-clause-tells : goal.returns-else-is_book-clause-tells
+returns-else-is_book-clause-tells g c =
     let it = c.in-Ok-false in
     let e = it.ensures in
-    lacks g.S.Store c.args.conn.now c.has_version.new.conn e.mode e.survives e.clean (e.kept Two) e.same it.field-0 e.version it.field-0-test c.has_lives.result c.has_lives.ensures c.if-has_lives.false
+    lacks g.S.Store c.args.conn.now c.has_version.new.conn e.mode e.survives e.clean (e.kept Two) e.same it.field-0 e.version it.field-0-test c.args.is_book c.requires c.if-is_book.false
