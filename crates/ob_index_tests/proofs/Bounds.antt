@@ -1,11 +1,10 @@
 -- Bounds of amounts that rows move.
-use Rattle.std.proofs.Common.{◌≡◌, ap, ℕ, ◌+◌, ◌*◌, ◌≤◌, Bool, true, false, cond, List, [], ◌∷◌, length, get_or, sum_by, ℤ, pos, ◌+ℤ◌, arith}
+use Rattle.std.proofs.Common.{ℕ, ◌+◌, ◌*◌, ◌≤◌, Bool, true, false, cond, List, [], ◌∷◌, get_or, sum_by, ℤ, pos, ◌+ℤ◌, arith}
 use Rattle.std.specs.Int.RustNames.{unsigned_abs}
 use Rattle.std.proofs.Math.Nat.{mul-le-mul_right}
 use Rattle.std.proofs.lemmas.Int.{ints}
 use Rattle.std.proofs.lemmas.List.Sums.{sum_by-cons, sum_by-le}
 use Rattle.ob_post.specs.declared.Dim.{Dim}
-use Rattle.ob_post.specs.declared.Dim.TheVariants.{Cause, Feeder, Day}
 use Rattle.ob_post.specs.declared.Moved.{Moved}
 use Rattle.ob_post.specs.Keys.{IsKey, keys}
 use Rattle.ob_post.specs.Moved.{is_under, delta_of}

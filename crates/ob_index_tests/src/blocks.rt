@@ -45,9 +45,14 @@ fn plain_sum(customers: &[Customer], run: &Run) -> u64 {
     sum
 }
 
+// A day in UTC.
+fn day_of(alloc: Global, first: &[u8]) -> Result<Period, Fail> {
+    Ok(Period::from_text(alloc, first, 1, b"UTC0")?)
+}
+
 // The amounts of a run in 1970-01-02, by cause 3 on feeder 7.
 fn amounts_in(alloc: Global, run: &Run, roll: &Roll) -> Result<Vec<Moved>, Fail> {
-    let day = Period::from_text(alloc, b"1970-01-02", 1, b"UTC0")?;
+    let day = day_of(alloc, b"1970-01-02")?;
     if run.since < day.first_second() || run.until <= run.since || day.end_second() < run.until {
         return Err("a run out of place".into());
     }
@@ -97,17 +102,16 @@ fn roll_of(alloc: Global, services: &[(u32, Second, Option<Second>)]) -> Result<
 }
 
 // One begins after the day, one at its end, and two are over before its first second.
+const OUT_OF_THE_DAY: [(u32, Second, Option<Second>); 4] = [
+    (1, 172_801, None),
+    (2, 172_800, Some(172_900)),
+    (3, 0, Some(86_399)),
+    (4, 10, Some(86_400)),
+];
+
 #[test]
 fn services_out_of_the_day_add_nothing(rt: HostRuntime) -> Result<(), Fail> {
-    let roll = roll_of(
-        rt.alloc(),
-        &[
-            (1, 172_801, None),
-            (2, 172_800, Some(172_900)),
-            (3, 0, Some(86_399)),
-            (4, 10, Some(86_400)),
-        ],
-    )?;
+    let roll = roll_of(rt.alloc(), &OUT_OF_THE_DAY)?;
     let rows = amounts_in(rt.alloc(), &WHOLE_DAY, &roll)?;
     assert!(rt; sum_of(&rows, Dim::Cause, Some(3))? == 0);
     assert!(rt; sum_of(&rows, Dim::Day, Some(0))? == 0);

@@ -27,8 +27,9 @@ fn add_devices(
 
 // Connects a customer to each section that is named, for good.
 fn connect_to(alloc: Global, made: &mut Made, sections: &[u16]) -> Result<(), Fail> {
-    for (place, section) in sections.iter().enumerate() {
-        let no = u32::try_from(place)?.saturating_add(1);
+    let mut no: u32 = 0;
+    for section in sections {
+        no = no.saturating_add(1);
         made.connect(alloc, no, *section, 0, None)?;
     }
     Ok(())
@@ -54,13 +55,14 @@ fn feeder_with_a_tie(alloc: Global, days: u16) -> Result<Made, Fail> {
     Ok(made)
 }
 
-// A device, whether it is opened, how long after the period's first second, and the cause.
-type Switching = (u16, bool, u64, u8);
+/// A device, whether it is opened, how long after the period's first second, and the cause.
+pub type Switching = (u16, bool, u64, u8);
 
 // What is wanted under a dimension and key.
 type Wanted = (Dim, u16, u64);
 
-fn enter(alloc: Global, made: &mut Made, sheet: &[Switching]) -> Result<(), Fail> {
+/// Enters the switchings.
+pub fn enter(alloc: Global, made: &mut Made, sheet: &[Switching]) -> Result<(), Fail> {
     for (device, opens, after, cause) in sheet {
         let pos = if *opens { Pos::Opened } else { Pos::Closed };
         let second = made
@@ -193,11 +195,17 @@ fn over_midnight(rt: HostRuntime) -> Result<(), Fail> {
     check(&rt, rt.alloc(), made, sheet, wanted)
 }
 
+// Section 9 with a customer from the day's first second on.
+fn lone_section(alloc: Global) -> Result<Made, Fail> {
+    let mut made = Made::new(alloc, b"2024-01-01", 1, b"UTC0")?;
+    made.add_section(alloc, 9, 9)?;
+    made.connect(alloc, 11, 9, 1_704_067_200, None)?;
+    Ok(made)
+}
+
 #[test]
 fn a_section_without_a_device(rt: HostRuntime) -> Result<(), Fail> {
-    let mut made = Made::new(rt.alloc(), b"2024-01-01", 1, b"UTC0")?;
-    made.add_section(rt.alloc(), 9, 9)?;
-    made.connect(rt.alloc(), 11, 9, 1_704_067_200, None)?;
+    let made = lone_section(rt.alloc())?;
     let wanted = &[
         (Dim::Cause, 0, 86_400),
         (Dim::Feeder, 9, 86_400),

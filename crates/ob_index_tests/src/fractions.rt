@@ -30,16 +30,24 @@ fn shows(
     Ok(())
 }
 
+// The same of a quotient.
+fn quotient_shows(
+    rt: &impl Abort,
+    alloc: Global,
+    quotient: (u128, u128),
+    text: &str,
+    decimals: &str,
+) -> Result<(), Fail> {
+    let fraction = reduced(quotient.0, quotient.1).ok_or("a fraction")?;
+    shows(rt, alloc, &fraction, text, decimals)?;
+    Ok(())
+}
+
 #[test]
 fn fractions_are_printed(rt: HostRuntime) -> Result<(), Fail> {
-    let alloc = rt.alloc();
-    let hours = reduced(602, 240).ok_or("a fraction")?;
-    shows(&rt, alloc, &hours, "301/120", "2.508")?;
-    let share = reduced(95, 96).ok_or("a fraction")?;
-    shows(&rt, alloc, &share, "95/96", "0.990")?;
-    let small = reduced(1, 16).ok_or("a fraction")?;
-    shows(&rt, alloc, &small, "1/16", "0.063")?;
-    Ok(())
+    quotient_shows(&rt, rt.alloc(), (602, 240), "301/120", "2.508")?;
+    quotient_shows(&rt, rt.alloc(), (95, 96), "95/96", "0.990")?;
+    quotient_shows(&rt, rt.alloc(), (1, 16), "1/16", "0.063")
 }
 
 // One of ten customers, out for 301 seconds of a day in which all are in service.

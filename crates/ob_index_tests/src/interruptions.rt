@@ -1,106 +1,24 @@
 //! The counts of interruptions, and the seconds in service.
-ghost use Rattle.std.specs.Prelude.{◌≡◌, ◌≤◌, ◌<◌, IfOk, IsTrue, OnOk, length};
+ghost use Rattle.std.specs.Prelude.{◌≡◌, IfOk, IsTrue, length};
 ghost use Rattle.std.specs.List.{All};
-ghost use Rattle.ob_sheet.specs.Sheet.{NameDevices};
-ghost use Rattle.ob_sweep.specs.Timeline.{IsSection, LieBetween};
-ghost use Rattle.ob_time.specs.Calendar.{day_count, end_second_of, first_second_of};
+ghost use Rattle.ob_sweep.specs.Timeline.{IsSection};
+ghost use Rattle.ob_time.specs.Calendar.{day_count};
 
-use ob_cust::{Customer, Roll};
+use crate::feeder::{Switching, enter};
+use crate::made::Made;
+use crate::marked_days::engineer;
+use ob_cust::Roll;
 use ob_index::counts::{counts, seconds_in_service};
 use ob_index::{Counts, Marks, Which};
-use ob_net::{Crew, Life, Name, Net, Pos, Second};
-use ob_sheet::Sheet;
+use ob_net::{Crew, Net, Pos, Second};
 use ob_sweep::{Scratch, Timeline};
-use ob_time::{CivilDays, Period};
+use ob_time::CivilDays;
 use std::alloc::Global;
 use std::process::Abort;
 use std::test::Fail;
 
 // 2024-01-01T00:00:00Z.
 const T: Second = 1_704_067_200;
-
-fn name(rt: &impl Abort, bytes: &[u8]) -> Name {
-    Name::read(bytes).expect(rt, "a name")
-}
-
-// Section 1 behind device 0, which is always there.
-fn feeder(rt: &impl Abort, alloc: Global) -> Result<Net, Fail> {
-    let mut net = Net::new(alloc)?;
-    net.reserve_one()?;
-    net.add_section(name(rt, b"S1"), 1)?;
-    net.reserve_one()?;
-    let (grid, section) = (name(rt, b"GRID"), name(rt, b"S1"));
-    assert!(rt; grid != section);
-    let life = Life {
-        since: 0,
-        until: None,
-    };
-    net.add_device(name(rt, b"I1"), grid, section, Pos::Closed, life)?;
-    Ok(net)
-}
-
-// The sheet on which device 0 has these positions from these seconds after T on.
-fn sheet(
-    rt: &impl Abort,
-    alloc: Global,
-    net: &Net,
-    period: &CivilDays,
-    switched: &[(Pos, Second)],
-) -> Result<Sheet, Fail>
-    ensures devices { IfOk result (λ s. NameDevices (length net.now.network.devices) s.entries) }
-    ensures between { IfOk result (λ s. LieBetween (first_second_of period.now)
-        (end_second_of period.now) s.entries) }
-{
-    let mut sheet = Sheet::new(alloc);
-    for (pos, second) in switched {
-        switch(rt, &mut sheet, net, period, *pos, T.saturating_add(*second))?;
-    }
-    Ok(sheet)
-}
-
-// Enters that device 0 has a position from a second on.
-fn switch(
-    rt: &impl Abort,
-    sheet: &mut Sheet,
-    net: &Net,
-    period: &CivilDays,
-    pos: Pos,
-    second: Second,
-) -> Result<(), Fail>
-    requires devices { NameDevices (length net.now.network.devices) sheet.old.entries }
-    requires between { All (λ e. (first_second_of period.now ≤ e.second)
-        × (e.second < end_second_of period.now)) sheet.old.entries }
-    ensures devices { OnOk result (NameDevices (length net.now.network.devices) sheet.new.entries) }
-    ensures between { OnOk result (All (λ e. (first_second_of period.now ≤ e.second)
-        × (e.second < end_second_of period.now)) sheet.new.entries) }
-{
-    assert!(rt; 0 < net.devices() && !sheet.is_full());
-    assert!(rt; period.first_second() <= second && second < period.end_second());
-    sheet.reserve_one()?;
-    sheet.enter(
-        0,
-        pos,
-        second,
-        3,
-        Crew::read(b"CREW-1").expect(rt, "a crew"),
-    );
-    Ok(())
-}
-
-// The customers of section 1 with these numbers and services.
-fn roll(alloc: Global, services: &[(u32, Second, Option<Second>)]) -> Result<Roll, Fail> {
-    let mut roll = Roll::new(alloc);
-    for (no, since, until) in services {
-        roll.reserve_one()?;
-        roll.connect(Customer {
-            no: *no,
-            section: 1,
-            since: *since,
-            until: *until,
-        })?;
-    }
-    Ok(roll)
-}
 
 // Whether all customers are of sections.
 fn are_on_sections(net: &Net, roll: &Roll) -> bool
@@ -115,53 +33,48 @@ fn are_on_sections(net: &Net, roll: &Roll) -> bool
 }
 
 // The marks of the period's days, the first marked.
-fn marked(rt: &impl Abort, alloc: Global, period: &CivilDays) -> Result<Marks, Fail>
+fn marked(alloc: Global, engineer: Crew, period: &CivilDays) -> Result<Marks, Fail>
     ensures { IfOk result (λ marks. length marks ≡ day_count period.now) }
 {
-    let engineer = Crew::read(b"E-1").expect(rt, "an engineer");
     let mut marks = Marks::new(alloc, period.days())?;
     marks.mark(0, engineer)?;
     Ok(marks)
 }
 
-// The counts of the interruptions of a roll under a sheet, of all and of those on days that aren't marked, where the first day
-// is.
-fn have_counts(
-    rt: &impl Abort,
-    alloc: Global,
-    net: &mut Net,
-    sheet: &Sheet,
-    roll: &Roll,
-    period: &CivilDays,
-    wanted: &(Counts, Counts),
-) -> Result<(), Fail>
-    requires devices { NameDevices (length net.old.network.devices) sheet.now.entries }
-    requires between { LieBetween (first_second_of period.now) (end_second_of period.now)
-        sheet.now.entries }
-{
-    assert!(rt; are_on_sections(net, roll));
-    let marks = marked(rt, alloc, period)?;
-    let timeline = Scratch::build(alloc, net, sheet, period)?;
-    let all = counts(&timeline, net, roll, period, &marks, Which::All);
-    let unmarked = counts(&timeline, net, roll, period, &marks, Which::Unmarked);
-    assert!(rt; all == wanted.0);
-    assert!(rt; unmarked == wanted.1);
-    Ok(())
+// The counts of the interruptions of all days or of those that aren't marked, where the first day is.
+fn counts_of(alloc: Global, engineer: Crew, made: &mut Made, which: Which) -> Result<Counts, Fail> {
+    if !are_on_sections(&made.net, &made.roll) {
+        return Err("a customer out of place".into());
+    }
+    let marks = marked(alloc, engineer, &made.period)?;
+    let timeline = Scratch::build(alloc, &mut made.net, &made.sheet, &made.period)?;
+    let made = &*made;
+    Ok(counts(
+        &timeline,
+        &made.net,
+        &made.roll,
+        &made.period,
+        &marks,
+        which,
+    ))
 }
 
 // Outages of half an hour across midnight, of 300 seconds and of 301.
-const OUTAGES: [(Pos, Second); 6] = [
-    (Pos::Opened, 85_800),
-    (Pos::Closed, 87_600),
-    (Pos::Opened, 100_000),
-    (Pos::Closed, 100_300),
-    (Pos::Opened, 110_000),
-    (Pos::Closed, 110_301),
+const OUTAGES: [Switching; 6] = [
+    (0, true, 85_800, 3),
+    (0, false, 87_600, 3),
+    (0, true, 100_000, 3),
+    (0, false, 100_300, 3),
+    (0, true, 110_000, 3),
+    (0, false, 110_301, 3),
 ];
+
+// A customer with its service.
+type Service = (u32, Second, Option<Second>);
 
 // A customer that is there all the time, one that comes within the first outage, after midnight, and one that goes as the
 // second begins.
-const SERVICES: [(u32, Second, Option<Second>); 3] = [
+const SERVICES: [Service; 3] = [
     (1, 0, None),
     (2, T + 87_000, None),
     (3, 0, Some(T + 100_000)),
@@ -183,21 +96,52 @@ const UNMARKED: Counts = Counts {
     mi: 2,
 };
 
+// Section 1 behind device 0, over two days.
+fn section_1(alloc: Global) -> Result<Made, Fail> {
+    let mut made = Made::new(alloc, b"2024-01-01", 2, b"UTC0")?;
+    made.add_section(alloc, 1, 1)?;
+    made.add_device(alloc, 0, (0, 1), Pos::Closed)?;
+    Ok(made)
+}
+
+fn connect(alloc: Global, made: &mut Made, services: &[Service]) -> Result<(), Fail> {
+    for (no, since, until) in services {
+        made.connect(alloc, *no, 1, *since, *until)?;
+    }
+    Ok(())
+}
+
+// The same with its customers.
+fn served(alloc: Global) -> Result<Made, Fail> {
+    let mut made = section_1(alloc)?;
+    connect(alloc, &mut made, &SERVICES)?;
+    Ok(made)
+}
+
+fn have_counts(
+    rt: &impl Abort,
+    alloc: Global,
+    made: &mut Made,
+    which: Which,
+    wanted: &Counts,
+) -> Result<(), Fail> {
+    let found = counts_of(alloc, engineer(rt, b"E-1"), made, which)?;
+    assert!(rt; found == *wanted);
+    Ok(())
+}
+
 #[test]
 fn interruptions_are_counted(rt: HostRuntime) -> Result<(), Fail> {
-    let period = Period::from_text(rt.alloc(), b"2024-01-01", 2, b"UTC0")?;
-    let days: &CivilDays = &period;
-    let mut net = feeder(&rt, rt.alloc())?;
-    let sheet = sheet(&rt, rt.alloc(), &net, days, &OUTAGES)?;
-    let roll = roll(rt.alloc(), &SERVICES)?;
-    let wanted = (ALL, UNMARKED);
-    have_counts(&rt, rt.alloc(), &mut net, &sheet, &roll, days, &wanted)
+    let mut made = served(rt.alloc())?;
+    enter(rt.alloc(), &mut made, &OUTAGES)?;
+    have_counts(&rt, rt.alloc(), &mut made, Which::All, &ALL)?;
+    have_counts(&rt, rt.alloc(), &mut made, Which::Unmarked, &UNMARKED)
 }
 
 #[test]
 fn seconds_in_service_are_added_up(rt: HostRuntime) -> Result<(), Fail> {
-    let period = Period::from_text(rt.alloc(), b"2024-01-01", 2, b"UTC0")?;
-    let roll = roll(rt.alloc(), &SERVICES)?;
-    assert!(rt; seconds_in_service(&roll, &period) == 172_800 + 85_800 + 100_000);
+    let made = served(rt.alloc())?;
+    let seconds = seconds_in_service(&made.roll, &made.period);
+    assert!(rt; seconds == 172_800 + 85_800 + 100_000);
     Ok(())
 }

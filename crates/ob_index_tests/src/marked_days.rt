@@ -4,7 +4,8 @@ use ob_net::{Crew, Refusal};
 use std::process::Abort;
 use std::test::Fail;
 
-fn engineer(rt: &impl Abort, text: &[u8]) -> Crew {
+/// The engineer of this text.
+pub fn engineer(rt: &impl Abort, text: &[u8]) -> Crew {
     Crew::read(text).expect(rt, "an engineer")
 }
 

@@ -1,7 +1,14 @@
 //! What moves leave in postings, and the moves between amounts.
+ghost use Rattle.std.specs.Prelude.{◌≡◌, IsTrue};
+ghost use Rattle.std.specs.List.{All};
+ghost use Rattle.ob_index_tests.specs.Small.{IsSmall};
+ghost use Rattle.ob_post.specs.Postings.{day_count};
+
 use crate::alike::{alike, apply, none, nothing, twice};
-use crate::moved::{are, row};
-use ob_post::{Dim, Moved, laws, moves};
+use crate::moved::{Row, are, row};
+use ob_post::{Dim, Moved, Postings, laws, moves};
+use std::alloc::Global;
+use std::process::Abort;
 use std::test::Fail;
 
 // The worked example: what an opening moves, a correction that moves nothing, an earlier closing and a
@@ -15,48 +22,96 @@ fn moves_leave_the_amount(rt: HostRuntime) -> Result<(), Fail> {
     apply(&mut postings, &alike(-246_600), 414_000, 167_400);
     apply(&mut postings, &alike(-158_400), 167_400, 9_000);
     apply(&mut postings, &twice(-10_000, 10_000), 9_000, 9_000);
-    assert!(rt; postings.amount(Dim::Cause, 3) == 9_000);
-    assert!(rt; postings.amount(Dim::Feeder, 1) == 9_000);
-    assert!(rt; postings.amount(Dim::Day, 0) == 9_000);
+    amounts_are(&rt, &postings, 9_000);
+    Ok(())
+}
+
+fn amounts_are(rt: &impl Abort, postings: &Postings, amount: u64)
+    requires { day_count postings.now ≡ 2 }
+{
+    assert!(rt; postings.amount(Dim::Cause, 3) == amount);
+    assert!(rt; postings.amount(Dim::Feeder, 1) == amount);
+    assert!(rt; postings.amount(Dim::Day, 0) == amount);
     assert!(rt; postings.amount(Dim::Cause, 0) == 0);
     assert!(rt; postings.amount(Dim::Cause, 63) == 0);
     assert!(rt; postings.amount(Dim::Feeder, 255) == 0);
     assert!(rt; postings.amount(Dim::Day, 1) == 0);
-    assert!(rt; postings.total(Dim::Cause) == 9_000);
-    assert!(rt; postings.total(Dim::Feeder) == 9_000);
-    assert!(rt; postings.total(Dim::Day) == 9_000);
-    Ok(())
+    assert!(rt; postings.total(Dim::Cause) == amount);
+    assert!(rt; postings.total(Dim::Feeder) == amount);
+    assert!(rt; postings.total(Dim::Day) == amount);
 }
+
+// Whether the row moves an amount that is kept, and by little.
+fn is_small(row: &Moved) -> bool
+    ensures { IsTrue result → IsSmall row.now }
+{
+    let is_kept = match row.dim {
+        Dim::Cause => row.key < 64,
+        Dim::Feeder => 1 <= row.key && row.key < 256,
+        Dim::Day => row.key < 366,
+    };
+    is_kept && row.delta.unsigned_abs() <= 10_000
+}
+
+fn are_small(moved: &[Moved]) -> bool
+    ensures { IsTrue result → All IsSmall moved.now }
+{
+    for row in moved {
+        if !is_small(row) {
+            return false;
+        }
+    }
+    true
+}
+
+fn rows(alloc: Global, rows: &[Row]) -> Result<Vec<Moved>, Fail> {
+    let mut made = Vec::new(alloc);
+    for (dim, key, delta) in rows {
+        made.push(row(*dim, *key, *delta))?;
+    }
+    Ok(made)
+}
+
+// The moves between at most a hundred such rows each.
+fn small_moves(alloc: Global, taken: &[Moved], given: &[Moved]) -> Result<Vec<Moved>, Fail> {
+    if taken.len() > 100 || given.len() > 100 || !are_small(taken) || !are_small(given) {
+        return Err("rows that aren't small".into());
+    }
+    Ok(moves(alloc, taken, given)?)
+}
+
+fn moves_between(alloc: Global, taken: &[Row], given: &[Row]) -> Result<Vec<Moved>, Fail> {
+    small_moves(alloc, &rows(alloc, taken)?, &rows(alloc, given)?)
+}
+
+const TAKEN: [Row; 3] = [
+    (Dim::Cause, 3, 1_800),
+    (Dim::Feeder, 1, 1_800),
+    (Dim::Day, 0, 1_800),
+];
+
+const GIVEN: [Row; 6] = [
+    (Dim::Day, 1, 3_000),
+    (Dim::Cause, 4, 1_200),
+    (Dim::Feeder, 1, 1_800),
+    (Dim::Cause, 4, 2_400),
+    (Dim::Day, 0, 600),
+    (Dim::Feeder, 255, 0),
+];
+
+const MOVES: [Row; 4] = [
+    (Dim::Cause, 3, -1_800),
+    (Dim::Cause, 4, 3_600),
+    (Dim::Day, 0, -1_200),
+    (Dim::Day, 1, 3_000),
+];
 
 // Rows in any order and several of a key: each key's difference once, in order, zeros left out.
 #[test]
 fn moves_are_differences(rt: HostRuntime) -> Result<(), Fail> {
-    let taken = [
-        row(Dim::Cause, 3, 1_800),
-        row(Dim::Feeder, 1, 1_800),
-        row(Dim::Day, 0, 1_800),
-    ];
-    let given = [
-        row(Dim::Day, 1, 3_000),
-        row(Dim::Cause, 4, 1_200),
-        row(Dim::Feeder, 1, 1_800),
-        row(Dim::Cause, 4, 2_400),
-        row(Dim::Day, 0, 600),
-        row(Dim::Feeder, 255, 0),
-    ];
-    let moved = moves(rt.alloc(), &taken, &given)?;
-    assert!(rt;
-        are(
-            &moved,
-            &[
-                (Dim::Cause, 3, -1_800),
-                (Dim::Cause, 4, 3_600),
-                (Dim::Day, 0, -1_200),
-                (Dim::Day, 1, 3_000),
-            ],
-        )
-    );
-    let none = moves(rt.alloc(), &given, &given)?;
+    let moved = moves_between(rt.alloc(), &TAKEN, &GIVEN)?;
+    assert!(rt; are(&moved, &MOVES));
+    let none = moves_between(rt.alloc(), &GIVEN, &GIVEN)?;
     assert!(rt; none.is_empty());
     Ok(())
 }

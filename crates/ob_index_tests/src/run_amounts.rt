@@ -1,12 +1,13 @@
 //! The amounts of runs.
 ghost use Rattle.std.specs.Prelude.{◌≡◌};
 
-use crate::moved::{Row, are};
+use crate::made::period_of;
+use crate::moved::{Row, are, row};
 use ob_cust::{Customer, Roll};
 use ob_net::Second;
 use ob_post::{Dim, Moved, amounts, post_run, post_runs};
 use ob_sweep::Run;
-use ob_time::{CivilDays, Period};
+use ob_time::CivilDays;
 use std::alloc::Global;
 use std::process::Abort;
 use std::test::Fail;
@@ -46,6 +47,20 @@ fn seven(alloc: Global, later: Second) -> Result<Roll, Fail> {
 }
 
 // The amounts of a run of the roll's section under cause 3 and feeder 2.
+fn amounts_in(
+    alloc: Global,
+    run: &Run,
+    roll: &Roll,
+    period: &CivilDays,
+) -> Result<Vec<Moved>, Fail> {
+    let (first, end) = (period.first_second(), period.end_second());
+    if run.since < first || run.until <= run.since || end < run.until {
+        return Err("a run out of place".into());
+    }
+    Ok(amounts(alloc, run, 3, 2, roll, period)?)
+}
+
+// Whether these are the amounts.
 fn have_amounts(
     rt: &impl Abort,
     alloc: Global,
@@ -54,9 +69,7 @@ fn have_amounts(
     period: &CivilDays,
     wanted: &[Row],
 ) -> Result<(), Fail> {
-    assert!(rt; period.first_second() <= run.since);
-    assert!(rt; run.since < run.until && run.until <= period.end_second());
-    let moved = amounts(alloc, run, 3, 2, roll, period)?;
+    let moved = amounts_in(alloc, run, roll, period)?;
     assert!(rt; are(&moved, wanted));
     Ok(())
 }
@@ -81,7 +94,7 @@ fn amounts_are(
     bounds: (Second, Second),
     wanted: &[Row],
 ) -> Result<(), Fail> {
-    let period = Period::from_text(alloc, b"2024-01-01", 2, b"UTC0")?;
+    let period = period_of(alloc, b"2024-01-01", 2, b"UTC0")?;
     let roll = seven(alloc, later)?;
     have_amounts(
         rt,
@@ -142,7 +155,7 @@ fn amounts_of_one_second(rt: HostRuntime) -> Result<(), Fail> {
 // seconds, and an hour of the second.
 #[test]
 fn amounts_of_a_short_day(rt: HostRuntime) -> Result<(), Fail> {
-    let period = Period::from_text(rt.alloc(), b"2024-03-10", 2, b"EST5EDT,M3.2.0,M11.1.0")?;
+    let period = period_of(rt.alloc(), b"2024-03-10", 2, b"EST5EDT,M3.2.0,M11.1.0")?;
     let roll = roll(rt.alloc(), &[(1, 4, 0)])?;
     let run = run(1_710_046_800, 1_710_133_200, Some(1));
     let wanted = &[
@@ -171,30 +184,28 @@ fn post(
     Ok(())
 }
 
+// The first row was there.
+const POSTED: [Row; 11] = [
+    (Dim::Cause, 3, -7),
+    (Dim::Cause, 3, 3_000),
+    (Dim::Feeder, 2, 3_000),
+    (Dim::Day, 0, 3_000),
+    (Dim::Cause, 0, 1_500),
+    (Dim::Feeder, 2, 1_500),
+    (Dim::Day, 0, 1_000),
+    (Dim::Day, 1, 500),
+    (Dim::Cause, 3, 3_000),
+    (Dim::Feeder, 2, 3_000),
+    (Dim::Day, 0, 3_000),
+];
+
 #[test]
 fn runs_are_appended(rt: HostRuntime) -> Result<(), Fail> {
-    let period = Period::from_text(rt.alloc(), b"2024-01-01", 2, b"UTC0")?;
+    let period = period_of(rt.alloc(), b"2024-01-01", 2, b"UTC0")?;
     let roll = seven(rt.alloc(), T + 100_000)?;
     let mut rows = Vec::new(rt.alloc());
-    rows.push(Moved {
-        dim: Dim::Cause,
-        key: 3,
-        delta: -7,
-    })?;
+    rows.push(row(Dim::Cause, 3, -7))?;
     post(&rt, &roll, &period, &mut rows)?;
-    let wanted = &[
-        (Dim::Cause, 3, -7),
-        (Dim::Cause, 3, 3_000),
-        (Dim::Feeder, 2, 3_000),
-        (Dim::Day, 0, 3_000),
-        (Dim::Cause, 0, 1_500),
-        (Dim::Feeder, 2, 1_500),
-        (Dim::Day, 0, 1_000),
-        (Dim::Day, 1, 500),
-        (Dim::Cause, 3, 3_000),
-        (Dim::Feeder, 2, 3_000),
-        (Dim::Day, 0, 3_000),
-    ];
-    assert!(rt; are(&rows, wanted));
+    assert!(rt; are(&rows, &POSTED));
     Ok(())
 }

@@ -1,10 +1,11 @@
 //! The annual table.
 ghost use Rattle.ob_index.specs.Short.{AreShort};
 
+use crate::made::period_of;
+use crate::marked_days::engineer;
 use ob_index::indices::indices;
 use ob_index::{Counts, Indices, Marks, annual_text};
-use ob_net::{Crew, Name};
-use ob_time::Period;
+use ob_net::Name;
 use std::process::Abort;
 use std::test::Fail;
 
@@ -86,7 +87,7 @@ MOMENTARY unmarked 0
 
 #[test]
 fn table_of_one_day(rt: HostRuntime) -> Result<(), Fail> {
-    let period = Period::from_text(rt.alloc(), b"2024-01-01", 1, b"UTC0")?;
+    let period = period_of(rt.alloc(), b"2024-01-01", 1, b"UTC0")?;
     let marks = Marks::new(rt.alloc(), 1)?;
     let x = half_an_hour();
     let text = annual_text(
@@ -124,9 +125,9 @@ MOMENTARY unmarked 7
 
 #[test]
 fn marked_days_and_undefined_indices(rt: HostRuntime) -> Result<(), Fail> {
-    let period = Period::from_text(rt.alloc(), b"2024-02-28", 3, b"UTC0")?;
+    let period = period_of(rt.alloc(), b"2024-02-28", 3, b"UTC0")?;
     let mut marks = Marks::new(rt.alloc(), 3)?;
-    let engineer = Crew::read(b"E-1").expect(&rt, "an engineer");
+    let engineer = engineer(&rt, b"E-1");
     assert!(rt; marks.mark(0, engineer) == Ok(()));
     assert!(rt; marks.mark(2, engineer) == Ok(()));
     let x = nobody();
