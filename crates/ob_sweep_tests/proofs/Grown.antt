@@ -39,6 +39,16 @@ last_node net node ok = record {
   free = subst (λ n. All (JoinsTwo n) net.devices) (sym (all_but_one net.nodes node)) ok.joins;
 }
 
+module _ (net after : Network) (node : Node) (is : after ≡ with_node net node) where
+  pub without_node : without_last_node after ≡ net
+  without_node = rw is (node_before net node)
+
+  pub with_last : IsNetwork net → IsLastNode after node.feeder
+  with_last ok = rw is (last_node net node ok)
+
+  pub devices_stay : length net.devices ≤ length after.devices
+  devices_stay = rw is (omega arith)
+
 module _ (net : Network) (name a b : List ℕ) (normal : Pos) (life : Life) where
   abbrev more : Network
   more = with_device net name a b normal life
@@ -52,6 +62,16 @@ module _ (net : Network) (name a b : List ℕ) (normal : Pos) (life : Life) wher
 pub is_last_device : (net after : Network) (number : ℕ) (name a b : List ℕ) (normal : Pos) (life : Life) → number ≡ length net.devices → after ≡ with_device net name a b normal life
     → (length after.devices ≡ number + 1) × (slice_get (map (λ d. d.life) after.devices) number ≡ Some life)
 is_last_device net after number name a b normal life at is = rw (at, is) (last_device net name a b normal life)
+
+grown : (ds : List Device) (d : Device) → length ds ≤ length (ds ++ d ∷ [])
+grown ds d = omega (arith, length-append ds (d ∷ []))
+
+module _ (net after : Network) (name a b : List ℕ) (normal : Pos) (life : Life) (is : after ≡ with_device net name a b normal life) where
+  pub without_device : without_last_device after ≡ net
+  without_device = rw is (device_before net name a b normal life)
+
+  pub one_device_more : length net.devices ≤ length after.devices
+  one_device_more = rw is (grown net.devices _)
 
 same : (x : Device) (old : Life) → Some x.life ≡ Some old → x.life ≡ old
 same x old h = cc (h)

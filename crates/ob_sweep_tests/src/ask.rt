@@ -1,4 +1,4 @@
-//! One change that is asked for, of the sheet or of the network.
+//! One change that a command asks for, of the sheet or of the network.
 ghost use Rattle.std.specs.Prelude.{◌≡◌, ◌<◌, ◌≤◌, List, IfOk, OnOk, length};
 ghost use Rattle.std.specs.List.{All};
 ghost use Rattle.ob_net.specs.Network.{IsNetwork};
@@ -9,53 +9,31 @@ ghost use Rattle.ob_sweep.specs.Timeline.{LieBetween};
 ghost use Rattle.ob_time.specs.Calendar.{first_second_of, end_second_of};
 
 use crate::change::change_by;
-use crate::feeders::{device_of, name_of};
 use crate::sheet::enter;
-use ob_command::read_body;
-use ob_net::{Life, MOST_NODES, Net, Pos};
+use ob_command::{Command, Ends, Moment};
+use ob_net::{Life, MOST_NODES, Name, Net, Pos};
 use ob_sheet::Sheet;
 use ob_sweep::Change;
 use ob_time::CivilDays;
 use std::test::Fail;
 
-/// One change that is asked for.
-#[derive(Clone, Copy)]
-pub enum Ask<'r> {
-    /// Of the sheet, by the body text of a command.
-    Sheet(&'r str),
-    /// A bus more.
-    Bus(&'r str),
-    /// A section more, with its home feeder.
-    Section(&'r str, u8),
-    /// A device more, by its name and those of its ends.
-    Device {
-        name: &'r str,
-        a: &'r str,
-        b: &'r str,
-        normal: Pos,
-        life: Life,
-    },
-    /// Another life of a device.
-    Life(&'r str, Life),
-}
-
-/// A device more, by its name and those of its ends.
-pub fn joins<'r>(device: [&'r str; 3], normal: Pos, life: Life) -> Ask<'r> {
-    Ask::Device {
-        name: device[0],
-        a: device[1],
-        b: device[2],
-        normal,
-        life,
+// Whether a command asks for a change of the network.
+fn is_of_network(command: &Command) -> bool {
+    match command {
+        Command::Bus { .. }
+        | Command::Section { .. }
+        | Command::Device { .. }
+        | Command::Life { .. } => true,
+        _ => false,
     }
 }
 
-/// The change that is asked for. One of the network is made at once, one of the sheet isn't yet.
+/// The change that a command asks for. One of the network is made at once, one of the sheet isn't yet.
 pub fn change_of(
     net: &mut Net,
     sheet: &Sheet,
     period: &CivilDays,
-    ask: &Ask<'_>,
+    command: &Command,
 ) -> Result<Change, Fail>
     requires devices { NameDevices (length net.old.network.devices) sheet.now.entries }
     requires all { All (λ e. (first_second_of period.now ≤ e.second)
@@ -69,93 +47,104 @@ pub fn change_of(
     ensures between { IfOk result (λ c. LieBetween (first_second_of period.now)
         (end_second_of period.now) (changed c sheet.now.entries)) }
 {
-    if let Ask::Sheet(body) = *ask {
-        let command = read_body(body.as_bytes()).ok_or("a command")?;
-        return Ok(change_by(net, sheet, period, &command).ok_or("a change")?);
+    if !is_of_network(command) {
+        return Ok(change_by(net, sheet, period, command).ok_or("a change")?);
     }
-    let change = change_network(net, ask)?;
+    let change = change_network(net, command)?;
     Ok(change)
 }
 
-// Makes the change of the network that is asked for.
-fn change_network(net: &mut Net, ask: &Ask<'_>) -> Result<Change, Fail>
+/// Makes the change of the network that a command asks for.
+pub fn change_network(net: &mut Net, command: &Command) -> Result<Change, Fail>
     ensures before { IfOk result (λ c. net_before c net.new.network ≡ net.old.network) }
     ensures after { IfOk result (λ c. IsAfter c net.new.network) }
     ensures applies { (entries : List AnEntry) → IfOk result (λ c. Applies c entries) }
     ensures sheet { (entries : List AnEntry) → IfOk result (λ c. changed c entries ≡ entries) }
     ensures more { OnOk result (length net.old.network.devices ≤ length net.new.network.devices) }
 {
-    match *ask {
-        Ask::Bus(name) => bus_more(net, name),
-        Ask::Section(name, feeder) => section_more(net, name, feeder),
-        Ask::Device {
+    match command {
+        Command::Bus { name } => bus_more(net, *name),
+        Command::Section { name, feeder } => section_more(net, *name, feeder.get()),
+        Command::Device {
             name,
-            a,
-            b,
+            ends,
             normal,
-            life,
-        } => device_more(net, [name, a, b], normal, life),
-        Ask::Life(name, life) => other_life(net, name, life),
-        Ask::Sheet(_) => Err("no change of the network".into()),
+            since,
+            until,
+        } => device_more(net, *name, ends, *normal, life_from(*since, *until)),
+        Command::Life {
+            device,
+            since,
+            until,
+        } => other_life(net, device, life_from(*since, *until)),
+        _ => Err("no change of the network".into()),
     }
 }
 
-fn is_not_full(net: &Net) -> Result<(), Fail>
-    ensures { IsNetwork net.now.network }
+fn life_from(since: Moment, until: Option<Moment>) -> Life {
+    Life {
+        since: since.second(),
+        until: match until {
+            Some(until) => Some(until.second()),
+            None => None,
+        },
+    }
+}
+
+// Room for a part more of a network that isn't full.
+fn room_for_one(net: &mut Net) -> Result<(), Fail>
+    ensures is_network { OnOk result (IsNetwork net.old.network) }
+    ensures nodes { OnOk result (0 < net.new.node_room) }
+    ensures network { net.new.network ≡ net.old.network }
 {
     if usize::from(net.nodes()) == MOST_NODES {
         return Err("a full network".into());
     }
+    net.reserve_one()?;
     Ok(())
 }
 
-#[tactic(auto, using(crate::proofs::Grown::last_node))]
-fn bus_more(net: &mut Net, name: &str) -> Result<Change, Fail>
+fn bus_more(net: &mut Net, name: Name) -> Result<Change, Fail>
     ensures before { IfOk result (λ c. net_before c net.new.network ≡ net.old.network) }
     ensures after { IfOk result (λ c. IsAfter c net.new.network) }
     ensures applies { (entries : List AnEntry) → IfOk result (λ c. Applies c entries) }
     ensures sheet { (entries : List AnEntry) → IfOk result (λ c. changed c entries ≡ entries) }
     ensures more { OnOk result (length net.old.network.devices ≤ length net.new.network.devices) }
 {
-    let name = name_of(name)?;
-    is_not_full(net)?;
-    net.reserve_one()?;
+    room_for_one(net)?;
     net.add_bus(name)?;
     Ok(Change::Bus)
 }
 
-#[tactic(auto, using(crate::proofs::Grown::last_node))]
-fn section_more(net: &mut Net, name: &str, feeder: u8) -> Result<Change, Fail>
+fn section_more(net: &mut Net, name: Name, feeder: u8) -> Result<Change, Fail>
+    requires { 1 ≤ feeder }
     ensures before { IfOk result (λ c. net_before c net.new.network ≡ net.old.network) }
     ensures after { IfOk result (λ c. IsAfter c net.new.network) }
     ensures applies { (entries : List AnEntry) → IfOk result (λ c. Applies c entries) }
     ensures sheet { (entries : List AnEntry) → IfOk result (λ c. changed c entries ≡ entries) }
     ensures more { OnOk result (length net.old.network.devices ≤ length net.new.network.devices) }
 {
-    let name = name_of(name)?;
-    if feeder == 0 {
-        return Err("no feeder".into());
-    }
-    is_not_full(net)?;
-    net.reserve_one()?;
+    room_for_one(net)?;
     net.add_section(name, feeder)?;
     Ok(Change::Section { feeder })
 }
 
-fn device_more(net: &mut Net, device: [&str; 3], normal: Pos, life: Life) -> Result<Change, Fail>
+fn device_more(
+    net: &mut Net,
+    name: Name,
+    ends: &Ends,
+    normal: Pos,
+    life: Life,
+) -> Result<Change, Fail>
     ensures before { IfOk result (λ c. net_before c net.new.network ≡ net.old.network) }
     ensures after { IfOk result (λ c. IsAfter c net.new.network) }
     ensures applies { (entries : List AnEntry) → IfOk result (λ c. Applies c entries) }
     ensures sheet { (entries : List AnEntry) → IfOk result (λ c. changed c entries ≡ entries) }
     ensures more { OnOk result (length net.old.network.devices ≤ length net.new.network.devices) }
 {
-    let (a, b) = (name_of(device[1])?, name_of(device[2])?);
-    if a == b {
-        return Err("one end".into());
-    }
     let number = net.devices();
     net.reserve_one()?;
-    net.add_device(name_of(device[0])?, a, b, normal, life)?;
+    net.add_device(name, *ends.a(), *ends.b(), normal, life)?;
     Ok(Change::Joined {
         device: number,
         life,
@@ -163,14 +152,14 @@ fn device_more(net: &mut Net, device: [&str; 3], normal: Pos, life: Life) -> Res
 }
 
 #[tactic(auto, using(crate::proofs::Grown::life_before, crate::proofs::Grown::life_after, crate::proofs::Grown::as_many))]
-fn other_life(net: &mut Net, name: &str, life: Life) -> Result<Change, Fail>
+fn other_life(net: &mut Net, name: &Name, life: Life) -> Result<Change, Fail>
     ensures before { IfOk result (λ c. net_before c net.new.network ≡ net.old.network) }
     ensures after { IfOk result (λ c. IsAfter c net.new.network) }
     ensures applies { (entries : List AnEntry) → IfOk result (λ c. Applies c entries) }
     ensures sheet { (entries : List AnEntry) → IfOk result (λ c. changed c entries ≡ entries) }
     ensures more { OnOk result (length net.old.network.devices ≤ length net.new.network.devices) }
 {
-    let device = device_of(net, name)?;
+    let device = net.device_of(name).ok_or("a device")?;
     let old = net.life_of(device);
     net.set_life(device, life)?;
     Ok(Change::Lived {
@@ -180,8 +169,8 @@ fn other_life(net: &mut Net, name: &str, life: Life) -> Result<Change, Fail>
     })
 }
 
-/// Makes the change of the sheet that is asked for.
-pub fn obey(sheet: &mut Sheet, net: &Net, period: &CivilDays, ask: &Ask<'_>) -> Result<(), Fail>
+/// Makes the change of the sheet that a command asks for.
+pub fn obey(sheet: &mut Sheet, net: &Net, period: &CivilDays, command: &Command) -> Result<(), Fail>
     requires devices { NameDevices (length net.now.network.devices) sheet.old.entries }
     requires all { All (λ e. (first_second_of period.now ≤ e.second)
         × (e.second < end_second_of period.now)) sheet.old.entries }
@@ -189,9 +178,8 @@ pub fn obey(sheet: &mut Sheet, net: &Net, period: &CivilDays, ask: &Ask<'_>) -> 
     ensures all { OnOk result (All (λ e. (first_second_of period.now ≤ e.second)
         × (e.second < end_second_of period.now)) sheet.new.entries) }
 {
-    let Ask::Sheet(body) = *ask else {
+    if is_of_network(command) {
         return Ok(());
-    };
-    let command = read_body(body.as_bytes()).ok_or("a command")?;
-    enter(sheet, net, period, &command)
+    }
+    enter(sheet, net, period, command)
 }

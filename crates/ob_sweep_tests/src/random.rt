@@ -4,15 +4,17 @@ ghost use Rattle.std.specs.List.{All};
 ghost use Rattle.ob_sheet.specs.Sheet.{NameDevices};
 ghost use Rattle.ob_time.specs.Calendar.{first_second_of, end_second_of};
 
-use crate::ask::{Ask, change_of, joins, obey};
+use crate::ask::{change_network, obey};
 use crate::example::planned;
-use crate::feeders::{NODES, name_of, net_of};
+use crate::feeders::{NODES, net_of};
 use crate::plain::{World, plain_runs};
+use crate::sheet::period_of;
+use ob_command::{Command, Ends, Moment, read_body};
 use ob_net::Pos::{Closed, Opened};
-use ob_net::{Life, Net, Second};
+use ob_net::{Name, Net, Second};
 use ob_sheet::Sheet;
-use ob_sweep::{Scratch, Timeline, Windowed};
-use ob_time::{CivilDays, Period};
+use ob_sweep::{Run, Scratch, Timeline, Windowed};
+use ob_time::CivilDays;
 use std::alloc::Global;
 use std::process::Abort;
 use std::test::Fail;
@@ -53,7 +55,8 @@ impl Random {
         }
     }
 
-    fn life(&mut self) -> Life {
+    // The beginning and the end of a life.
+    fn life(&mut self) -> Option<(Moment, Option<Moment>)> {
         let since = if self.below(2) == 0 {
             0
         } else {
@@ -61,35 +64,53 @@ impl Random {
         };
         let until = self.second(3);
         if self.below(2) == 0 || until <= since {
-            return Life { since, until: None };
+            return Some((Moment::new(since)?, None));
         }
-        Life {
+        Some((Moment::new(since)?, Some(Moment::new(until)?)))
+    }
+
+    // Another life of one of so many devices.
+    fn other_life(&mut self, devices: u16) -> Option<Command> {
+        let device = Name::read(self.name(devices)?.as_bytes())?;
+        let (since, until) = self.life()?;
+        Some(Command::Life {
+            device,
             since,
-            until: Some(until),
-        }
+            until,
+        })
     }
 
     // A device more, the one with this number, between two of so many nodes.
-    fn device(&mut self, number: u16, nodes: u16) -> Result<Ask<'static>, Fail> {
+    fn device(&mut self, number: u16, nodes: u16) -> Option<Command> {
+        let name = name_at(&DEVICES, u64::from(number))?;
+        let ends = self.ends(nodes)?;
+        let normal = if self.below(4) == 0 { Opened } else { Closed };
+        let (since, until) = self.life()?;
+        Some(Command::Device {
+            name,
+            ends,
+            normal,
+            since,
+            until,
+        })
+    }
+
+    fn ends(&mut self, nodes: u16) -> Option<Ends> {
         let nodes = u64::from(nodes.max(2));
         let a = self.below(nodes);
         let b = (a + 1 + self.below(nodes - 1)) % nodes;
-        let name = DEVICES.get(usize::from(number)).ok_or("a device")?;
-        let a = NODES.get(a as usize).ok_or("a node")?;
-        let b = NODES.get(b as usize).ok_or("a node")?;
-        let normal = if self.below(4) == 0 { Opened } else { Closed };
-        Ok(joins([*name, *a, *b], normal, self.life()))
+        Ends::new(name_at(&NODES, a)?, name_at(&NODES, b)?)
     }
 
     // The name of one of so many devices.
-    fn name(&mut self, devices: u16) -> Result<&'static str, Fail> {
+    fn name(&mut self, devices: u16) -> Option<&'static str> {
         let number = self.below(u64::from(devices.max(1))) as usize;
-        Ok(DEVICES.get(number).copied().ok_or("a device")?)
+        DEVICES.get(number).copied()
     }
 
     // The body text of a switching, a correction or a withdrawal.
     fn body(&mut self, alloc: Global, world: &World) -> Result<String, Fail> {
-        let device = self.name(world.net.devices())?;
+        let device = self.name(world.net.devices()).ok_or("a device")?;
         let act = if self.below(2) == 0 { "open" } else { "close" };
         let second = self.second(0);
         let no = self.below(12) as u32 + 1;
@@ -105,28 +126,26 @@ impl Random {
     }
 }
 
+fn name_at(texts: &[&str], place: u64) -> Option<Name> {
+    Name::read(texts.get(place as usize)?.as_bytes())
+}
+
 // One change: a section, a device or another life, or what the body text asks of the sheet.
-fn ask<'r>(random: &mut Random, net: &Net, body: &'r str) -> Result<Ask<'r>, Fail> {
+fn ask(random: &mut Random, net: &Net, body: &str) -> Option<Command> {
     let (nodes, devices) = (net.nodes(), net.devices());
-    let kind = random.below(8);
-    if kind == 0 && nodes == 6 {
-        return Ok(Ask::Section("S5", 3));
+    match random.below(8) {
+        0 if nodes == 6 => read_body(b"section S5 3"),
+        1 if devices < 10 => random.device(devices, nodes),
+        0..=4 => random.other_life(devices),
+        _ => read_body(body.as_bytes()),
     }
-    if kind == 1 && devices < 10 {
-        return random.device(devices, nodes);
-    }
-    if 5 <= kind {
-        return Ok(Ask::Sheet(body));
-    }
-    let name = random.name(devices)?;
-    Ok(Ask::Life(name, random.life()))
 }
 
 // Keeps the ends of a device more.
-fn keep_ends(net: &Net, ends: &mut Vec<(u16, u16)>, ask: &Ask<'_>) -> Result<(), Fail> {
-    if let Ask::Device { a, b, .. } = ask {
-        let a = net.node_of(&name_of(a)?).ok_or("a node")?;
-        let b = net.node_of(&name_of(b)?).ok_or("a node")?;
+fn keep_ends(net: &Net, ends: &mut Vec<(u16, u16)>, command: &Command) -> Result<(), Fail> {
+    if let Command::Device { ends: names, .. } = command {
+        let a = net.node_of(names.a()).ok_or("a node")?;
+        let b = net.node_of(names.b()).ok_or("a node")?;
         ends.push((a, b))?;
     }
     Ok(())
@@ -141,18 +160,42 @@ section S4 2
 ";
 
 // A network of five devices, on which nothing was switched.
-fn world(alloc: Global, random: &mut Random, period: &CivilDays) -> Result<World, Fail>
+fn world(alloc: Global, random: &mut Random) -> Result<World, Fail>
     ensures { IfOk result (λ w. w.sheet.entries ≡ []) }
 {
-    let mut net = net_of(alloc, NO_DEVICES)?;
-    let mut ends = Vec::new(alloc);
+    let (net, ends) = five_devices(alloc, random)?;
     let sheet = Sheet::new(alloc);
-    for number in 0..5 {
-        let ask = random.device(number, 6)?;
-        change_of(&mut net, &sheet, period, &ask)?;
-        keep_ends(&net, &mut ends, &ask)?;
-    }
     Ok(World { net, sheet, ends })
+}
+
+fn five_devices(alloc: Global, random: &mut Random) -> Result<(Net, Vec<(u16, u16)>), Fail> {
+    let mut net = net_of(alloc, NO_DEVICES, "")?;
+    let mut ends = Vec::new(alloc);
+    for number in 0..5 {
+        join(random, &mut net, &mut ends, number)?;
+    }
+    Ok((net, ends))
+}
+
+// A device of this number joins.
+fn join(
+    random: &mut Random,
+    net: &mut Net,
+    ends: &mut Vec<(u16, u16)>,
+    number: u16,
+) -> Result<(), Fail> {
+    let command = random.device(number, 6).ok_or("a device")?;
+    change_network(net, &command)?;
+    keep_ends(net, ends, &command)
+}
+
+// The runs of every node by the plain count.
+fn counted(alloc: Global, world: &World) -> Result<Vec<Vec<Run>>, Fail> {
+    let mut seconds = Vec::new(alloc);
+    for second in (FIRST..FIRST + 10).chain(END - 3..END) {
+        seconds.push(second)?;
+    }
+    plain_runs(alloc, world, &seconds, END)
 }
 
 // The runs of each section are those of the plain count.
@@ -164,11 +207,7 @@ fn agrees<T: Timeline>(
 ) -> Result<(), Fail>
     requires { length (T.content timeline.now) ≡ 1024 }
 {
-    let mut seconds = Vec::new(alloc);
-    for second in (FIRST..FIRST + 10).chain(END - 3..END) {
-        seconds.push(second)?;
-    }
-    let lists = plain_runs(alloc, world, &seconds, END)?;
+    let lists = counted(alloc, world)?;
     for node in 0..world.net.nodes() {
         if world.net.feeder_of(node).is_some() {
             let wanted = lists.get(usize::from(node)).ok_or("a list")?;
@@ -176,6 +215,12 @@ fn agrees<T: Timeline>(
         }
     }
     Ok(())
+}
+
+// The command of one change.
+fn drawn(alloc: Global, random: &mut Random, world: &World) -> Result<Command, Fail> {
+    let body = random.body(alloc, world)?;
+    Ok(ask(random, &world.net, body.as_str()).ok_or("a command")?)
 }
 
 // Takes a change over.
@@ -194,12 +239,17 @@ fn step<T: Timeline>(
     ensures all { OnOk result (All (λ e. (first_second_of period.now ≤ e.second)
         × (e.second < end_second_of period.now)) world.new.sheet.entries) }
 {
-    let body = random.body(alloc, world)?;
-    let ask = ask(random, &world.net, body.as_str())?;
-    let (mut timeline, delta, _) = planned::<T>(alloc, &mut world.net, &world.sheet, period, &ask)?;
+    let command = drawn(alloc, random, world)?;
+    let (mut timeline, delta, _) = planned::<T>(
+        alloc,
+        &mut world.net,
+        &world.sheet,
+        period,
+        &command,
+    )?;
     timeline.adopt(delta);
-    obey(&mut world.sheet, &world.net, period, &ask)?;
-    keep_ends(&world.net, &mut world.ends, &ask)?;
+    obey(&mut world.sheet, &world.net, period, &command)?;
+    keep_ends(&world.net, &mut world.ends, &command)?;
     agrees(rt, alloc, world, &timeline)
 }
 
@@ -211,7 +261,7 @@ fn list<T: Timeline>(
     period: &CivilDays,
 ) -> Result<(), Fail> {
     let mut random = Random { state: seed };
-    let mut world = world(alloc, &mut random, period)?;
+    let mut world = world(alloc, &mut random)?;
     for _ in 0..12 {
         step::<T>(rt, alloc, &mut random, &mut world, period)?;
     }
@@ -219,7 +269,7 @@ fn list<T: Timeline>(
 }
 
 fn lists<T: Timeline>(rt: &impl Abort, alloc: Global) -> Result<(), Fail> {
-    let period = Period::from_text(alloc, b"1970-01-02", 1, b"UTC0")?;
+    let period = period_of(alloc, b"1970-01-02", 1)?;
     for seed in 0..300 {
         list::<T>(rt, alloc, seed, &period)?;
     }

@@ -7,9 +7,14 @@ ghost use Rattle.ob_time.specs.Calendar.{first_second_of, end_second_of};
 use ob_command::{Command, read_body};
 use ob_net::{Net, Second};
 use ob_sheet::Sheet;
-use ob_time::CivilDays;
+use ob_time::{CivilDays, Period};
 use std::alloc::Global;
 use std::test::Fail;
+
+/// Some days in UTC, by the date of the first one and how many they are.
+pub fn period_of(alloc: Global, first: &[u8], days: u16) -> Result<Period, Fail> {
+    Ok(Period::from_text(alloc, first, days, b"UTC0")?)
+}
 
 /// The sheet after the commands of a script's lines, one after another.
 pub fn sheet_of(alloc: Global, net: &Net, period: &CivilDays, script: &str) -> Result<Sheet, Fail>
@@ -19,10 +24,21 @@ pub fn sheet_of(alloc: Global, net: &Net, period: &CivilDays, script: &str) -> R
 {
     let mut sheet = Sheet::new(alloc);
     for line in script.lines() {
-        let command = read_body(line.as_bytes()).ok_or("a command")?;
-        enter(&mut sheet, net, period, &command)?;
+        enter_line(&mut sheet, net, period, line)?;
     }
     Ok(sheet)
+}
+
+fn enter_line(sheet: &mut Sheet, net: &Net, period: &CivilDays, line: &str) -> Result<(), Fail>
+    requires devices { NameDevices (length net.now.network.devices) sheet.old.entries }
+    requires all { All (λ e. (first_second_of period.now ≤ e.second)
+        × (e.second < end_second_of period.now)) sheet.old.entries }
+    ensures devices { OnOk result (NameDevices (length net.now.network.devices) sheet.new.entries) }
+    ensures all { OnOk result (All (λ e. (first_second_of period.now ≤ e.second)
+        × (e.second < end_second_of period.now)) sheet.new.entries) }
+{
+    let command = read_body(line.as_bytes()).ok_or("a command")?;
+    enter(sheet, net, period, &command)
 }
 
 /// Enters a switching, or corrects or withdraws an entry, as a command asks.

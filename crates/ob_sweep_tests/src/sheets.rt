@@ -2,12 +2,11 @@
 ghost use Rattle.std.specs.Prelude.{IfOk, length};
 ghost use Rattle.ob_sheet.specs.Sheet.{NameDevices};
 
-use crate::feeders::{net_of, set_lives, since, until};
-use crate::sheet::sheet_of;
+use crate::feeders::net_of;
+use crate::sheet::{period_of, sheet_of};
 use ob_net::Pos::{Closed, Opened};
-use ob_net::{Crew, Life, Net, Pos, Refusal, Second};
+use ob_net::{Crew, Net, Pos, Refusal, Second};
 use ob_sheet::{Entry, Sheet};
-use ob_time::Period;
 use std::alloc::Global;
 use std::process::Abort;
 use std::test::Fail;
@@ -28,14 +27,20 @@ switch D3 open 200 7 CREW-1
 ";
 
 // The devices with these lives, and their sheet.
-fn switched(alloc: Global, lives: &[(&str, Life)]) -> Result<(Net, Sheet), Fail>
+fn switched(alloc: Global, lives: &str) -> Result<(Net, Sheet), Fail>
     ensures { IfOk result (λ s. NameDevices (length s.0.network.devices) s.1.entries) }
 {
-    let mut net = net_of(alloc, DEVICES)?;
-    set_lives(&mut net, lives)?;
-    let period = Period::from_text(alloc, b"1970-01-01", 1, b"UTC0")?;
-    let sheet = sheet_of(alloc, &net, &period, ENTRIES)?;
+    let net = net_of(alloc, DEVICES, lives)?;
+    let sheet = entered(alloc, &net, b"1970-01-01", ENTRIES)?;
     Ok((net, sheet))
+}
+
+// The sheet of a day after the commands of a script's lines.
+fn entered(alloc: Global, net: &Net, date: &[u8], script: &str) -> Result<Sheet, Fail>
+    ensures { IfOk result (λ s. NameDevices (length net.now.network.devices) s.entries) }
+{
+    let period = period_of(alloc, date, 1)?;
+    sheet_of(alloc, net, &period, script)
 }
 
 fn crew() -> Result<Crew, Fail> {
@@ -52,7 +57,7 @@ fn is_in_order(rt: &impl Abort, sheet: &Sheet, numbers: &[u32]) {
 
 #[test]
 fn a_late_entry_before_an_earlier_opening(rt: HostRuntime) -> Result<(), Fail> {
-    let (_, sheet) = switched(rt.alloc(), &[])?;
+    let (_, sheet) = switched(rt.alloc(), "")?;
     assert!(rt; sheet.len() == 4 && !sheet.is_full());
     is_in_order(&rt, &sheet, &[3, 1, 4, 2]);
     let late = Entry {
@@ -84,7 +89,7 @@ fn leaves(rt: &impl Abort, sheet: &Sheet, net: &Net, rows: &[[Pos; 3]]) -> Resul
 
 #[test]
 fn positions_at_each_place(rt: HostRuntime) -> Result<(), Fail> {
-    let (net, sheet) = switched(rt.alloc(), &[])?;
+    let (net, sheet) = switched(rt.alloc(), "")?;
     assert!(rt; net.devices() == 3 && sheet.in_order().len() == 4);
     leaves(
         &rt,
@@ -119,8 +124,7 @@ fn stand(
 
 #[test]
 fn devices_are_open_outside_their_lives(rt: HostRuntime) -> Result<(), Fail> {
-    let lives = [("D1", until(150)), ("D2", since(120))];
-    let (net, sheet) = switched(rt.alloc(), &lives)?;
+    let (net, sheet) = switched(rt.alloc(), "life D1 0 150\nlife D2 120 -")?;
     assert!(rt; net.devices() == 3 && sheet.in_order().len() == 4);
     stand(
         &rt,
@@ -153,7 +157,7 @@ fn moves_on(rt: &impl Abort, sheet: &Sheet, rows: &[(Second, usize, [Pos; 3])])
 
 #[test]
 fn positions_move_on_to_a_second(rt: HostRuntime) -> Result<(), Fail> {
-    let (net, sheet) = switched(rt.alloc(), &[])?;
+    let (net, sheet) = switched(rt.alloc(), "")?;
     assert!(rt; net.devices() == 3);
     moves_on(
         &rt,
@@ -190,7 +194,7 @@ fn are_refused(rt: &impl Abort, sheet: &mut Sheet, crew: Crew, rows: &[(u32, u32
 
 #[test]
 fn entries_are_corrected_and_withdrawn(rt: HostRuntime) -> Result<(), Fail> {
-    let (_, mut sheet) = switched(rt.alloc(), &[])?;
+    let (_, mut sheet) = switched(rt.alloc(), "")?;
     revise(&rt, &mut sheet, crew()?);
     let corrected = Entry {
         no: 4,
@@ -208,7 +212,7 @@ fn entries_are_corrected_and_withdrawn(rt: HostRuntime) -> Result<(), Fail> {
 
 #[test]
 fn revisions_are_refused(rt: HostRuntime) -> Result<(), Fail> {
-    let (_, mut sheet) = switched(rt.alloc(), &[])?;
+    let (_, mut sheet) = switched(rt.alloc(), "")?;
     let crew = crew()?;
     revise(&rt, &mut sheet, crew);
     are_refused(
