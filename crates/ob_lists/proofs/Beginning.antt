@@ -1,8 +1,7 @@
 -- What a load finds after a crash where a new book was to be made.
-use Rattle.std.proofs.Common.{◌≡◌, ◌⊎◌, inl, inr, ℕ, List, [], None, Result, Ok, Err, IsErr, IsTrue, refl, sym, ap, subst, ◌∙◌}
+use Rattle.std.proofs.Common.{◌≡◌, inl, inr, ℕ, List, Result, Ok, Err, IsErr, refl, sym, ap, subst, ◌∙◌}
 use Rattle.std.specs.Prelude.{⊤}
 use Rattle.sqlite_trees.specs.declared.store.Store.{Ghosts}
-use Rattle.sqlite.specs.Tree.{Trees}
 use Rattle.sqlite.specs.Held.{state}
 use Rattle.sqlite.specs.State.{HasCleanDisk}
 use Rattle.ob_base.specs.declared.stop.Stop.{Stop}
@@ -10,13 +9,12 @@ use Rattle.ob_base.specs.declared.stop.Stop.TheVariants.{Refused, Fault}
 use Rattle.ob_base.specs.declared.stop.Fault.TheVariants.{OutOfMemory, Store, Reopen, Input, Output}
 use Rattle.ob_base.specs.declared.stop.Refusal.TheVariants.{BadField, UnknownName, NameTaken, OutOfPeriod, UnknownEntry, Stale, Withdrawn, UnknownCustomer, BadService, RefConflict, Full, MarkedAlready, NotMarked, UnknownCause, BadPeriod, BadBook, BadLife, OldVersion}
 use Rattle.ob_time.specs.Calendar.{Calendar}
-use Rattle.ob_book.specs.Acts.{ActState, start}
+use Rattle.ob_book.specs.Acts.{start}
 use Rattle.sqlite_catalog.specs.Listing.{IsSound}
 use Rattle.ob_commit.specs.Begins.{Stays}
 use Rattle.ob_commit.specs.Keeps.{Leaves}
 use Rattle.ob_record.specs.Reached.{IsReached}
 use Rattle.ob_record.specs.Tables.{tables_of}
-use Rattle.ob_tables.specs.Schema.{no_schema}
 use Rattle.ob_tables.specs.declared.version.Version.TheVariants.{Two}
 use Rattle.ob_compare.specs.Reading.{IsMissed}
 use Rattle.ob_store.specs.Crashing.{LoadLaw, Loads}
@@ -24,7 +22,7 @@ use Rattle.ob_store.specs.Creating.{Created}
 use Rattle.ob_store.specs.Keeping.{KeeperValue, KeepsBook}
 use Rattle.ob_store.specs.Loading.{trees_in}
 use Rattle.ob_store.proofs.Crashing.{one_schema}
-use Rattle.ob_lists.specs.Standing.{HoldsNothing, MayBe, Stands}
+use Rattle.ob_lists.specs.Standing.{HoldsNothing}
 use Rattle.ob_lists.specs.Going.{Begun, Finds, Restarts}
 use Rattle.ob_lists.proofs.Restarting.{Settles, kept_in, none}
 use Rattle.ob_lists.proofs.Standings.{finds, loads_one}

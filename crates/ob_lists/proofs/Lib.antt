@@ -1,4 +1,6 @@
 pub mod Standings
+pub mod Importing
+pub mod Serving
 pub mod Restarting
 pub mod Telling
 pub mod Beginning

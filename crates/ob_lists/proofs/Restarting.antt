@@ -1,5 +1,5 @@
 -- What is left of a book after a crash, once its store is opened again.
-use Rattle.std.proofs.Common.{◌≡◌, ◌⊎◌, inl, inr, List, [], ◌++◌, None, IsTrue, IfSome, refl, sym, ap, subst, ◌∙◌, append_assoc}
+use Rattle.std.proofs.Common.{◌≡◌, inl, inr, ◌++◌, IsTrue, IfSome, sym, ap, subst, ◌∙◌, append_assoc}
 use Rattle.sqlite_trees.specs.declared.store.Store.{Ghosts}
 use Rattle.sqlite.specs.Tree.{Trees}
 use Rattle.sqlite.specs.Held.{Held, state}
@@ -12,12 +12,11 @@ use Rattle.ob_tables.specs.Rows.{Tables}
 use Rattle.ob_tables.specs.Versions.{schema_of}
 use Rattle.ob_tables.specs.declared.version.Version.{Version}
 use Rattle.ob_tables.specs.declared.version.Version.TheVariants.{One, Two}
-use Rattle.ob_store.specs.Crashing.{OpensAfterCrash}
-use Rattle.ob_store.specs.Keeping.{KeeperValue, Ties}
+use Rattle.ob_store.specs.Keeping.{KeeperValue}
 use Rattle.ob_store.specs.Loading.{trees_in}
 use Rattle.ob_store.proofs.Crashing.{one_schema}
-use Rattle.ob_lists.specs.Standing.{MayBe, Stands, Told}
-use Rattle.ob_lists.specs.Going.{Goes, JoinLaw, RestartLaw, Restarts}
+use Rattle.ob_lists.specs.Standing.{MayBe, Stands}
+use Rattle.ob_lists.specs.Going.{JoinLaw, RestartLaw, Restarts}
 
 -- an open store leaves what it has committed
 abbrev pub Settles : {R : Type 0} → Ghosts R → Type 0

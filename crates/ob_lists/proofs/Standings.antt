@@ -1,6 +1,6 @@
 -- What each call makes of a book that the store may have.
-use Rattle.std.proofs.Common.{◌≡◌, ◌⊎◌, inl, inr, ℕ, Bool, true, false, List, [], ◌∷◌, ◌++◌, length, Option, Some, None, Result, Ok, Err, IsTrue, is_some, IsSome, IfSome, IfErr, IsErr, OnOk, refl, sym, ap, subst, ◌∙◌, arith}
-use Rattle.std.specs.Prelude.{⊤, ◌↔◌, ◌≢◌}
+use Rattle.std.proofs.Common.{◌≡◌, ◌⊎◌, inl, inr, ℕ, Bool, true, false, List, ◌++◌, length, Option, Some, None, Result, Ok, Err, IsTrue, is_some, IsSome, IfSome, IfErr, IsErr, OnOk, refl, sym, ap, subst, ◌∙◌, arith}
+use Rattle.std.specs.Prelude.{⊤}
 use Rattle.sqlite_trees.specs.declared.store.Store.{Ghosts}
 use Rattle.sqlite.specs.Held.{state}
 use Rattle.sqlite.specs.State.{HasCleanDisk}
@@ -21,7 +21,7 @@ use Rattle.ob_parts.specs.OldTables.{HasOldBook, old_tables_of}
 use Rattle.ob_store.specs.Acting.{Acted, reply_as}
 use Rattle.ob_store.specs.Crashing.{HasLoaded, LoadLaw, Loads}
 use Rattle.ob_store.specs.Creating.{Created, HeldNothing}
-use Rattle.ob_store.specs.Keeping.{IsBookAfter, KeeperValue, KeepsBook, KeepsEitherBook, KeepsOn, Ties}
+use Rattle.ob_store.specs.Keeping.{IsBookAfter, KeeperValue, KeepsBook, KeepsOn, Ties}
 use Rattle.ob_store.specs.Loading.{trees_in}
 use Rattle.ob_store.specs.Migrating.{KeepsEitherVersion, KeepsOldBook, Migrated, MigratesKept, MigratesOn}
 use Rattle.ob_store.specs.MovingOut.{MovesOut, StoreFails, Takes}
@@ -30,7 +30,7 @@ use Rattle.ob_store.specs.Versions.{IsLoadFault, Outdated}
 use Rattle.ob_store.specs.declared.reply.Reply.{Reply as GivenReply}
 use Rattle.ob_store.proofs.OldBooks.{has_one}
 use Rattle.ob_store.proofs.Upgrading.{two_versions}
-use Rattle.ob_lists.specs.Standing.{InDoubt, InUpgrade, Kept, KeptOld, MayBe, Stands, Told, acknowledged, doubted, told_by}
+use Rattle.ob_lists.specs.Standing.{InUpgrade, KeptOld, MayBe, Stands, Told, told_by}
 use Rattle.ob_lists.specs.Going.{Finds, LoadsOne}
 
 -- the book after a stop is none, or as before
@@ -46,12 +46,26 @@ pub after_result : {X : Type 0} (was is : Option BookState) (r : Result X Stop) 
 after_result was is (Ok x) found dropped = inl found
 after_result was is (Err stop) found dropped = after_stop was is stop dropped
 
+-- a book of the one kind is one of the other
+pub stands_as : {S : Type 0} (g : Ghosts S) (k : KeeperValue S) (Is Js : ActState → Type 0) → ((x : ActState) → Is x → Js x) → Stands g Is k → Stands g Js k
+stands_as g k Is Js so (inl it) = inl (record { book = it.book; is = so it.book it.is; ties = it.ties })
+stands_as g k Is Js so (inr (inl it)) = inr (inl (record {
+  book = it.book;
+  other = it.other;
+  is = so it.book it.is;
+  other_is = so it.other it.other_is;
+  keeps = it.keeps;
+  lost = it.lost;
+}))
+stands_as g k Is Js so (inr (inr (inl it))) = inr (inr (inl (record { book = it.book; is = so it.book it.is; keeps = it.keeps; lost = it.lost })))
+stands_as g k Is Js so (inr (inr (inr it))) = inr (inr (inr (record { book = it.book; is = so it.book it.is; keeps = it.keeps; lost = it.lost })))
+
 module _ {S : Type 0} (g : Ghosts S) (old new : KeeperValue S) where
   -- a book that is kept, and that of the keeper as before or none
   tie_as_before : (x : ActState) → Ties g old x → KeepsBook (state g new.conn) x → new.book ≡ old.book → Ties g new x
   tie_as_before x ties keeps same = record { kept = keeps; book = subst (λ b. IfSome b (λ s. s ≡ x.book)) (sym same) ties.book }
 
-  tie_none : (x : ActState) → KeepsBook (state g new.conn) x → new.book ≡ None → Ties g new x
+  pub tie_none : (x : ActState) → KeepsBook (state g new.conn) x → new.book ≡ None → Ties g new x
   tie_none x keeps none = record { kept = keeps; book = subst (λ b. IfSome b (λ s. s ≡ x.book)) (sym none) tt }
 
   tie_after : (x : ActState) → Ties g old x → KeepsBook (state g new.conn) x → (new.book ≡ old.book) ⊎ (new.book ≡ None) → Ties g new x

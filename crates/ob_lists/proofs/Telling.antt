@@ -1,15 +1,25 @@
 -- Each command that is acknowledged is in the book.
-use Rattle.std.proofs.Common.{◌≡◌, ◌⊎◌, inl, inr, ℕ, zero, suc, ◌+◌, ◌-◌, ◌<◌, ◌≤◌, ◌++◌, Bool, true, false, List, [], ◌∷◌, length, Option, Some, None, Ok, Err, Contains, refl, sym, ap, subst, ◌∙◌, arith, get_or, length-append, slice_get, position, bytes_eq, true≢false, is_none, option_map, ◌&&◌, if◌then◌else◌}
+use Rattle.std.proofs.Common.{◌≡◌, inl, inr, ℕ, zero, suc, ◌+◌, ◌<◌, ◌++◌, Bool, true, false, List, [], ◌∷◌, length, Option, Some, None, Ok, Err, Contains, refl, sym, ap, subst, ◌∙◌, arith, get_or, length-append, slice_get, position, bytes_eq, true≢false, is_none, option_map, ◌&&◌, if◌then◌else◌}
+use Rattle.std.specs.Prelude.{unwrap_or}
+use Rattle.std.specs.List.{AllByRecursion}
 use Rattle.std.specs.Option.{option_map_or}
+use Rattle.std.specs.Result.{is_ok}
 use Rattle.std.proofs.lemmas.List.Quantifiers.{position-Some}
+use Rattle.std.proofs.lemmas.List.Sums.{fold-append}
 use Rattle.std.proofs.lemmas.Slice.Eq.{bytes_eq-Decides}
+use Rattle.ob_base.specs.declared.stop.Fault.{Fault}
+use Rattle.ob_base.specs.declared.stop.Fault.TheVariants.{OutOfMemory, Store, Reopen, Input, Output}
 use Rattle.ob_base.specs.declared.stop.Refusal.{Refusal}
 use Rattle.ob_base.specs.declared.stop.Refusal.TheVariants.{RefConflict}
+use Rattle.ob_csv.specs.Rows.{Fields}
 use Rattle.ob_command.specs.Commands.{body_text}
 use Rattle.ob_state.specs.Refusals.{refusal}
-use Rattle.ob_book.specs.Acts.{ActState, Referenced, Reply, act, answer_again, answer_new, answer_under, is_accepted, is_repeat, is_same, reply_of, take_on}
-use Rattle.ob_lists.specs.Standing.{IsAnswered, MayBe, Told, acknowledged, doubted}
-use Rattle.ob_lists.specs.Going.{Holds, ToldLaw}
+use Rattle.ob_book.specs.Acts.{ActState, Referenced, Reply, act, acts, answer, answer_again, answer_new, answer_under, is_accepted, is_repeat, is_same, reply_of, take_on}
+use Rattle.ob_import.specs.Imports.{AreAnswered, Begins, Import, ImportsBody, Say, Taken, after_header}
+use Rattle.ob_import.specs.Reports.{AreRows, import_as}
+use Rattle.ob_lists.specs.Importing.{BreaksOff, Ended, Makes, body_of, counted}
+use Rattle.ob_lists.specs.Standing.{IsAnswered, MayBe, Told, acknowledged, doubted, imported, served, streamed}
+use Rattle.ob_lists.specs.Going.{Holds, HoldsRow, HoldsRows, RowsLaw, ToldLaw}
 
 get_or_front : {X : Type 0} (xs ys : List X) (i : ℕ) (d : X) → i < length xs → get_or (xs ++ ys) i d ≡ get_or xs i d
 get_or_front [] ys i d l = absurd (omega (arith, l))
@@ -72,26 +82,127 @@ holds_answered b a (reply, answered) = elim (position (λ c. bytes_eq c.referenc
       | Some place ↦ λ found answered. holds_again b a place reply found answered
     ] refl answered
 
--- ---- what was told
-abbrev told_of : Told → Referenced
-told_of (acknowledged a) = a
-told_of (doubted a) = a
+-- ---- the commands of rows
+-- what a book holds it holds after any commands
+holds_after : (b : ActState) (list : List Referenced) (a : Referenced) → Holds b a → Holds (acts b list) a
+holds_after b [] a has = has
+holds_after b (c ∷ list) a has = holds_after (act b c) list a (holds_on b c a has)
 
-abbrev is_acknowledged : Told → Bool
-is_acknowledged (acknowledged a) = true
-is_acknowledged (doubted a) = false
+is_answered : (b : ActState) (a : Referenced) → is_ok (answer b a) ≡ true → IsAnswered b a
+is_answered b a ok = elim (answer b a) as (λ r. is_ok r ≡ true → (reply : Reply) × (r ≡ Ok reply)) [
+  | Ok reply ↦ λ ok. (reply, refl)
+  | Err refusal ↦ λ ok. absurd (true≢false (sym ok))
+] ok
+
+rows_after : (b : ActState) (list : List Referenced) (rows : List Fields) → AllByRecursion (HoldsRow b) rows → AllByRecursion (HoldsRow (acts b list)) rows
+rows_after b list [] all = tt
+rows_after b list (row ∷ rows) all = ((all.0.0, all.0.1, holds_after b list all.0.0 all.0.2), rows_after b list rows all.1)
+
+rows_said : (b : ActState) (rows : List Fields) (commands : List Referenced) → Say rows commands → AreAnswered b commands → AllByRecursion (HoldsRow (acts b commands)) rows
+rows_said b [] [] say answered = tt
+rows_said b (row ∷ rows) (a ∷ list) say answered =
+    ((a, say.0, holds_after (act b a) list a (holds_answered b a (is_answered b a answered.0))), rows_said (act b a) rows list say.1 answered.1)
+rows_said b [] (a ∷ list) say answered = absurd say
+rows_said b (row ∷ rows) [] say answered = absurd say
+
+rows_taken : (b c : ActState) (rows : List Fields) (added again : ℕ) → Taken b c rows added again → AllByRecursion (HoldsRow c) rows
+rows_taken b c rows added again taken = subst (λ s. AllByRecursion (HoldsRow s) rows) (sym taken.state) (rows_said b rows taken.commands taken.say taken.answered)
+
+-- ---- what an import makes of a book
+one_more : (b c x : ActState) (list : List Referenced) (a : Referenced) → c ≡ acts b list → x ≡ act c a → x ≡ acts b (list ++ a ∷ [])
+one_more b c x list a was is = is ∙ ap (λ s. act s a) was ∙ sym (fold-append act b list (a ∷ []))
+
+imports_act : (b : ActState) (body : Option (List Fields)) (i : Import) → ImportsBody b body i → (commands : List Referenced) × (i.state ≡ acts b commands)
+imports_act b None i is = ([], ap (λ j. j.state) is)
+imports_act b (Some rows) i (later, begins, stopped) = (begins.2.commands, begins.2.state)
+
+breaks_act : (b : ActState) (rows : List Fields) (fault : Fault) (added again : ℕ) (x : ActState) → BreaksOff b rows fault added again x
+    → (commands : List Referenced) × (x ≡ acts b commands)
+breaks_act b rows OutOfMemory added again x (later, begins) = (begins.2.commands, begins.2.state)
+breaks_act b rows Input added again x (later, begins) = (begins.2.commands, begins.2.state)
+breaks_act b rows Store added again x (c, later, begins, inl same) = (begins.2.commands, same ∙ begins.2.state)
+breaks_act b rows Store added again x (c, later, begins, inr (a, says, is)) =
+    (begins.2.commands ++ a ∷ [], one_more b c x begins.2.commands a begins.2.state is)
+breaks_act b rows Reopen added again x broken = absurd broken
+breaks_act b rows Output added again x broken = absurd broken
+
+makes_act : (b : ActState) (rows : List Fields) (ended : Ended) (x : ActState) → Makes b rows ended x → (commands : List Referenced) × (x ≡ acts b commands)
+makes_act b rows (Ok report) x makes = imports_act b (after_header rows) (import_as x report) makes
+makes_act b rows (Err e) x makes = breaks_act b (body_of rows) e.fault e.added e.again x makes
+
+-- so many of these rows, the first, say commands of the book
+abbrev HoldsFirst : ActState → List Fields → ℕ → Type 0
+HoldsFirst b rows count = (done : List Fields) × (later : List Fields) × (rows ≡ done ++ later) × (length done ≡ count) × AllByRecursion (HoldsRow b) done
+
+begins_hold : (b c : ActState) (rows later : List Fields) (added again : ℕ) → Begins b c rows later added again → HoldsFirst c rows (added + again)
+begins_hold b c rows later added again (done, is, taken) = (done, later, is, sym taken.all, rows_taken b c done added again taken)
+
+first_after : (b : ActState) (list : List Referenced) (rows : List Fields) (count : ℕ) → HoldsFirst b rows count → HoldsFirst (acts b list) rows count
+first_after b list rows count (done, later, is, long, all) = (done, later, is, long, rows_after b list done all)
+
+imports_hold : (b : ActState) (body : Option (List Fields)) (i : Import) → ImportsBody b body i → HoldsFirst i.state (unwrap_or body []) (i.added + i.again)
+imports_hold b None i is = ([], [], refl, sym (ap (λ j. j.added + j.again) is), tt)
+imports_hold b (Some rows) i (later, begins, stopped) = begins_hold b i.state rows later i.added i.again begins
+
+breaks_hold : (b : ActState) (rows : List Fields) (fault : Fault) (added again : ℕ) (x : ActState) → BreaksOff b rows fault added again x
+    → HoldsFirst x rows (added + again)
+breaks_hold b rows OutOfMemory added again x (later, begins) = begins_hold b x rows later added again begins
+breaks_hold b rows Input added again x (later, begins) = begins_hold b x rows later added again begins
+breaks_hold b rows Store added again x (c, later, begins, inl same) =
+    subst (λ s. HoldsFirst s rows (added + again)) (sym same) (begins_hold b c rows later added again begins)
+breaks_hold b rows Store added again x (c, later, begins, inr (a, says, is)) =
+    subst (λ s. HoldsFirst s rows (added + again)) (sym is) (first_after c (a ∷ []) rows (added + again) (begins_hold b c rows later added again begins))
+breaks_hold b rows Reopen added again x broken = absurd broken
+breaks_hold b rows Output added again x broken = absurd broken
+
+makes_hold : (b : ActState) (rows : List Fields) (ended : Ended) (x : ActState) → Makes b rows ended x → HoldsRows x rows (counted ended)
+makes_hold b rows (Ok report) x makes = imports_hold b (after_header rows) (import_as x report) makes
+makes_hold b rows (Err e) x makes = breaks_hold b (body_of rows) e.fault e.added e.again x makes
+
+-- ---- what was told
+some_same : (x y : ActState) → Some x ≡ Some y → x ≡ y
+some_same x y e = cc
+
+-- whatever was told last, the book has some commands more than before it
+goes_on : (b x : ActState) (t : Told) (before : List Told) → MayBe b (t ∷ before) x
+    → (y : ActState) × MayBe b before y × (commands : List Referenced) × (x ≡ acts y commands)
+goes_on b x (acknowledged a) before (y, was, answered, is) = (y, was, a ∷ [], is)
+goes_on b x (doubted a) before (y, was, inl same) = (y, was, [], same)
+goes_on b x (doubted a) before (y, was, inr taken) = (y, was, a ∷ [], taken)
+goes_on b x (imported known ended) before (y, was, (rows, are, makes)) = let so = makes_act y rows ended x makes in (y, was, so.0, so.1)
+goes_on b x (streamed stream) before (y, was, answers) = (y, was, answers.acted.0, some_same x (acts y answers.acted.0) answers.acted.1)
+goes_on b x served before may = may
 
 pub told_in : ToldLaw
 told_in b x [] a may has = absurd (omega (arith, has.1))
+told_in b x (t ∷ before) a may (suc k, within, there) =
+    let on = goes_on b x t before may in
+    subst (λ s. Holds s a) (sym on.3) (holds_after on.0 on.2 a (told_in b on.0 before a on.1 (k, omega (arith, within), there)))
 told_in b x (acknowledged c ∷ before) a may (zero, within, here) =
-    let same : c ≡ a = ap told_of here in
+    let this : acknowledged c ≡ acknowledged a = here in
+    let same : c ≡ a = cc in
     subst (λ s. Holds s a) (sym may.3) (subst (λ r. Holds (act may.0 c) r) same (holds_answered may.0 c may.2))
-told_in b x (acknowledged c ∷ before) a may (suc k, within, there) =
-    subst (λ s. Holds s a) (sym may.3) (holds_on may.0 c a (told_in b may.0 before a may.1 (k, omega (arith, within), there)))
-told_in b x (doubted c ∷ before) a may (zero, within, here) = absurd (true≢false (sym (ap is_acknowledged here)))
-told_in b x (doubted c ∷ before) a may (suc k, within, there) =
-    let was = told_in b may.0 before a may.1 (k, omega (arith, within), there) in
-    elim may.2 [
-      | inl none ↦ subst (λ s. Holds s a) (sym none) was
-      | inr taken ↦ subst (λ s. Holds s a) (sym taken) (holds_on may.0 c a was)
-    ]
+told_in b x (doubted c ∷ before) a may (zero, within, here) = let this : doubted c ≡ acknowledged a = here in absurd cc
+told_in b x (imported known ended ∷ before) a may (zero, within, here) = let this : imported known ended ≡ acknowledged a = here in absurd cc
+told_in b x (streamed stream ∷ before) a may (zero, within, here) = let this : streamed stream ≡ acknowledged a = here in absurd cc
+told_in b x (served ∷ before) a may (zero, within, here) = let this : served ≡ acknowledged a = here in absurd cc
+
+-- the rows that an import counts
+abbrev CountsRows : ActState → Option (List Fields) → Ended → Type 0
+CountsRows x known ended = (rows : List Fields) × AreRows known rows × HoldsRows x rows (counted ended)
+
+pub rows_in : RowsLaw
+rows_in b x [] known ended may has = absurd (omega (arith, has.1))
+rows_in b x (t ∷ before) known ended may (suc k, within, there) =
+    let on = goes_on b x t before may in
+    let was = rows_in b on.0 before known ended on.1 (k, omega (arith, within), there) in
+    (was.0, was.1, subst (λ s. HoldsRows s was.0 (counted ended)) (sym on.3) (first_after on.0 on.2 (body_of was.0) (counted ended) was.2))
+rows_in b x (imported those end ∷ before) known ended may (zero, within, here) =
+    let this : imported those end ≡ imported known ended = here in
+    let same : those ≡ known = cc in
+    let so : end ≡ ended = cc in
+    subst (λ e. CountsRows x known e) so (subst (λ o. CountsRows x o end) same (may.2.0, may.2.1, makes_hold may.0 may.2.0 end x may.2.2))
+rows_in b x (acknowledged c ∷ before) known ended may (zero, within, here) = let this : acknowledged c ≡ imported known ended = here in absurd cc
+rows_in b x (doubted c ∷ before) known ended may (zero, within, here) = let this : doubted c ≡ imported known ended = here in absurd cc
+rows_in b x (streamed stream ∷ before) known ended may (zero, within, here) = let this : streamed stream ≡ imported known ended = here in absurd cc
+rows_in b x (served ∷ before) known ended may (zero, within, here) = let this : served ≡ imported known ended = here in absurd cc

@@ -1,5 +1,6 @@
 -- What any list of calls on a keeper comes to, with crashes and openings between them.
-use Rattle.std.specs.Prelude.{◌≡◌, ◌⊎◌, ⊤, ℕ, true, List, [], ◌++◌, Contains, Some, None, Result, Ok, Err, IsErr}
+use Rattle.std.specs.Prelude.{◌≡◌, ◌⊎◌, ⊤, ℕ, true, List, [], ◌++◌, length, Contains, Option, Some, None, Result, Ok, Err, IsErr}
+use Rattle.std.specs.List.{AllByRecursion}
 use Rattle.sqlite_trees.specs.declared.store.Store.{Ghosts}
 use Rattle.sqlite.specs.Held.{state}
 use Rattle.sqlite.specs.State.{HasCleanDisk}
@@ -9,10 +10,14 @@ use Rattle.ob_base.specs.declared.stop.Refusal.TheVariants.{OldVersion}
 use Rattle.ob_base.specs.declared.stop.Fault.TheVariants.{OutOfMemory, Store}
 use Rattle.ob_time.specs.Calendar.{Calendar}
 use Rattle.ob_time.specs.Period.{IsPeriodText}
+use Rattle.ob_csv.specs.Rows.{Fields}
 use Rattle.ob_book.specs.Acts.{ActState, Referenced, is_same, start}
+use Rattle.ob_import.specs.Imports.{Says}
+use Rattle.ob_import.specs.Reports.{AreRows}
 use Rattle.ob_store.specs.Crashing.{OpensAfterCrash}
 use Rattle.ob_store.specs.Keeping.{KeeperValue, Ties}
-use Rattle.ob_lists.specs.Standing.{InUpgrade, KeptOld, MayBe, Stands, Told, acknowledged}
+use Rattle.ob_lists.specs.Importing.{Ended, body_of, counted}
+use Rattle.ob_lists.specs.Standing.{InUpgrade, KeptOld, MayBe, Stands, Told, acknowledged, imported}
 
 module _ {S R : Type 0} (g : Ghosts S) (h : Ghosts R) where
   -- the one keeper has become the other, and this was told in between, the newest first: whatever was told before, what the store
@@ -72,3 +77,18 @@ Holds b a = (c : Referenced) × Contains b.accepted c × (c.reference ≡ a.refe
 -- each command that is acknowledged is in the book
 abbrev pub ToldLaw : Type 0
 ToldLaw = (b x : ActState) (told : List Told) (a : Referenced) → MayBe b told x → Contains told (acknowledged a) → Holds x a
+
+-- the row says a command that the book has
+abbrev pub HoldsRow : ActState → Fields → Type 0
+HoldsRow b row = (a : Referenced) × Says row a × Holds b a
+
+-- so many rows of a text, the first after its header, say commands that the book has
+abbrev pub HoldsRows : ActState → List Fields → ℕ → Type 0
+HoldsRows b rows count =
+    (done : List Fields) × (later : List Fields) × (body_of rows ≡ done ++ later) × (length done ≡ count) × AllByRecursion (HoldsRow b) done
+
+-- each row that an import counts, as added or as there already, says a command that is in the book
+abbrev pub RowsLaw : Type 0
+RowsLaw =
+    (b x : ActState) (told : List Told) (known : Option (List Fields)) (ended : Ended) → MayBe b told x → Contains told (imported known ended)
+    → (rows : List Fields) × AreRows known rows × HoldsRows x rows (counted ended)

@@ -1,2 +1,4 @@
+pub mod Importing
+pub mod Streaming
 pub mod Standing
 pub mod Going

@@ -1,18 +1,26 @@
 //! The calls on a keeper, each as a part of a list.
-ghost use Rattle.std.specs.Prelude.{[], List, IsErr};
+ghost use Rattle.std.specs.Prelude.{[], ◌∷◌, List, Some, IsErr, option_map};
 ghost use Rattle.sqlite.specs.State.{HasCleanDisk};
 ghost use Rattle.sqlite.specs.Held.{state};
+ghost use Rattle.ob_stream.specs.Watching.{watched_bytes};
+ghost use Rattle.ob_csv.specs.Rows.{rows_of};
 ghost use Rattle.ob_book.specs.Acts.{ActState};
 ghost use Rattle.ob_store.specs.Acting.{under};
-ghost use Rattle.ob_lists.specs.Standing.{MayBe, Stands, Told, told_by};
+ghost use Rattle.ob_lists.specs.Standing.{MayBe, Stands, Told, served, told_by, told_by_import, told_by_stream};
 ghost use Rattle.ob_lists.specs.Going.{Goes, LoadsOne};
 
-use ob_base::{Ref, Stop};
+use ob_base::{Fault, Ref, Stop};
 use ob_command::Command;
+use ob_desk::{FaultLog, Listener, Served, Unserved};
+use ob_import::{ImportFault, ImportReport};
+use ob_routes::answers_law;
 use ob_store::{Keeper, MoveSink, Reply, load_law};
+use ob_stream::Watched;
 use ob_sweep::Timeline;
 use ob_tables::Table;
 use sqlite::Alter;
+use std::alloc::Global;
+use std::io::{Read, Write};
 
 /// Sends a command: its reply acknowledges it, and a fault of the store leaves it in doubt.
 pub fn act<S: Alter, T: Timeline>(
@@ -82,4 +90,56 @@ pub fn create_again<S: Alter, T: Timeline>(
         (told : List Told) → Stands S.Store (MayBe b told) keeper.old → IsErr result }
 {
     keeper.create(first, days, zone)
+}
+
+/// Imports the commands of a CSV text: it ends with a report or by a fault, and tells how many rows it took.
+pub fn import_text<S: Alter, T: Timeline>(
+    alloc: Global,
+    text: &[u8],
+    keeper: &mut Keeper<S, T>,
+) -> Result<ImportReport, ImportFault>
+    ensures { Goes S.Store S.Store (told_by_import (Some (rows_of text.now)) result) keeper.old
+        keeper.new }
+{
+    ob_import::import_text(alloc, text, keeper)
+}
+
+/// Imports the commands of the CSV text that a reader gives.
+pub fn import<R: Read, S: Alter, T: Timeline>(
+    alloc: Global,
+    reader: &mut Watched<R>,
+    keeper: &mut Keeper<S, T>,
+) -> Result<ImportReport, ImportFault>
+    ensures { Goes S.Store S.Store
+        (told_by_import (option_map rows_of (watched_bytes R.remaining reader.old)) result)
+        keeper.old keeper.new }
+{
+    ob_import::import(alloc, reader, keeper)
+}
+
+/// Serves the requests of a stream: at its end it tells how they were answered, and after a fault that some commands have acted.
+pub fn serve_stream<R: Read, W: Write, S: Alter, T: Timeline>(
+    alloc: Global,
+    reader: &mut Watched<R>,
+    writer: &mut Watched<W>,
+    keeper: &mut Keeper<S, T>,
+) -> Result<Served, Fault>
+    ensures { Goes S.Store S.Store
+        (told_by_stream (watched_bytes R.remaining reader.old) (watched_bytes W.contents writer.old)
+        (watched_bytes W.contents writer.new) result) keeper.old keeper.new }
+{
+    answers_law();
+    ob_desk::serve_stream(alloc, reader, writer, keeper)
+}
+
+/// Serves the streams of a listener: some commands have acted.
+pub fn run_serve<S: Alter, T: Timeline, L: FaultLog>(
+    alloc: Global,
+    listener: &mut Listener<'_>,
+    keeper: &mut Keeper<S, T>,
+    log: &mut L,
+) -> Result<(), Unserved>
+    ensures { Goes S.Store S.Store (served ∷ []) keeper.old keeper.new }
+{
+    ob_desk::run_serve(alloc, listener, keeper, log)
 }

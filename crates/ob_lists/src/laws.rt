@@ -1,5 +1,5 @@
 //! Laws on lists of calls. They do nothing when they run.
-ghost use Rattle.ob_lists.specs.Going.{JoinLaw, RestartLaw, ToldLaw};
+ghost use Rattle.ob_lists.specs.Going.{JoinLaw, RestartLaw, RowsLaw, ToldLaw};
 
 use ob_parts::upgrade_law;
 use sqlite::Alter;
@@ -16,7 +16,9 @@ pub fn join_law<S: Alter, M: Alter, R: Alter>()
     ensures { JoinLaw S.Store M.Store R.Store }
 {}
 
-/// Whatever book there may be once a list of calls was answered, each command that was acknowledged is in it.
+/// Whatever book there may be once a list of calls was answered, each command that was acknowledged is in it, and so is the
+/// command of each row that an import counts.
 pub fn told_law()
-    ensures { ToldLaw }
+    ensures commands { ToldLaw }
+    ensures rows { RowsLaw }
 {}

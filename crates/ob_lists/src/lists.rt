@@ -1,20 +1,23 @@
 //! Some lists of calls, each with what its last call answers.
-ghost use Rattle.std.specs.Prelude.{◌++◌, List, IsErr};
+ghost use Rattle.std.specs.Prelude.{◌++◌, List, Some, IsErr};
 ghost use Rattle.sqlite.specs.State.{HasCleanDisk};
 ghost use Rattle.sqlite.specs.Held.{state};
+ghost use Rattle.ob_csv.specs.Rows.{rows_of};
 ghost use Rattle.ob_book.specs.Acts.{ActState};
 ghost use Rattle.ob_store.specs.Acting.{under};
-ghost use Rattle.ob_lists.specs.Standing.{HoldsNothing, MayBe, Stands, Told, told_by};
+ghost use Rattle.ob_lists.specs.Standing.{HoldsNothing, MayBe, Stands, Told, told_by, told_by_import};
 ghost use Rattle.ob_lists.specs.Going.{Begun, Finds};
 
-use crate::calls::{act, audit, create_again, load, migrate};
+use crate::calls::{act, audit, create_again, import_text, load, migrate};
 use crate::laws::restart_law;
 use ob_base::{Ref, Stop};
 use ob_command::Command;
+use ob_import::{ImportFault, ImportReport};
 use ob_store::{Keeper, Reply, load_law};
 use ob_sweep::Timeline;
 use ob_tables::Table;
 use sqlite::Alter;
+use std::alloc::Global;
 
 /// A process ends, and another one makes a keeper over what it left.
 pub trait Restart<S: Alter, R: Alter, T: Timeline> {
@@ -106,4 +109,32 @@ pub fn migrate_load_audit<S: Alter, T: Timeline>(
     let _ = migrate(keeper);
     let _ = load(keeper);
     audit(keeper)
+}
+
+/// A command, an import, a crash, and a load: it finds a book in which the command is, if it was acknowledged, and what the import
+/// may have made of it.
+pub fn act_import_restart_load<S: Alter, R: Alter, T: Timeline, C: Restart<S, R, T>>(
+    alloc: Global,
+    mut keeper: Keeper<S, T>,
+    crash: &mut C,
+    reference: Ref,
+    command: Command,
+    text: &[u8],
+) -> (
+    Result<Reply, Stop>,
+    Result<ImportReport, ImportFault>,
+    Keeper<R, T>,
+    Result<(), Stop>,
+)
+    ensures { HasCleanDisk (state R.Store result.2.conn) → (b : ActState) (told : List Told)
+        → Stands S.Store (MayBe b told) keeper
+        → Finds R.Store (MayBe b (told_by_import (Some (rows_of text.now)) result.1
+        ++ (told_by (under reference command) result.0 ++ told))) result.2 result.3 }
+{
+    restart_law::<S, R>();
+    let sent = act(&mut keeper, reference, command);
+    let done = import_text(alloc, text, &mut keeper);
+    let mut next = crash.restart(keeper);
+    let found = load(&mut next);
+    (sent, done, next, found)
 }

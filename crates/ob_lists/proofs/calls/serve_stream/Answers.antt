@@ -1,0 +1,18 @@
+use Rattle.ob_stream.specs.Watching.{watched_bytes}
+use Rattle.ob_lists.proofs.Serving.{stream_stands}
+use Rattle.ob_lists.proofs.calls.serve_stream.Goals as goal
+
+pub returns : goal.returns
+returns g c =
+    let old = c.args.keeper.now in
+    let new = c.serve_stream.new.keeper in
+    let s = c.serve_stream.ensures in
+    let bytes = watched_bytes g.R.Read.remaining c.args.reader.now in
+    let left = watched_bytes g.R.Read.remaining c.serve_stream.new.reader in
+    let had = watched_bytes g.W.Write.contents c.args.writer.now in
+    let has = watched_bytes g.W.Write.contents c.serve_stream.new.writer in
+    record {
+      clean = s.clean;
+      stands = λ clean b before stands. stream_stands g.S.Store old new b before c.answers_law.ensures.bookless bytes had has c.serve_stream.new.reader
+          c.serve_stream.new.writer left c.serve_stream.result s.unopened s.dropped clean s.serves s.fails stands;
+    }
