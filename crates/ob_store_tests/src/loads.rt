@@ -139,12 +139,5 @@ const OLD_BESIDE: &[Step] = &[
 
 #[test]
 fn an_old_version_beside_a_view(rt: HostRuntime) -> Result<(), Stop> {
-    tell(
-        &rt,
-        rt.alloc(),
-        "version 1",
-        OUTAGE_BOOK,
-        OLD_BESIDE,
-        &[],
-    )
+    tell(&rt, rt.alloc(), "version 1", OUTAGE_BOOK, OLD_BESIDE, &[])
 }
