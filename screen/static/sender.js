@@ -34,6 +34,8 @@ export function movesTable(moved, beside = null) {
 
 export const total = (moved) => moved.filter(([dim]) => dim === "cause").reduce((sum, move) => sum + move[2], 0);
 
+const SHOWN_FIRST = "Not sent: what it would do is shown first. Look at it, and send then.";
+
 /** `read` answers the command, or null where a field is missing. */
 export class Sender {
   constructor({ read, lock, after = () => {}, label = "Send", missing = "Fill in the fields: what it would do is shown here before it is sent." }) {
@@ -52,21 +54,26 @@ export class Sender {
     const later = settled(() => this.rests || this.look());
     this.update = () => {
       this.rests = false;
+      this.age();
       later();
     };
     onCommands(() => this.intent || this.rests || later());
+  }
+
+  /** A forecast of what the form said before counts no more, at once; it stays where the book alone has changed. */
+  age() {
+    const told = JSON.stringify(this.read());
+    if (told === this.told) return;
+    this.shown = null;
+    this.button.disabled = true;
   }
 
   async look() {
     if (this.intent) return;
     const count = ++this.count;
     const command = this.read();
-    const told = JSON.stringify(command);
-    if (told !== this.told) { // else the old forecast stays until the new one is there: the book changed, not the form
-      this.shown = null;
-      this.button.disabled = true;
-    }
-    this.told = told;
+    this.age();
+    this.told = JSON.stringify(command);
     if (!command) {
       this.forecast.replaceChildren(el("p", { class: "note" }, this.missing));
       return;
@@ -76,7 +83,7 @@ export class Sender {
       const found = await get("/api/forecast", query);
       if (count !== this.count) return;
       this.shown = found;
-      this.forecast.replaceChildren(...this.forecastParts(found));
+      this.draw(found);
       this.button.disabled = !known.me.may_send;
     } catch (trouble) {
       if (count !== this.count) return;
@@ -84,6 +91,14 @@ export class Sender {
       this.button.disabled = true;
       this.forecast.replaceChildren(el("p", { class: "bad" }, `As the book stands this can't be: ${trouble.message}.`));
     }
+  }
+
+  /** Shows a forecast; one that says the same as what stands there moves nothing on the page, and is read out no second time. */
+  draw({ number: _, ...found }) {
+    const told = JSON.stringify(found);
+    if (told === this.drawn && this.forecast.querySelector("h2")) return;
+    this.drawn = told;
+    this.forecast.replaceChildren(...this.forecastParts(found));
   }
 
   forecastParts(found) {
@@ -99,11 +114,16 @@ export class Sender {
     return parts;
   }
 
-  /** Sends the one intent: the second click of a double one finds it on its way. */
+  /** Sends the one intent, whose forecast is shown: the second click of a double one finds it on its way. */
   async send() {
-    if (this.intent) return;
+    if (this.intent || this.rests) return;
     const command = this.read();
-    if (!command || !this.shown) return;
+    this.age();
+    if (!command || !this.shown) {
+      this.outcome.replaceChildren(el("p", { class: "note" }, command ? SHOWN_FIRST : this.missing));
+      this.update();
+      return;
+    }
     const ref = newReference();
     own.add(ref);
     this.intent = { command: { ...command, ref }, forecast: this.shown, path: location.pathname };
