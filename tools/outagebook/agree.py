@@ -20,12 +20,12 @@ from outagebook.forms import Figures, Value, write_csv, write_json, write_text
 from outagebook.oms.complaints import BadRow, Complaints
 from outagebook.oms.fields import identifier
 from outagebook.oms.files import Format, Row, add_format_arguments, format_of, read_file
+from outagebook.oms.outages import COUNTS
 from outagebook.oms.steps import cancelled_words
 from outagebook.rows import Book, Entry
 from outagebook.tickets import Part, Ticket, Tickets, customers_of, tickets_of
 
-COLUMNS = ("ticket", "customers", "customer_minutes", "status")
-REQUIRED = COLUMNS[:3]
+REQUIRED = COUNTS[:3]
 LONGEST_TICKET = 24
 FIRST_PAGE = 10  # rows
 MOST_SECTIONS = 4  # in a text
@@ -81,7 +81,7 @@ def read_counts(
     path: str, by_step: bool = False, format: Format = Format(), cancelled: Iterable[str] = ()
 ) -> dict[str, Told]:
     """The counts that a file tells."""
-    return read_told(read_file(path, COLUMNS, REQUIRED, format), by_step, cancelled_words(cancelled))
+    return read_told(read_file(path, COUNTS, REQUIRED, format), by_step, cancelled_words(cancelled))
 
 
 def sum_of(before: Told, here: Told) -> Told:
