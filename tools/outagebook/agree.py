@@ -20,12 +20,13 @@ from outagebook.forms import Figures, Value, write_csv, write_json, write_text
 from outagebook.oms.complaints import BadRow, Complaints
 from outagebook.oms.fields import identifier
 from outagebook.oms.files import Format, Row, add_format_arguments, format_of, read_file
+from outagebook.oms.outages import COUNTS
 from outagebook.oms.steps import cancelled_words
 from outagebook.rows import Book, Entry
+from outagebook.suspects import Difference, Suspect, suspects_of
 from outagebook.tickets import Part, Ticket, Tickets, customers_of, tickets_of
 
-COLUMNS = ("ticket", "customers", "customer_minutes", "status")
-REQUIRED = COLUMNS[:3]
+REQUIRED = COUNTS[:3]
 LONGEST_TICKET = 24
 FIRST_PAGE = 10  # rows
 MOST_SECTIONS = 4  # in a text
@@ -81,7 +82,7 @@ def read_counts(
     path: str, by_step: bool = False, format: Format = Format(), cancelled: Iterable[str] = ()
 ) -> dict[str, Told]:
     """The counts that a file tells."""
-    return read_told(read_file(path, COLUMNS, REQUIRED, format), by_step, cancelled_words(cancelled))
+    return read_told(read_file(path, COUNTS, REQUIRED, format), by_step, cancelled_words(cancelled))
 
 
 def sum_of(before: Told, here: Told) -> Told:
@@ -154,10 +155,12 @@ class TicketRow:
 
 @dataclass(frozen=True)
 class Agreement:
-    """All tickets of both sides, the greatest difference first, and what in the book belongs to no ticket."""
+    """All tickets of both sides, the greatest difference first, what in the book belongs to no ticket, and the sections that may
+    be where the two differ."""
 
     rows: tuple[TicketRow, ...]
     of_none: tuple[Part, ...]
+    suspects: tuple[Suspect, ...]
 
     def customers_told(self) -> int:
         return sum(row.told.customers or 0 for row in self.rows if row.told)
@@ -190,7 +193,16 @@ def agreement_of(found: Checked, told: dict[str, Told], prefix: str = "OMS-") ->
     for name in dict.fromkeys([*told, *tickets.by_name]):
         row = TicketRow(name, told.get(name), tickets.by_name.get(name), ())
         rows.append(replace(row, why=tuple(reasons(found.book, tickets, row))))
-    return Agreement(tuple(sorted(rows, key=TicketRow.rank)), tuple(tickets.of_none))
+    suspects = suspects_of(differences_of(found.book, rows))
+    return Agreement(tuple(sorted(rows, key=TicketRow.rank)), tuple(tickets.of_none), tuple(suspects))
+
+
+def differences_of(book: Book, rows: Iterable[TicketRow]) -> Iterator[Difference]:
+    """By how many customers tickets of both sides differ, with their sections in the book."""
+    for row in rows:
+        if row.told and row.found and row.customers_more is not None:
+            sections = {book.sections[node].name: customers for node, customers in row.found.sections().items()}
+            yield Difference(row.name, row.customers_more, sections)
 
 
 # Why they may differ: what the book knows of it.
@@ -299,6 +311,16 @@ def sections_text(book: Book, ticket: Ticket | None, most: int | None) -> str:
     return ", ".join(listed[: len(listed) - rest]) + (f" and {rest} more" if rest else "")
 
 
+def suspects_text(suspects: Iterable[Suspect]) -> str:
+    """The sections that may be where both sides differ; empty where there are none."""
+    texts = []
+    for each in suspects:
+        rest = len(each.sections) - MOST_SECTIONS
+        names = ", ".join(each.sections[:MOST_SECTIONS]) + (f" and {rest} more" if rest > 0 else "")
+        texts.append(f"{names} {abs(each.more)} {'more' if each.more > 0 else 'fewer'} in {each.tickets} tickets")
+    return f"Sections whose tickets differ alike: {'; '.join(texts)}." if texts else ""
+
+
 MEANINGS = {
     "ticket": "the ticket",
     "oms_customers": "customers by the OMS; empty where it has no such ticket or leaves them out",
@@ -354,6 +376,7 @@ def about(agreement: Agreement) -> list[str]:
         f"Tickets in both: {len(both)}, of which {equal} equal, {rounded} equal but for rounded minutes,"
         f" {len(both) - equal - rounded} different. In the OMS alone: {sum(row.found is None for row in rows)},"
         f" in the book alone: {sum(row.told is None for row in rows)}, without counts: {untold}.",
+        *filter(None, [suspects_text(agreement.suspects)]),
     ]
 
 

@@ -216,6 +216,15 @@ def loop_findings(contents: Contents, network: TestedNetwork, period: Period, is
         yield Finding(Topic.LOOP, names, text, (), not is_meshed)
 
 
+def between_findings(contents: Contents, network: TestedNetwork, looped: set[str]) -> Iterator[Finding]:
+    """Where one feeder hangs on another one: it may be meant. Those of a loop are told with it."""
+    for device in network.devices:
+        if device.is_closed and device.name not in looped and feeders_joined(contents, device.name):
+            place = contents.places.get(("device", device.name), BOOK)
+            ends = ", ".join(f"{end} of feeder {contents.nodes[end].feeder}" for end in device.ends)
+            yield Finding(Topic.BETWEEN, (device.name,), f"{device.name} ({place}): {ends}", (), False)
+
+
 def feeders_joined(contents: Contents, device: str) -> str:
     """The two feeders that a device joins; empty where it joins none or one."""
     feeders = {contents.nodes[end].feeder for end in contents.devices[device].ends}
@@ -226,6 +235,8 @@ def feeders_joined(contents: Contents, device: str) -> str:
 def findings_of(contents: Contents, period: Period, is_meshed: bool) -> list[Finding]:
     """What is wrong with the exports, or worth a look."""
     network, unserved = tested(contents), unserved_of(contents, period)
+    loops = list(loop_findings(contents, network, period, is_meshed))
+    looped = {name for loop in loops for name in loop.names}
     return [
         *contents.findings,
         *unknown_ends(contents),
@@ -233,7 +244,8 @@ def findings_of(contents: Contents, period: Period, is_meshed: bool) -> list[Fin
         *unknown_words(contents),
         *alone_findings(contents, unserved),
         *island_findings(contents, network, unserved),
-        *loop_findings(contents, network, period, is_meshed),
+        *loops,
+        *between_findings(contents, network, looped),
     ]
 
 

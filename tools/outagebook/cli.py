@@ -8,7 +8,7 @@ import os
 import sys
 from collections.abc import Callable
 from datetime import date
-from typing import NoReturn
+from typing import Any, NoReturn
 
 from outagebook.errors import BookError, Differs
 
@@ -21,6 +21,17 @@ class Parser(argparse.ArgumentParser):
     def error(self, message: str) -> NoReturn:
         self.print_usage(sys.stderr)
         self.exit(WRONG_WORDS, f"{self.prog}: {message}\n")
+
+
+class Once(argparse.Action):
+    """A word that is told once: a second file is no further one, and would silently take the place of the first."""
+
+    def __call__(
+        self, parser: argparse.ArgumentParser, args: argparse.Namespace, values: Any, word: Any = None
+    ) -> None:
+        if getattr(args, self.dest) is not None:
+            parser.error(f"{word} is told twice: put both files into one")
+        setattr(args, self.dest, values)
 
 
 def add_table_arguments(parser: argparse.ArgumentParser) -> None:

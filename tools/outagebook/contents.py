@@ -32,6 +32,7 @@ class Topic(Enum):
     NOT_REACHED = "not reached, with or without ties"
     TIES_ALONE = "reached through ties alone"
     LOOP = "loops of devices that are closed normally"
+    BETWEEN = "devices on no loop that are closed normally between two feeders"
     NOTED = "left out, changed or noticed when rows are written"
 
 

@@ -4,6 +4,7 @@ import argparse
 from collections.abc import Iterable
 from dataclasses import dataclass
 
+from outagebook.cli import Once
 from outagebook.oms.files import Row, add_format_arguments, format_of, read_file
 from outagebook.references import Source
 
@@ -19,7 +20,7 @@ def add_export_arguments(parser: argparse.ArgumentParser) -> None:
     """The words that name the exports."""
     group = parser.add_argument_group("the exports from which the rows came, so that their rows are told")
     for export in KEYS:
-        group.add_argument(f"--{export}", metavar="FILE")
+        group.add_argument(f"--{export}", metavar="FILE", action=Once)
     add_format_arguments(parser)
 
 

@@ -16,6 +16,7 @@ from outagebook.compare import Checked, open_book
 from outagebook.errors import BookError
 from outagebook.oms.files import Row
 from outagebook.rows import CAUSE, Book
+from outagebook.suspects import Difference, Suspect, suspects_of
 from outagebook.tickets import Ticket, tickets_of
 from tests import made_town, program_books, support
 from tests.made_town import FIRST, PERIOD, Switch, Town
@@ -251,6 +252,19 @@ class Texts(unittest.TestCase):
         with self.assertRaisesRegex(BookError, "OMS-T-1-2-O may be of the tickets T-1 and T"):
             tickets_of(found, known=["T", "T-1"])
 
+    def test_sections_whose_tickets_differ_alike(self) -> None:
+        """B hangs on the wrong device, with its 4 customers: tickets of its own don't differ. One customer of C is on D."""
+        b_moved = [(4, "AB"), (4, "AB"), (0, "B"), (0, "A")]
+        c_moved = [(1, "D"), (1, "DE"), (-1, "C"), (-1, "CE"), (-1, "CF"), (0, "E"), (0, "F")]
+        listed = [
+            Difference(f"T-{number}", more, {section: 4 if section == "B" else 3 for section in sections})
+            for number, (more, sections) in enumerate([*b_moved, *c_moved])
+        ]
+        wanted = [Suspect(("B",), 4, 2), Suspect(("C",), -1, 3), Suspect(("D",), 1, 2)]
+        self.assertEqual(suspects_of(listed), wanted)
+        self.assertEqual(suspects_of(each for each in listed if not each.more), [])
+        self.assertEqual(suspects_of(listed[:1]), [])  # one ticket alone tells nothing
+
     def test_counts_of_an_oms(self) -> None:
         rows = [Row("f", 1, {"ticket": "t-1", "customers": "3", "customer_minutes": "4.5", "status": ""})]
         self.assertEqual(read_told(rows, by_step=False), {"T-1": Told(3, Fraction(9, 2))})
@@ -433,6 +447,13 @@ class Mistakes(unittest.TestCase):
                     [row["ticket"] for row in rows[: len(wrong)]], wrong, "the first rows, from the first on"
                 )
                 self.assertLessEqual({devices[ticket] for ticket in wrong}, affected)
+
+    def test_sections_between_which_a_customer_was_moved(self) -> None:
+        network = made_town.changed(town())
+        MISTAKES["a customer on the wrong section"].plant(network)
+        done = support.run_tool("agree", self.book_of(network), written("town-counts.csv", town().counts()), *PROGRAM)
+        text = "Sections whose tickets differ alike: F1-2 1 fewer in 3 tickets; F6-1 1 more in 3 tickets."
+        self.assertEqual(done.stdout.splitlines()[2], f"# {text}")
 
     def is_wrong(self, row: dict[str, str | int]) -> bool:
         """More than rounding explains."""

@@ -88,6 +88,13 @@ class Found(unittest.TestCase):
         self.assertIn("oms.csv: noticed: steps that aren't over: 1 (row 7)\n", done.stdout)
         self.assertTrue(done.stdout.endswith("\nit fits, and nothing is wrong\n"))
 
+    def test_a_section_on_the_device_of_another_feeder(self) -> None:
+        """It is supplied, and no loop shows it."""
+        exports = Exports().change("gis", ("device,SW-81,,WHARF,", "device,SW-81,,ELM-STREET,DEPOT,closed"))
+        topic = "devices on no loop that are closed normally between two feeders"
+        text = "SW-81 (gis.csv row 10): ELM-STREET of feeder 7, DEPOT of feeder 8"
+        self.assertEqual(self.checked(exports, status=0), [(topic, text, False)])
+
     def test_rows_that_cannot_be_read(self) -> None:
         exports = Exports(
             gis=["section,QUAY,256"], customers=["0,DEPOT,2020-01-01", "6001,DEPOT,2020-01-02,2020-01-02"]

@@ -128,8 +128,10 @@ class Checks(unittest.TestCase):
             ("17:55:00+01:00,,,,CABLE FAULT,CREW-A,,", "17:55:00+01:00,,,,CABLE FAULT,CREW-A,,open"),
         )
         done = self.taken(oms=oms)
-        self.assertIn("oms.csv: left out: the status 'Storno', which isn't looked at (--cancelled", done.err)
-        self.assertIn("oms.csv: left out: the status 'open', which isn't looked at (--cancelled", done.err)
+        self.assertIn(
+            "oms.csv: noticed: rows with the status 'Storno', which are taken as others (--cancelled", done.err
+        )
+        self.assertIn("oms.csv: noticed: rows with the status 'open', which are taken as others (--cancelled", done.err)
         self.assertIn("OMS-T-2044-1-O", done.out)
         done = self.taken("--cancelled", "STORNO", oms=oms)
         self.assertNotIn("Storno", done.err)

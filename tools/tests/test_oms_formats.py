@@ -118,6 +118,10 @@ class Files(unittest.TestCase):
         self.same(*words, oms=oms, customers=customers)
         self.refused("oms.csv: the line of column names: it has no column device", *words[:4], *words[6:])
         self.refused("no file has a column 'statsu' that --column names as status", *words, "--column", "Statsu=status")
+        elsewhere = ["--column", "Customers out=customers"]  # of the OMS's own counts: one list of words for all tools
+        self.same(*words, *elsewhere, oms=oms, customers=customers)
+        done = exports.run("--gis", self.folder / "gis.csv", *exports.PERIOD, *words[:6])
+        self.assertEqual(done.status, 0, done.err)
         twice = oms.replace(b",cause,", b",ticket,", 1)
         self.refused("it has two columns ticket", *words, oms=twice)
         self.assertEqual(self.run_with("--column", "ticket").status, 64)
@@ -141,8 +145,18 @@ class Files(unittest.TestCase):
         for reason, data in cases.items():
             with self.subTest(reason):
                 self.refused(reason, oms=data)
-        self.refused("can't be read: Is a directory", "--oms", self.folder)
-        self.refused("can't be read: No such file", "--oms", self.folder / "none")
+        for reason, path in {"Is a directory": self.folder, "No such file": self.folder / "none"}.items():
+            done = exports.run("--oms", path, *exports.PERIOD)
+            self.assertEqual((done.status, done.out), (1, ""))
+            self.assertIn(f"can't be read: {reason}", done.err)
+
+    def test_an_export_that_is_told_twice(self) -> None:
+        """A second file isn't read in place of the first."""
+        for name in exports.EXPORTS:
+            with self.subTest(name):
+                done = self.run_with(f"--{name}", self.folder / f"{name}.csv")
+                self.assertEqual((done.status, done.out), (64, ""))
+                self.assertIn(f"--{name} is told twice: put both files into one\n", done.err)
 
     def test_where_rows_can_not_be_written(self) -> None:
         self.refused("can't be written", "-o", self.folder / "none" / "rows.csv")

@@ -19,7 +19,7 @@ from contextlib import ExitStack
 from dataclasses import dataclass, field
 from pathlib import Path
 
-from outagebook.cli import Parser, add_table_arguments, run_job
+from outagebook.cli import Once, Parser, add_table_arguments, run_job
 from outagebook.commands import write_rows
 from outagebook.compare import open_book
 from outagebook.errors import BookError
@@ -37,6 +37,19 @@ from outagebook.zone import Zone
 MOST_DAYS = 366
 MOST_PREFIX = 8
 MOST_TOLD = 1_000  # complaints on standard error
+EXPORTS = {
+    "oms": "outages and restoration steps",
+    "gis": "buses, sections and devices",
+    "customers": "customers and their services",
+    "causes": "causes: the book's codes and names, and the other system's words",
+}
+COLUMNS = {
+    "oms": outages.COLUMNS,
+    "gis": network.COLUMNS,
+    "customers": customers.COLUMNS,
+    "causes": causes.COLUMNS,
+    "counts": outages.COUNTS,
+}
 
 
 @dataclass
@@ -74,10 +87,13 @@ class Run:
             self.check_given(grid)
 
     def check_given(self, grid: network.Network) -> None:
-        """What the files can't be checked against isn't guessed, and a column's name that no file has is no slip of the pen."""
+        """What the files can't be checked against isn't guessed, and a column's name that no file has is no slip of the pen: it may
+        be for a file that isn't given."""
         read = {each for notes in self.files for each in notes.renamed}
+        given = {column for notes in self.files for column in COLUMNS[notes.export]}
+        elsewhere = {column for columns in COLUMNS.values() for column in columns} - given
         for theirs, ours in self.format.columns:
-            if (theirs, ours) not in read:
+            if (theirs, ours) not in read and ours not in elsewhere:
                 raise BookError(f"no file has a column {theirs!r} that --column names as {ours}")
         if (self.args.oms or self.args.customers) and not grid.is_known:
             raise BookError("outages and customers are checked against the network: give --gis or --book")
@@ -121,12 +137,8 @@ def days_argument(text: str) -> int:
 def make_parser() -> Parser:
     """The words that tell the exports, and what they are for."""
     parser = Parser(description="Writes rows of commands from exports of other systems.")
-    parser.add_argument("--oms", metavar="FILE", help="outages and restoration steps")
-    parser.add_argument("--gis", metavar="FILE", help="buses, sections and devices")
-    parser.add_argument("--customers", metavar="FILE", help="customers and their services")
-    parser.add_argument(
-        "--causes", metavar="FILE", help="causes: the book's codes and names, and the other system's words"
-    )
+    for export, text in EXPORTS.items():
+        parser.add_argument(f"--{export}", metavar="FILE", action=Once, help=text)
     parser.add_argument(
         "--zone", metavar="RULE", type=zone_argument, help="the POSIX rule of local times (that of the book)"
     )

@@ -26,6 +26,7 @@ COLUMNS = (
     "status",
 )
 REQUIRED = ("ticket", "device", "out", "restored", "cause")
+COUNTS = ("ticket", "customers", "customer_minutes", "status")  # the system's own, which outagebook-agree reads
 MOST_ENTRIES = 50_000
 OUTSIDE_LIFE = "steps with a switching outside of the life of their device"
 CARRIED = "steps that began before the period, and whose beginning the book has by another reference"

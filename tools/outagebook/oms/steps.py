@@ -94,7 +94,7 @@ class StepReader:
         if len(self.statuses) < MOST_STATUSES:
             self.statuses.add(status)
         word = f"the status {shown(row['status'])}" if status in self.statuses else "other words of the status"
-        notes.left_out(f"{word}, which isn't looked at (--cancelled WORD tells what means a mistake)", row)
+        notes.noticed(f"rows with {word}, which are taken as others (--cancelled WORD tells what means a mistake)", row)
         return False
 
     def read(self, row: Row, notes: Notes) -> Step:
