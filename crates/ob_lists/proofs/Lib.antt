@@ -1,6 +1,7 @@
 pub mod Standings
 pub mod Importing
-pub mod Serving
 pub mod Restarting
 pub mod Telling
+pub mod Breaking
+pub mod Serving
 pub mod Beginning

@@ -1,5 +1,5 @@
 -- Each command that is acknowledged is in the book.
-use Rattle.std.proofs.Common.{◌≡◌, inl, inr, ℕ, zero, suc, ◌+◌, ◌<◌, ◌++◌, Bool, true, false, List, [], ◌∷◌, length, Option, Some, None, Ok, Err, Contains, refl, sym, ap, subst, ◌∙◌, arith, get_or, length-append, slice_get, position, bytes_eq, true≢false, is_none, option_map, ◌&&◌, if◌then◌else◌}
+use Rattle.std.proofs.Common.{◌≡◌, inl, inr, ℕ, zero, suc, ◌+◌, ◌-◌, ◌<◌, ◌++◌, Bool, true, false, List, [], ◌∷◌, length, Option, Some, None, Result, Ok, Err, Contains, refl, sym, ap, subst, ◌∙◌, arith, get_or, length-append, slice_get, position, bytes_eq, true≢false, is_none, option_map, ◌&&◌, if◌then◌else◌}
 use Rattle.std.specs.Prelude.{unwrap_or}
 use Rattle.std.specs.List.{AllByRecursion}
 use Rattle.std.specs.Option.{option_map_or}
@@ -17,9 +17,17 @@ use Rattle.ob_state.specs.Refusals.{refusal}
 use Rattle.ob_book.specs.Acts.{ActState, Referenced, Reply, act, acts, answer, answer_again, answer_new, answer_under, is_accepted, is_repeat, is_same, reply_of, take_on}
 use Rattle.ob_import.specs.Imports.{AreAnswered, Begins, Import, ImportsBody, Say, Taken, after_header}
 use Rattle.ob_import.specs.Reports.{AreRows, import_as}
+use Rattle.ob_requests.specs.Message.{Message, path_of}
+use Rattle.ob_requests.specs.declared.framing.Method.TheVariants as methods
+use Rattle.ob_routes.specs.Answers.{Answers, RequestsAreAnsweredOneThing, RouteAnswers, outcome}
+use Rattle.ob_routes.specs.Routes.{route_of}
+use Rattle.ob_desk.specs.Exchanges.{Replies}
+use Rattle.ob_desk.specs.declared.stream.Served.{Served}
+use Rattle.ob_desk.proofs.CrashLemmas.{replies-act}
 use Rattle.ob_lists.specs.Importing.{BreaksOff, Ended, Makes, body_of, counted}
-use Rattle.ob_lists.specs.Standing.{IsAnswered, MayBe, Told, acknowledged, doubted, imported, served, streamed}
-use Rattle.ob_lists.specs.Going.{Holds, HoldsRow, HoldsRows, RowsLaw, ToldLaw}
+use Rattle.ob_lists.specs.Streaming.{Accepts, AnswersStream, EndsStream, IsAnswered, Posts, Stream}
+use Rattle.ob_lists.specs.Standing.{MayBe, Told, acknowledged, doubted, imported, served, streamed}
+use Rattle.ob_lists.specs.Going.{Holds, HoldsRow, HoldsRows, RowsLaw, StreamsLaw, ToldLaw}
 
 get_or_front : {X : Type 0} (xs ys : List X) (i : ℕ) (d : X) → i < length xs → get_or (xs ++ ys) i d ≡ get_or xs i d
 get_or_front [] ys i d l = absurd (omega (arith, l))
@@ -112,7 +120,7 @@ rows_taken b c rows added again taken = subst (λ s. AllByRecursion (HoldsRow s)
 one_more : (b c x : ActState) (list : List Referenced) (a : Referenced) → c ≡ acts b list → x ≡ act c a → x ≡ acts b (list ++ a ∷ [])
 one_more b c x list a was is = is ∙ ap (λ s. act s a) was ∙ sym (fold-append act b list (a ∷ []))
 
-imports_act : (b : ActState) (body : Option (List Fields)) (i : Import) → ImportsBody b body i → (commands : List Referenced) × (i.state ≡ acts b commands)
+pub imports_act : (b : ActState) (body : Option (List Fields)) (i : Import) → ImportsBody b body i → (commands : List Referenced) × (i.state ≡ acts b commands)
 imports_act b None i is = ([], ap (λ j. j.state) is)
 imports_act b (Some rows) i (later, begins, stopped) = (begins.2.commands, begins.2.state)
 
@@ -159,10 +167,45 @@ makes_hold : (b : ActState) (rows : List Fields) (ended : Ended) (x : ActState) 
 makes_hold b rows (Ok report) x makes = imports_hold b (after_header rows) (import_as x report) makes
 makes_hold b rows (Err e) x makes = breaks_hold b (body_of rows) e.fault e.added e.again x makes
 
--- ---- what was told
+-- ---- what a stream makes of a book
 some_same : (x y : ActState) → Some x ≡ Some y → x ≡ y
 some_same x y e = cc
 
+pub replies_act : (allowed : ℕ) (b c : ActState) (ms : List Message) (text : List ℕ) → Replies allowed (Some b) ms text (Some c)
+    → (commands : List Referenced) × (c ≡ acts b commands)
+replies_act allowed b c ms text replies =
+    let so = replies-act allowed (Some b) (Some c) ms text replies in (so.0, some_same c (acts b so.0) so.1)
+
+ends_act : (bytes : Option (List ℕ)) (requests : List Message) (part : List ℕ) (b x : ActState) (ended : Result Served Fault)
+    → EndsStream bytes requests part b ended x → (commands : List Referenced) × (x ≡ acts b commands)
+ends_act bytes requests part b x (Ok done) ends = ([], ends.4)
+ends_act bytes requests part b x (Err fault) ends = (ends.2, ends.3)
+
+stream_acts : (b : ActState) (s : Stream) (x : ActState) → AnswersStream b s x → (commands : List Referenced) × (x ≡ acts b commands)
+stream_acts b s x it =
+    let first = replies_act 1000 b it.book it.requests it.text it.answered in
+    let more = ends_act s.bytes it.requests it.part it.book x s.ended it.ends in
+    (first.0 ++ more.0, more.1 ∙ ap (λ c. acts c more.0) first.1 ∙ sym (fold-append act b first.0 more.0))
+
+-- what answers a request that posts a command
+posted : (b : ActState) (m : Message) (a : Referenced) → Posts m a → Answers b m (outcome (answer b a)) (act b a)
+posted b m a (post, commands, says) =
+    subst (λ method. RouteAnswers b method (route_of (path_of m.target)) m.body (outcome (answer b a)) (act b a)) (sym post)
+    (subst (λ route. RouteAnswers b methods.Post route m.body (outcome (answer b a)) (act b a)) (sym commands) (Ok (a.reference, a.command), says, (refl, refl)))
+
+accepted_in : RequestsAreAnsweredOneThing → (allowed : ℕ) (b c : ActState) (ms : List Message) (text : List ℕ) (a : Referenced)
+    → Replies allowed (Some b) ms text (Some c) → Accepts b ms a → Holds c a
+accepted_in law allowed b c [] text a replies accepts = absurd accepts
+accepted_in law allowed b c (m ∷ ms) text a (reply, more, None, answers, is, rest) accepts = absurd answers
+accepted_in law allowed b c (m ∷ ms) text a (reply, more, Some d, answers, is, rest) (inl posts) =
+    let so = replies_act (allowed - 1) d c ms more rest in
+    let same = (law b m answers.0 (outcome (answer b a)) d (act b a) answers.1 (posted b m a posts.0)).1 in
+    subst (λ s. Holds s a) (sym so.1) (holds_after d so.0 a (subst (λ s. Holds s a) (sym same) (holds_answered b a posts.1)))
+accepted_in law allowed b c (m ∷ ms) text a (reply, more, Some d, answers, is, rest) (inr later) =
+    let same = (law b m answers.0 later.0 d later.1 answers.1 later.2).1 in
+    accepted_in law (allowed - 1) d c ms more a rest (subst (λ s. Accepts s ms a) (sym same) later.3)
+
+-- ---- what was told
 -- whatever was told last, the book has some commands more than before it
 goes_on : (b x : ActState) (t : Told) (before : List Told) → MayBe b (t ∷ before) x
     → (y : ActState) × MayBe b before y × (commands : List Referenced) × (x ≡ acts y commands)
@@ -170,7 +213,7 @@ goes_on b x (acknowledged a) before (y, was, answered, is) = (y, was, a ∷ [], 
 goes_on b x (doubted a) before (y, was, inl same) = (y, was, [], same)
 goes_on b x (doubted a) before (y, was, inr taken) = (y, was, a ∷ [], taken)
 goes_on b x (imported known ended) before (y, was, (rows, are, makes)) = let so = makes_act y rows ended x makes in (y, was, so.0, so.1)
-goes_on b x (streamed stream) before (y, was, answers) = (y, was, answers.acted.0, some_same x (acts y answers.acted.0) answers.acted.1)
+goes_on b x (streamed stream) before (y, was, answers) = let so = stream_acts y stream x answers in (y, was, so.0, so.1)
 goes_on b x served before may = may
 
 pub told_in : ToldLaw
@@ -206,3 +249,33 @@ rows_in b x (acknowledged c ∷ before) known ended may (zero, within, here) = l
 rows_in b x (doubted c ∷ before) known ended may (zero, within, here) = let this : doubted c ≡ imported known ended = here in absurd cc
 rows_in b x (streamed stream ∷ before) known ended may (zero, within, here) = let this : streamed stream ≡ imported known ended = here in absurd cc
 rows_in b x (served ∷ before) known ended may (zero, within, here) = let this : served ≡ imported known ended = here in absurd cc
+
+-- the commands that a stream's requests posted and that were answered a reply
+abbrev HoldsStream : ActState → Stream → Type 0
+HoldsStream x stream =
+    (y : ActState) × (z : ActState) × (it : AnswersStream y stream z) × ((a : Referenced) → Accepts y it.requests a → Holds x a)
+
+pub streams_in : RequestsAreAnsweredOneThing → StreamsLaw
+streams_in law b x [] stream may has = absurd (omega (arith, has.1))
+streams_in law b x (t ∷ before) stream may (suc k, within, there) =
+    let on = goes_on b x t before may in
+    let was = streams_in law b on.0 before stream on.1 (k, omega (arith, within), there) in
+    (was.0, was.1, was.2, λ a accepts. subst (λ s. Holds s a) (sym on.3) (holds_after on.0 on.2 a (was.3 a accepts)))
+streams_in law b x (streamed those ∷ before) stream may (zero, within, here) =
+    let this : streamed those ≡ streamed stream = here in
+    let same : those ≡ stream = cc in
+    let it = may.2 in
+    let more = ends_act those.bytes it.requests it.part it.book x those.ended it.ends in
+    subst (λ s. HoldsStream x s) same (
+      may.0,
+      x,
+      it,
+      λ a accepts.
+          subst (λ s. Holds s a) (sym more.1)
+          (holds_after it.book more.0 a (accepted_in law 1000 may.0 it.book it.requests it.text a it.answered accepts)),
+    )
+streams_in law b x (acknowledged c ∷ before) stream may (zero, within, here) = let this : acknowledged c ≡ streamed stream = here in absurd cc
+streams_in law b x (doubted c ∷ before) stream may (zero, within, here) = let this : doubted c ≡ streamed stream = here in absurd cc
+streams_in law b x (imported known ended ∷ before) stream may (zero, within, here) =
+    let this : imported known ended ≡ streamed stream = here in absurd cc
+streams_in law b x (served ∷ before) stream may (zero, within, here) = let this : served ≡ streamed stream = here in absurd cc

@@ -17,7 +17,8 @@ use Rattle.ob_import.specs.Reports.{AreRows}
 use Rattle.ob_store.specs.Crashing.{OpensAfterCrash}
 use Rattle.ob_store.specs.Keeping.{KeeperValue, Ties}
 use Rattle.ob_lists.specs.Importing.{Ended, body_of, counted}
-use Rattle.ob_lists.specs.Standing.{InUpgrade, KeptOld, MayBe, Stands, Told, acknowledged, imported}
+use Rattle.ob_lists.specs.Streaming.{Accepts, AnswersStream, Stream}
+use Rattle.ob_lists.specs.Standing.{InUpgrade, KeptOld, MayBe, Stands, Told, acknowledged, imported, streamed}
 
 module _ {S R : Type 0} (g : Ghosts S) (h : Ghosts R) where
   -- the one keeper has become the other, and this was told in between, the newest first: whatever was told before, what the store
@@ -92,3 +93,9 @@ abbrev pub RowsLaw : Type 0
 RowsLaw =
     (b x : ActState) (told : List Told) (known : Option (List Fields)) (ended : Ended) → MayBe b told x → Contains told (imported known ended)
     → (rows : List Fields) × AreRows known rows × HoldsRows x rows (counted ended)
+
+-- each command that an answered request of a served stream posted, and that was answered a reply, is in the book
+abbrev pub StreamsLaw : Type 0
+StreamsLaw =
+    (b x : ActState) (told : List Told) (stream : Stream) → MayBe b told x → Contains told (streamed stream)
+    → (y : ActState) × (z : ActState) × (it : AnswersStream y stream z) × ((a : Referenced) → Accepts y it.requests a → Holds x a)

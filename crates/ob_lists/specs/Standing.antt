@@ -8,17 +8,17 @@ use Rattle.ob_base.specs.declared.stop.Stop.TheVariants.{Refused, Fault}
 use Rattle.ob_base.specs.declared.stop.Fault.{Fault as AFault}
 use Rattle.ob_base.specs.declared.stop.Fault.TheVariants.{Reopen, Store}
 use Rattle.ob_csv.specs.Rows.{Fields}
-use Rattle.ob_book.specs.Acts.{ActState, Referenced, Reply, act, acts, answer}
+use Rattle.ob_book.specs.Acts.{ActState, Referenced, act, acts}
 use Rattle.ob_tables.specs.Schema.{no_schema}
 use Rattle.ob_store.specs.Keeping.{KeeperValue, KeepsEitherBook, Ties}
 use Rattle.ob_store.specs.Migrating.{KeepsEitherVersion, KeepsOldBook}
 use Rattle.ob_store.specs.declared.reply.Reply.{Reply as GivenReply}
 use Rattle.ob_desk.specs.declared.stream.Served.{Served}
 use Rattle.ob_lists.specs.Importing.{Ended, MakesOf}
-use Rattle.ob_lists.specs.Streaming.{AnswersStream, Stream}
+use Rattle.ob_lists.specs.Streaming.{AnswersStream, IsAnswered, Stream}
 
 -- what a call has told: a command is acknowledged by its reply, or a fault of the store has left it in doubt; an import of the rows
--- of a text, where these are known, ended so; a stream was served to its end; or streams were served
+-- of a text, where these are known, ended so; a stream was served; or streams were, of which no more is told
 pub data Told : Type 0 where
   acknowledged : Referenced → Told
   doubted : Referenced → Told
@@ -44,15 +44,10 @@ told_by_import known (Err e) = unless_reopen e.fault (imported known (Err e))
 
 -- what the end of a stream tells, by what is known of its bytes and of those written before it and after it
 abbrev pub told_by_stream : Option (List ℕ) → Option (List ℕ) → Option (List ℕ) → Result Served AFault → List Told
-told_by_stream bytes had has (Ok done) = streamed (record { bytes = bytes; had = had; has = has; replies = done.requests }) ∷ []
-told_by_stream bytes had has (Err fault) = served ∷ []
-
--- the book answers the command with a reply
-abbrev pub IsAnswered : ActState → Referenced → Type 0
-IsAnswered b a = (reply : Reply) × (answer b a ≡ Ok reply)
+told_by_stream bytes had has ended = streamed (record { bytes = bytes; had = had; has = has; ended = ended }) ∷ []
 
 -- the books that there may be once this was told, the newest first, from a book on: it has each command that is acknowledged, in
--- the order in which they were sent, and of those in doubt any; what each import made of it, and each stream; and where that isn't
+-- the order in which they were sent, and of those in doubt any; what each import made of it, and each stream; and where no more is
 -- told of streams, some commands
 abbrev pub MayBe : ActState → List Told → ActState → Type 0
 MayBe b [] x = x ≡ b

@@ -92,7 +92,7 @@ pub fn create_again<S: Alter, T: Timeline>(
     keeper.create(first, days, zone)
 }
 
-/// Imports the commands of a CSV text: it ends with a report or by a fault, and tells how many rows it took.
+/// Imports the commands of a CSV text: it tells how many rows it took, up to its end or to a fault.
 pub fn import_text<S: Alter, T: Timeline>(
     alloc: Global,
     text: &[u8],
@@ -117,7 +117,7 @@ pub fn import<R: Read, S: Alter, T: Timeline>(
     ob_import::import(alloc, reader, keeper)
 }
 
-/// Serves the requests of a stream: at its end it tells how they were answered, and after a fault that some commands have acted.
+/// Serves the requests of a stream: it tells how they were answered, up to its end or to a fault.
 pub fn serve_stream<R: Read, W: Write, S: Alter, T: Timeline>(
     alloc: Global,
     reader: &mut Watched<R>,
@@ -132,7 +132,7 @@ pub fn serve_stream<R: Read, W: Write, S: Alter, T: Timeline>(
     ob_desk::serve_stream(alloc, reader, writer, keeper)
 }
 
-/// Serves the streams of a listener: some commands have acted.
+/// Serves the streams of a listener, whose bytes no contract knows: it tells that some commands may have acted.
 pub fn run_serve<S: Alter, T: Timeline, L: FaultLog>(
     alloc: Global,
     listener: &mut Listener<'_>,

@@ -1,7 +1,8 @@
 //! Laws on lists of calls. They do nothing when they run.
-ghost use Rattle.ob_lists.specs.Going.{JoinLaw, RestartLaw, RowsLaw, ToldLaw};
+ghost use Rattle.ob_lists.specs.Going.{JoinLaw, RestartLaw, RowsLaw, StreamsLaw, ToldLaw};
 
 use ob_parts::upgrade_law;
+use ob_routes::answers_law;
 use sqlite::Alter;
 
 /// A process may end at any moment: a keeper over what the crash left of its store goes on where it was.
@@ -17,8 +18,11 @@ pub fn join_law<S: Alter, M: Alter, R: Alter>()
 {}
 
 /// Whatever book there may be once a list of calls was answered, each command that was acknowledged is in it, and so is the
-/// command of each row that an import counts.
+/// command of each row that an import counts, and each that a request of a stream posted and the book answered with a reply.
 pub fn told_law()
     ensures commands { ToldLaw }
     ensures rows { RowsLaw }
-{}
+    ensures streams { StreamsLaw }
+{
+    answers_law();
+}

@@ -3,8 +3,8 @@
 //! Nothing here is part of the program: it is what a client of the keeper can prove. Each function is one call, an import or a
 //! served stream among them, and promises what the call makes of a book that the store may have; the laws join them. Together they
 //! say of any list of calls, with crashes between any two of them and keepers over what these left, that on a disk that returns
-//! what was written the store has a book in which each acknowledged command is, in the order in which they were sent, and each row
-//! that an import counted, and of those that a fault of the store left in doubt any; and that a load finds it.
+//! what was written the store has a book in which each acknowledged command is, in the order in which they were sent, and those of
+//! the rows that an import counted; and of those that a fault of the store left in doubt any; and that a load finds it.
 #![tactic(auto)]
 
 mod calls;

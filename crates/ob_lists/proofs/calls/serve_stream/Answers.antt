@@ -13,6 +13,6 @@ returns g c =
     let has = watched_bytes g.W.Write.contents c.serve_stream.new.writer in
     record {
       clean = s.clean;
-      stands = λ clean b before stands. stream_stands g.S.Store old new b before c.answers_law.ensures.bookless bytes had has c.serve_stream.new.reader
-          c.serve_stream.new.writer left c.serve_stream.result s.unopened s.dropped clean s.serves s.fails stands;
+      stands = λ clean b before stands. stream_stands g.S.Store old new b before c.answers_law.ensures.bookless bytes had has s.unopened clean
+          c.serve_stream.new.reader c.serve_stream.new.writer left c.serve_stream.result s.dropped s.serves s.fails stands;
     }
