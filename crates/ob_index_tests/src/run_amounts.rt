@@ -199,13 +199,23 @@ const POSTED: [Row; 11] = [
     (Dim::Day, 0, 3_000),
 ];
 
+fn posted(
+    rt: &impl Abort,
+    alloc: Global,
+    roll: &Roll,
+    period: &CivilDays,
+) -> Result<Vec<Moved>, Fail> {
+    let mut rows = Vec::new(alloc);
+    rows.push(row(Dim::Cause, 3, -7))?;
+    post(rt, roll, period, &mut rows)?;
+    Ok(rows)
+}
+
 #[test]
 fn runs_are_appended(rt: HostRuntime) -> Result<(), Fail> {
     let period = period_of(rt.alloc(), b"2024-01-01", 2, b"UTC0")?;
     let roll = seven(rt.alloc(), T + 100_000)?;
-    let mut rows = Vec::new(rt.alloc());
-    rows.push(row(Dim::Cause, 3, -7))?;
-    post(&rt, &roll, &period, &mut rows)?;
+    let rows = posted(&rt, rt.alloc(), &roll, &period)?;
     assert!(rt; are(&rows, &POSTED));
     Ok(())
 }
