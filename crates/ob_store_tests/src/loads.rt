@@ -59,30 +59,25 @@ fn commands_in_a_loaded_book(rt: HostRuntime) -> Result<(), Stop> {
     go_on(&rt, rt.alloc(), TOLD)
 }
 
-// Tables under the same names, in the same order, but an engineer who is marked under a numeral is kept as a number.
-const NUMBERED_ENGINEERS: &'static str =
-    "DROP TABLE mark; DROP TABLE moved; DROP TABLE cmd; DROP TABLE posting; DROP TABLE life; \
-     CREATE TABLE mark (day INTEGER PRIMARY KEY, engineer INTEGER NOT NULL); \
-     CREATE TABLE cmd (id INTEGER PRIMARY KEY, ref TEXT NOT NULL UNIQUE, body TEXT NOT NULL) \
-     STRICT; CREATE TABLE moved (cmd INTEGER NOT NULL REFERENCES cmd (id), dim INTEGER NOT NULL, \
-     k INTEGER NOT NULL, delta INTEGER NOT NULL CHECK (delta <> 0), PRIMARY KEY (cmd, dim, k)) \
-     STRICT; CREATE TABLE posting (dim INTEGER NOT NULL, k INTEGER NOT NULL, amount INTEGER NOT \
-     NULL CHECK (amount >= 0), PRIMARY KEY (dim, k)) STRICT; CREATE TABLE life (device INTEGER \
-     PRIMARY KEY REFERENCES device (id), since INTEGER NOT NULL, until INTEGER) STRICT";
+// Tables under the same names, in the same order, but the first second of a life is kept as a text.
+const LIVES_AS_TEXTS: &'static str =
+    "DROP TABLE life; CREATE TABLE life (device INTEGER PRIMARY KEY REFERENCES device (id), since \
+     TEXT NOT NULL, until INTEGER)";
 
-// A new book is loaded over such tables. Once such an engineer is marked the tables are those of no book, and the keeper goes on
-// with the book that it has.
-const OVER_NUMBERED_ENGINEERS: &[Step] = &[
-    Step::Change(NUMBERED_ENGINEERS),
+// A new book is loaded over such tables. Once there is a device the tables are those of no book, and the keeper goes on with the
+// book that it has.
+const OVER_LIVES_AS_TEXTS: &[Step] = &[
+    Step::Change(LIVES_AS_TEXTS),
     Step::Load(Ok(())),
-    Step::Tell("N1 mark 2024-01-01 12 => 1"),
+    Step::Tell("N1 bus BUS-A => 1"),
+    Step::Tell("N2 device B0 GRID BUS-A closed 0 - => 2"),
     Step::Note,
-    Step::Audit("mark"),
+    Step::Audit("life"),
     Step::Load(BAD_BOOK),
     Step::Migrate(Ok(false)),
     Step::Same,
-    Step::Tell("N1 mark 2024-01-01 12 => 1"),
-    Step::Tell("N2 mark 2024-01-01 E1 => no: 13 MarkedAlready"),
+    Step::Tell("N2 device B0 GRID BUS-A closed 0 - => 2"),
+    Step::Tell("N3 cause 3 STORM => 3"),
 ];
 
 #[test]
@@ -90,9 +85,9 @@ fn a_book_stays(rt: HostRuntime) -> Result<(), Stop> {
     tell(
         &rt,
         rt.alloc(),
-        "numbered engineers",
+        "lives as texts",
         &[NEW],
-        OVER_NUMBERED_ENGINEERS,
+        OVER_LIVES_AS_TEXTS,
         &[],
     )
 }
