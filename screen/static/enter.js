@@ -25,8 +25,9 @@ begin(async () => {
   });
   const offerOther = async () => {
     const name = device.value.trim().toUpperCase();
-    if (!known.book.devices.some((each) => each.name === name) || !second.second) {
-      stands.replaceChildren(name ? "The book knows no such device yet." : "");
+    const isKnown = known.book.devices.some((each) => each.name === name);
+    if (!isKnown || !second.second) {
+      stands.replaceChildren(name && !isKnown ? "The book knows no such device yet." : "");
       return;
     }
     const found = await get("/api/position", { device: name, at: second.second }).catch(() => null);

@@ -304,6 +304,8 @@ class Operators(Case):
         page.says(".forecast", "2025-10-26 02:30:00 +01:00")
         page.fill("Second", "2025-03-30 02:30:00")
         page.says(".moment", "never shows")
+        time.sleep(0.5)
+        self.assertNotIn("knows no such device", page.text("form"))
         page.fill("Second", "2025-10-26 03:30:00")
         page.says(".moment", "+01:00 from UTC")
         page.says(".forecast", "2025-10-26 03:30:00 +01:00")
