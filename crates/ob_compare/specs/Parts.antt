@@ -9,6 +9,7 @@ use Rattle.sqlite.specs.Held.{Held, state}
 use Rattle.ob_base.specs.declared.stop.Stop.{Stop}
 use Rattle.ob_tables.specs.Rows.{Columns, Tables}
 use Rattle.ob_tables.specs.declared.table.Table.{Table}
+use Rattle.ob_tables.specs.Steps.{HasFaultCause}
 use Rattle.ob_tables.specs.Versions.{schema_of}
 use Rattle.ob_tables.specs.declared.version.Version.{Version}
 use Rattle.ob_tables.specs.declared.table.Table.TheVariants.{Meta, Cause, Node, Device, Life, Customer, Entry, Mark, Command, Moved, Posting}
@@ -77,6 +78,8 @@ module _ {S : Type 0} (g : Ghosts S) (v : Version) where
     pub kept : (t : Tables) → KeepsIn v (state g old) t → KeepsIn v (state g new) t
     pub clean : HasCleanDisk (state g new) → HasCleanDisk (state g old)
     pub faults : IfErr result IsReadFault
+    -- over the tables of the version the store is told to have failed only where it has
+    pub cause : HasCleanDisk (state g new) → old.schema ≡ schema_of v → HasFaultCause (state g old) (state g new) result
     -- it is refused only where the tables aren't those of the version
     pub foreign : HasCleanDisk (state g new) → IfErr result (λ stop. stop ≡ bad_book → old.schema ≢ schema_of v)
     -- and it is refused where the schema has no such table, unless other trouble came before

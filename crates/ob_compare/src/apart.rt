@@ -10,7 +10,7 @@ ghost use Rattle.ob_tables.specs.Versions.{schema_of};
 ghost use Rattle.ob_tables.specs.declared.version.Version.{Version};
 ghost use Rattle.ob_tables.specs.Rows.{AreApart, Tables};
 ghost use Rattle.ob_commit.specs.Keeps.{KeepsIn};
-ghost use Rattle.ob_tables.specs.Steps.{IsStoreFault};
+ghost use Rattle.ob_tables.specs.Steps.{HasFaultCause, IsStoreFault};
 ghost use Rattle.ob_compare.specs.Apart.{IsAbove, IsNextAbove, NumberStands, number_text};
 
 use crate::rows::advance;
@@ -109,6 +109,8 @@ pub fn are_apart<S: Alter>(conn: &mut Connection<S>) -> Result<bool, Stop>
     ensures survives { Survives (state S.Store conn.old) (state S.Store conn.new) (λ _. ⊥) }
     ensures clean { HasCleanDisk (state S.Store conn.new) → HasCleanDisk (state S.Store conn.old) }
     ensures faults { IfErr result IsStoreFault }
+    ensures cause { HasCleanDisk (state S.Store conn.new) → (v : Version) → conn.old.schema ≡ schema_of v
+        → HasFaultCause (state S.Store conn.old) (state S.Store conn.new) result }
     ensures kept { (v : Version) (t : Tables) → KeepsIn v (state S.Store conn.old) t
         → KeepsIn v (state S.Store conn.new) t }
     ensures same { HasCleanDisk (state S.Store conn.new)

@@ -10,7 +10,7 @@ ghost use Rattle.ob_command.specs.declared.command.Command.{Command as ACommand}
 ghost use Rattle.ob_tables.specs.Versions.{schema_of};
 ghost use Rattle.ob_tables.specs.declared.version.Version.{Version as AVersion};
 ghost use Rattle.ob_tables.specs.Rows.{Columns, Tables};
-ghost use Rattle.ob_tables.specs.Steps.{IsStoreFault};
+ghost use Rattle.ob_tables.specs.Steps.{HasFaultCause, IsStoreFault};
 ghost use Rattle.ob_tables.specs.declared.table.Table.{Table as ATable};
 ghost use Rattle.ob_commit.specs.Keeps.{KeepsIn};
 ghost use Rattle.ob_record.specs.Tables.{Shows};
@@ -195,6 +195,8 @@ pub fn read_commands<S: Alter>(
         → KeepsIn v (state S.Store conn.new) t }
     ensures clean { HasCleanDisk (state S.Store conn.new) → HasCleanDisk (state S.Store conn.old) }
     ensures faults { IfErr result IsReadFault }
+    ensures cause { HasCleanDisk (state S.Store conn.new) → (v : AVersion) → conn.old.schema ≡ schema_of v
+        → HasFaultCause (state S.Store conn.old) (state S.Store conn.new) result }
     ensures valid { IfOk result (AreFiled version) }
     ensures foreign { HasCleanDisk (state S.Store conn.new)
         → IfErr result (λ stop. stop ≡ bad_book → (v : AVersion) → conn.old.schema ≢ schema_of v) }

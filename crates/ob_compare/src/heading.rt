@@ -7,6 +7,7 @@ ghost use Rattle.ob_tables.specs.Schema.{no_schema};
 ghost use Rattle.ob_tables.specs.Versions.{schema_of};
 ghost use Rattle.ob_tables.specs.declared.version.Version.{Version};
 ghost use Rattle.ob_tables.specs.Rows.{Columns, Tables};
+ghost use Rattle.ob_tables.specs.Steps.{HasFaultCause};
 ghost use Rattle.ob_tables.specs.declared.table.Table.{Table as ATable};
 ghost use Rattle.ob_commit.specs.Keeps.{KeepsIn};
 ghost use Rattle.ob_record.specs.Tables.{Shows};
@@ -83,6 +84,8 @@ pub fn read_heading<S: Alter>(
         → KeepsIn v (state S.Store conn.new) t }
     ensures clean { HasCleanDisk (state S.Store conn.new) → HasCleanDisk (state S.Store conn.old) }
     ensures faults { IfErr result IsReadFault }
+    ensures cause { HasCleanDisk (state S.Store conn.new) → (v : Version) → conn.old.schema ≡ schema_of v
+        → HasFaultCause (state S.Store conn.old) (state S.Store conn.new) result }
     ensures foreign { HasCleanDisk (state S.Store conn.new)
         → IfErr result (λ stop. stop ≡ bad_book → (v : Version) → conn.old.schema ≢ schema_of v) }
     ensures missed { HasNoMeaning conn.old.schema (select_of ATable.Meta)

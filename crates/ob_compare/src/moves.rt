@@ -12,7 +12,7 @@ ghost use Rattle.ob_state.specs.Refusals.{refusal as refusal_to};
 ghost use Rattle.ob_tables.specs.Versions.{schema_of};
 ghost use Rattle.ob_tables.specs.declared.version.Version.{Version as AVersion};
 ghost use Rattle.ob_tables.specs.Rows.{Columns, Tables, moved_row};
-ghost use Rattle.ob_tables.specs.Steps.{IsStoreFault};
+ghost use Rattle.ob_tables.specs.Steps.{HasFaultCause, IsStoreFault};
 ghost use Rattle.ob_tables.specs.declared.table.Table.{Table as ATable};
 ghost use Rattle.ob_commit.specs.Keeps.{KeepsIn};
 ghost use Rattle.ob_record.specs.Tables.{Shows, rows_of_moves};
@@ -227,6 +227,8 @@ pub fn holds_moves<S: Alter, T: Timeline, P: Progress>(
         → KeepsIn v (state S.Store conn.new) t }
     ensures clean { HasCleanDisk (state S.Store conn.new) → HasCleanDisk (state S.Store conn.old) }
     ensures faults { IfErr result IsReadFault }
+    ensures cause { HasCleanDisk (state S.Store conn.new) → (v : AVersion) → conn.old.schema ≡ schema_of v
+        → HasFaultCause (state S.Store conn.old) (state S.Store conn.new) result }
     ensures foreign { HasCleanDisk (state S.Store conn.new)
         → IfErr result (λ stop. stop ≡ bad_book → (v : AVersion) → conn.old.schema ≢ schema_of v) }
     ensures missed { HasNoMeaning conn.old.schema moved_listing.text

@@ -3,8 +3,10 @@ ghost use Rattle.std.specs.Prelude.{◌≡◌, ◌↔◌, false, IsTrue, IfOk, I
 ghost use Rattle.sqlite.specs.Held.{state};
 ghost use Rattle.sqlite.specs.State.{HasCleanDisk, IsUnchanged, Survives};
 ghost use Rattle.ob_tables.specs.Schema.{no_schema};
+ghost use Rattle.ob_tables.specs.Versions.{schema_of};
 ghost use Rattle.ob_tables.specs.declared.version.Version.{Version};
 ghost use Rattle.ob_tables.specs.Rows.{Tables};
+ghost use Rattle.ob_tables.specs.Steps.{HasFaultCause};
 ghost use Rattle.ob_tables.specs.declared.table.Table.{Table as ATable};
 ghost use Rattle.ob_commit.specs.Keeps.{KeepsIn};
 ghost use Rattle.ob_compare.specs.Faults.{HasNoMeaning, IsMissed, IsReadFault, bad_book};
@@ -34,6 +36,8 @@ pub fn has_version<S: Alter>(conn: &mut Connection<S>, version: u32) -> Result<b
         → KeepsIn v (state S.Store conn.new) t }
     ensures clean { HasCleanDisk (state S.Store conn.new) → HasCleanDisk (state S.Store conn.old) }
     ensures faults { IfErr result IsReadFault }
+    ensures cause { HasCleanDisk (state S.Store conn.new) → (v : Version) → conn.old.schema ≡ schema_of v
+        → HasFaultCause (state S.Store conn.old) (state S.Store conn.new) result }
     ensures foreign { HasCleanDisk (state S.Store conn.new)
         → IfErr result (λ stop. stop ≡ bad_book → ¬ (IsOfBook conn.old.schema)) }
     ensures missed { HasNoMeaning conn.old.schema (select_of ATable.Meta)

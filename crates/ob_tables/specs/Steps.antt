@@ -1,12 +1,13 @@
 -- What statements inside a transaction make of the tables.
-use Rattle.std.specs.Prelude.{◌≡◌, ◌⊎◌, ℕ, List, Result, IsTrue, Ok, true, IfErr, OnOk, Bool, filter}
+use Rattle.std.specs.Prelude.{◌≡◌, ◌⊎◌, ℕ, List, Result, IsTrue, IsSome, Ok, true, IfErr, OnOk, Bool, filter}
 use Rattle.std.specs.List.Sorted.{IsPermutation}
 use Rattle.sqlite.specs.Order.{Row}
 use Rattle.std.specs.Borrow.{MutBor}
 use Rattle.sqlite_trees.specs.declared.store.Store.{Ghosts}
 use Rattle.sqlite.specs.Effect.{IsDatabase}
 use Rattle.sqlite.specs.Held.{Held, state}
-use Rattle.sqlite.specs.State.{State, HasCleanDisk, Survives, KeepsCommit, Executes, Shows}
+use Rattle.sqlite.specs.State.{State, HasCause, HasCleanDisk, Survives, KeepsCommit, Executes, Shows}
+use Rattle.sqlite_trees.specs.declared.error.StoreError.TheVariants.{Io, Broken}
 use Rattle.ob_base.specs.Stop.{out_of_memory}
 use Rattle.ob_base.specs.declared.stop.Stop.{Stop}
 use Rattle.ob_base.specs.declared.stop.Stop.TheVariants.{Fault}
@@ -18,6 +19,15 @@ use Rattle.ob_tables.specs.declared.table.Table.{Table}
 -- memory was refused, or the store failed
 abbrev pub IsStoreFault : Stop → Type 0
 IsStoreFault stop = (stop ≡ out_of_memory) ⊎ (stop ≡ Fault Store)
+
+-- why the store fails: the disk failed or refused meanwhile, the store was shut before, or its queries may take so many
+-- steps only
+abbrev pub HasFailed : State → State → Type 0
+HasFailed old new = HasCause old new ⊥ Io ⊎ (HasCause old new ⊥ Broken ⊎ IsSome old.step_limit)
+
+-- where the store is told to have failed, it has
+abbrev pub HasFaultCause : {X : Type 0} → State → State → Result X Stop → Type 0
+HasFaultCause old new result = IfErr result (λ stop. stop ≡ Fault Store → HasFailed old new)
 
 -- nothing was committed
 pub record Silent (old new : State) : Type 0 where
