@@ -1,6 +1,6 @@
 -- Why the store fails, over steps, and at a query that no database of its schema refuses.
 use Rattle.std.proofs.Common.{◌≡◌, ◌≤◌, ℕ, List, [], Option, None, false, IsTrue, IsSome, inl, inr, refl, sym, ap, subst, ◌∙◌, arith, append-nil, true≢false}
-use Rattle.std.specs.Prelude.{◌⊎◌}
+use Rattle.std.specs.Prelude.{◌⊎◌, Result, Ok, Err, IfErr}
 use Rattle.std.proofs.lemmas.Bool.{cases_Bool}
 use Rattle.sqlite_trees.specs.Tree.{Trees}
 use Rattle.sqlite_trees.specs.declared.error.StoreError.{StoreError}
@@ -22,7 +22,7 @@ use Rattle.ob_base.specs.declared.stop.Stop.{Stop}
 use Rattle.ob_base.specs.declared.stop.Stop.TheVariants.{Fault}
 use Rattle.ob_base.specs.declared.stop.Fault.TheVariants.{Store}
 use Rattle.ob_tables.specs.Queries.{IsAlwaysAnswered, IsAnswered, IsAnsweredAs}
-use Rattle.ob_tables.specs.Steps.{HasFailed}
+use Rattle.ob_tables.specs.Steps.{HasFailed, HasFaultCause}
 
 -- ---- over steps
 more_later : (a b c : State) → HasCause a b ⊥ Io → b.faults ≤ c.faults → HasCause a c ⊥ Io
@@ -48,6 +48,20 @@ failed_after a b c P Q one clean two (inr (inl shut)) = elim (cases_Bool a.is_op
     closed (inl live) = absurd (true≢false (sym live ∙ shut))
     closed (inr more) = inl (more_later a b c more two.counts)
 failed_after a b c P Q one clean two (inr (inr limited)) = inr (inr (subst (λ (l : Option ℕ). IsSome l) one.limit limited))
+
+-- what is told of a step holds of the whole, with steps that the store survived behind it or before it
+pub cause_before : {X : Type 0} (a b c : State) (P : Trees → Type 0) (r : Result X Stop) → HasFaultCause a b r → Survives b c P → HasFaultCause a c r
+cause_before a b c P (Ok x) h s = tt
+cause_before a b c P (Err stop) h s = λ store. failed_before a b c P (h store) s
+
+pub cause_after : {X : Type 0} (a b c : State) (P Q : Trees → Type 0) (r : Result X Stop) → Survives a b P → HasCleanDisk b → Survives b c Q → HasFaultCause b c r → HasFaultCause a c r
+cause_after a b c P Q (Ok x) one clean two h = tt
+cause_after a b c P Q (Err stop) one clean two h = λ store. failed_after a b c P Q one clean two (h store)
+
+-- where memory was refused no failure of the store is told
+pub no_fault : {X : Type 0} (a b : State) (r : Result X Stop) → IfErr r (λ stop. stop ≡ out_of_memory) → HasFaultCause a b r
+no_fault a b (Ok x) h = tt
+no_fault a b (Err stop) h = λ store. absurd (let e = sym h ∙ store in cc)
 
 -- ---- at a query
 -- memory was refused, or the store has failed
