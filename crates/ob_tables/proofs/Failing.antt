@@ -13,7 +13,7 @@ use Rattle.sqlite.specs.Order.{Row}
 use Rattle.sqlite.specs.Clock.{timed}
 use Rattle.sqlite.specs.Effect.{Database, IsShown, RefusesQuery, RefusesToRead}
 use Rattle.sqlite.specs.Listing.{IsSourceOf}
-use Rattle.sqlite.specs.State.{State, Fails, FailsToQuery, FailsToShow, HasCause, HasCleanDisk, IsNotRun, Survives, store_error}
+use Rattle.sqlite.specs.State.{State, Fails, FailsToQuery, FailsToShow, HasCause, HasCleanDisk, IsNotRun, IsTooLate, Survives, store_error}
 use Rattle.sqlite.specs.declared.error.Error.{Error}
 use Rattle.sqlite.specs.declared.error.Error.TheVariants.{SqliteFailure}
 use Rattle.sqlite.specs.declared.error.ErrorCode.TheVariants as code
@@ -119,3 +119,11 @@ query_accepted schema p params typed never limit now db e has source (inl (error
     absurd (typed (subst (λ s. IsUntyped s p params) (ap (λ (d : Database). d.schema) source ∙ has) untyped))
 query_accepted schema p params typed never limit now db e has source (inr (inl (error, over))) = absurd (never db.trees over)
 query_accepted schema p params typed never limit now db e has source (inr (inr (error, limited))) = limited
+
+-- a query inside a transaction, too
+pub not_answered_inside : (old new : State) (text : List ℕ) (params : Row) (e : Error) → IsAlwaysAnswered old.now.schema text params
+    → FailsToQuery text params old new e ⊎ IsTooLate text params old new e → FailsOnly old new e
+not_answered_inside old new text params e is (inl fails) = not_answered old new text params e is fails
+not_answered_inside old new text params e is (inr late) =
+    let so : IsAnswered old.now.schema text params late.0 = subst (IsAnsweredAs old.now.schema text params) late.1.is is in
+    absurd (let none = rw so.plain at late.2 in cc)
