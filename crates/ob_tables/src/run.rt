@@ -1,5 +1,5 @@
 //! Running one statement inside a transaction, its parameters, and what its failure is.
-ghost use Rattle.std.specs.Prelude.{◌≡◌, ◌↔◌, ◌<◌, ◌^◌, pos, IfSome};
+ghost use Rattle.std.specs.Prelude.{◌≡◌, ◌<◌, ◌^◌, pos, IfSome};
 ghost use Rattle.sqlite.specs.Values.{bound};
 ghost use Rattle.sqlite_value.specs.Value.{owned};
 ghost use Rattle.sqlite.specs.declared.types.Value.TheVariants.{Int};
@@ -28,7 +28,7 @@ pub(crate) fn run<S: Alter>(
 /// A failure of the store as a fault.
 pub fn stop_of(error: Error) -> Stop
     ensures faults { IsStoreFault result }
-    ensures memory { (error ≡ Error.SqliteFailure ErrorCode.OutOfMemory) ↔ (result ≡ out_of_memory) }
+    ensures memory { error ≡ Error.SqliteFailure ErrorCode.OutOfMemory → result ≡ out_of_memory }
 {
     match error {
         Error::SqliteFailure(ErrorCode::OutOfMemory) => Stop::Fault(Fault::OutOfMemory),

@@ -69,8 +69,8 @@ returns g c v own =
       survives = still_then old mid end c.prepare.ensures.survives (quiet (listing_of t) (is_listing v t own) old mid end text ready refused.survives);
       kept = λ x keeps. kept_asked v (listing_of t) (is_listing v t own) old mid end text ready x keeps c.prepare.ensures.survives refused.survives (λ late plain. unread mid end text [] c.in-Err-query_prepared.error (refused.err late));
       clean = λ clean. omega (arith, c.prepare.ensures.survives.clean, refused.survives.clean, clean);
-      faults = inl c.stop_of.ensures;
-      foreign = λ clean. faults_alone {X = Bool} (Err c.stop_of.result) _ c.stop_of.ensures;
+      faults = inl c.stop_of.ensures.faults;
+      foreign = λ clean. faults_alone {X = Bool} (Err c.stop_of.result) _ c.stop_of.ensures.faults;
       missed = λ none.
           let never : HasCleanDisk end → ⊥ = λ clean. c.in-Ok.ensures.missed (omega (arith, refused.survives.clean, clean)) (subst (HasNoMeaning old.now.schema) (sym text_is) none) in
           (never_clean old mid end _ c.prepare.ensures.survives refused.survives never, λ clean. absurd (never clean));

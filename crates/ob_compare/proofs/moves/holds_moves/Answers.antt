@@ -136,10 +136,10 @@ pub returns-clause-mode : goal.returns-clause-mode
 returns-clause-mode g c idle = (rw c.in-Err-query_prepared.is at c.query_prepared.follows.holds-at-none).mode (c.prepare.ensures.mode idle)
 
 pub returns-clause-faults : goal.returns-clause-faults
-returns-clause-faults g c = inl c.stop_of.ensures
+returns-clause-faults g c = inl c.stop_of.ensures.faults
 
 pub returns-clause-foreign : goal.returns-clause-foreign
-returns-clause-foreign g c clean = faults_alone {X = Bool} (Err c.stop_of.result) _ c.stop_of.ensures
+returns-clause-foreign g c clean = faults_alone {X = Bool} (Err c.stop_of.result) _ c.stop_of.ensures.faults
 
 pub returns-clause-book : goal.returns-clause-book
 returns-clause-book g c e = absurd (error_is_no_value e)
