@@ -1,22 +1,19 @@
 -- Why the store fails, over steps, and at a query that no database of its schema refuses.
-use Rattle.std.proofs.Common.{◌≡◌, ◌≤◌, ℕ, List, [], Option, None, Bool, true, false, IsTrue, IsSome, inl, inr, refl, sym, ap, subst, ◌∙◌, arith, append-nil, true≢false}
-use Rattle.std.specs.Prelude.{◌⊎◌, Result, Ok, Err}
+use Rattle.std.proofs.Common.{◌≡◌, ◌≤◌, ℕ, List, [], Option, None, false, IsTrue, IsSome, inl, inr, refl, sym, ap, subst, ◌∙◌, arith, append-nil, true≢false}
+use Rattle.std.specs.Prelude.{◌⊎◌, Result, Ok, Err, IfErr}
 use Rattle.std.proofs.lemmas.Bool.{cases_Bool}
-use Rattle.sqlite_disk.specs.Disk.{MoreFaults}
 use Rattle.sqlite_trees.specs.Tree.{Trees}
 use Rattle.sqlite_trees.specs.declared.error.StoreError.{StoreError}
 use Rattle.sqlite_trees.specs.declared.error.StoreError.TheVariants.{OutOfMemory, Io, Corrupt, Full, Broken, Unstorable}
-use Rattle.sqlite_resolve.specs.declared.compiled.Compiled.{Compiled}
 use Rattle.sqlite_schema.specs.declared.program.Program.{Program}
 use Rattle.sqlite_schema.specs.Program.{lets_of}
 use Rattle.sqlite_sql.specs.Program.{ProgramOverflows}
-use Rattle.sqlite_typing.specs.Types.{accepts_program}
 use Rattle.sqlite.specs.Schema.{Schema}
 use Rattle.sqlite.specs.Order.{Row}
 use Rattle.sqlite.specs.Clock.{timed}
-use Rattle.sqlite.specs.Effect.{Database, RefusesQuery, RefusesToRead}
-use Rattle.sqlite.specs.Listing.{IsSourceOf, understood}
-use Rattle.sqlite.specs.State.{State, Fails, FailsToQuery, FailsToShow, HasCause, HasCleanDisk, IsNotRun, Survives, store_error}
+use Rattle.sqlite.specs.Effect.{Database, IsShown, RefusesQuery, RefusesToRead}
+use Rattle.sqlite.specs.Listing.{IsSourceOf}
+use Rattle.sqlite.specs.State.{State, Fails, FailsToQuery, FailsToShow, HasCause, HasCleanDisk, IsNotRun, IsTooLate, Survives, store_error}
 use Rattle.sqlite.specs.declared.error.Error.{Error}
 use Rattle.sqlite.specs.declared.error.Error.TheVariants.{SqliteFailure}
 use Rattle.sqlite.specs.declared.error.ErrorCode.TheVariants as code
@@ -25,32 +22,46 @@ use Rattle.ob_base.specs.declared.stop.Stop.{Stop}
 use Rattle.ob_base.specs.declared.stop.Stop.TheVariants.{Fault}
 use Rattle.ob_base.specs.declared.stop.Fault.TheVariants.{Store}
 use Rattle.ob_tables.specs.Queries.{IsAlwaysAnswered, IsAnswered, IsAnsweredAs}
-use Rattle.ob_tables.specs.Steps.{HasFailed}
+use Rattle.ob_tables.specs.Steps.{HasFailed, HasFaultCause}
 
 -- ---- over steps
-more_later : (a b c : ℕ) → MoreFaults a b → b ≤ c → MoreFaults a c
-more_later a b c more up = omega arith
+more_later : (a b c : State) → HasCause a b ⊥ Io → b.faults ≤ c.faults → HasCause a c ⊥ Io
+more_later a b c more up = omega (arith, more, up)
 
-more_earlier : (a b c : ℕ) → a ≤ b → MoreFaults b c → MoreFaults a c
-more_earlier a b c up more = omega arith
+more_earlier : (a b c : State) → a.faults ≤ b.faults → HasCause b c ⊥ Io → HasCause a c ⊥ Io
+more_earlier a b c up more = omega (arith, more, up)
 
 -- what failed before failed in the whole
 pub failed_before : (a b c : State) (P : Trees → Type 0) → HasFailed a b → Survives b c P → HasFailed a c
-failed_before a b c P (inl more) s = inl (more_later a.faults b.faults c.faults more s.counts)
+failed_before a b c P (inl more) s = inl (more_later a b c more s.counts)
 failed_before a b c P (inr rest) s = inr rest
 
 -- and so did what fails after steps that the store survived
 pub failed_after : (a b c : State) (P Q : Trees → Type 0) → Survives a b P → HasCleanDisk b → Survives b c Q → HasFailed b c → HasFailed a c
-failed_after a b c P Q one clean two (inl more) = inl (more_earlier a.faults b.faults c.faults one.counts more)
+failed_after a b c P Q one clean two (inl more) = inl (more_earlier a b c one.counts more)
 failed_after a b c P Q one clean two (inr (inl shut)) = elim (cases_Bool a.is_open) [
-  | inl open ↦ closed (one.closes clean open)
+  | inl live ↦ closed (one.closes clean live)
   | inr was ↦ inr (inl was)
 ]
   where
-    closed : IsTrue b.is_open ⊎ MoreFaults a.faults b.faults → HasFailed a c
+    closed : IsTrue b.is_open ⊎ HasCause a b ⊥ Io → HasFailed a c
     closed (inl live) = absurd (true≢false (sym live ∙ shut))
-    closed (inr more) = inl (more_later a.faults b.faults c.faults more two.counts)
+    closed (inr more) = inl (more_later a b c more two.counts)
 failed_after a b c P Q one clean two (inr (inr limited)) = inr (inr (subst (λ (l : Option ℕ). IsSome l) one.limit limited))
+
+-- what is told of a step holds of the whole, with steps that the store survived behind it or before it
+pub cause_before : {X : Type 0} (a b c : State) (P : Trees → Type 0) (r : Result X Stop) → HasFaultCause a b r → Survives b c P → HasFaultCause a c r
+cause_before a b c P (Ok x) h s = tt
+cause_before a b c P (Err stop) h s = λ store. failed_before a b c P (h store) s
+
+pub cause_after : {X : Type 0} (a b c : State) (P Q : Trees → Type 0) (r : Result X Stop) → Survives a b P → HasCleanDisk b → Survives b c Q → HasFaultCause b c r → HasFaultCause a c r
+cause_after a b c P Q (Ok x) one clean two h = tt
+cause_after a b c P Q (Err stop) one clean two h = λ store. failed_after a b c P Q one clean two (h store)
+
+-- where memory was refused no failure of the store is told
+pub no_fault : {X : Type 0} (a b : State) (r : Result X Stop) → IfErr r (λ stop. stop ≡ out_of_memory) → HasFaultCause a b r
+no_fault a b (Ok x) h = tt
+no_fault a b (Err stop) h = λ store. absurd (let e = sym h ∙ store in cc)
 
 -- ---- at a query
 -- memory was refused, or the store has failed
@@ -97,11 +108,22 @@ stop_cause old new e stop memory (inl is) store = absurd (let it = sym (memory i
 stop_cause old new e stop memory (inr failed) store = failed
 
 -- ---- a query over tables
+-- the types of the query don't go together
+abbrev pub IsUntyped : Schema → Program → Row → Type 0
+IsUntyped schema p params = IsShown (λ (r : Row). r) (record { schema = schema; trees = λ _. [] }) p params None
+
 -- one whose types go together and whose sums can't overflow is refused only where steps are limited
-pub query_accepted : (schema : Schema) (p : Program) (params : Row) → accepts_program schema (lets_of p) p.body params ≡ true → ((db : Trees) → ProgramOverflows db params [] (lets_of p) p.body → ⊥)
-    → (limit : Option ℕ) (now db : Database) (e : Error) → now.schema ≡ schema → IsSourceOf false now db → RefusesQuery limit db p params e → IsSome limit
+pub query_accepted : (schema : Schema) (p : Program) (params : Row) → ¬ (IsUntyped schema p params) → ((db : Trees) → ¬ (ProgramOverflows db params [] (lets_of p) p.body)) → (limit : Option ℕ) (now db : Database) (e : Error) → now.schema ≡ schema → IsSourceOf false now db
+    → RefusesQuery limit db p params e → IsSome limit
 query_accepted schema p params typed never limit now db e has source (inl (error, untyped)) =
-    let there : db.schema ≡ schema = ap (λ (d : Database). d.schema) source ∙ has in
-    absurd (true≢false (sym typed ∙ ap (λ s. accepts_program s (lets_of p) p.body params) (sym there) ∙ untyped))
+    absurd (typed (subst (λ s. IsUntyped s p params) (ap (λ (d : Database). d.schema) source ∙ has) untyped))
 query_accepted schema p params typed never limit now db e has source (inr (inl (error, over))) = absurd (never db.trees over)
 query_accepted schema p params typed never limit now db e has source (inr (inr (error, limited))) = limited
+
+-- a query inside a transaction, too
+pub not_answered_inside : (old new : State) (text : List ℕ) (params : Row) (e : Error) → IsAlwaysAnswered old.now.schema text params
+    → FailsToQuery text params old new e ⊎ IsTooLate text params old new e → FailsOnly old new e
+not_answered_inside old new text params e is (inl fails) = not_answered old new text params e is fails
+not_answered_inside old new text params e is (inr late) =
+    let so : IsAnswered old.now.schema text params late.0 = subst (IsAnsweredAs old.now.schema text params) late.1.is is in
+    absurd (let none = rw so.plain at late.2 in cc)
