@@ -1,8 +1,15 @@
 use Rattle.std.proofs.lemmas.Result.{IfOk-weaker}
-use Rattle.ob_commit.proofs.Knowing.{under_any}
+use Rattle.sqlite.specs.Held.{state}
+use Rattle.ob_commit.proofs.Failing.{answer_cause}
+use Rattle.ob_commit.proofs.Knowing.{one_any, under_any}
 use Rattle.ob_commit.proofs.known.look_up.Goals as goal
 
 pub returns-in-Ok-clause-found : goal.returns-in-Ok-clause-found
 returns-in-Ok-clause-found g c clean =
     let rows = rw c.deref.ensures.value at c.tell.ensures.told in
     IfOk-weaker c.tell.result _ _ (λ known told t keeps. under_any _ c.in-Ok.rows.items c.args.reference.now c.args.body.now known (c.in-Ok.ensures.found clean t keeps) told) rows
+
+pub returns-in-Ok-clause-cause : goal.returns-in-Ok-clause-cause
+returns-in-Ok-clause-cause g c clean t keeps one =
+    let known = rw c.deref.ensures.value at c.tell.ensures.known in
+    answer_cause (state g.S.Store c.args.conn.now) (state g.S.Store c.known_rows.new.conn) c.tell.result (known (one_any _ c.in-Ok.rows.items c.args.reference.now (c.in-Ok.ensures.found clean t keeps) one))
