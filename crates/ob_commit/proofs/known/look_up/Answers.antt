@@ -1,6 +1,8 @@
 use Rattle.std.proofs.lemmas.Result.{IfOk-weaker}
+use Rattle.std.proofs.Common.{ℕ, Err, arith}
 use Rattle.sqlite.specs.Held.{state}
-use Rattle.ob_commit.proofs.Failing.{answer_cause}
+use Rattle.sqlite.specs.State.{HasCleanDisk}
+use Rattle.ob_commit.proofs.Failing.{answer_cause, keeper_cause}
 use Rattle.ob_commit.proofs.Knowing.{one_any, under_any}
 use Rattle.ob_commit.proofs.known.look_up.Goals as goal
 
@@ -13,3 +15,9 @@ pub returns-in-Ok-clause-cause : goal.returns-in-Ok-clause-cause
 returns-in-Ok-clause-cause g c clean t keeps one =
     let known = rw c.deref.ensures.value at c.tell.ensures.known in
     answer_cause (state g.S.Store c.args.conn.now) (state g.S.Store c.known_rows.new.conn) c.tell.result (known (one_any _ c.in-Ok.rows.items c.args.reference.now (c.in-Ok.ensures.found clean t keeps) one))
+
+pub returns-in-Err-clause-cause : goal.returns-in-Err-clause-cause
+returns-in-Err-clause-cause g c clean t keeps one =
+    let old = state g.S.Store c.args.conn.now in
+    let first : HasCleanDisk old = omega (arith, c.known_rows.ensures.survives.clean, clean) in
+    keeper_cause {X = ℕ} old (state g.S.Store c.known_rows.new.conn) t (Err c.in-Err.stop) first keeps (c.in-Err.ensures.cause clean)
