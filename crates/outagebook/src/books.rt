@@ -55,8 +55,9 @@ fn run_over<S: Alter, T: Timeline, W: Write>(
 ) -> Result<(), Unfinished>
     ensures { RunsTask S.Store ⟦<InputFile<'static> as OpenInput>⟧.opens ⟦<File as Read>⟧.remaining
         ⟦<OutputFile<'static> as OpenOutput>⟧.opens ⟦<File as Write>⟧.contents
-        ⟦<Server<'static> as ServeBook<S, T>>⟧.takes ⟦<Server<'static> as ServeBook<S, T>>⟧.serves W.contents
-        task.entry keeper.old keeper.new writer.old writer.new result }
+        ⟦<Server<'static> as ServeBook<S, T>>⟧.takes
+        ⟦<Server<'static> as ServeBook<S, T>>⟧.serves W.contents task.entry keeper.old keeper.new
+        writer.old writer.new result }
 {
     let mut telling = Telling::new(rt);
     run_task(rt.alloc(), keeper, task, &mut telling, writer)
