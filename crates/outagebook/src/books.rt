@@ -2,20 +2,21 @@
 //!
 //! A keeper of a file is a large type, and what holds one is proved with all of its parts. So one function opens the file and
 //! closes it, and the jobs are functions over any keeper.
+ghost use Rattle.ob_jobs.specs.Tasks.{RunsTask};
 ghost use Rattle.outagebook.specs.Opening.{OpensFile};
 
 use crate::desk::Server;
 use crate::progress::Telling;
 use ob_base::{Fault, Stop};
 use ob_cli::{Unfinished, Word};
-use ob_jobs::{OpenInput, OpenOutput, Task, run_task};
+use ob_jobs::{OpenInput, OpenOutput, ServeBook, Task, run_task};
 use ob_store::Keeper;
 use ob_stream::Watched;
 use ob_sweep::{Timeline, Windowed};
 use ob_time::Period;
 use sqlite::{Alter, Connection, Error, ErrorCode, FileFrom, FileStore, Unknown};
 use std::fs::File;
-use std::io;
+use std::io::{self, Read, Write};
 
 /// A keeper of the book in a file.
 type FileKeeper = Keeper<FileStore<FileFrom<Unknown>>, Windowed>;
@@ -37,22 +38,29 @@ pub(crate) fn run_on_book(
         Ok(keeper) => keeper,
         Err(stop) => return Err(Unfinished::from(stop)),
     };
-    let run = run_over(rt, &mut keeper, task);
+    let mut writer = Watched::new(io::writer(rt));
+    let run = run_over(rt, &mut keeper, task, &mut writer);
     if may_write {
         fold(keeper);
     }
     run
 }
 
-/// Does a job over a keeper, and tells it on standard output.
-fn run_over<S: Alter, T: Timeline>(
+/// Does a job over a keeper, and tells it to a writer.
+fn run_over<S: Alter, T: Timeline, W: Write>(
     rt: &HostRuntime,
     keeper: &mut Keeper<S, T>,
     task: FileTask<'_>,
-) -> Result<(), Unfinished> {
-    let mut writer = Watched::new(io::writer(rt));
+    writer: &mut Watched<W>,
+) -> Result<(), Unfinished>
+    ensures { RunsTask S.Store ⟦<InputFile<'static> as OpenInput>⟧.opens ⟦<File as Read>⟧.remaining
+        ⟦<OutputFile<'static> as OpenOutput>⟧.opens ⟦<File as Write>⟧.contents
+        ⟦<Server<'static> as ServeBook<S, T>>⟧.takes
+        ⟦<Server<'static> as ServeBook<S, T>>⟧.serves W.contents task.entry keeper.old keeper.new
+        writer.old writer.new result }
+{
     let mut telling = Telling::new(rt);
-    run_task(rt.alloc(), keeper, task, &mut telling, &mut writer)
+    run_task(rt.alloc(), keeper, task, &mut telling, writer)
 }
 
 /// Whether there is such a file, which can be read. The store makes one where there is none.
