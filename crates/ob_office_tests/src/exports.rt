@@ -1,13 +1,13 @@
 //! Exports of what the commands moved, and sinks and writers that fail.
-use crate::office::{Office, Trial, Written, over_a_store};
-use crate::script::{A_DAY, Outcome, Script, Step, are_answered};
+use crate::office::Office;
+use crate::script::{A_DAY, Outcome, Step, Story, is_told};
 use crate::sinks::{Shelf, Sink};
+use crate::sources::{FAILING, JOLTING, Way};
 use crate::texts::{CORRECTION, OUTAGE};
 use ob_net::{Fault, Stop};
 use ob_post::{Dim, Moved};
 use std::alloc::{AllocError, Global};
 use std::io::ErrorKind;
-use std::process::Abort;
 
 // The outage with its correction, as an export shows it.
 const EXPORT: &'static str = "cmd,dim,key,delta
@@ -28,54 +28,56 @@ const EXPORT: &'static str = "cmd,dim,key,delta
 // How many rows the tables of the outage with its correction have.
 const ROWS: &[i64] = &[1, 3, 5, 5, 5, 10, 4, 0, 26, 12, 320];
 
-const EXPORTED: &[Step] = &[
-    Step::Make(A_DAY),
-    Step::Import(OUTAGE, Outcome::Took(25, 0)),
-    Step::Import(CORRECTION, Outcome::Took(1, 0)),
-    Step::Export(Ok(12), EXPORT),
-    Step::ExportJolting(Ok(12), EXPORT),
-];
-
-#[test]
-fn an_export(rt: HostRuntime) -> Result<(), AllocError> {
-    are_answered(&rt, rt.alloc(), EXPORTED, ROWS)
-}
-
-const OF_NOTHING: &[Step] = &[
-    Step::Export(Err(Stop::Fault(Fault::Reopen)), ""),
-    Step::Make(A_DAY),
-    Step::Export(Ok(0), "cmd,dim,key,delta\n"),
-];
-
-#[test]
-fn exports_of_nothing(rt: HostRuntime) -> Result<(), AllocError> {
-    let rows = &[1, 1, 1, 0, 0, 0, 0, 0, 0, 0, 320];
-    are_answered(&rt, rt.alloc(), OF_NOTHING, rows)
-}
-
-// The book of the outage with its correction is made.
-const CORRECTED: Script<'static> = Script {
-    steps: &[
+const EXPORTED: Story<'static> = Story {
+    sql: "",
+    first: &[
         Step::Make(A_DAY),
         Step::Import(OUTAGE, Outcome::Took(25, 0)),
         Step::Import(CORRECTION, Outcome::Took(1, 0)),
+        Step::Export(Ok(12), EXPORT),
+        Step::Write(JOLTING, Ok(12), EXPORT, ""),
     ],
-    by_reader: false,
+    next: &[],
+    rows: ROWS,
 };
+
+#[test]
+fn an_export(rt: HostRuntime) -> Result<(), AllocError> {
+    is_told(&rt, rt.alloc(), &EXPORTED, false)
+}
+
+const OF_NOTHING: Story<'static> = Story {
+    sql: "",
+    first: &[
+        Step::Export(Err(Stop::Fault(Fault::Reopen)), ""),
+        Step::Make(A_DAY),
+        Step::Export(Ok(0), "cmd,dim,key,delta\n"),
+    ],
+    next: &[],
+    rows: &[1, 1, 1, 0, 0, 0, 0, 0, 0, 0, 320],
+};
+
+#[test]
+fn exports_of_nothing(rt: HostRuntime) -> Result<(), AllocError> {
+    is_told(&rt, rt.alloc(), &OF_NOTHING, false)
+}
 
 // What the commands moved: the outage and its correction, each time the same by cause 3, feeder 1 and day 0.
 const COMMANDS: &[(u32, i64)] = &[(22, 414_000), (24, -246_600), (25, -158_400), (26, -1_200)];
 
 const KEYS: &[(Dim, u16)] = &[(Dim::Cause, 3), (Dim::Feeder, 1), (Dim::Day, 0)];
 
-// The amount at this place of the twelve, from 0.
+// How many amounts they moved.
+const AMOUNTS: usize = 12;
+
+// The amount at this place, from 0.
 fn moved(place: usize) -> Option<(u32, Moved)> {
     let (cmd, delta) = *COMMANDS.get(place / 3)?;
     let (dim, key) = *KEYS.get(place % 3)?;
     Some((cmd, Moved { dim, key, delta }))
 }
 
-// Whether there are so many amounts, and they are the first of the twelve.
+// Whether there are so many amounts, and they are the first ones.
 fn are_first(taken: &[(u32, Moved)], count: usize) -> bool {
     for (place, row) in taken.iter().enumerate() {
         if moved(place) != Some(*row) {
@@ -85,105 +87,145 @@ fn are_first(taken: &[(u32, Moved)], count: usize) -> bool {
     taken.len() == count
 }
 
-// Whether a sink with too little room takes the first amounts, and its fault comes back.
-fn fills<O: Office>(alloc: Global, office: &mut O, room: usize) -> bool {
+/// Whether a sink with so much room takes the first amounts, and its fault comes back where there are more.
+pub fn is_handed<O: Office>(alloc: Global, office: &mut O, room: usize) -> bool {
     let mut shelf = Shelf::new(alloc, room);
-    office.hands(&mut shelf) == Err(Stop::Fault(Fault::Output)) && are_first(&shelf.taken, room)
+    let wanted = if room < AMOUNTS {
+        Err(Stop::Fault(Fault::Output))
+    } else {
+        Ok(12)
+    };
+    office.hands(&mut shelf) == wanted && are_first(&shelf.taken, room)
 }
 
-// Whether a sink with room for all amounts takes them.
-fn takes_all<O: Office>(alloc: Global, office: &mut O) -> bool {
-    let mut shelf = Shelf::new(alloc, 12);
-    office.hands(&mut shelf) == Ok(12) && are_first(&shelf.taken, 12)
-}
-
-// Whether the stored replies of the 26 commands have the amounts, and there is no other reply.
-fn are_stored<O: Office>(alloc: Global, office: &mut O) -> bool {
-    let mut shelf = Shelf::new(alloc, 12);
+/// Whether the stored replies of the 26 commands have the amounts, and there is no other reply.
+pub fn are_told<O: Office>(alloc: Global, office: &mut O) -> bool {
+    let mut shelf = Shelf::new(alloc, AMOUNTS);
     for no in 1..=26 {
         if office.tells(no, &mut shelf) != Ok(true) {
             return false;
         }
     }
-    office.tells(27, &mut shelf) == Ok(false) && are_first(&shelf.taken, 12)
+    office.tells(27, &mut shelf) == Ok(false) && are_first(&shelf.taken, AMOUNTS)
 }
 
 // Sinks with room for each number of amounts, none to all twelve.
-struct Sinks;
-
-impl Trial for Sinks {
-    fn run<A: Abort, O: Office>(&self, rt: &A, alloc: Global, office: &mut O) {
-        CORRECTED.run(rt, alloc, office);
-        for room in 0..12 {
-            assert!(rt; fills(alloc, office, room));
-        }
-        assert!(rt; takes_all(alloc, office));
-        assert!(rt; are_stored(alloc, office));
-    }
-}
+const SINKS: Story<'static> = Story {
+    sql: "",
+    first: &[
+        Step::Make(A_DAY),
+        Step::Import(OUTAGE, Outcome::Took(25, 0)),
+        Step::Import(CORRECTION, Outcome::Took(1, 0)),
+        Step::Hand(0),
+        Step::Hand(1),
+        Step::Hand(2),
+        Step::Hand(3),
+        Step::Hand(4),
+        Step::Hand(5),
+        Step::Hand(6),
+        Step::Hand(7),
+        Step::Hand(8),
+        Step::Hand(9),
+        Step::Hand(10),
+        Step::Hand(11),
+        Step::Hand(12),
+        Step::Replies,
+    ],
+    next: &[],
+    rows: ROWS,
+};
 
 #[test]
 fn sinks_that_fail(rt: HostRuntime) -> Result<(), AllocError> {
-    over_a_store(&rt, rt.alloc(), &Sinks, ROWS)
+    is_told(&rt, rt.alloc(), &SINKS, false)
 }
 
-// Whether an export to a writer with room for so many bytes stops for a failed output when they are written.
-fn breaks_off<O: Office>(
+/// Whether an export of this text to a writer with less room stops for a failed output when that is full.
+pub fn breaks_off<O: Office>(
     alloc: Global,
     office: &mut O,
+    way: Way,
+    text: &[u8],
     room: usize,
-    full: Option<ErrorKind>,
 ) -> bool {
-    let written = office.writes(alloc, Sink::jolting(alloc, room, full));
+    let written = office.writes(alloc, Sink::new(alloc, room, way));
     written.end == Err(Stop::Fault(Fault::Output))
         && written.bytes.len() == room
-        && EXPORT.as_bytes().starts_with(&written.bytes)
+        && text.starts_with(&written.bytes)
 }
+
+/// Whether it does with room for each number of bytes.
+pub fn always_breaks_off<O: Office>(alloc: Global, office: &mut O, way: Way, text: &[u8]) -> bool {
+    for room in 0..text.len() {
+        if !breaks_off(alloc, office, way, text, room) {
+            return false;
+        }
+    }
+    true
+}
+
+// One that is interrupted for ever.
+const STUCK: Way = Way {
+    step: 1,
+    jolts: 1,
+    end: Some(ErrorKind::Interrupted),
+};
 
 // Writers that fail behind each byte in turn, one that takes none any more, and one that is interrupted for ever.
-struct Writers;
-
-impl Trial for Writers {
-    fn run<A: Abort, O: Office>(&self, rt: &A, alloc: Global, office: &mut O) {
-        CORRECTED.run(rt, alloc, office);
-        for room in 0..EXPORT.len() {
-            assert!(rt; breaks_off(alloc, office, room, Some(ErrorKind::Other)));
-        }
-        assert!(rt; breaks_off(alloc, office, 40, None));
-        assert!(rt; breaks_off(alloc, office, 40, Some(ErrorKind::Interrupted)));
-    }
-}
+const WRITERS: Story<'static> = Story {
+    sql: "",
+    first: &[
+        Step::Make(A_DAY),
+        Step::Import(OUTAGE, Outcome::Took(25, 0)),
+        Step::Import(CORRECTION, Outcome::Took(1, 0)),
+        Step::BreakAlways(FAILING, EXPORT),
+        Step::Break(JOLTING, EXPORT, 40),
+        Step::Break(STUCK, EXPORT, 40),
+    ],
+    next: &[],
+    rows: ROWS,
+};
 
 #[test]
 fn writers_that_fail(rt: HostRuntime) -> Result<(), AllocError> {
-    over_a_store(&rt, rt.alloc(), &Writers, ROWS)
+    is_told(&rt, rt.alloc(), &WRITERS, false)
 }
 
-// What an export to a writer is answered that is interrupted so many times before each line.
-fn stumbles<O: Office>(alloc: Global, office: &mut O, jolts: u32) -> Written {
-    office.writes(alloc, Sink::stumbling(alloc, jolts))
-}
-
-// Whether an export is given up at its last line.
-fn lacks_a_line(written: &Written) -> bool {
-    match EXPORT.strip_suffix("26,day,0,-1200\n") {
-        Some(front) => written.is(Err(Stop::Fault(Fault::Output)), front.as_bytes()),
-        None => false,
-    }
-}
+const LAST_LINE: &'static str = "26,day,0,-1200\n";
 
 // The header and twelve lines: their thirteen writes are tried again 65,536 times in all.
-struct Interrupted;
-
-impl Trial for Interrupted {
-    fn run<A: Abort, O: Office>(&self, rt: &A, alloc: Global, office: &mut O) {
-        CORRECTED.run(rt, alloc, office);
-        assert!(rt; lacks_a_line(&stumbles(alloc, office, 5_042)));
-        assert!(rt; stumbles(alloc, office, 5_041).is(Ok(12), EXPORT.as_bytes()));
-    }
-}
+const INTERRUPTED: Story<'static> = Story {
+    sql: "",
+    first: &[
+        Step::Make(A_DAY),
+        Step::Import(OUTAGE, Outcome::Took(25, 0)),
+        Step::Import(CORRECTION, Outcome::Took(1, 0)),
+        Step::Write(
+            Way {
+                step: 1_000_000,
+                jolts: 5_042,
+                end: None,
+            },
+            Err(Stop::Fault(Fault::Output)),
+            EXPORT,
+            LAST_LINE,
+        ),
+        Step::Write(
+            Way {
+                step: 1_000_000,
+                jolts: 5_041,
+                end: None,
+            },
+            Ok(12),
+            EXPORT,
+            "",
+        ),
+    ],
+    next: &[],
+    rows: ROWS,
+};
 
 #[test]
 fn interrupted_in_each_line(rt: HostRuntime) -> Result<(), AllocError> {
-    over_a_store(&rt, rt.alloc(), &Interrupted, ROWS)
+    is_told(&rt, rt.alloc(), &INTERRUPTED, false)
 }

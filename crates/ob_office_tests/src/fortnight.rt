@@ -2,24 +2,28 @@
 use crate::fortnight_moves::{CORRECTED_MOVES, MOVES};
 use crate::fortnight_texts::{CORRECTED_TABLE, CORRECTIONS, FORTNIGHT, TABLE};
 use crate::office::Period;
-use crate::script::{Outcome, Step, are_answered};
+use crate::script::{Outcome, Step, Story, is_told};
 use std::alloc::AllocError;
 
 const FOURTEEN_DAYS: Period = ("2025-03-24", 14, "CET-1CEST,M3.5.0,M10.5.0/3");
 
-const STEPS: &[Step] = &[
-    Step::Make(FOURTEEN_DAYS),
-    Step::Import(FORTNIGHT, Outcome::Took(102, 0)),
-    Step::Table(TABLE),
-    Step::Export(Ok(228), MOVES),
-    Step::Import(CORRECTIONS, Outcome::Took(3, 0)),
-    Step::Table(CORRECTED_TABLE),
-    Step::Export(Ok(236), CORRECTED_MOVES),
-];
+const TOLD: Story<'static> = Story {
+    sql: "",
+    first: &[
+        Step::Make(FOURTEEN_DAYS),
+        Step::Import(FORTNIGHT, Outcome::Took(102, 0)),
+        Step::Table(TABLE),
+        Step::Export(Ok(228), MOVES),
+        Step::Import(CORRECTIONS, Outcome::Took(3, 0)),
+        Step::Table(CORRECTED_TABLE),
+        Step::Export(Ok(236), CORRECTED_MOVES),
+    ],
+    next: &[],
+    rows: &[1, 9, 10, 12, 12, 33, 36, 1, 105, 236, 333],
+};
 
 // The annual tables and the moves of the fortnight, before and after its corrections, are those that stand beside it.
 #[test]
 fn the_sample_fortnight(rt: HostRuntime) -> Result<(), AllocError> {
-    let rows = &[1, 9, 10, 12, 12, 33, 36, 1, 105, 236, 333];
-    are_answered(&rt, rt.alloc(), STEPS, rows)
+    is_told(&rt, rt.alloc(), &TOLD, false)
 }

@@ -1,92 +1,102 @@
 //! Imports into new books, and texts that come twice.
-use crate::office::{Heard, Office, Trial, over_a_store, over_tables};
-use crate::script::{A_DAY, Outcome, Script, Step, are_answered, are_answered_both_ways};
-use crate::sources::Source;
+use crate::office::Heard;
+use crate::script::{A_DAY, Outcome, Step, Story, is_told, is_told_both_ways};
 use crate::texts::{ONE_NAME_TWICE, OUTAGE, TWO_NAMES};
 use ob_net::{Fault, Refusal};
-use std::alloc::{AllocError, Global};
-use std::process::Abort;
+use std::alloc::AllocError;
 
-const CHANGED: &[Step] = &[
-    Step::Make(A_DAY),
-    Step::Import(
-        ONE_NAME_TWICE,
-        Outcome::Stopped(3, 0, 4, Refusal::NameTaken),
-    ),
-    Step::Import(
-        ONE_NAME_TWICE,
-        Outcome::Stopped(0, 3, 4, Refusal::NameTaken),
-    ),
-    Step::Import(TWO_NAMES, Outcome::Took(1, 3)),
-    Step::Import(TWO_NAMES, Outcome::Took(0, 4)),
-    Step::Import(
-        ONE_NAME_TWICE,
-        Outcome::Stopped(0, 3, 4, Refusal::RefConflict(4)),
-    ),
-];
+const CHANGED: Story<'static> = Story {
+    sql: "",
+    first: &[
+        Step::Make(A_DAY),
+        Step::Import(
+            ONE_NAME_TWICE,
+            Outcome::Stopped(3, 0, 4, Refusal::NameTaken),
+        ),
+        Step::Import(
+            ONE_NAME_TWICE,
+            Outcome::Stopped(0, 3, 4, Refusal::NameTaken),
+        ),
+        Step::Import(TWO_NAMES, Outcome::Took(1, 3)),
+        Step::Import(TWO_NAMES, Outcome::Took(0, 4)),
+        Step::Import(
+            ONE_NAME_TWICE,
+            Outcome::Stopped(0, 3, 4, Refusal::RefConflict(4)),
+        ),
+    ],
+    next: &[],
+    rows: &[1, 2, 4, 0, 0, 0, 0, 0, 4, 0, 320],
+};
 
 #[test]
 fn a_row_stops_and_is_changed(rt: HostRuntime) -> Result<(), AllocError> {
-    let rows = &[1, 2, 4, 0, 0, 0, 0, 0, 4, 0, 320];
-    are_answered_both_ways(&rt, rt.alloc(), CHANGED, rows)
+    is_told_both_ways(&rt, rt.alloc(), &CHANGED)
 }
+
+const TOLD: Heard = Heard {
+    expected: 4,
+    last: 3,
+    rows: 3,
+    ended: true,
+};
 
 // An import of a text whose fourth row is refused, and who hears it; and once more.
-struct Hearing;
-
-impl Trial for Hearing {
-    fn run<A: Abort, O: Office>(&self, rt: &A, alloc: Global, office: &mut O) {
-        let told = Heard {
-            expected: 4,
-            last: 3,
-            rows: 3,
-            ended: true,
-        };
-        assert!(rt; office.makes(&A_DAY));
-        let text = ONE_NAME_TWICE.as_bytes();
-        assert!(rt; office.hears(alloc, Source::new(text, None)) == told);
-        assert!(rt; office.hears(alloc, Source::new(text, None)) == told);
-    }
-}
+const HEARING: Story<'static> = Story {
+    sql: "",
+    first: &[
+        Step::Make(A_DAY),
+        Step::Hear(ONE_NAME_TWICE, TOLD),
+        Step::Hear(ONE_NAME_TWICE, TOLD),
+    ],
+    next: &[],
+    rows: &[1, 2, 3, 0, 0, 0, 0, 0, 3, 0, 320],
+};
 
 #[test]
 fn who_listens_hears_each_row(rt: HostRuntime) -> Result<(), AllocError> {
-    let rows = &[1, 2, 3, 0, 0, 0, 0, 0, 3, 0, 320];
-    over_a_store(&rt, rt.alloc(), &Hearing, rows)
+    is_told(&rt, rt.alloc(), &HEARING, false)
 }
 
-const WITHOUT_ROWS: &[Step] = &[
-    Step::Make(A_DAY),
-    Step::Import("kind,ref,f1,f2,f3,f4,f5,f6\n", Outcome::Took(0, 0)),
-    Step::Import("kind,ref,f1,f2,f3,f4,f5,f6", Outcome::Took(0, 0)),
-    Step::Import("", Outcome::Stopped(0, 0, 0, Refusal::BadField(0))),
-    Step::Import("\n", Outcome::Stopped(0, 0, 0, Refusal::BadField(0))),
-    Step::Import(
-        "kind,ref,f1,f2,f3,f4,f5\n",
-        Outcome::Stopped(0, 0, 0, Refusal::BadField(0)),
-    ),
-    Step::Import(
-        "bus,R1,BUS-A,,,,,\n",
-        Outcome::Stopped(0, 0, 0, Refusal::BadField(0)),
-    ),
-];
+const WITHOUT_ROWS: Story<'static> = Story {
+    sql: "",
+    first: &[
+        Step::Make(A_DAY),
+        Step::Import("kind,ref,f1,f2,f3,f4,f5,f6\n", Outcome::Took(0, 0)),
+        Step::Import("kind,ref,f1,f2,f3,f4,f5,f6", Outcome::Took(0, 0)),
+        Step::Import("", Outcome::Stopped(0, 0, 0, Refusal::BadField(0))),
+        Step::Import("\n", Outcome::Stopped(0, 0, 0, Refusal::BadField(0))),
+        Step::Import(
+            "kind,ref,f1,f2,f3,f4,f5\n",
+            Outcome::Stopped(0, 0, 0, Refusal::BadField(0)),
+        ),
+        Step::Import(
+            "bus,R1,BUS-A,,,,,\n",
+            Outcome::Stopped(0, 0, 0, Refusal::BadField(0)),
+        ),
+    ],
+    next: &[],
+    rows: &[1, 1, 1, 0, 0, 0, 0, 0, 0, 0, 320],
+};
 
 #[test]
 fn texts_without_rows(rt: HostRuntime) -> Result<(), AllocError> {
-    let rows = &[1, 1, 1, 0, 0, 0, 0, 0, 0, 0, 320];
-    are_answered_both_ways(&rt, rt.alloc(), WITHOUT_ROWS, rows)
+    is_told_both_ways(&rt, rt.alloc(), &WITHOUT_ROWS)
 }
 
-const TWICE: &[Step] = &[
-    Step::Make(A_DAY),
-    Step::Import(OUTAGE, Outcome::Took(25, 0)),
-    Step::Import(OUTAGE, Outcome::Took(0, 25)),
-];
+const TWICE: Story<'static> = Story {
+    sql: "",
+    first: &[
+        Step::Make(A_DAY),
+        Step::Import(OUTAGE, Outcome::Took(25, 0)),
+        Step::Import(OUTAGE, Outcome::Took(0, 25)),
+    ],
+    next: &[],
+    rows: &[1, 3, 5, 5, 5, 10, 4, 0, 25, 9, 320],
+};
 
 #[test]
 fn a_text_comes_twice(rt: HostRuntime) -> Result<(), AllocError> {
-    let rows = &[1, 3, 5, 5, 5, 10, 4, 0, 25, 9, 320];
-    are_answered_both_ways(&rt, rt.alloc(), TWICE, rows)
+    is_told_both_ways(&rt, rt.alloc(), &TWICE)
 }
 
 // The book of the outage has this total, and each amount of it by cause, day and feeder.
@@ -139,43 +149,42 @@ SUSTAINED unmarked 5
 MOMENTARY unmarked 0
 ";
 
-const IMPORTED: &[Step] = &[
-    Step::Make(A_DAY),
-    Step::Import(OUTAGE, Outcome::Took(25, 0)),
-    Step::Totals(TOTALS),
-    Step::Import(OUTAGE, Outcome::Took(0, 25)),
-    Step::Totals(TOTALS),
-    Step::Table(TABLE),
-];
-
 // Another keeper loads the same book, to which the text adds nothing.
-const LOADED: &[Step] = &[
-    Step::Load,
-    Step::Totals(TOTALS),
-    Step::Table(TABLE),
-    Step::Import(OUTAGE, Outcome::Took(0, 25)),
-];
+const IMPORTED: Story<'static> = Story {
+    sql: "",
+    first: &[
+        Step::Make(A_DAY),
+        Step::Import(OUTAGE, Outcome::Took(25, 0)),
+        Step::Totals(TOTALS),
+        Step::Import(OUTAGE, Outcome::Took(0, 25)),
+        Step::Totals(TOTALS),
+        Step::Table(TABLE),
+    ],
+    next: &[
+        Step::Load,
+        Step::Totals(TOTALS),
+        Step::Table(TABLE),
+        Step::Import(OUTAGE, Outcome::Took(0, 25)),
+    ],
+    rows: &[1, 3, 5, 5, 5, 10, 4, 0, 25, 9, 320],
+};
 
 #[test]
 fn the_book_of_an_import(rt: HostRuntime) -> Result<(), AllocError> {
-    let first = Script {
-        steps: IMPORTED,
-        by_reader: false,
-    };
-    let next = Script {
-        steps: LOADED,
-        by_reader: false,
-    };
-    let rows = &[1, 3, 5, 5, 5, 10, 4, 0, 25, 9, 320];
-    over_tables(&rt, rt.alloc(), &first, &next, rows)
+    is_told(&rt, rt.alloc(), &IMPORTED, false)
 }
 
-const WITHOUT_A_BOOK: &[Step] = &[
-    Step::Import(OUTAGE, Outcome::Broken(0, 0, Fault::Reopen)),
-    Step::Import("", Outcome::Broken(0, 0, Fault::Reopen)),
-];
+const WITHOUT_A_BOOK: Story<'static> = Story {
+    sql: "",
+    first: &[
+        Step::Import(OUTAGE, Outcome::Broken(0, 0, Fault::Reopen)),
+        Step::Import("", Outcome::Broken(0, 0, Fault::Reopen)),
+    ],
+    next: &[],
+    rows: &[],
+};
 
 #[test]
 fn without_a_book(rt: HostRuntime) -> Result<(), AllocError> {
-    are_answered_both_ways(&rt, rt.alloc(), WITHOUT_A_BOOK, &[])
+    is_told_both_ways(&rt, rt.alloc(), &WITHOUT_A_BOOK)
 }

@@ -1,16 +1,23 @@
 //! What a test knows of a keeper, and what a keeper is tried by.
+use crate::jobs::calls::{
+    Ask, Told, audits, exports, imports, lacks_export, lacks_import, lacks_table, makes, migrates,
+    prints, serves,
+};
 use crate::sinks::{Shelf, Sink};
 use crate::sources::Source;
-use crate::tables::has_rows;
+use ob_command::{Command, read_body};
+use ob_desk::serve_stream;
 use ob_import::{
     ImportFault, ImportReport, Progress, Work, import, import_text, import_with_progress,
 };
+use ob_index::{Indices, Which};
 use ob_jobs::export_moves;
-use ob_net::{Fault, Refusal, Stop, Watched};
+use ob_net::{Ref, Refusal, Stop, Watched};
+use ob_post::{Dim, Postings};
 use ob_store::Keeper;
 use ob_sweep::{Timeline, Windowed};
 use sqlite::{Alter, Connection};
-use std::alloc::{AllocError, Global};
+use std::alloc::Global;
 use std::process::Abort;
 
 /// What an import answers.
@@ -24,13 +31,6 @@ pub type Period = (&'static str, u16, &'static str);
 pub struct Written {
     pub end: Result<u64, Stop>,
     pub bytes: Vec<u8>,
-}
-
-impl Written {
-    /// Whether it answers this, and these bytes were written.
-    pub fn is(&self, end: Result<u64, Stop>, bytes: &[u8]) -> bool {
-        self.end == end && self.bytes.as_slice() == bytes
-    }
 }
 
 /// What was heard of an import: the rows of its text, the last one that acted, how many did, and whether it ended.
@@ -57,20 +57,40 @@ impl Progress for Heard {
     }
 }
 
-/// A book, or none, that texts are imported into and moved amounts are exported from. A test knows no more of a keeper
-/// than this: with the clauses of a keeper's calls each function that makes some is long to prove.
+/// What a book shows without asking for memory: its commands, its customer-seconds in all and by cause and feeder, and the
+/// indices.
+#[derive(Clone, Copy, PartialEq)]
+pub struct Views {
+    accepted: u32,
+    totals: [u64; 3],
+    causes: [u64; 5],
+    feeders: [u64; 3],
+    indices: Indices,
+}
+
+/// A book, or none, and the calls of its keeper without their clauses: with these each function that makes some is long to
+/// prove.
 pub trait Office {
     /// Makes a new book of a period.
-    fn makes(&mut self, period: &Period) -> bool;
+    fn makes(&mut self, period: &Period) -> Result<(), Stop>;
 
     /// Reads the book that the tables hold.
-    fn loads(&mut self) -> bool;
+    fn loads(&mut self) -> Result<(), Stop>;
 
     /// Makes the tables of version 1 those of version 2. Answers whether they were of version 1.
     fn migrates(&mut self) -> Result<bool, Stop>;
 
-    /// Whether no table differs from what the commands give, or there is no book in the tables, as there is none here.
-    fn is_sound(&mut self) -> bool;
+    /// Whether no table differs from what the commands in the tables give.
+    fn audits(&mut self) -> Result<bool, Stop>;
+
+    /// The number under which the command of a line, a reference and a body text, is accepted or was so before.
+    fn acts(&mut self, line: &str) -> Result<u32, Stop>;
+
+    /// Puts what a command moved, by its stored reply, on a shelf. Answers whether there is such a reply.
+    fn tells(&mut self, no: u32, shelf: &mut Shelf) -> Result<bool, Stop>;
+
+    /// What a sink makes of the moved amounts.
+    fn hands(&mut self, shelf: &mut Shelf) -> Result<u64, Stop>;
 
     /// What the import of a text is answered.
     fn takes(&mut self, alloc: Global, text: &[u8]) -> Report;
@@ -84,38 +104,114 @@ pub trait Office {
     /// What an export to a writer is answered.
     fn writes(&mut self, alloc: Global, sink: Sink) -> Written;
 
-    /// What a sink makes of the moved amounts.
-    fn hands(&mut self, shelf: &mut Shelf) -> Result<u64, Stop>;
+    /// Serves a stream of these bytes. Answers what is written, and the fault that ended it.
+    fn serves(&mut self, alloc: Global, bytes: &[u8]) -> (Vec<u8>, Option<Stop>);
 
-    /// Puts what a command moved, by its stored reply, on a shelf. Answers whether there is such a reply.
-    fn tells(&mut self, no: u32, shelf: &mut Shelf) -> Result<bool, Stop>;
+    /// How many commands the book has accepted, and its customer-seconds; None where there is no book.
+    fn shows(&self) -> Option<(u32, u64)>;
+
+    /// All that the book shows; None where there is no book.
+    fn views(&self) -> Option<Views>;
 
     /// Whether the book has these totals.
     fn has_totals(&self, text: &[u8]) -> bool;
 
     /// Whether the book has this annual table.
     fn has_table(&self, text: &[u8]) -> bool;
+
+    /// What a job tells this writer, and how it ends.
+    fn does(&mut self, alloc: Global, ask: Ask, sink: Sink) -> Told;
+
+    /// Whether the work of jobs on a book is refused for want of one, and nothing written.
+    fn lacks_book(&mut self, alloc: Global) -> bool;
+}
+
+// A reference and the command of a body text.
+fn asked(line: &str) -> Option<(Ref, Command)> {
+    let (reference, body) = line.split_once(" ")?;
+    let reference = Ref::read(reference.as_bytes())?;
+    let command = read_body(body.as_bytes())?;
+    Some((reference, command))
+}
+
+// Whether a text was printed, and is this.
+fn is_text(printed: Result<Vec<u8>, Stop>, text: &[u8]) -> bool {
+    matches!(printed, Ok(found) if found.as_slice() == text)
+}
+
+// The customer-seconds by each dimension.
+fn totals_of(postings: &Postings) -> [u64; 3] {
+    [
+        postings.total(Dim::Cause),
+        postings.total(Dim::Feeder),
+        postings.total(Dim::Day),
+    ]
+}
+
+// Those of the first causes.
+fn causes_of(postings: &Postings) -> [u64; 5] {
+    [
+        postings.amount(Dim::Cause, 0),
+        postings.amount(Dim::Cause, 1),
+        postings.amount(Dim::Cause, 2),
+        postings.amount(Dim::Cause, 3),
+        postings.amount(Dim::Cause, 4),
+    ]
+}
+
+// Those of the first feeders.
+fn feeders_of(postings: &Postings) -> [u64; 3] {
+    [
+        postings.amount(Dim::Feeder, 1),
+        postings.amount(Dim::Feeder, 2),
+        postings.amount(Dim::Feeder, 3),
+    ]
 }
 
 impl<S: Alter, T: Timeline> Office for Keeper<S, T> {
-    fn makes(&mut self, period: &Period) -> bool {
+    fn makes(&mut self, period: &Period) -> Result<(), Stop> {
         let (first, days, zone) = *period;
-        self.create(first.as_bytes(), days, zone.as_bytes()).is_ok()
+        self.create(first.as_bytes(), days, zone.as_bytes())
     }
 
-    fn loads(&mut self) -> bool {
-        self.load().is_ok()
+    fn loads(&mut self) -> Result<(), Stop> {
+        self.load()
     }
 
     fn migrates(&mut self) -> Result<bool, Stop> {
         self.migrate()
     }
 
-    fn is_sound(&mut self) -> bool {
+    fn audits(&mut self) -> Result<bool, Stop> {
         match self.audit() {
-            Ok(found) => found.is_none(),
-            Err(stop) => stop == Stop::Refused(Refusal::BadBook) && self.book().is_none(),
+            Ok(found) => Ok(found.is_none()),
+            Err(stop) => Err(stop),
         }
+    }
+
+    fn acts(&mut self, line: &str) -> Result<u32, Stop> {
+        let Some((reference, command)) = asked(line) else {
+            return Err(Stop::Refused(Refusal::BadField(0)));
+        };
+        match self.act(reference, command) {
+            Ok(reply) => Ok(reply.no),
+            Err(stop) => Err(stop),
+        }
+    }
+
+    fn tells(&mut self, no: u32, shelf: &mut Shelf) -> Result<bool, Stop> {
+        match self.reply_of(no) {
+            Ok(Some(reply)) => match shelf.take_all(no, reply.moved.as_slice()) {
+                Ok(()) => Ok(true),
+                Err(fault) => Err(Stop::Fault(fault)),
+            },
+            Ok(None) => Ok(false),
+            Err(stop) => Err(stop),
+        }
+    }
+
+    fn hands(&mut self, shelf: &mut Shelf) -> Result<u64, Stop> {
+        self.moves_out(shelf)
     }
 
     fn takes(&mut self, alloc: Global, text: &[u8]) -> Report {
@@ -146,109 +242,82 @@ impl<S: Alter, T: Timeline> Office for Keeper<S, T> {
         }
     }
 
-    fn hands(&mut self, shelf: &mut Shelf) -> Result<u64, Stop> {
-        self.moves_out(shelf)
+    fn serves(&mut self, alloc: Global, bytes: &[u8]) -> (Vec<u8>, Option<Stop>) {
+        let mut reader = Watched::new(bytes);
+        let mut writer = Watched::new(Vec::new(alloc));
+        let stop = match serve_stream(alloc, &mut reader, &mut writer, self) {
+            Ok(_) => None,
+            Err(fault) => Some(Stop::Fault(fault)),
+        };
+        (writer.into_parts().0, stop)
     }
 
-    fn tells(&mut self, no: u32, shelf: &mut Shelf) -> Result<bool, Stop> {
-        match self.reply_of(no) {
-            Ok(Some(reply)) => match shelf.take_all(no, reply.moved.as_slice()) {
-                Ok(()) => Ok(true),
-                Err(fault) => Err(Stop::Fault(fault)),
-            },
-            Ok(None) => Ok(false),
-            Err(stop) => Err(stop),
+    fn shows(&self) -> Option<(u32, u64)> {
+        match self.book() {
+            Some(book) => Some((book.accepted(), book.postings().total(Dim::Cause))),
+            None => None,
+        }
+    }
+
+    fn views(&self) -> Option<Views> {
+        match self.book() {
+            Some(book) => Some(Views {
+                accepted: book.accepted(),
+                totals: totals_of(book.postings()),
+                causes: causes_of(book.postings()),
+                feeders: feeders_of(book.postings()),
+                indices: book.index_view(Which::All),
+            }),
+            None => None,
         }
     }
 
     fn has_totals(&self, text: &[u8]) -> bool {
         match self.book() {
-            Some(book) => matches!(book.totals_text(), Ok(found) if found.as_slice() == text),
+            Some(book) => is_text(book.totals_text(), text),
             None => false,
         }
     }
 
     fn has_table(&self, text: &[u8]) -> bool {
         match self.book() {
-            Some(book) => matches!(book.annual_text(), Ok(found) if found.as_slice() == text),
+            Some(book) => is_text(book.annual_text(), text),
             None => false,
         }
+    }
+
+    fn does(&mut self, alloc: Global, ask: Ask, sink: Sink) -> Told {
+        let writer = Watched::new(sink);
+        match ask {
+            Ask::Make(days) => makes(self, &("2024-01-01", days, "UTC0"), writer),
+            Ask::Import(text) => imports(alloc, self, text, writer),
+            Ask::Export(room) => exports(alloc, self, room, writer),
+            Ask::Print => prints(self, writer),
+            Ask::Audit => audits(alloc, self, writer),
+            Ask::Migrate => migrates(self, writer),
+            Ask::Serve(free) => serves(self, free, writer),
+        }
+    }
+
+    fn lacks_book(&mut self, alloc: Global) -> bool {
+        lacks_import(alloc, self) && lacks_export(alloc, self) && lacks_table(alloc, self)
     }
 }
 
 /// What a keeper is tried by.
 pub trait Trial {
-    fn run<A: Abort, O: Office>(&self, rt: &A, alloc: Global, office: &mut O);
+    fn run<A: Abort, O: Office>(&mut self, rt: &A, alloc: Global, office: &mut O);
 }
 
-/// A keeper without a book over a store in memory is tried. In the end no table differs from what the commands give,
-/// and the tables have so many rows.
-pub fn over_a_store<C: Trial>(
-    rt: &impl Abort,
-    alloc: Global,
-    trial: &C,
-    rows: &[i64],
-) -> Result<(), AllocError> {
-    over_tables(rt, alloc, trial, &Nothing, rows)
-}
-
-/// The same, and before the rows are counted another keeper over the tables that the first one left is tried by what
-/// comes next.
-pub fn over_tables<C: Trial, N: Trial>(
-    rt: &impl Abort,
-    alloc: Global,
-    trial: &C,
-    next: &N,
-    rows: &[i64],
-) -> Result<(), AllocError> {
-    let Ok(conn) = Connection::open_in_memory(alloc) else {
-        return Err(AllocError);
-    };
-    let conn = over(rt, alloc, conn, trial);
-    let mut conn = over(rt, alloc, conn, next);
-    has_rows(rt, alloc, &mut conn, rows);
-    Ok(())
-}
-
-/// A keeper without a book over the tables that some statements make is tried. In the end no table differs from what the
-/// commands give, and the tables have so many rows.
-pub fn over_statements<C: Trial>(
-    rt: &impl Abort,
-    alloc: Global,
-    sql: &str,
-    trial: &C,
-    rows: &[i64],
-) -> Result<(), AllocError> {
-    let Ok(mut conn) = Connection::open_in_memory(alloc) else {
-        return Err(AllocError);
-    };
-    assert!(rt; conn.execute_batch(sql).is_ok());
-    let mut conn = over(rt, alloc, conn, trial);
-    has_rows(rt, alloc, &mut conn, rows);
-    Ok(())
-}
-
-// Nothing is tried.
-struct Nothing;
-
-impl Trial for Nothing {
-    fn run<A: Abort, O: Office>(&self, _: &A, _: Global, _: &mut O) {}
-}
-
-// A keeper over a database is tried. Answers the database that it leaves.
-fn over<S: Alter + Drop, C: Trial>(
+/// A keeper without a book over a database is tried. Answers the database that it leaves.
+pub fn over<S: Alter + Drop, C: Trial>(
     rt: &impl Abort,
     alloc: Global,
     conn: Connection<S>,
-    trial: &C,
+    trial: &mut C,
 ) -> Connection<S> {
     assert!(rt; conn.is_autocommit());
     let mut keeper: Keeper<S, Windowed> = Keeper::adopt_connection(alloc, conn);
-    is_tried(rt, alloc, &mut keeper, trial);
+    trial.run(rt, alloc, &mut keeper);
     keeper.into_connection()
-}
-
-fn is_tried<O: Office, C: Trial>(rt: &impl Abort, alloc: Global, office: &mut O, trial: &C) {
-    trial.run(rt, alloc, office);
-    assert!(rt; office.is_sound());
 }

@@ -1,4 +1,5 @@
 //! A writer, and a sink of moved amounts, that fail when they have no room left.
+use crate::sources::Way;
 use ob_net::Fault;
 use ob_post::Moved;
 use ob_store::MoveSink;
@@ -6,65 +7,44 @@ use std::alloc::Global;
 use std::io;
 use std::io::{ErrorKind, Write};
 
-/// Takes at most `step` bytes a write while it has room, each time after `jolts` interrupted writes. Then it answers this
-/// error, or takes none.
+/// Room for more than any text here.
+pub const WIDE: usize = 1_000_000;
+
+/// Takes its bytes in this way while it has room.
 #[derive(Drop)]
 pub struct Sink {
     pub taken: Vec<u8>,
-    step: usize,
-    jolts: u32,
-    jolted: u32,
     room: usize,
-    full: Option<ErrorKind>,
+    jolted: u32,
+    way: Way,
 }
 
 impl Sink {
-    /// Room for more than any export here, in one piece.
-    pub fn new(alloc: Global) -> Sink {
+    /// Room for so many bytes.
+    pub fn new(alloc: Global, room: usize, way: Way) -> Sink {
         Sink {
             taken: Vec::new(alloc),
-            step: 1_000_000,
-            jolts: 0,
-            jolted: 0,
-            room: 1_000_000,
-            full: None,
-        }
-    }
-
-    /// Room for more than any export here, each write whole after so many interrupted ones.
-    pub fn stumbling(alloc: Global, jolts: u32) -> Sink {
-        let mut sink = Sink::new(alloc);
-        sink.jolts = jolts;
-        sink
-    }
-
-    /// Room for so many bytes, one a write, each after an interrupted write; then this error for ever, or none taken.
-    pub fn jolting(alloc: Global, room: usize, full: Option<ErrorKind>) -> Sink {
-        Sink {
-            taken: Vec::new(alloc),
-            step: 1,
-            jolts: 1,
-            jolted: 0,
             room,
-            full,
+            jolted: 0,
+            way,
         }
     }
 }
 
 impl Write for Sink {
     fn write(&mut self, buf: &[u8]) -> io::Result<usize> {
-        if self.jolted < self.jolts {
+        if self.jolted < self.way.jolts {
             self.jolted += 1;
             return Err(io::Error::from(ErrorKind::Interrupted));
         }
         self.jolted = 0;
         if self.room == 0 {
-            return match self.full {
+            return match self.way.end {
                 Some(kind) => Err(io::Error::from(kind)),
                 None => Ok(0),
             };
         }
-        let count = buf.len().min(self.room).min(self.step);
+        let count = buf.len().min(self.room).min(self.way.step);
         self.taken.extend_from_slice(&buf[..count])?;
         self.room -= count;
         Ok(count)

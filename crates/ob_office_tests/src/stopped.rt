@@ -10,7 +10,6 @@ mod creations;
 mod disks;
 mod importing;
 mod memory;
-mod office;
 mod refusals;
 mod scripts;
 mod sending;

@@ -1,7 +1,6 @@
 //! Devices that join and leave in time and lives that are set anew, by import: what is accepted and refused, what each
 //! command moves, and the same book loaded again.
-use crate::office::over_tables;
-use crate::script::{A_DAY, Outcome, Script, Step};
+use crate::script::{A_DAY, Outcome, Step, Story, is_told};
 use crate::texts::{BASE, OUTAGE};
 use ob_net::Refusal;
 use std::alloc::AllocError;
@@ -259,43 +258,37 @@ const PARTS_JOINED: &[Step] = &[
     Step::Import(PARTS, Outcome::Took(0, 5)),
 ];
 
-// The steps of a keeper, those of another one over the tables that it leaves, and how many rows these have.
-type Story = (&'static [Step], &'static [Step], &'static [i64]);
-
-const STORIES: &[Story] = &[
-    (
-        TIE_LEAVES,
-        TIE_LEFT,
-        &[1, 3, 5, 5, 5, 10, 4, 0, 27, 15, 320],
-    ),
-    (
-        DEVICE_JOINS,
-        DEVICE_JOINED,
-        &[1, 3, 5, 6, 6, 10, 4, 0, 26, 12, 320],
-    ),
-    (
-        BREAKER_LEAVES,
-        BREAKER_LEFT,
-        &[1, 3, 5, 5, 5, 10, 2, 0, 24, 7, 320],
-    ),
-    (
-        PARTS_JOIN,
-        PARTS_JOINED,
-        &[1, 3, 7, 7, 7, 11, 4, 0, 30, 15, 320],
-    ),
+const STORIES: &[Story<'static>] = &[
+    Story {
+        sql: "",
+        first: TIE_LEAVES,
+        next: TIE_LEFT,
+        rows: &[1, 3, 5, 5, 5, 10, 4, 0, 27, 15, 320],
+    },
+    Story {
+        sql: "",
+        first: DEVICE_JOINS,
+        next: DEVICE_JOINED,
+        rows: &[1, 3, 5, 6, 6, 10, 4, 0, 26, 12, 320],
+    },
+    Story {
+        sql: "",
+        first: BREAKER_LEAVES,
+        next: BREAKER_LEFT,
+        rows: &[1, 3, 5, 5, 5, 10, 2, 0, 24, 7, 320],
+    },
+    Story {
+        sql: "",
+        first: PARTS_JOIN,
+        next: PARTS_JOINED,
+        rows: &[1, 3, 7, 7, 7, 11, 4, 0, 30, 15, 320],
+    },
 ];
-
-fn script(steps: &[Step]) -> Script<'_> {
-    Script {
-        steps,
-        by_reader: false,
-    }
-}
 
 #[test]
 fn devices_join_and_leave(rt: HostRuntime) -> Result<(), AllocError> {
-    for (first, next, rows) in STORIES {
-        over_tables(&rt, rt.alloc(), &script(first), &script(next), rows)?;
+    for story in STORIES {
+        is_told(&rt, rt.alloc(), story, false)?;
     }
     Ok(())
 }

@@ -1,12 +1,11 @@
 //! Imports from readers that fail or are interrupted.
-use crate::office::{Office, Trial, over_a_store};
-use crate::script::{A_DAY, Outcome, Step, are_answered};
-use crate::sources::Source;
+use crate::office::Office;
+use crate::script::{A_DAY, Outcome, Step, Story, is_told};
+use crate::sources::{FAILING, JOLTING, Source, Way};
 use crate::texts::{OUTAGE, TWO_NAMES};
 use ob_net::Fault;
 use std::alloc::{AllocError, Global};
 use std::io::ErrorKind;
-use std::process::Abort;
 
 // How many whole rows follow the header in a front of a text of lines.
 fn whole_rows(front: &[u8]) -> u32 {
@@ -19,71 +18,96 @@ fn whole_rows(front: &[u8]) -> u32 {
     lines.saturating_sub(1)
 }
 
-// A text whose reader fails behind each of its bytes in turn.
-struct Fronts;
-
-impl Trial for Fronts {
-    fn run<A: Abort, O: Office>(&self, rt: &A, alloc: Global, office: &mut O) {
-        assert!(rt; office.makes(&A_DAY));
-        let mut before = 0;
-        let text = TWO_NAMES.as_bytes();
-        for count in 0..=text.len() {
-            let front = &text[..count];
-            let rows = whole_rows(front);
-            let wanted = Outcome::Broken(rows.saturating_sub(before), before, Fault::Input);
-            let source = Source::jolting(front, Some(ErrorKind::Other));
-            assert!(rt; office.reads(alloc, source) == wanted.report());
-            before = rows;
+/// Whether the rows of this text that are whole are imported from readers that fail behind each of its bytes in turn.
+pub fn are_broken<O: Office>(alloc: Global, office: &mut O, text: &[u8]) -> bool {
+    let mut before = 0;
+    for count in 0..=text.len() {
+        let front = &text[..count];
+        let rows = whole_rows(front);
+        let wanted = Outcome::Broken(rows.saturating_sub(before), before, Fault::Input);
+        if office.reads(alloc, Source::new(front, FAILING)) != wanted.report() {
+            return false;
         }
+        before = rows;
     }
+    true
 }
+
+const FRONTS: Story<'static> = Story {
+    sql: "",
+    first: &[Step::Make(A_DAY), Step::ReadFronts(TWO_NAMES)],
+    next: &[],
+    rows: &[1, 2, 4, 0, 0, 0, 0, 0, 4, 0, 320],
+};
 
 #[test]
 fn readers_that_fail(rt: HostRuntime) -> Result<(), AllocError> {
-    let rows = &[1, 2, 4, 0, 0, 0, 0, 0, 4, 0, 320];
-    over_a_store(&rt, rt.alloc(), &Fronts, rows)
+    is_told(&rt, rt.alloc(), &FRONTS, false)
 }
 
 // Each byte of the outage after an interrupted read.
-const JOLTING: &[Step] = &[
-    Step::Make(A_DAY),
-    Step::ImportJolting(OUTAGE, Outcome::Took(25, 0)),
-];
+const EACH_BYTE: Story<'static> = Story {
+    sql: "",
+    first: &[
+        Step::Make(A_DAY),
+        Step::Read(JOLTING, OUTAGE, Outcome::Took(25, 0)),
+    ],
+    next: &[],
+    rows: &[1, 3, 5, 5, 5, 10, 4, 0, 25, 9, 320],
+};
 
 #[test]
 fn an_interrupted_reader(rt: HostRuntime) -> Result<(), AllocError> {
-    let rows = &[1, 3, 5, 5, 5, 10, 4, 0, 25, 9, 320];
-    are_answered(&rt, rt.alloc(), JOLTING, rows)
+    is_told(&rt, rt.alloc(), &EACH_BYTE, false)
 }
 
+const FOR_EVER: Way = Way {
+    step: 1_000_000,
+    jolts: 0,
+    end: Some(ErrorKind::Interrupted),
+};
+
 // The whole text, and then interrupted reads alone.
-const STUCK: &[Step] = &[
-    Step::Make(A_DAY),
-    Step::ImportStuck(TWO_NAMES, Outcome::Broken(4, 0, Fault::Input)),
-];
+const STUCK: Story<'static> = Story {
+    sql: "",
+    first: &[
+        Step::Make(A_DAY),
+        Step::Read(FOR_EVER, TWO_NAMES, Outcome::Broken(4, 0, Fault::Input)),
+    ],
+    next: &[],
+    rows: &[1, 2, 4, 0, 0, 0, 0, 0, 4, 0, 320],
+};
 
 #[test]
 fn a_reader_interrupted_for_ever(rt: HostRuntime) -> Result<(), AllocError> {
-    let rows = &[1, 2, 4, 0, 0, 0, 0, 0, 4, 0, 320];
-    are_answered(&rt, rt.alloc(), STUCK, rows)
+    is_told(&rt, rt.alloc(), &STUCK, false)
 }
+
+const TOO_OFTEN: Way = Way {
+    step: 1_000_000,
+    jolts: 32_769,
+    end: None,
+};
+
+const JUST_NOT: Way = Way {
+    step: 1_000_000,
+    jolts: 32_768,
+    end: None,
+};
 
 // A text in one piece: its read and that of its end are tried again 65,536 times in all.
-struct Interrupted;
-
-impl Trial for Interrupted {
-    fn run<A: Abort, O: Office>(&self, rt: &A, alloc: Global, office: &mut O) {
-        assert!(rt; office.makes(&A_DAY));
-        let text = TWO_NAMES.as_bytes();
-        let broken = Outcome::Broken(4, 0, Fault::Input);
-        assert!(rt; office.reads(alloc, Source::stumbling(text, 32_769)) == broken.report());
-        let again = Outcome::Took(0, 4);
-        assert!(rt; office.reads(alloc, Source::stumbling(text, 32_768)) == again.report());
-    }
-}
+const INTERRUPTED: Story<'static> = Story {
+    sql: "",
+    first: &[
+        Step::Make(A_DAY),
+        Step::Read(TOO_OFTEN, TWO_NAMES, Outcome::Broken(4, 0, Fault::Input)),
+        Step::Read(JUST_NOT, TWO_NAMES, Outcome::Took(0, 4)),
+    ],
+    next: &[],
+    rows: &[1, 2, 4, 0, 0, 0, 0, 0, 4, 0, 320],
+};
 
 #[test]
 fn interrupted_in_two_reads(rt: HostRuntime) -> Result<(), AllocError> {
-    let rows = &[1, 2, 4, 0, 0, 0, 0, 0, 4, 0, 320];
-    over_a_store(&rt, rt.alloc(), &Interrupted, rows)
+    is_told(&rt, rt.alloc(), &INTERRUPTED, false)
 }

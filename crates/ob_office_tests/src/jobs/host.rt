@@ -1,76 +1,20 @@
 //! What the program hands to its jobs, in memory.
+use crate::sinks::Sink;
+use crate::sources::{Source, WHOLE, Way};
 use ob_base::{Fault, Stop};
 use ob_jobs::{OpenInput, OpenOutput, ServeBook};
 use ob_store::Keeper;
 use ob_sweep::Timeline;
 use sqlite::Alter;
-use std::alloc::{AllocError, Global};
-use std::io;
-use std::io::{ErrorKind, Read, Write};
+use std::alloc::Global;
+use std::io::ErrorKind;
 
-/// Takes so many bytes, and then fails.
-#[derive(Drop)]
-pub struct Sink {
-    pub taken: Vec<u8>,
-    room: usize,
-}
-
-impl Sink {
-    /// Room for so many bytes.
-    pub fn new(alloc: Global, room: usize) -> Sink {
-        Sink {
-            taken: Vec::new(alloc),
-            room,
-        }
-    }
-
-    /// Room for all that is told here, and the memory for it.
-    pub fn wide(alloc: Global) -> Result<Sink, AllocError> {
-        let mut sink = Sink::new(alloc, 4_000);
-        sink.taken.reserve(4_000)?;
-        Ok(sink)
-    }
-}
-
-impl Write for Sink {
-    fn write(&mut self, buf: &[u8]) -> io::Result<usize> {
-        if self.room == 0 {
-            return Err(io::Error::from(ErrorKind::Other));
-        }
-        let count = buf.len().min(self.room);
-        self.taken.extend_from_slice(&buf[..count])?;
-        self.room -= count;
-        Ok(count)
-    }
-
-    fn flush(&mut self) -> io::Result<()> {
-        Ok(())
-    }
-}
-
-/// Gives its bytes, and then ends.
-#[derive(Drop)]
-pub struct Source {
-    rest: &'static [u8],
-}
-
-impl Source {
-    /// The bytes of this text.
-    pub fn new(text: &'static str) -> Source {
-        Source {
-            rest: text.as_bytes(),
-        }
-    }
-}
-
-impl Read for Source {
-    fn read(&mut self, buf: &mut [u8]) -> io::Result<usize> {
-        let count = self.rest.len().min(buf.len());
-        buf[..count].copy_from_slice(&self.rest[..count]);
-        self.rest = &self.rest[count..];
-        Ok(count)
-    }
-}
+/// In one piece, and then a failure.
+pub const FULL: Way = Way {
+    step: 1_000_000,
+    jolts: 0,
+    end: Some(ErrorKind::Other),
+};
 
 /// An input of this text, or one that can't be opened.
 #[derive(Drop)]
@@ -82,14 +26,14 @@ pub struct Input {
 impl OpenInput for Input {
     ghost use Rattle.std.specs.Prelude.{⊤};
 
-    type Input = Source;
+    type Input = Source<'static>;
 
     ghost opens = { λ _ _ _. ⊤ };
 
-    fn open(&mut self) -> Option<Source> {
+    fn open(&mut self) -> Option<Source<'static>> {
         self.tried = true;
         let text = self.text?;
-        Some(Source::new(text))
+        Some(Source::new(text.as_bytes(), WHOLE))
     }
 }
 
@@ -111,7 +55,7 @@ impl OpenOutput for Output {
     fn open(&mut self) -> Option<Sink> {
         self.tried = true;
         let room = self.room?;
-        Some(Sink::new(self.alloc, room))
+        Some(Sink::new(self.alloc, room, FULL))
     }
 }
 

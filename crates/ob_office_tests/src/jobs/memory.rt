@@ -1,38 +1,85 @@
 //! The jobs where one allocation is refused.
-use crate::jobs::host::Sink;
-use crate::jobs::office::{Ask, Heard, Office};
-use crate::jobs::script::{BAD_BOOK, Trial, over_a_store};
+use crate::jobs::calls::{Ask, Told};
+use crate::jobs::host::FULL;
+use crate::jobs::script::BAD_BOOK;
+use crate::office::{Office, Trial, over};
+use crate::sinks::Sink;
 use crate::texts::{OUTAGE, TO_VERSION_1};
 use ob_base::Stop;
-use std::alloc::Global;
+use sqlite::{Alter, Connection};
+use std::alloc::{AllocError, Global};
 use std::process::Abort;
 
 // Whether a fault ended a job, and nothing was told.
-fn is_short(heard: &Heard) -> bool {
-    match heard.halt {
-        Some((Stop::Fault(_), None)) => heard.status == 1 && heard.told.is_empty(),
+fn is_short(told: &Told) -> bool {
+    match told.halt {
+        Some((Stop::Fault(_), None)) => told.status == 1 && told.text.is_empty(),
         _ => false,
     }
 }
 
-// A job is done, at the second try where memory is refused to the first. Answers what it tells.
+// Room for all that is told here, and the memory for it.
+fn wide(alloc: Global) -> Result<Sink, AllocError> {
+    let mut sink = Sink::new(alloc, 4_000, FULL);
+    sink.taken.reserve(4_000)?;
+    Ok(sink)
+}
+
+// What a job tells. Where memory is refused to it, it is done once more, and comes through then.
 fn comes_through<O: Office>(
     rt: &impl Abort,
     alloc: Global,
     office: &mut O,
     ask: Ask,
-) -> Result<Heard, Stop> {
-    let first = office.does(alloc, ask, Sink::wide(alloc)?);
+) -> Result<Told, AllocError> {
+    let first = office.does(alloc, ask, wide(alloc)?);
     if !is_short(&first) {
         return Ok(first);
     }
-    let second = office.does(alloc, ask, Sink::wide(alloc)?);
+    let second = office.does(alloc, ask, wide(alloc)?);
     assert!(rt; !is_short(&second));
     Ok(second)
 }
 
-// Jobs, and what each tells at least; an import that is tried again has some rows already.
+// Whether a job that came through is done and tells this. One that is tried again may have made a book, or one of version 2,
+// already.
+fn is_done(ask: Ask, told: &Told, line: &[u8]) -> bool {
+    match ask {
+        Ask::Make(_) => told.text.as_slice() == line || told.halt == BAD_BOOK,
+        Ask::Migrate => {
+            told.status == 0
+                && (told.text.as_slice() == line
+                    || told.text.as_slice() == b"version 2\n".as_slice())
+        }
+        Ask::Audit => told.status == 0 && told.text.as_slice() == line,
+        _ => told.status == 0 && told.text.starts_with(line),
+    }
+}
+
+// Jobs, and what each tells at least; where memory is refused to the test itself, it ends there.
+struct Refused {
+    jobs: &'static [(Ask, &'static str)],
+    ended: bool,
+}
+
+impl Trial for Refused {
+    fn run<A: Abort, O: Office>(&mut self, rt: &A, alloc: Global, office: &mut O) {
+        let jobs = self.jobs;
+        for (ask, line) in jobs {
+            match comes_through(rt, alloc, office, *ask) {
+                Ok(told) => assert!(rt; is_done(*ask, &told, line.as_bytes()), "{line}"),
+                Err(_) => {
+                    self.ended = true;
+                    return;
+                }
+            }
+        }
+    }
+}
+
+// An import that is tried again has some rows already.
 const JOBS: &[(Ask, &'static str)] = &[
+    (Ask::Make(1), "created\n"),
     (Ask::Import(Some(OUTAGE)), "added "),
     (Ask::Import(Some(OUTAGE)), "added 0 again 25\n"),
     (Ask::Export(Some(4_000)), "rows 9\n"),
@@ -42,36 +89,33 @@ const JOBS: &[(Ask, &'static str)] = &[
     (Ask::Migrate, "version 2\n"),
 ];
 
-// What a migration tells; one that is tried again may have been made already.
-fn is_migrated(heard: &Heard) -> bool {
-    heard.status == 0
-        && (heard.told.as_slice() == b"migrated\n".as_slice()
-            || heard.told.as_slice() == b"version 2\n".as_slice())
-}
+// On the same book as one of version 1.
+const OLD_JOBS: &[(Ask, &'static str)] = &[
+    (Ask::Migrate, "migrated\n"),
+    (Ask::Audit, "audit ok\n"),
+];
 
-struct Refused;
-
-impl Trial for Refused {
-    fn run<A: Abort, O: Office>(&self, rt: &A, alloc: Global, office: O) -> Result<(), Stop> {
-        let mut office = office;
-        let made = comes_through(rt, alloc, &mut office, Ask::Make(1))?;
-        assert!(rt; made.told.as_slice() == b"created\n".as_slice() || made.halt == BAD_BOOK);
-        for (ask, line) in JOBS {
-            let heard = comes_through(rt, alloc, &mut office, *ask)?;
-            assert!(rt; heard.status == 0 && heard.told.starts_with(line.as_bytes()));
-        }
-        let mut old = office.changed(alloc, TO_VERSION_1)?;
-        let migrated = comes_through(rt, alloc, &mut old, Ask::Migrate)?;
-        assert!(rt; is_migrated(&migrated));
-        let audited = comes_through(rt, alloc, &mut old, Ask::Audit)?;
-        assert!(rt; audited.told.as_slice() == b"audit ok\n".as_slice());
-        Ok(())
+fn are_refused<S: Alter + Drop>(rt: &impl Abort, alloc: Global, conn: Connection<S>) {
+    let mut refused = Refused {
+        jobs: JOBS,
+        ended: false,
+    };
+    let mut conn = over(rt, alloc, conn, &mut refused);
+    if refused.ended || conn.execute_batch(TO_VERSION_1).is_err() {
+        return;
     }
+    let mut refused = Refused {
+        jobs: OLD_JOBS,
+        ended: false,
+    };
+    let _ = over(rt, alloc, conn, &mut refused);
 }
 
 // Run with one allocation refused, it sees that each job comes through at the second try, and that a book is sound. Where memory
 // is refused to the test itself, it ends there.
 #[test]
 fn memory_refused(rt: HostRuntime) {
-    let _ = over_a_store(&rt, rt.alloc(), &Refused);
+    if let Ok(conn) = Connection::open_in_memory(rt.alloc()) {
+        are_refused(&rt, rt.alloc(), conn);
+    }
 }

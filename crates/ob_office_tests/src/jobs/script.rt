@@ -1,13 +1,16 @@
 //! Steps on a store in memory, one after another, and what each is answered.
-use crate::jobs::host::Sink;
-use crate::jobs::office::{Ask, Halt, Heard, Office, STORE, adopted};
+use crate::jobs::calls::{Ask, Halt, Told};
+use crate::jobs::host::FULL;
+use crate::office::{Office, Trial, over};
+use crate::sinks::Sink;
 use crate::texts::OUTAGE;
 use ob_base::{Fault, Refusal, Stop};
-use ob_store::Keeper;
-use ob_sweep::Windowed;
 use sqlite::{Alter, Connection};
-use std::alloc::{AllocError, Global};
+use std::alloc::Global;
 use std::process::Abort;
+
+// A fault of the store.
+const STORE: Stop = Stop::Fault(Fault::Store);
 
 /// The tables are no book's.
 pub const BAD_BOOK: Halt = Some((Stop::Refused(Refusal::BadBook), None));
@@ -23,86 +26,117 @@ pub const OUTPUT: Halt = Some((Stop::Fault(Fault::Output), None));
 
 /// A step on a store, and what it is answered: a job, its status, why it stopped, and what it told.
 pub enum Step {
-    /// Another keeper goes on, after these statements.
-    Change(&'static str),
     /// The work on a book is refused for want of one.
     Lack,
     /// The job tells this.
     Do(Ask, u8, Halt, &'static str),
     /// What the job tells begins with this.
     Begin(Ask, &'static str),
+    /// A writer with less room than this line of the job is told what it has room for.
+    Break(Ask, &'static str, usize),
+    /// It is with room for each number of bytes.
+    BreakAlways(Ask, &'static str),
 }
 
-/// A book with an outage is made.
-pub const OUTAGE_BOOK: &[Step] = &[
-    Step::Do(Ask::Make(1), 0, None, "created\n"),
-    Step::Do(Ask::Import(Some(OUTAGE)), 0, None, "added 25 again 0\n"),
-];
+/// Statements, and the steps of a keeper over the tables that they leave.
+pub type Part = (&'static str, &'static [Step]);
 
-/// Whether a job ended so and told this. Where the tables are no book's of this version, nothing was opened.
-pub fn ended(heard: &Heard, status: u8, halt: Halt, told: &[u8]) -> bool {
-    heard.status == status
-        && heard.halt == halt
-        && heard.told.as_slice() == told
-        && !(heard.tried && (halt == BAD_BOOK || halt == OLD_VERSION))
+/// A book is made.
+pub const MADE: Step = Step::Do(Ask::Make(1), 0, None, "created\n");
+
+/// The outage is imported into it.
+pub const FILLED: Step = Step::Do(Ask::Import(Some(OUTAGE)), 0, None, "added 25 again 0\n");
+
+/// No table differs.
+pub const SOUND: Step = Step::Do(Ask::Audit, 0, None, "audit ok\n");
+
+// Whether a job ended so and told this. Where the tables are no book's of this version, nothing was opened.
+fn ended(told: &Told, status: u8, halt: Halt, text: &[u8]) -> bool {
+    told.status == status
+        && told.halt == halt
+        && told.text.as_slice() == text
+        && !(told.tried && (halt == BAD_BOOK || halt == OLD_VERSION))
+}
+
+// Whether a job ends so where a writer has so much room.
+fn breaks_off<O: Office>(
+    alloc: Global,
+    office: &mut O,
+    ask: Ask,
+    line: &[u8],
+    room: usize,
+) -> bool {
+    let told = office.does(alloc, ask, Sink::new(alloc, room, FULL));
+    room < line.len() && ended(&told, 1, OUTPUT, &line[..room])
+}
+
+// The same of each room that is too little.
+fn always_breaks_off<O: Office>(alloc: Global, office: &mut O, ask: Ask, line: &[u8]) -> bool {
+    for room in 0..line.len() {
+        if !breaks_off(alloc, office, ask, line, room) {
+            return false;
+        }
+    }
+    true
 }
 
 // Whether a step is answered as it says.
-fn holds<O: Office>(alloc: Global, office: &mut O, step: &Step, sink: Sink) -> bool {
+fn holds<O: Office>(alloc: Global, office: &mut O, step: &Step) -> bool {
     match step {
-        Step::Change(_) => true,
         Step::Lack => office.lacks_book(alloc),
-        Step::Do(ask, status, halt, told) => {
-            let heard = office.does(alloc, *ask, sink);
-            ended(&heard, *status, *halt, told.as_bytes())
+        Step::Do(ask, status, halt, text) => {
+            let told = office.does(alloc, *ask, Sink::new(alloc, 4_000, FULL));
+            ended(&told, *status, *halt, text.as_bytes())
         }
-        Step::Begin(ask, told) => {
-            let heard = office.does(alloc, *ask, sink);
-            heard.status == 0 && heard.told.starts_with(told.as_bytes())
+        Step::Begin(ask, text) => {
+            let told = office.does(alloc, *ask, Sink::new(alloc, 4_000, FULL));
+            told.status == 0 && told.text.starts_with(text.as_bytes())
+        }
+        Step::Break(ask, line, room) => breaks_off(alloc, office, *ask, line.as_bytes(), *room),
+        Step::BreakAlways(ask, line) => always_breaks_off(alloc, office, *ask, line.as_bytes()),
+    }
+}
+
+// The steps of the part of this number.
+struct Script {
+    part: usize,
+    steps: &'static [Step],
+}
+
+impl Trial for Script {
+    fn run<A: Abort, O: Office>(&mut self, rt: &A, alloc: Global, office: &mut O) {
+        let part = self.part;
+        for (place, step) in self.steps.iter().enumerate() {
+            assert!(rt;
+                holds(alloc, office, step),
+                "part {part}, step {place}, from 0"
+            );
         }
     }
 }
 
-/// The steps are answered as they say. Answers the keeper that they leave.
-pub fn answered<O: Office>(
-    rt: &impl Abort,
-    alloc: Global,
-    office: O,
-    steps: &[Step],
-) -> Result<O, Stop> {
-    let mut office = office;
-    for (place, step) in steps.iter().enumerate() {
-        if let Step::Change(sql) = step {
-            office = office.changed(alloc, sql)?;
-        }
-        let sink = Sink::wide(alloc)?;
-        assert!(rt;
-            holds(alloc, &mut office, step, sink),
-            "step {place}, from 0"
-        );
-    }
-    Ok(office)
-}
-
-/// What a keeper without a book, over a store that holds nothing, is tried by.
-pub trait Trial {
-    fn run<A: Abort, O: Office>(&self, rt: &A, alloc: Global, office: O) -> Result<(), Stop>;
-}
-
-/// A store in memory is tried.
-pub fn over_a_store<C: Trial>(rt: &impl Abort, alloc: Global, trial: &C) -> Result<(), Stop> {
-    match Connection::open_in_memory(alloc) {
-        Ok(conn) => over(rt, alloc, conn, trial),
-        Err(_) => Err(STORE),
-    }
-}
-
-fn over<S: Alter + Drop, C: Trial>(
+// The parts over a database, each with a keeper of its own.
+fn are_done_over<S: Alter + Drop>(
     rt: &impl Abort,
     alloc: Global,
     conn: Connection<S>,
-    trial: &C,
+    parts: &[Part],
 ) -> Result<(), Stop> {
-    let keeper: Keeper<S, Windowed> = adopted(alloc, conn)?;
-    trial.run(rt, alloc, keeper)
+    let mut conn = conn;
+    for (part, told) in parts.iter().enumerate() {
+        let (sql, steps) = *told;
+        if conn.execute_batch(sql).is_err() {
+            return Err(STORE);
+        }
+        conn = over(rt, alloc, conn, &mut Script { part, steps });
+    }
+    Ok(())
+}
+
+/// The parts over a store in memory are answered as they say.
+pub fn are_done(rt: &impl Abort, alloc: Global, parts: &[Part]) -> Result<(), Stop> {
+    match Connection::open_in_memory(alloc) {
+        Ok(conn) => are_done_over(rt, alloc, conn, parts),
+        Err(_) => Err(STORE),
+    }
 }

@@ -1,91 +1,95 @@
 //! Writers that fail behind each byte of a line.
-use crate::jobs::host::Sink;
-use crate::jobs::office::{Ask, Office};
-use crate::jobs::script::{OUTAGE_BOOK, OUTPUT, Step, Trial, answered, ended, over_a_store};
+use crate::jobs::calls::Ask;
+use crate::jobs::script::{FILLED, MADE, Part, SOUND, Step, are_done};
 use crate::texts::{OUTAGE, TO_VERSION_1};
 use ob_base::Stop;
-use std::alloc::Global;
-use std::process::Abort;
 
-// What is found when the writers have failed.
-const SOUND: &[Step] = &[Step::Do(Ask::Audit, 0, None, "audit ok\n")];
-
-// Jobs that leave the book as it is, and the line that each begins with.
-const LINES: &[(Ask, &'static str)] = &[
-    (Ask::Audit, "audit ok\n"),
-    (Ask::Import(Some(OUTAGE)), "added 0 again 25\n"),
-    (Ask::Export(Some(4_000)), "rows 9\n"),
-    (Ask::Print, "OUTAGE BOOK 2024-01-01 days 1 zone UTC0\n"),
-    (Ask::Migrate, "version 2\n"),
-];
-
-// A writer with less room than a job's line is told what it has room for.
-fn breaks_off<O: Office>(rt: &impl Abort, alloc: Global, office: &mut O, ask: Ask, line: &[u8]) {
-    for room in 0..line.len() {
-        let heard = office.does(alloc, ask, Sink::new(alloc, room));
-        assert!(rt; ended(&heard, 1, OUTPUT, &line[..room]));
-    }
-}
-
-struct Writers;
-
-impl Trial for Writers {
-    fn run<A: Abort, O: Office>(&self, rt: &A, alloc: Global, office: O) -> Result<(), Stop> {
-        let mut office = answered(rt, alloc, office, OUTAGE_BOOK)?;
-        for (ask, line) in LINES {
-            breaks_off(rt, alloc, &mut office, *ask, line.as_bytes());
-        }
-        answered(rt, alloc, office, SOUND)?;
-        Ok(())
-    }
-}
+// Jobs that leave the book as it is, and the line that each begins with; and what is found when the writers have failed.
+const WRITERS: &[Part] = &[(
+    "",
+    &[
+        MADE,
+        FILLED,
+        Step::BreakAlways(Ask::Audit, "audit ok\n"),
+        Step::BreakAlways(Ask::Import(Some(OUTAGE)), "added 0 again 25\n"),
+        Step::BreakAlways(Ask::Export(Some(4_000)), "rows 9\n"),
+        Step::BreakAlways(Ask::Print, "OUTAGE BOOK 2024-01-01 days 1 zone UTC0\n"),
+        Step::BreakAlways(Ask::Migrate, "version 2\n"),
+        SOUND,
+    ],
+)];
 
 #[test]
 fn writers_that_fail(rt: HostRuntime) -> Result<(), Stop> {
-    over_a_store(&rt, rt.alloc(), &Writers)
+    are_done(&rt, rt.alloc(), WRITERS)
 }
 
-// The book is made all the same, where just this is told of it.
-#[derive(Drop)]
-struct Made<'f>(&'f [u8]);
+const CREATED_LINE: &'static str = "created\n";
 
-impl Trial for Made<'_> {
-    fn run<A: Abort, O: Office>(&self, rt: &A, alloc: Global, office: O) -> Result<(), Stop> {
-        let mut office = office;
-        let heard = office.does(alloc, Ask::Make(1), Sink::new(alloc, self.0.len()));
-        assert!(rt; ended(&heard, 1, OUTPUT, self.0));
-        answered(rt, alloc, office, SOUND)?;
-        Ok(())
-    }
-}
+// A new book is made all the same, whatever is told of it.
+const NEW: &[Part] = &[
+    ("", &[Step::Break(Ask::Make(1), CREATED_LINE, 0), SOUND]),
+    ("", &[Step::Break(Ask::Make(1), CREATED_LINE, 1), SOUND]),
+    ("", &[Step::Break(Ask::Make(1), CREATED_LINE, 2), SOUND]),
+    ("", &[Step::Break(Ask::Make(1), CREATED_LINE, 3), SOUND]),
+    ("", &[Step::Break(Ask::Make(1), CREATED_LINE, 4), SOUND]),
+    ("", &[Step::Break(Ask::Make(1), CREATED_LINE, 5), SOUND]),
+    ("", &[Step::Break(Ask::Make(1), CREATED_LINE, 6), SOUND]),
+    ("", &[Step::Break(Ask::Make(1), CREATED_LINE, 7), SOUND]),
+];
 
 #[test]
 fn writers_that_fail_on_a_new_book(rt: HostRuntime) -> Result<(), Stop> {
-    let line = b"created\n".as_slice();
-    for room in 0..line.len() {
-        over_a_store(&rt, rt.alloc(), &Made(&line[..room]))?;
+    for part in NEW {
+        are_done(&rt, rt.alloc(), &[*part])?;
     }
     Ok(())
 }
 
-// The book is one of version 2 all the same, whatever is told of it.
-struct Migrated;
+const MIGRATED_LINE: &'static str = "migrated\n";
 
-impl Trial for Migrated {
-    fn run<A: Abort, O: Office>(&self, rt: &A, alloc: Global, office: O) -> Result<(), Stop> {
-        let mut office = answered(rt, alloc, office, OUTAGE_BOOK)?;
-        let line = b"migrated\n".as_slice();
-        for room in 0..line.len() {
-            office = office.changed(alloc, TO_VERSION_1)?;
-            let heard = office.does(alloc, Ask::Migrate, Sink::new(alloc, room));
-            assert!(rt; ended(&heard, 1, OUTPUT, &line[..room]));
-            office = answered(rt, alloc, office, SOUND)?;
-        }
-        Ok(())
-    }
-}
+// The book is one of version 2 all the same, whatever is told of it.
+const MIGRATED: &[Part] = &[
+    ("", &[MADE, FILLED]),
+    (
+        TO_VERSION_1,
+        &[Step::Break(Ask::Migrate, MIGRATED_LINE, 0), SOUND],
+    ),
+    (
+        TO_VERSION_1,
+        &[Step::Break(Ask::Migrate, MIGRATED_LINE, 1), SOUND],
+    ),
+    (
+        TO_VERSION_1,
+        &[Step::Break(Ask::Migrate, MIGRATED_LINE, 2), SOUND],
+    ),
+    (
+        TO_VERSION_1,
+        &[Step::Break(Ask::Migrate, MIGRATED_LINE, 3), SOUND],
+    ),
+    (
+        TO_VERSION_1,
+        &[Step::Break(Ask::Migrate, MIGRATED_LINE, 4), SOUND],
+    ),
+    (
+        TO_VERSION_1,
+        &[Step::Break(Ask::Migrate, MIGRATED_LINE, 5), SOUND],
+    ),
+    (
+        TO_VERSION_1,
+        &[Step::Break(Ask::Migrate, MIGRATED_LINE, 6), SOUND],
+    ),
+    (
+        TO_VERSION_1,
+        &[Step::Break(Ask::Migrate, MIGRATED_LINE, 7), SOUND],
+    ),
+    (
+        TO_VERSION_1,
+        &[Step::Break(Ask::Migrate, MIGRATED_LINE, 8), SOUND],
+    ),
+];
 
 #[test]
 fn writers_that_fail_on_a_migration(rt: HostRuntime) -> Result<(), Stop> {
-    over_a_store(&rt, rt.alloc(), &Migrated)
+    are_done(&rt, rt.alloc(), MIGRATED)
 }

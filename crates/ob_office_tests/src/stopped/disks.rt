@@ -51,17 +51,8 @@ fn has_stopped(file: &mut Fuse<Memory>) -> bool {
     !file.may_be_used() || file.len().is_err()
 }
 
-/// The log loses what was not synced. Answers whether it is another log then.
-pub fn crash_log(rt: &impl Abort, alloc: Global, files: &mut Pair) -> bool {
-    is_changed(rt, alloc, &mut files.log)
-}
-
-/// The database file loses what was not synced. Answers whether it is another file then.
-pub fn crash_db(rt: &impl Abort, alloc: Global, files: &mut Pair) -> bool {
-    is_changed(rt, alloc, &mut files.db)
-}
-
-fn is_changed(rt: &impl Abort, alloc: Global, file: &mut Fuse<Memory>) -> bool {
+/// A file loses what was not synced. Answers whether it is another file then.
+pub fn crash(rt: &impl Abort, alloc: Global, file: &mut Fuse<Memory>) -> bool {
     let Ok(before) = file.inner().bytes().to_vec(alloc) else {
         panic!(rt; "no memory");
     };

@@ -1,6 +1,6 @@
 //! An import into a book whose store may stop, and the rows that are then kept.
-use crate::stopped::office::Office;
-use crate::stopped::sending::{BEFORE, failed};
+use crate::office::Office;
+use crate::stopped::sending::{BEFORE, failed, imported};
 use crate::stopped::tasks::Kept;
 use std::alloc::Global;
 use std::process::Abort;
@@ -28,10 +28,10 @@ fn total_of(accepted: u32) -> u64 {
 /// Loads the book and imports the rows. Where the store fails, those that were acknowledged are kept, and perhaps one more.
 pub fn import<O: Office>(rt: &impl Abort, alloc: Global, office: &mut O) -> Kept {
     if let Err(stop) = office.loads() {
-        return failed(rt, office, stop, Kept::all(BEFORE));
+        return failed(rt, alloc, office, stop, Kept::all(BEFORE));
     }
-    let found = office.imports(alloc, ROWS);
-    let rows = found.rows();
+    let found = imported(alloc, office, ROWS);
+    let rows = found.rows;
     assert!(rt; rows <= 3);
     match found.stop {
         None => {
@@ -40,6 +40,7 @@ pub fn import<O: Office>(rt: &impl Abort, alloc: Global, office: &mut O) -> Kept
         }
         Some(stop) => failed(
             rt,
+            alloc,
             office,
             stop,
             Kept {
@@ -56,8 +57,8 @@ pub fn holds_rows<O: Office>(rt: &impl Abort, alloc: Global, office: &mut O, kep
     let (accepted, total) = office.shows().unwrap_or((0, 0));
     assert!(rt; kept.allows(accepted));
     assert!(rt; total == total_of(accepted));
-    let found = office.imports(alloc, ROWS);
-    assert!(rt; found.rows() == 3 && found.stop == None);
+    let found = imported(alloc, office, ROWS);
+    assert!(rt; found.rows == 3 && found.stop == None);
     assert!(rt; office.shows() == Some((IMPORTED, total_of(IMPORTED))));
     Kept::all(accepted)
 }

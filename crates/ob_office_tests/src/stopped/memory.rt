@@ -1,8 +1,10 @@
 //! What stands where memory was refused to a call.
-use crate::stopped::office::{Office, STORE, Views, is_without_book};
+use crate::office::{Office, Views};
 use crate::stopped::scripts::total_of;
+use crate::stopped::sending::{STORE, is_without_book};
 use crate::stopped::tasks::Kept;
 use ob_net::{Fault, Stop};
+use std::alloc::Global;
 use std::process::Abort;
 
 /// Memory was refused.
@@ -30,17 +32,17 @@ pub fn load<O: Office>(rt: &impl Abort, office: &mut O) -> Result<(), Stop> {
 // The book is as it was, and so are its tables.
 fn is_as_before<O: Office>(rt: &impl Abort, office: &mut O, before: Option<Views>) {
     assert!(rt; office.views() == before);
-    assert!(rt; office.agrees());
+    assert!(rt; office.audits() == Ok(true));
     assert!(rt; office.loads() == Ok(()));
     assert!(rt; office.views() == before);
 }
 
 // There is no book until it is loaded, and then it has what is kept. False where it can't be read over these files.
-fn is_loaded_again<O: Office>(rt: &impl Abort, office: &mut O, kept: Kept) -> bool {
-    assert!(rt; is_without_book(office));
+fn is_loaded_again<O: Office>(rt: &impl Abort, alloc: Global, office: &mut O, kept: Kept) -> bool {
+    assert!(rt; is_without_book(alloc, office));
     let found = office.loads();
     if found == Err(STORE) {
-        assert!(rt; is_without_book(office));
+        assert!(rt; is_without_book(alloc, office));
         return false;
     }
     assert!(rt; found == Ok(()));
@@ -50,9 +52,15 @@ fn is_loaded_again<O: Office>(rt: &impl Abort, office: &mut O, kept: Kept) -> bo
 
 /// After a call that memory was refused to the book has the least that is kept; where the store failed for it, the book is to
 /// be loaded, and has what is kept. False where it can't be read over these files.
-pub fn goes_on<O: Office>(rt: &impl Abort, office: &mut O, stop: Stop, kept: Kept) -> bool {
+pub fn goes_on<O: Office>(
+    rt: &impl Abort,
+    alloc: Global,
+    office: &mut O,
+    stop: Stop,
+    kept: Kept,
+) -> bool {
     if stop == STORE {
-        return is_loaded_again(rt, office, kept);
+        return is_loaded_again(rt, alloc, office, kept);
     }
     assert!(rt; stop == NO_MEMORY);
     assert!(rt; holds(office, Kept::all(kept.least)));

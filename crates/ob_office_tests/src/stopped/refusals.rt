@@ -32,17 +32,18 @@ fn comes_to_its_end(rt: &impl Abort, alloc: Global, task: Task) {
     let none = Kept::all(0);
     let (first, files) = again(rt, alloc, blank(alloc), task, none);
     let (second, files) = again(rt, alloc, files, task, first.unwrap_or(none));
-    if has_all(second) {
+    if has(second, COMMANDS) {
         return;
     }
     let kept = second.or(first).unwrap_or(none);
     let (third, _) = again(rt, alloc, files, task, kept);
-    assert!(rt; has_all(third));
+    assert!(rt; has(third, COMMANDS));
 }
 
-fn has_all(kept: Option<Kept>) -> bool {
+// So much is kept for sure.
+fn has(kept: Option<Kept>, least: u32) -> bool {
     match kept {
-        Some(kept) => kept.least == COMMANDS,
+        Some(kept) => kept.least == least,
         None => false,
     }
 }
@@ -60,18 +61,14 @@ fn an_import_where_memory_is_refused(rt: HostRuntime) {
 // Files of the outage of version 1, made anew where the first ones weren't told all.
 fn old_files(rt: &impl Abort, alloc: Global) -> Pair {
     let (first, mut files) = run(rt, alloc, blank(alloc), Task::Old);
-    if is_made(first) {
+    if has(first, 1) {
         // where their closing was refused memory, they are those that one finds who starts again
         restart(&mut files);
         return files;
     }
     let (second, files) = run(rt, alloc, blank(alloc), Task::Old);
-    assert!(rt; is_made(second));
+    assert!(rt; has(second, 1));
     files
-}
-
-fn is_made(kept: Option<Kept>) -> bool {
-    kept.is_some_and(|kept| kept.least == 1)
 }
 
 // Old files three times, of which one at most doesn't come to its end.
@@ -82,7 +79,7 @@ fn is_upgraded(rt: &impl Abort, alloc: Global) {
     let (second, files) = again(rt, alloc, files, task, first.unwrap_or(none));
     let kept = second.or(first).unwrap_or(none);
     let (third, _) = again(rt, alloc, files, task, kept);
-    assert!(rt; is_made(third.or(second)));
+    assert!(rt; has(third.or(second), 1));
 }
 
 #[test]

@@ -1,9 +1,18 @@
 //! A command that is sent to a book whose store may stop, and the book that is then kept.
-use crate::stopped::office::{Office, STORE, is_without_book};
+use crate::office::Office;
+use crate::script::A_DAY;
+use crate::sinks::Shelf;
 use crate::stopped::scripts::{Last, OUTAGE};
 use crate::stopped::tasks::Kept;
-use ob_net::Stop;
+use ob_net::{Fault, Stop};
+use std::alloc::Global;
 use std::process::Abort;
+
+/// A fault of the store.
+pub const STORE: Stop = Stop::Fault(Fault::Store);
+
+// A call that needs a book, where there is none.
+const REOPEN: Stop = Stop::Fault(Fault::Reopen);
 
 /// How many commands the book has before the last one.
 pub const BEFORE: u32 = 25;
@@ -23,27 +32,41 @@ fn total_of(accepted: u32, last: Last) -> u64 {
     }
 }
 
-/// Makes a book with the outage.
-pub fn outage<O: Office>(rt: &impl Abort, office: &mut O) -> Kept {
-    assert!(rt; office.makes().is_ok());
+/// Makes a book with the outage. Answers whether no call failed.
+pub fn is_made<O: Office>(office: &mut O) -> bool {
+    let mut is_told = office.makes(&A_DAY).is_ok();
     for line in OUTAGE.lines() {
-        assert!(rt; office.acts(line).is_ok());
+        is_told = is_told && office.acts(line).is_ok();
     }
-    assert!(rt; office.shows() == Some((BEFORE, TOTAL)));
-    Kept::all(BEFORE)
+    is_told && office.shows() == Some((BEFORE, TOTAL))
+}
+
+/// Whether there is no book, and each call that needs one asks for it to be loaded first.
+pub fn is_without_book<O: Office>(alloc: Global, office: &mut O) -> bool {
+    let mut shelf = Shelf::new(alloc, 0);
+    office.acts("N1 cause 3 STORM") == Err(REOPEN)
+        && office.tells(1, &mut shelf) == Err(REOPEN)
+        && office.hands(&mut shelf) == Err(REOPEN)
+        && office.shows() == None
 }
 
 /// The store failed, the keeper has no book, and this is kept.
-pub fn failed<O: Office>(rt: &impl Abort, office: &mut O, stop: Stop, kept: Kept) -> Kept {
+pub fn failed<O: Office>(
+    rt: &impl Abort,
+    alloc: Global,
+    office: &mut O,
+    stop: Stop,
+    kept: Kept,
+) -> Kept {
     assert!(rt; stop == STORE);
-    assert!(rt; is_without_book(office));
+    assert!(rt; is_without_book(alloc, office));
     kept
 }
 
 /// Loads the book and sends it this command.
-pub fn send<O: Office>(rt: &impl Abort, office: &mut O, last: Last) -> Kept {
+pub fn send<O: Office>(rt: &impl Abort, alloc: Global, office: &mut O, last: Last) -> Kept {
     if let Err(stop) = office.loads() {
-        return failed(rt, office, stop, Kept::all(BEFORE));
+        return failed(rt, alloc, office, stop, Kept::all(BEFORE));
     }
     match office.acts(last.line) {
         Ok(no) => {
@@ -52,6 +75,7 @@ pub fn send<O: Office>(rt: &impl Abort, office: &mut O, last: Last) -> Kept {
         }
         Err(stop) => failed(
             rt,
+            alloc,
             office,
             stop,
             Kept {
@@ -71,4 +95,30 @@ pub fn holds<O: Office>(rt: &impl Abort, office: &mut O, kept: Kept, last: Last)
     assert!(rt; office.acts(last.line) == Ok(AFTER));
     assert!(rt; office.shows() == Some((AFTER, last.total)));
     Kept::all(accepted)
+}
+
+/// What an import tells: how many rows were there already, how many are acknowledged with them, and why it stopped.
+pub struct Imported {
+    pub again: u32,
+    pub rows: u32,
+    pub stop: Option<Stop>,
+}
+
+/// What the import of a text tells.
+pub fn imported<O: Office>(alloc: Global, office: &mut O, text: &[u8]) -> Imported {
+    match office.takes(alloc, text) {
+        Ok(it) => Imported {
+            again: it.again,
+            rows: it.added.saturating_add(it.again),
+            stop: match it.stopped {
+                Some((_, refusal)) => Some(Stop::Refused(refusal)),
+                None => None,
+            },
+        },
+        Err(it) => Imported {
+            again: it.again,
+            rows: it.added.saturating_add(it.again),
+            stop: Some(Stop::Fault(it.fault)),
+        },
+    }
 }

@@ -1,7 +1,7 @@
 //! A task that is stopped at each call of either file, and what is left.
-use crate::stopped::disks::{Pair, Which, blank, copies, crash_db, crash_log, have_stopped};
+use crate::stopped::disks::{Pair, Which, blank, copies, crash, have_stopped};
 use crate::stopped::importing::IMPORTED;
-use crate::stopped::scripts::{CORRECTION, JOINING, LEAVING, Last};
+use crate::stopped::scripts::{CORRECTION, JOINING, LEAVING};
 use crate::stopped::sending::{AFTER, BEFORE};
 use crate::stopped::tasks::{Kept, Task, run};
 use std::alloc::Global;
@@ -28,10 +28,10 @@ fn hold(rt: &impl Abort, alloc: Global, files: &Pair, task: Task) {
 // So they do as they are, and where the log, or both, lost what was not synced.
 fn leave(rt: &impl Abort, alloc: Global, files: &mut Pair, task: Task) {
     hold(rt, alloc, files, task);
-    if crash_log(rt, alloc, files) {
+    if crash(rt, alloc, &mut files.log) {
         hold(rt, alloc, files, task);
     }
-    if crash_db(rt, alloc, files) {
+    if crash(rt, alloc, &mut files.db) {
         hold(rt, alloc, files, task);
     }
 }
@@ -64,95 +64,142 @@ fn stopped(rt: &impl Abort, alloc: Global, files: &Pair, which: Which, task: Tas
     panic!(rt; "calls without end");
 }
 
-// What is sent to the book with the outage, stopped so.
-fn stopped_in_outage(rt: &impl Abort, alloc: Global, which: Which, task: Task, wanted: u32) {
-    let (_, files) = run(rt, alloc, blank(alloc), Task::Outage);
+// The files of no database, or those of a task that is done first.
+fn files_of(rt: &impl Abort, alloc: Global, first: Option<Task>) -> Pair {
+    let Some(task) = first else {
+        return blank(alloc);
+    };
+    let (kept, files) = run(rt, alloc, blank(alloc), task);
+    assert!(rt; kept.unwrap_or(Kept::all(0)).least > 0);
+    files
+}
+
+// A task over the files of another one, stopped so.
+fn stopped_over(
+    rt: &impl Abort,
+    alloc: Global,
+    first: Option<Task>,
+    which: Which,
+    task: Task,
+    wanted: u32,
+) {
+    let files = files_of(rt, alloc, first);
     stopped(rt, alloc, &files, which, task, wanted);
 }
 
-// A new book, stopped so.
-fn stopped_in_creation(rt: &impl Abort, alloc: Global, which: Which) {
-    stopped(rt, alloc, &blank(alloc), which, Task::Make, 1);
-}
+// The book with the outage, and its tables as those of version 1.
+const OUTAGE: Option<Task> = Some(Task::Outage);
 
-// The tables of version 1 made those of version 2, stopped so.
-fn stopped_in_migration(rt: &impl Abort, alloc: Global, which: Which) {
-    let (kept, files) = run(rt, alloc, blank(alloc), Task::Old);
-    assert!(rt; kept.is_some_and(|kept| kept.least == 1));
-    stopped(rt, alloc, &files, which, Task::Migrate, 1);
-}
-
-// This command, sent to that book and stopped so.
-fn stopped_in_sending(rt: &impl Abort, alloc: Global, which: Which, last: Last) {
-    stopped_in_outage(rt, alloc, which, Task::Send(last), AFTER);
-}
+const OLD: Option<Task> = Some(Task::Old);
 
 #[test]
 fn a_command_over_a_log_that_stops(rt: HostRuntime) {
-    stopped_in_sending(&rt, rt.alloc(), Which::Log, CORRECTION);
+    stopped_over(
+        &rt,
+        rt.alloc(),
+        OUTAGE,
+        Which::Log,
+        Task::Send(CORRECTION),
+        AFTER,
+    );
 }
 
 #[test]
 fn a_command_over_a_database_file_that_stops(rt: HostRuntime) {
-    stopped_in_sending(&rt, rt.alloc(), Which::Db, CORRECTION);
+    stopped_over(
+        &rt,
+        rt.alloc(),
+        OUTAGE,
+        Which::Db,
+        Task::Send(CORRECTION),
+        AFTER,
+    );
 }
 
 #[test]
 fn a_device_that_joins_over_a_log_that_stops(rt: HostRuntime) {
-    stopped_in_sending(&rt, rt.alloc(), Which::Log, JOINING);
+    stopped_over(
+        &rt,
+        rt.alloc(),
+        OUTAGE,
+        Which::Log,
+        Task::Send(JOINING),
+        AFTER,
+    );
 }
 
 #[test]
 fn a_device_that_joins_over_a_database_file_that_stops(rt: HostRuntime) {
-    stopped_in_sending(&rt, rt.alloc(), Which::Db, JOINING);
+    stopped_over(
+        &rt,
+        rt.alloc(),
+        OUTAGE,
+        Which::Db,
+        Task::Send(JOINING),
+        AFTER,
+    );
 }
 
 #[test]
 fn a_life_over_a_log_that_stops(rt: HostRuntime) {
-    stopped_in_sending(&rt, rt.alloc(), Which::Log, LEAVING);
+    stopped_over(
+        &rt,
+        rt.alloc(),
+        OUTAGE,
+        Which::Log,
+        Task::Send(LEAVING),
+        AFTER,
+    );
 }
 
 #[test]
 fn a_life_over_a_database_file_that_stops(rt: HostRuntime) {
-    stopped_in_sending(&rt, rt.alloc(), Which::Db, LEAVING);
+    stopped_over(
+        &rt,
+        rt.alloc(),
+        OUTAGE,
+        Which::Db,
+        Task::Send(LEAVING),
+        AFTER,
+    );
 }
 
 #[test]
 fn a_request_over_a_log_that_stops(rt: HostRuntime) {
-    stopped_in_outage(&rt, rt.alloc(), Which::Log, Task::Serve, AFTER);
+    stopped_over(&rt, rt.alloc(), OUTAGE, Which::Log, Task::Serve, AFTER);
 }
 
 #[test]
 fn a_request_over_a_database_file_that_stops(rt: HostRuntime) {
-    stopped_in_outage(&rt, rt.alloc(), Which::Db, Task::Serve, AFTER);
+    stopped_over(&rt, rt.alloc(), OUTAGE, Which::Db, Task::Serve, AFTER);
 }
 
 #[test]
 fn an_import_over_a_log_that_stops(rt: HostRuntime) {
-    stopped_in_outage(&rt, rt.alloc(), Which::Log, Task::Import, IMPORTED);
+    stopped_over(&rt, rt.alloc(), OUTAGE, Which::Log, Task::Import, IMPORTED);
 }
 
 #[test]
 fn an_import_over_a_database_file_that_stops(rt: HostRuntime) {
-    stopped_in_outage(&rt, rt.alloc(), Which::Db, Task::Import, IMPORTED);
+    stopped_over(&rt, rt.alloc(), OUTAGE, Which::Db, Task::Import, IMPORTED);
 }
 
 #[test]
 fn a_new_book_over_a_log_that_stops(rt: HostRuntime) {
-    stopped_in_creation(&rt, rt.alloc(), Which::Log);
+    stopped_over(&rt, rt.alloc(), None, Which::Log, Task::Make, 1);
 }
 
 #[test]
 fn a_new_book_over_a_database_file_that_stops(rt: HostRuntime) {
-    stopped_in_creation(&rt, rt.alloc(), Which::Db);
+    stopped_over(&rt, rt.alloc(), None, Which::Db, Task::Make, 1);
 }
 
 #[test]
 fn a_migration_over_a_log_that_stops(rt: HostRuntime) {
-    stopped_in_migration(&rt, rt.alloc(), Which::Log);
+    stopped_over(&rt, rt.alloc(), OLD, Which::Log, Task::Migrate, 1);
 }
 
 #[test]
 fn a_migration_over_a_database_file_that_stops(rt: HostRuntime) {
-    stopped_in_migration(&rt, rt.alloc(), Which::Db);
+    stopped_over(&rt, rt.alloc(), OLD, Which::Db, Task::Migrate, 1);
 }

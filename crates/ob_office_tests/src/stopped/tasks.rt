@@ -1,15 +1,13 @@
 //! What a keeper is to do over files that may stop, from their opening to their closing.
+use crate::office::{Office, Trial, over};
 use crate::stopped::creations::{holds_new, make};
 use crate::stopped::importing::{holds_rows, import};
-use crate::stopped::office::Office;
 use crate::stopped::scripts::Last;
-use crate::stopped::sending::{holds, outage, send};
+use crate::stopped::sending::{BEFORE, holds, is_made, send};
 use crate::stopped::serving::serve;
-use crate::stopped::upgrades::{holds_upgraded, migrate, prepare, upgrade};
+use crate::stopped::upgrades::{holds_upgraded, migrate, upgrade};
 use crate::stopped::working::{act, read};
 use crate::texts::TO_VERSION_1;
-use ob_store::Keeper;
-use ob_sweep::Windowed;
 use sqlite::{Alter, Connection, FileStore, Files, Options};
 use sqlite_disk::Disk;
 use std::alloc::Global;
@@ -81,7 +79,7 @@ pub fn run<D: Disk + Drop>(
     assert!(rt; files.may_be_used());
     match Connection::open_files(alloc, files, Options::new(7)) {
         Ok(conn) => {
-            let (kept, conn) = over(rt, alloc, conn, task);
+            let (kept, conn) = worked(rt, alloc, conn, task);
             (Some(kept), closed(conn))
         }
         Err((_, left)) => (None, left.into_files()),
@@ -96,44 +94,53 @@ fn closed<D: Disk + Drop>(conn: Connection<FileStore<D>>) -> Files<D> {
     }
 }
 
+// What is done with a keeper, and how much the files then hold.
+struct Work {
+    task: Task,
+    kept: Kept,
+}
+
+impl Trial for Work {
+    fn run<A: Abort, O: Office>(&mut self, rt: &A, alloc: Global, office: &mut O) {
+        self.kept = done(rt, alloc, office, self.task);
+    }
+}
+
 // Does a task with a keeper over a database.
-fn over<S: Alter + Drop>(
+fn worked<S: Alter + Drop>(
     rt: &impl Abort,
     alloc: Global,
     conn: Connection<S>,
     task: Task,
 ) -> (Kept, Connection<S>) {
-    assert!(rt; conn.is_autocommit());
-    let mut keeper: Keeper<S, Windowed> = Keeper::adopt_connection(alloc, conn);
+    let kept = Kept::all(0);
+    let mut work = Work { task, kept };
+    let mut conn = over(rt, alloc, conn, &mut work);
     if let Task::Old = task {
-        let is_told = prepare(&mut keeper);
-        return made_old(keeper.into_connection(), is_told);
+        let is_old = work.kept.least == 1 && conn.execute_batch(TO_VERSION_1).is_ok();
+        return (Kept::all(u32::from(is_old)), conn);
     }
-    let kept = done(rt, alloc, &mut keeper, task);
-    (kept, keeper.into_connection())
-}
-
-// Makes the tables of the outage those of version 1, where it was told.
-fn made_old<S: Alter>(mut conn: Connection<S>, is_told: bool) -> (Kept, Connection<S>) {
-    let is_old = is_told && conn.execute_batch(TO_VERSION_1).is_ok();
-    (Kept::all(u32::from(is_old)), conn)
+    (work.kept, conn)
 }
 
 fn done<O: Office>(rt: &impl Abort, alloc: Global, office: &mut O, task: Task) -> Kept {
     match task {
-        Task::Outage => outage(rt, office),
-        Task::Send(last) => send(rt, office, last),
+        Task::Outage => {
+            assert!(rt; is_made(office));
+            Kept::all(BEFORE)
+        }
+        Task::Send(last) => send(rt, alloc, office, last),
         Task::Hold(kept, last) => holds(rt, office, kept, last),
         Task::Serve => serve(rt, alloc, office),
         Task::Import => import(rt, alloc, office),
         Task::HoldRows(kept) => holds_rows(rt, alloc, office, kept),
-        Task::Make => make(rt, office),
+        Task::Make => make(rt, alloc, office),
         Task::HoldNew(kept) => holds_new(rt, office, kept),
-        Task::Old => Kept::all(0),
-        Task::Migrate => migrate(rt, office),
+        Task::Old => Kept::all(u32::from(is_made(office))),
+        Task::Migrate => migrate(rt, alloc, office),
         Task::HoldUpgraded(kept) => holds_upgraded(rt, office, kept),
-        Task::Upgrade(kept) => upgrade(rt, office, kept),
-        Task::Act(kept) => act(rt, office, kept),
+        Task::Upgrade(kept) => upgrade(rt, alloc, office, kept),
+        Task::Act(kept) => act(rt, alloc, office, kept),
         Task::Read(kept) => read(rt, alloc, office, kept),
     }
 }

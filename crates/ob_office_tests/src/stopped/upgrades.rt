@@ -1,33 +1,23 @@
 //! The tables of version 1 of the outage that are made those of version 2, over files that may stop and where memory may be refused
 //! to one call, and the book that is then kept: none yet, or one of version 2.
+use crate::office::Office;
 use crate::stopped::memory::{NO_MEMORY, load};
-use crate::stopped::office::{Office, STORE};
-use crate::stopped::scripts::{CORRECTION, OUTAGE};
-use crate::stopped::sending::{AFTER, BEFORE, TOTAL, failed};
+use crate::stopped::scripts::CORRECTION;
+use crate::stopped::sending::{AFTER, BEFORE, STORE, TOTAL, failed};
 use crate::stopped::tasks::Kept;
 use ob_net::{Refusal, Stop};
+use std::alloc::Global;
 use std::process::Abort;
 
 // The tables are those of a book of version 1.
 const OLD: Stop = Stop::Refused(Refusal::OldVersion(1));
 
-// The book of so many commands of the outage is there.
-fn has_outage<O: Office>(office: &O) -> bool {
-    office.shows() == Some((BEFORE, TOTAL))
-}
-
-/// Makes a book with the outage. Answers whether no call failed for want of memory.
-pub fn prepare<O: Office>(office: &mut O) -> bool {
-    let mut is_told = office.makes().is_ok();
-    for line in OUTAGE.lines() {
-        is_told = is_told && office.acts(line).is_ok();
-    }
-    is_told && has_outage(office)
-}
+// What the book of the outage shows.
+const OUTAGE: Option<(u32, u64)> = Some((BEFORE, TOTAL));
 
 /// Makes the tables those of version 2. Where memory is refused to that they are those of version 1 as before, and the same
 /// call again makes them.
-pub fn migrate<O: Office>(rt: &impl Abort, office: &mut O) -> Kept {
+pub fn migrate<O: Office>(rt: &impl Abort, alloc: Global, office: &mut O) -> Kept {
     let mut found = office.migrates();
     if found == Err(NO_MEMORY) {
         assert!(rt; office.loads() == Err(OLD));
@@ -38,7 +28,7 @@ pub fn migrate<O: Office>(rt: &impl Abort, office: &mut O) -> Kept {
             assert!(rt; is_made);
             Kept::all(1)
         }
-        Err(stop) => failed(rt, office, stop, Kept { least: 0, most: 1 }),
+        Err(stop) => failed(rt, alloc, office, stop, Kept { least: 0, most: 1 }),
     }
 }
 
@@ -47,8 +37,8 @@ pub fn migrate<O: Office>(rt: &impl Abort, office: &mut O) -> Kept {
 pub fn holds_upgraded<O: Office>(rt: &impl Abort, office: &mut O, kept: Kept) -> Kept {
     let found = found(rt, office);
     assert!(rt; kept.allows(found));
-    assert!(rt; has_outage(office));
-    assert!(rt; office.agrees());
+    assert!(rt; office.shows() == OUTAGE);
+    assert!(rt; office.audits() == Ok(true));
     assert!(rt; office.migrates() == Ok(false));
     assert!(rt; office.acts(CORRECTION.line) == Ok(AFTER));
     assert!(rt; office.shows() == Some((AFTER, CORRECTION.total)));
@@ -69,12 +59,12 @@ fn found<O: Office>(rt: &impl Abort, office: &mut O) -> u32 {
 }
 
 /// Loads the book of version 2 where that is kept, or makes it of that of version 1 first. Answers what is kept then.
-pub fn upgrade<O: Office>(rt: &impl Abort, office: &mut O, kept: Kept) -> Kept {
+pub fn upgrade<O: Office>(rt: &impl Abort, alloc: Global, office: &mut O, kept: Kept) -> Kept {
     let mut kept = kept;
     let mut found = load(rt, office);
     if found == Err(OLD) {
         assert!(rt; kept.least == 0);
-        kept = migrate(rt, office);
+        kept = migrate(rt, alloc, office);
         if kept.least == 0 {
             return kept;
         }
@@ -82,7 +72,7 @@ pub fn upgrade<O: Office>(rt: &impl Abort, office: &mut O, kept: Kept) -> Kept {
     }
     match found {
         Ok(()) => {
-            assert!(rt; kept.most == 1 && has_outage(office));
+            assert!(rt; kept.most == 1 && office.shows() == OUTAGE);
             Kept::all(1)
         }
         Err(stop) => {

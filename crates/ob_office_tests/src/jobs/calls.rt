@@ -1,0 +1,163 @@
+//! The jobs, and how each ends on a keeper.
+use crate::jobs::host::{FULL, Input, Output, Server};
+use crate::office::Period;
+use crate::sinks::Sink;
+use crate::sources::{Source, WHOLE};
+use crate::texts::OUTAGE;
+use ob_base::{Fault, Stop};
+use ob_cli::{Unfinished, status_of_run};
+use ob_jobs::{
+    Silent, audit_book, export_from_book, import_into_book, make_book, migrate_book, print_book,
+    run_export, run_import, run_table, serve_book,
+};
+use ob_store::Keeper;
+use ob_stream::Watched;
+use ob_sweep::Timeline;
+use sqlite::Alter;
+use std::alloc::Global;
+
+/// A job.
+#[derive(Clone, Copy)]
+pub enum Ask {
+    /// A book of 2024-01-01 in UTC is made, of so many days.
+    Make(u16),
+    /// This text is imported, or an input that can't be opened.
+    Import(Option<&'static str>),
+    /// What the commands moved is written into an output with so much room, or one that can't be made.
+    Export(Option<usize>),
+    /// The annual table is printed.
+    Print,
+    /// The tables are compared.
+    Audit,
+    /// A book of version 1 is made one of version 2.
+    Migrate,
+    /// The book is served at a port that is free or not.
+    Serve(bool),
+}
+
+/// Why a job stopped, and at which row.
+pub type Halt = Option<(Stop, Option<u32>)>;
+
+/// How a job ended: the status, why it stopped, what it told, and whether an input, an output or a port was tried.
+#[derive(Drop)]
+pub struct Told {
+    pub status: u8,
+    pub halt: Halt,
+    pub text: Vec<u8>,
+    pub tried: bool,
+}
+
+/// There is no book.
+const REOPEN: Stop = Stop::Fault(Fault::Reopen);
+
+fn ended_as(run: &Result<(), Unfinished>, writer: Watched<Sink>, tried: bool) -> Told {
+    let halt = match run {
+        Err(Unfinished::Stopped(stop, row)) => Some((*stop, *row)),
+        Ok(()) | Err(Unfinished::Words(_)) | Err(Unfinished::Differs) => None,
+    };
+    Told {
+        status: status_of_run(run),
+        halt,
+        text: writer.into_parts().0.taken,
+        tried,
+    }
+}
+
+/// A book of so many days is made.
+pub fn makes<S: Alter, T: Timeline>(
+    keeper: &mut Keeper<S, T>,
+    period: &Period,
+    mut writer: Watched<Sink>,
+) -> Told {
+    let (first, days, zone) = *period;
+    let run = make_book(keeper, first.as_bytes(), days, zone.as_bytes(), &mut writer);
+    ended_as(&run, writer, false)
+}
+
+/// A text is imported, or an input that can't be opened.
+pub fn imports<S: Alter, T: Timeline>(
+    alloc: Global,
+    keeper: &mut Keeper<S, T>,
+    text: Option<&'static str>,
+    mut writer: Watched<Sink>,
+) -> Told {
+    let mut input = Input { text, tried: false };
+    let run = import_into_book(alloc, keeper, &mut input, &mut Silent, &mut writer);
+    ended_as(&run, writer, input.tried)
+}
+
+/// What the commands moved is written into an output with so much room, or one that can't be made.
+pub fn exports<S: Alter, T: Timeline>(
+    alloc: Global,
+    keeper: &mut Keeper<S, T>,
+    room: Option<usize>,
+    mut writer: Watched<Sink>,
+) -> Told {
+    let mut output = Output {
+        alloc,
+        room,
+        tried: false,
+    };
+    let run = export_from_book(alloc, keeper, &mut output, &mut Silent, &mut writer);
+    ended_as(&run, writer, output.tried)
+}
+
+/// The annual table is printed.
+pub fn prints<S: Alter, T: Timeline>(keeper: &mut Keeper<S, T>, mut writer: Watched<Sink>) -> Told {
+    let run = print_book(keeper, &mut Silent, &mut writer);
+    ended_as(&run, writer, false)
+}
+
+/// The tables are compared.
+pub fn audits<S: Alter, T: Timeline>(
+    alloc: Global,
+    keeper: &mut Keeper<S, T>,
+    mut writer: Watched<Sink>,
+) -> Told {
+    let run = audit_book(alloc, keeper, &mut writer);
+    ended_as(&run, writer, false)
+}
+
+/// A book of version 1 is made one of version 2.
+pub fn migrates<S: Alter, T: Timeline>(
+    keeper: &mut Keeper<S, T>,
+    mut writer: Watched<Sink>,
+) -> Told {
+    let run = migrate_book(keeper, &mut writer);
+    ended_as(&run, writer, false)
+}
+
+/// The book is served at a port that is free or not.
+pub fn serves<S: Alter, T: Timeline>(
+    keeper: &mut Keeper<S, T>,
+    free: bool,
+    writer: Watched<Sink>,
+) -> Told {
+    let mut server = Server { free, tried: false };
+    let run = serve_book(keeper, &mut server, &mut Silent);
+    ended_as(&run, writer, server.tried)
+}
+
+/// Whether the work of an import is refused for want of a book, and nothing told.
+pub fn lacks_import<S: Alter, T: Timeline>(alloc: Global, keeper: &mut Keeper<S, T>) -> bool {
+    let mut told = Watched::new(Sink::new(alloc, 100, FULL));
+    let mut input = Watched::new(Source::new(OUTAGE.as_bytes(), WHOLE));
+    let run = run_import(alloc, keeper, &mut input, &mut Silent, &mut told);
+    run == Err(REOPEN) && told.into_parts().0.taken.is_empty()
+}
+
+/// Whether that of an export is, and nothing told or written.
+pub fn lacks_export<S: Alter, T: Timeline>(alloc: Global, keeper: &mut Keeper<S, T>) -> bool {
+    let mut told = Watched::new(Sink::new(alloc, 100, FULL));
+    let mut file = Watched::new(Sink::new(alloc, 100, FULL));
+    let run = run_export(alloc, keeper, &mut file, &mut told);
+    let is_silent = told.into_parts().0.taken.is_empty() && file.into_parts().0.taken.is_empty();
+    run == Err(REOPEN) && is_silent
+}
+
+/// Whether that of the annual table is, and nothing told.
+pub fn lacks_table<S: Alter, T: Timeline>(alloc: Global, keeper: &mut Keeper<S, T>) -> bool {
+    let mut told = Watched::new(Sink::new(alloc, 100, FULL));
+    let run = run_table(keeper, &mut told);
+    run == Err(REOPEN) && told.into_parts().0.taken.is_empty()
+}
