@@ -4,59 +4,67 @@ use crate::office::{BAD_BOOK, NO_OLD_BOOK, OLD_VERSION};
 use crate::scripts::{
     CORRECTED, JOINS_IN_OUTAGE, OPENED_BEFORE, PARTS_JOIN, REFUSED, TIE_STAYS, WITHDRAWN,
 };
-use crate::steps::{NEW, Step, tell};
+use crate::steps::{NEW, Step, Story, tell};
 use ob_net::Stop;
-use std::alloc::Global;
-use std::process::Abort;
-
-// What is told after the outage, and how many rows and how much it leaves.
-type Told = (&'static str, &'static [i64], i64);
-
-const TOLD: &'static [Told] = &[
-    // Changes of entries that were loaded.
-    (CORRECTED, &[1, 3, 5, 5, 5, 10, 4, 0, 26, 12, 320], 7_800),
-    (WITHDRAWN, &[1, 3, 5, 5, 5, 10, 4, 0, 26, 12, 320], 255_600),
-    // New commands.
-    (
-        OPENED_BEFORE,
-        &[1, 3, 5, 5, 5, 10, 5, 0, 26, 13, 320],
-        10_800,
-    ),
-    (REFUSED, &[1, 3, 5, 5, 5, 10, 4, 0, 27, 9, 320], 9_000),
-    // Lives, and parts that join.
-    (TIE_STAYS, &[1, 3, 5, 5, 5, 10, 4, 0, 27, 15, 320], 9_000),
-    (
-        JOINS_IN_OUTAGE,
-        &[1, 3, 5, 6, 6, 10, 4, 0, 26, 12, 320],
-        4_600,
-    ),
-    (PARTS_JOIN, &[1, 3, 7, 6, 6, 11, 4, 0, 30, 18, 320], 91_800),
-];
 
 // After the outage another keeper loads the book; the lines are then answered as they say, and leave the book, so many
 // rows and so much in total.
-fn go_on(rt: &impl Abort, alloc: Global, told: &[Told]) -> Result<(), Stop> {
-    for (then, rows, total) in told {
-        tell(
-            rt,
-            alloc,
-            then,
-            OUTAGE_BOOK,
-            &[
-                Step::Reopen,
-                Step::Tell(*then),
-                Step::Reopen,
-                Step::Leave(*rows, *total),
-            ],
-            &[],
-        )?;
-    }
-    Ok(())
-}
+const TOLD: Story = Story {
+    title: "commands in a loaded book",
+    book: OUTAGE_BOOK,
+    cases: &[
+        // Changes of entries that were loaded.
+        &[
+            Step::Reopen,
+            Step::Tell(CORRECTED),
+            Step::Reopen,
+            Step::Leave(&[1, 3, 5, 5, 5, 10, 4, 0, 26, 12, 320], 7_800),
+        ],
+        &[
+            Step::Reopen,
+            Step::Tell(WITHDRAWN),
+            Step::Reopen,
+            Step::Leave(&[1, 3, 5, 5, 5, 10, 4, 0, 26, 12, 320], 255_600),
+        ],
+        // New commands.
+        &[
+            Step::Reopen,
+            Step::Tell(OPENED_BEFORE),
+            Step::Reopen,
+            Step::Leave(&[1, 3, 5, 5, 5, 10, 5, 0, 26, 13, 320], 10_800),
+        ],
+        &[
+            Step::Reopen,
+            Step::Tell(REFUSED),
+            Step::Reopen,
+            Step::Leave(&[1, 3, 5, 5, 5, 10, 4, 0, 27, 9, 320], 9_000),
+        ],
+        // Lives, and parts that join.
+        &[
+            Step::Reopen,
+            Step::Tell(TIE_STAYS),
+            Step::Reopen,
+            Step::Leave(&[1, 3, 5, 5, 5, 10, 4, 0, 27, 15, 320], 9_000),
+        ],
+        &[
+            Step::Reopen,
+            Step::Tell(JOINS_IN_OUTAGE),
+            Step::Reopen,
+            Step::Leave(&[1, 3, 5, 6, 6, 10, 4, 0, 26, 12, 320], 4_600),
+        ],
+        &[
+            Step::Reopen,
+            Step::Tell(PARTS_JOIN),
+            Step::Reopen,
+            Step::Leave(&[1, 3, 7, 6, 6, 11, 4, 0, 30, 18, 320], 91_800),
+        ],
+    ],
+    then: &[],
+};
 
 #[test]
 fn commands_in_a_loaded_book(rt: HostRuntime) -> Result<(), Stop> {
-    go_on(&rt, rt.alloc(), TOLD)
+    tell(&rt, rt.alloc(), TOLD)
 }
 
 // Tables under the same names, in the same order, but the first second of a life is kept as a text.
@@ -66,73 +74,77 @@ const LIVES_AS_TEXTS: &'static str =
 
 // A new book is loaded over such tables. Once there is a device the tables are those of no book, and the keeper goes on with the
 // book that it has.
-const OVER_LIVES_AS_TEXTS: &[Step] = &[
-    Step::Change(LIVES_AS_TEXTS),
-    Step::Load(Ok(())),
-    Step::Tell("N1 bus BUS-A => 1"),
-    Step::Tell("N2 device B0 GRID BUS-A closed 0 - => 2"),
-    Step::Note,
-    Step::Audit("life"),
-    Step::Load(BAD_BOOK),
-    Step::Migrate(Ok(false)),
-    Step::Same,
-    Step::Tell("N2 device B0 GRID BUS-A closed 0 - => 2"),
-    Step::Tell("N3 cause 3 STORM => 3"),
-];
+const OVER_LIVES_AS_TEXTS: Story = Story {
+    title: "lives as texts",
+    book: &[NEW],
+    cases: &[&[
+        Step::Change(LIVES_AS_TEXTS),
+        Step::Load(Ok(())),
+        Step::Tell("N1 bus BUS-A => 1"),
+        Step::Tell("N2 device B0 GRID BUS-A closed 0 - => 2"),
+        Step::Note,
+        Step::Audit("life"),
+        Step::Load(BAD_BOOK),
+        Step::Migrate(Ok(false)),
+        Step::Same,
+        Step::Tell("N2 device B0 GRID BUS-A closed 0 - => 2"),
+        Step::Tell("N3 cause 3 STORM => 3"),
+    ]],
+    then: &[],
+};
 
 #[test]
 fn a_book_stays(rt: HostRuntime) -> Result<(), Stop> {
-    tell(
-        &rt,
-        rt.alloc(),
-        "lives as texts",
-        &[NEW],
-        OVER_LIVES_AS_TEXTS,
-        &[],
-    )
+    tell(&rt, rt.alloc(), OVER_LIVES_AS_TEXTS)
 }
 
-// What stands beside the tables of a book or in place of one: it isn't a book's then, and nothing is changed.
-const BESIDE: &'static [&'static str] = &[
-    "CREATE INDEX by_second ON entry (second)",
-    "CREATE TABLE note (id INTEGER PRIMARY KEY) STRICT",
-    "CREATE VIEW marks AS SELECT day FROM mark",
-    "DROP TABLE meta; CREATE VIEW meta AS SELECT 1 AS id, 2 AS version, '2024-01-01' AS day0, \
+// What stands beside the tables of a book or in place of one.
+const BESIDE: Story = Story {
+    title: "other tables beside those of a book",
+    book: OUTAGE_BOOK,
+    cases: &[
+        &[Step::Change("CREATE INDEX by_second ON entry (second)")],
+        &[Step::Change("CREATE TABLE note (id INTEGER PRIMARY KEY) STRICT")],
+        &[Step::Change("CREATE VIEW marks AS SELECT day FROM mark")],
+        &[Step::Change(
+            "DROP TABLE meta; CREATE VIEW meta AS SELECT 1 AS id, 2 AS version, '2024-01-01' AS day0, \
      1 AS days, 'UTC0' AS zone FROM cmd WHERE id = 1",
-    "DROP TABLE mark; CREATE TABLE mark (day INTEGER PRIMARY KEY, engineer TEXT NOT NULL) STRICT",
+        )],
+        &[Step::Change(
+            "DROP TABLE mark; CREATE TABLE mark (day INTEGER PRIMARY KEY, engineer TEXT NOT NULL) STRICT",
+        )],
+    ],
+    then: BESIDE_THEN,
+};
+
+// It isn't a book's then, and nothing is changed.
+const BESIDE_THEN: &[Step] = &[
+    Step::Audit("BadBook"),
+    Step::Load(BAD_BOOK),
+    Step::Has(false),
+    Step::Migrate(Ok(false)),
 ];
 
 #[test]
 fn other_tables_beside_those_of_a_book(rt: HostRuntime) -> Result<(), Stop> {
-    for sql in BESIDE {
-        tell(
-            &rt,
-            rt.alloc(),
-            sql,
-            OUTAGE_BOOK,
-            &[
-                Step::Change(*sql),
-                Step::Audit("BadBook"),
-                Step::Load(BAD_BOOK),
-                Step::Has(false),
-                Step::Migrate(Ok(false)),
-            ],
-            &[],
-        )?;
-    }
-    Ok(())
+    tell(&rt, rt.alloc(), BESIDE)
 }
 
 // The same where the heading tells version 1: that is told first.
-const OLD_BESIDE: &[Step] = &[
-    Step::Change("UPDATE meta SET version = 1; CREATE VIEW marks AS SELECT day FROM mark"),
-    Step::Audit("OldVersion"),
-    Step::Load(OLD_VERSION),
-    Step::Has(false),
-    Step::Migrate(NO_OLD_BOOK),
-];
+const OLD_BESIDE: Story = Story {
+    title: "version 1",
+    book: OUTAGE_BOOK,
+    cases: &[&[
+        Step::Change("UPDATE meta SET version = 1; CREATE VIEW marks AS SELECT day FROM mark"),
+        Step::Audit("OldVersion"),
+        Step::Load(OLD_VERSION),
+        Step::Has(false),
+        Step::Migrate(NO_OLD_BOOK),
+    ]],
+    then: &[],
+};
 
 #[test]
 fn an_old_version_beside_a_view(rt: HostRuntime) -> Result<(), Stop> {
-    tell(&rt, rt.alloc(), "version 1", OUTAGE_BOOK, OLD_BESIDE, &[])
+    tell(&rt, rt.alloc(), OLD_BESIDE)
 }

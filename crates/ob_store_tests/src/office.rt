@@ -1,8 +1,9 @@
 //! What a test knows of a keeper.
-use crate::rows::stored_rows;
+use crate::random::books::Shows;
+use crate::rows::put_rows;
 use ob_book::Book;
 use ob_command::{Command, read_body};
-use ob_net::{Fault, Life, Ref, Refusal, Stop};
+use ob_net::{Fault, Ref, Refusal, Stop};
 use ob_store::{Keeper, Reply};
 use ob_sweep::{Timeline, Windowed};
 use sqlite::{Alter, Connection, Error, MemStore};
@@ -18,13 +19,45 @@ pub const OLD_VERSION: Result<(), Stop> = Err(Stop::Refused(Refusal::OldVersion(
 pub const NO_OLD_BOOK: Result<bool, Stop> = Err(Stop::Refused(Refusal::BadBook));
 
 /// A call that needs a book, where there is none.
-const REOPEN: Stop = Stop::Fault(Fault::Reopen);
+pub const REOPEN: Stop = Stop::Fault(Fault::Reopen);
 
 /// A fault of the store.
 const STORE: Stop = Stop::Fault(Fault::Store);
 
+/// What is done with the tables between two keepers.
+#[derive(Clone, Copy)]
+pub enum Work {
+    /// Statements are run.
+    Run(&'static str),
+    /// The rows of all tables are read.
+    Rows,
+    /// The number that a query finds is read.
+    Find(&'static str),
+    /// The number that each of these queries finds is read.
+    FindEach(&'static [&'static str]),
+}
+
+/// What was read in the tables.
+#[derive(Drop)]
+pub struct Found {
+    pub rows: Vec<u8>,
+    pub numbers: Vec<i64>,
+}
+
+impl Found {
+    /// Nothing was read.
+    pub fn nothing(alloc: Global) -> Found {
+        Found {
+            rows: Vec::new(alloc),
+            numbers: Vec::new(alloc),
+        }
+    }
+}
+
 /// The calls of a keeper over a store, without their clauses: with these each function that makes some is long to prove.
 pub trait Office: Drop {
+    type Shown: Shows;
+
     /// A keeper without a book, over a database that holds nothing.
     fn opens(alloc: Global) -> Result<Self, Stop>;
 
@@ -46,23 +79,11 @@ pub trait Office: Drop {
     /// Makes the tables of version 1 those of version 2. Answers whether they were of version 1.
     fn migrates(&mut self) -> Result<bool, Stop>;
 
-    /// The totals, the indices and the annual table of the book.
-    fn shows(&self) -> Result<Vec<u8>, Stop>;
+    /// The book; None where there is none.
+    fn shown(&self) -> Option<&Self::Shown>;
 
-    /// The lives of the book's devices, by number; none without a book.
-    fn lives(&self, alloc: Global) -> Result<Vec<Life>, Stop>;
-
-    /// Whether it has a book.
-    fn has_book(&self) -> bool;
-
-    /// Another keeper, without a book, over the tables after some statements.
-    fn changed(self, alloc: Global, sql: &str) -> Result<Self, Stop>;
-
-    /// Another keeper, without a book, over the same tables, and the rows that stand in them.
-    fn with_rows(self, alloc: Global) -> Result<(Self, Vec<u8>), Stop>;
-
-    /// Another keeper, without a book, over the same tables, and the number that each query finds in them.
-    fn finds(self, alloc: Global, queries: &[&str]) -> Result<(Self, Vec<i64>), Stop>;
+    /// Another keeper, without a book, over the same tables after some work on them, and what was read.
+    fn again(self, alloc: Global, work: Work) -> Result<(Self, Found), Stop>;
 }
 
 /// A store that a new database begins in.
@@ -73,15 +94,18 @@ pub trait Blank: Alter + Drop {
 
 impl Blank for MemStore {
     fn connects(alloc: Global) -> Result<Connection<MemStore>, Stop> {
-        Connection::open_in_memory(alloc).map_err(|_| STORE)
+        match Connection::open_in_memory(alloc) {
+            Ok(conn) => Ok(conn),
+            Err(_) => Err(STORE),
+        }
     }
 }
 
 /// A keeper over a store in memory.
 pub type InMemory = Keeper<MemStore, Windowed>;
 
-/// A keeper without a book, over a database.
-pub fn adopted<S: Alter + Drop, T: Timeline>(
+// A keeper without a book, over a database.
+fn adopted<S: Alter + Drop, T: Timeline>(
     alloc: Global,
     conn: Connection<S>,
 ) -> Result<Keeper<S, T>, Stop> {
@@ -91,52 +115,58 @@ pub fn adopted<S: Alter + Drop, T: Timeline>(
     Ok(Keeper::adopt_connection(alloc, conn))
 }
 
-// A reference and the command of a body text.
-fn asked(line: &str) -> Option<(Ref, Command)> {
+/// A reference and the command of a body text.
+pub fn asked(line: &str) -> Option<(Ref, Command)> {
     let (reference, body) = line.split_once(" ")?;
     let reference = Ref::read(reference.as_bytes())?;
     let command = read_body(body.as_bytes())?;
     Some((reference, command))
 }
 
-// The texts of a book, one behind the other.
-fn texts<T: Timeline>(book: &Book<T>) -> Result<Vec<u8>, Stop> {
-    let mut text = book.totals_text()?;
-    text.extend_from_slice(&book.indices_text()?)?;
-    text.extend_from_slice(&book.annual_text()?)?;
-    Ok(text)
-}
-
-// The lives of a book's devices, by number.
-fn lives_of<T: Timeline>(alloc: Global, book: &Book<T>) -> Result<Vec<Life>, Stop> {
-    let mut lives = Vec::new(alloc);
-    for device in 0..book.net().devices() {
-        lives.push(book.net().life_of(device))?;
-    }
-    Ok(lives)
-}
-
 fn number<S: Alter>(conn: &mut Connection<S>, sql: &str) -> Result<i64, Error> {
     conn.query_row(sql, &[])?.get(0)
 }
 
-// The number that each query finds.
-fn numbers<S: Alter>(
-    alloc: Global,
+// Puts the number that a query finds behind others.
+fn put_number<S: Alter>(
     conn: &mut Connection<S>,
-    queries: &[&str],
-) -> Result<Vec<i64>, Stop> {
-    let mut numbers = Vec::new(alloc);
-    for sql in queries {
-        match number(conn, sql) {
-            Ok(number) => numbers.push(number)?,
-            Err(_) => return Err(STORE),
+    sql: &str,
+    numbers: &mut Vec<i64>,
+) -> Result<(), Stop> {
+    match number(conn, sql) {
+        Ok(number) => Ok(numbers.push(number)?),
+        Err(_) => Err(STORE),
+    }
+}
+
+// Does some work on the tables. Answers what was read.
+fn done<S: Alter>(alloc: Global, conn: &mut Connection<S>, work: Work) -> Result<Found, Stop> {
+    let mut found = Found::nothing(alloc);
+    match work {
+        Work::Run(sql) => match conn.execute_batch(sql) {
+            Ok(()) => Ok(found),
+            Err(_) => Err(STORE),
+        },
+        Work::Rows => {
+            put_rows(conn, &mut found.rows)?;
+            Ok(found)
+        }
+        Work::Find(sql) => {
+            put_number(conn, sql, &mut found.numbers)?;
+            Ok(found)
+        }
+        Work::FindEach(queries) => {
+            for sql in queries {
+                put_number(conn, sql, &mut found.numbers)?;
+            }
+            Ok(found)
         }
     }
-    Ok(numbers)
 }
 
 impl<S: Blank, T: Timeline> Office for Keeper<S, T> {
+    type Shown = Book<T>;
+
     fn opens(alloc: Global) -> Result<Keeper<S, T>, Stop> {
         adopted(alloc, S::connects(alloc)?)
     }
@@ -172,41 +202,13 @@ impl<S: Blank, T: Timeline> Office for Keeper<S, T> {
         self.migrate()
     }
 
-    fn shows(&self) -> Result<Vec<u8>, Stop> {
-        match self.book() {
-            Some(book) => texts(book),
-            None => Err(REOPEN),
-        }
+    fn shown(&self) -> Option<&Book<T>> {
+        self.book()
     }
 
-    fn lives(&self, alloc: Global) -> Result<Vec<Life>, Stop> {
-        match self.book() {
-            Some(book) => lives_of(alloc, book),
-            None => Ok(Vec::new(alloc)),
-        }
-    }
-
-    fn has_book(&self) -> bool {
-        self.book().is_some()
-    }
-
-    fn changed(self, alloc: Global, sql: &str) -> Result<Keeper<S, T>, Stop> {
+    fn again(self, alloc: Global, work: Work) -> Result<(Keeper<S, T>, Found), Stop> {
         let mut conn = self.into_connection();
-        match conn.execute_batch(sql) {
-            Ok(()) => adopted(alloc, conn),
-            Err(_) => Err(STORE),
-        }
-    }
-
-    fn with_rows(self, alloc: Global) -> Result<(Keeper<S, T>, Vec<u8>), Stop> {
-        let mut conn = self.into_connection();
-        let rows = stored_rows(alloc, &mut conn)?;
-        Ok((adopted(alloc, conn)?, rows))
-    }
-
-    fn finds(self, alloc: Global, queries: &[&str]) -> Result<(Keeper<S, T>, Vec<i64>), Stop> {
-        let mut conn = self.into_connection();
-        let found = numbers(alloc, &mut conn, queries)?;
+        let found = done(alloc, &mut conn, work)?;
         Ok((adopted(alloc, conn)?, found))
     }
 }

@@ -1,7 +1,6 @@
 //! What stands in the tables, row by row.
-use ob_net::Stop;
-use sqlite::{Alter, Connection, Row};
-use std::alloc::{AllocError, Global};
+use sqlite::{Alter, Connection, Error, Row};
+use std::alloc::AllocError;
 
 // The rows of each table by its key, with one space between the columns; first of the ten that both versions have.
 const QUERIES: &'static [&'static str] = &[
@@ -21,16 +20,12 @@ const QUERIES: &'static [&'static str] = &[
     "SELECT device || ' ' || since || ' ' || coalesce(until, '-') FROM life ORDER BY device",
 ];
 
-/// The rows of all tables. Where a table isn't there, that is told in the place of its rows.
-pub fn stored_rows<S: Alter>(
-    alloc: Global,
-    conn: &mut Connection<S>,
-) -> Result<Vec<u8>, AllocError> {
-    let mut text = Vec::new(alloc);
+/// Puts the rows of all tables behind a text. Where a table isn't there, that is told in the place of its rows.
+pub fn put_rows<S: Alter>(conn: &mut Connection<S>, text: &mut Vec<u8>) -> Result<(), AllocError> {
     for sql in QUERIES {
-        put_table(conn, sql, &mut text)?;
+        put_table(conn, sql, text)?;
     }
-    Ok(text)
+    Ok(())
 }
 
 // Puts the rows that a query finds behind others.
@@ -51,14 +46,10 @@ fn put_table<S: Alter>(
 
 // Puts a row of one column behind others.
 fn put_line(row: &Row, text: &mut Vec<u8>) -> Result<(), AllocError> {
-    match row.get(0) {
-        Ok(found) => put_text(&found, text),
-        Err(_) => text.extend_from_slice(b"no text\n"),
+    let found: Result<String, Error> = row.get(0);
+    match found {
+        Ok(found) => text.extend_from_slice(found.as_bytes())?,
+        Err(_) => text.extend_from_slice(b"no text")?,
     }
-}
-
-fn put_text(found: &String, text: &mut Vec<u8>) -> Result<(), AllocError> {
-    text.extend_from_slice(found.as_bytes())?;
-    text.push(b'\n')?;
-    Ok(())
+    text.push(b'\n')
 }

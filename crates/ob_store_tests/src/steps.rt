@@ -1,12 +1,14 @@
 //! Steps with a keeper over a store in memory, one after another, and what each is answered.
-use crate::office::{InMemory, Office};
+use crate::office::{Found, InMemory, Office, REOPEN, Work};
+use crate::random::books::Shows;
+use crate::random::kept::keeps_lists;
 use crate::texts::{answer_text, stored_text};
-use ob_net::{Life, Stop};
+use ob_net::Stop;
 use std::alloc::Global;
 use std::process::Abort;
 
 /// A step with a keeper, and what it is answered.
-#[derive(Drop)]
+#[derive(Clone, Copy)]
 pub enum Step {
     /// A keeper over another database, which holds nothing, goes on.
     Open,
@@ -41,6 +43,8 @@ pub enum Step {
     /// The tables have so many rows: the period, causes, nodes, devices, lives, customers, entries, marked days, commands, moves,
     /// amounts. The amounts of each dimension add up to the total, and each is what the commands moved under its key.
     Leave(&'static [i64], i64),
+    /// Other keepers keep so many random lists, as the plain lists answer them.
+    Lists(u32),
 }
 
 /// A new book of 2024-01-01 in UTC.
@@ -50,46 +54,64 @@ pub const NEW: Step = Step::Make(b"2024-01-01", 1, b"UTC0", Ok(()));
 #[derive(Drop)]
 struct Noted {
     shown: Vec<u8>,
-    lives: Vec<Life>,
-    rows: Vec<u8>,
+    found: Found,
 }
 
 impl Noted {
     fn nothing(alloc: Global) -> Noted {
         Noted {
             shown: Vec::new(alloc),
-            lives: Vec::new(alloc),
-            rows: Vec::new(alloc),
+            found: Found::nothing(alloc),
         }
     }
 }
 
-/// A keeper over a store in memory that holds nothing is told the steps of a book, some steps, and others then. What is said of a
-/// step that doesn't hold begins with the title.
-pub fn tell(
-    rt: &impl Abort,
-    alloc: Global,
-    title: &str,
-    book: &[Step],
-    steps: &[Step],
-    then: &[Step],
-) -> Result<(), Stop> {
-    told::<InMemory>(rt, alloc, title, book, steps, then)
+/// Several cases, of which each is told to a keeper of its own, over a store in memory that holds nothing: first the steps of a
+/// book, then those of the case, and others after these.
+#[derive(Clone, Copy)]
+pub struct Story {
+    pub title: &'static str,
+    pub book: &'static [Step],
+    pub cases: &'static [&'static [Step]],
+    pub then: &'static [Step],
 }
 
-fn told<O: Office>(
+/// Each case of a story is answered as it says. What is said of a step that doesn't hold begins with the title of the story and the
+/// text of the last script or change of the tables in the case.
+pub fn tell(rt: &impl Abort, alloc: Global, story: Story) -> Result<(), Stop> {
+    told::<InMemory>(rt, alloc, &story)
+}
+
+fn title_of(case: &[Step]) -> &'static str {
+    let mut title = "";
+    for step in case {
+        match step {
+            Step::Change(text) | Step::Tell(text) => title = *text,
+            _ => {}
+        }
+    }
+    title
+}
+
+fn told<O: Office>(rt: &impl Abort, alloc: Global, story: &Story) -> Result<(), Stop> {
+    for case in story.cases {
+        is_case_told::<O>(rt, alloc, story, case)?;
+    }
+    Ok(())
+}
+
+fn is_case_told<O: Office>(
     rt: &impl Abort,
     alloc: Global,
-    title: &str,
-    book: &[Step],
-    steps: &[Step],
-    then: &[Step],
+    story: &Story,
+    case: &[Step],
 ) -> Result<(), Stop> {
+    let (title, text) = (story.title, title_of(case));
     let mut noted = Noted::nothing(alloc);
     let office = O::opens(alloc)?;
-    let office = goes_on(rt, alloc, office, &mut noted, title, book)?;
-    let office = goes_on(rt, alloc, office, &mut noted, title, steps)?;
-    goes_on(rt, alloc, office, &mut noted, title, then)?;
+    let office = goes_on(rt, alloc, office, &mut noted, title, text, story.book)?;
+    let office = goes_on(rt, alloc, office, &mut noted, title, text, case)?;
+    goes_on(rt, alloc, office, &mut noted, title, text, story.then)?;
     Ok(())
 }
 
@@ -99,12 +121,13 @@ fn goes_on<O: Office>(
     office: O,
     noted: &mut Noted,
     title: &str,
+    text: &str,
     steps: &[Step],
 ) -> Result<O, Stop> {
     let mut office = office;
     for (place, step) in steps.iter().enumerate() {
         let (next, holds) = taken(rt, alloc, office, noted, step)?;
-        assert!(rt; holds, "{title}: step {place}, from 0");
+        assert!(rt; holds, "{title}: {text}: step {place}, from 0");
         office = next;
     }
     Ok(office)
@@ -120,10 +143,10 @@ fn taken<O: Office>(
 ) -> Result<(O, bool), Stop> {
     match step {
         Step::Open => Ok((O::opens(alloc)?, true)),
-        Step::Change(sql) => Ok((office.changed(alloc, sql)?, true)),
+        Step::Change(sql) => changed(alloc, office, *sql),
         Step::Reopen => reopened(alloc, office, noted),
         Step::NoteRows | Step::SameRows => rows(alloc, office, noted, step),
-        Step::Find(sql, wanted) => finds(alloc, office, &[*sql], &[*wanted]),
+        Step::Find(sql, wanted) => finds(alloc, office, Work::Find(*sql), &[*wanted]),
         Step::Leave(rows, total) => leaves(alloc, office, rows, *total),
         _ => {
             let mut office = office;
@@ -147,9 +170,10 @@ fn is_answered<O: Office>(
         Step::Audit(wanted) => Ok(office.audits() == *wanted),
         Step::Load(wanted) => Ok(office.loads() == *wanted),
         Step::Migrate(wanted) => Ok(office.migrates() == *wanted),
-        Step::Has(wanted) => Ok(office.has_book() == *wanted),
+        Step::Has(wanted) => Ok(office.shown().is_some() == *wanted),
         Step::Note => note(alloc, office, noted),
         Step::Same => is_same(alloc, office, noted),
+        Step::Lists(lists) => keeps_lists::<O>(rt, alloc, *lists),
         _ => Ok(true),
     }
 }
@@ -179,9 +203,12 @@ fn is_stored<O: Office>(
     Ok(found.as_str() == wanted)
 }
 
-// What the book shows, and the stored replies of its commands, of which there are fewer than forty.
+// What the book shows, with its devices' lives, and the stored replies of its commands, of which there are fewer than forty.
 fn shown<O: Office>(alloc: Global, office: &mut O) -> Result<Vec<u8>, Stop> {
-    let mut text = office.shows()?;
+    let mut text = match office.shown() {
+        Some(book) => book.texts(alloc)?,
+        None => return Err(REOPEN),
+    };
     for no in 0..40 {
         let reply = stored_text(alloc, &office.replies(no))?;
         text.extend_from_slice(reply.as_bytes())?;
@@ -191,17 +218,21 @@ fn shown<O: Office>(alloc: Global, office: &mut O) -> Result<Vec<u8>, Stop> {
 
 fn note<O: Office>(alloc: Global, office: &mut O, noted: &mut Noted) -> Result<bool, Stop> {
     noted.shown = shown(alloc, office)?;
-    noted.lives = office.lives(alloc)?;
     Ok(true)
 }
 
 fn is_same<O: Office>(alloc: Global, office: &mut O, noted: &Noted) -> Result<bool, Stop> {
-    Ok(shown(alloc, office)? == noted.shown && office.lives(alloc)? == noted.lives)
+    Ok(shown(alloc, office)? == noted.shown)
+}
+
+fn changed<O: Office>(alloc: Global, office: O, sql: &'static str) -> Result<(O, bool), Stop> {
+    let (again, _) = office.again(alloc, Work::Run(sql))?;
+    Ok((again, true))
 }
 
 fn reopened<O: Office>(alloc: Global, mut office: O, noted: &mut Noted) -> Result<(O, bool), Stop> {
     note(alloc, &mut office, noted)?;
-    let mut again = office.changed(alloc, "")?;
+    let (mut again, _) = office.again(alloc, Work::Run(""))?;
     let is_sound = again.audits() == "none" && again.loads() == Ok(());
     let holds = is_sound && is_same(alloc, &mut again, noted)?;
     Ok((again, holds))
@@ -214,24 +245,24 @@ fn rows<O: Office>(
     noted: &mut Noted,
     step: &Step,
 ) -> Result<(O, bool), Stop> {
-    let (office, rows) = office.with_rows(alloc)?;
+    let (again, found) = office.again(alloc, Work::Rows)?;
     if let Step::SameRows = step {
-        let holds = rows == noted.rows;
-        return Ok((office, holds));
+        let holds = found.rows == noted.found.rows;
+        return Ok((again, holds));
     }
-    noted.rows = rows;
-    Ok((office, true))
+    noted.found = found;
+    Ok((again, true))
 }
 
 fn finds<O: Office>(
     alloc: Global,
     office: O,
-    queries: &[&str],
+    work: Work,
     wanted: &[i64],
 ) -> Result<(O, bool), Stop> {
-    let (office, found) = office.finds(alloc, queries)?;
-    let holds = found.as_slice() == wanted;
-    Ok((office, holds))
+    let (again, found) = office.again(alloc, work)?;
+    let holds = found.numbers.as_slice() == wanted;
+    Ok((again, holds))
 }
 
 fn leaves<O: Office>(
@@ -240,8 +271,13 @@ fn leaves<O: Office>(
     rows: &[i64],
     total: i64,
 ) -> Result<(O, bool), Stop> {
-    let (office, are_counted) = finds(alloc, office, COUNTS, rows)?;
-    let (office, add_up) = finds(alloc, office, SUMS, &[total, total, total, 0])?;
+    let (office, are_counted) = finds(alloc, office, Work::FindEach(COUNTS), rows)?;
+    let (office, add_up) = finds(
+        alloc,
+        office,
+        Work::FindEach(SUMS),
+        &[total, total, total, 0],
+    )?;
     Ok((office, are_counted && add_up))
 }
 

@@ -1,22 +1,25 @@
 //! What a test knows of a book.
 use ob_book::{Book, Command, replay};
 use ob_index::{Indices, Which};
-use ob_net::{Refusal, Stop};
+use ob_net::{Life, Refusal, Second, Stop};
 use ob_post::{Dim, Moved};
 use ob_sweep::{Run, Timeline};
 use ob_time::Period;
-use std::alloc::Global;
+use std::alloc::{AllocError, Global};
 
 /// What a book shows.
 pub trait Shows {
     /// How many commands were accepted.
-    fn commands(&self) -> Option<usize>;
+    fn commands(&self) -> usize;
 
     /// The amount that is posted under a key; None where there is no such key.
     fn posted(&self, dim: Dim, key: u16) -> Option<u64>;
 
     /// The indices.
-    fn figures(&self, which: Which) -> Option<Indices>;
+    fn figures(&self, which: Which) -> Indices;
+
+    /// The totals, the indices and the annual table, and the lives of the devices.
+    fn texts(&self, alloc: Global) -> Result<Vec<u8>, Stop>;
 }
 
 /// The calls of a book, without their clauses: with these each function that makes some, or holds a book, is long to prove.
@@ -45,9 +48,15 @@ fn two_days(alloc: Global) -> Result<Period, Stop> {
     }
 }
 
+// Puts a life behind a text; one without an end has the largest number there.
+fn put_life(alloc: Global, text: &mut Vec<u8>, life: Life) -> Result<(), AllocError> {
+    let (since, until) = (life.since, life.until.unwrap_or(Second::MAX));
+    text.extend_from_slice(format!(in alloc; "{since} {until}\n")?.as_bytes())
+}
+
 impl<T: Timeline> Shows for Book<T> {
-    fn commands(&self) -> Option<usize> {
-        Some(self.accepted() as usize)
+    fn commands(&self) -> usize {
+        self.accepted() as usize
     }
 
     fn posted(&self, dim: Dim, key: u16) -> Option<u64> {
@@ -63,8 +72,18 @@ impl<T: Timeline> Shows for Book<T> {
         }
     }
 
-    fn figures(&self, which: Which) -> Option<Indices> {
-        Some(self.index_view(which))
+    fn figures(&self, which: Which) -> Indices {
+        self.index_view(which)
+    }
+
+    fn texts(&self, alloc: Global) -> Result<Vec<u8>, Stop> {
+        let mut text = self.totals_text()?;
+        text.extend_from_slice(&self.indices_text()?)?;
+        text.extend_from_slice(&self.annual_text()?)?;
+        for device in 0..self.net().devices() {
+            put_life(alloc, &mut text, self.net().life_of(device))?;
+        }
+        Ok(text)
     }
 }
 

@@ -1,65 +1,53 @@
 //! The lists, under references, by a keeper over a store in memory: it answers each command as the plain lists do, and
 //! again where it is told again; another keeper loads the same book from its tables and goes on, and the eleven tables then
 //! have the rows of the plain lists.
-use crate::office::InMemory;
+use crate::office::{Office, Work};
+use crate::random::books::Shows;
 use crate::random::compare::{has_figures, has_posted};
-use crate::random::draw::command;
+use crate::random::draw::{Drawn, draw};
 use crate::random::numbers::Random;
-use crate::random::office::Office;
 use crate::random::rows::rows_of;
-use crate::random::told::Told;
-use ob_book::{Command, read_body};
-use ob_net::{Ref, Refusal, Stop};
-use ob_post::Moved;
+use crate::random::told::{Told, line_of};
+use crate::steps;
+use crate::steps::{Step, Story};
+use ob_net::{Refusal, Stop};
 use ob_store::Reply;
 use std::alloc::Global;
 use std::process::Abort;
-use std::test::Fail;
 
-// The reply of the command of a place, with these moves.
-fn is_reply(found: &Result<Reply, Stop>, place: usize, moves: &[Moved]) -> bool {
-    match found {
-        Ok(reply) => {
-            reply.no as usize == place.saturating_add(1) && reply.moved.as_slice() == moves
+// The reply of the command of a place, or the refusal.
+fn is_answered(found: &Result<Reply, Stop>, told: &Told, wanted: &Result<usize, Refusal>) -> bool {
+    match (found, wanted) {
+        (Ok(reply), Ok(place)) => {
+            reply.no as usize == place.saturating_add(1)
+                && reply.moved.as_slice() == told.moves_at(*place)
         }
-        Err(_) => false,
-    }
-}
-
-fn is_refused(found: &Result<Reply, Stop>, wanted: Refusal) -> bool {
-    match found {
-        Err(Stop::Refused(refusal)) => *refusal == wanted,
+        (Err(Stop::Refused(refusal)), Err(wanted)) => *refusal == *wanted,
         _ => false,
     }
 }
 
-// A command is answered as by the plain lists.
+// A command under a reference is answered as by the plain lists.
 fn tell<O: Office>(
     rt: &impl Abort,
     alloc: Global,
     office: &mut O,
     told: &mut Told,
-    reference: &Ref,
-    command: &Command,
-) -> Result<(), Fail> {
-    let wanted = told.take(alloc, reference, command)?;
-    let found = office.acts(reference, command);
-    match wanted {
-        Ok(place) => assert!(rt; is_reply(&found, place, told.moves_at(place))),
-        Err(refusal) => assert!(rt; is_refused(&found, refusal)),
-    }
+    number: u64,
+    drawn: &Drawn,
+) -> Result<(), Stop> {
+    let wanted = told.take(alloc, number, drawn)?;
+    let found = office.acts(line_of(alloc, number, drawn)?.as_str());
+    assert!(rt; is_answered(&found, told, &wanted));
     Ok(())
 }
 
-// The reference of a place in a list, sometimes that of an earlier one.
-fn reference(alloc: Global, random: &mut Random, place: u64) -> Result<Ref, Fail> {
-    let mut number = place;
-    if 12 < place && random.is_one_in(8) {
-        number = random.below(place);
+// The number in the reference of a place in a list, sometimes that of an earlier one.
+fn number_at(random: &mut Random, place: u64) -> u64 {
+    if 12 < place && random.below(8) == 0 {
+        return random.below(place);
     }
-    let text = format!(in alloc; "N{number}")?;
-    let reference = Ref::read(text.as_bytes()).ok_or("a reference")?;
-    Ok(reference)
+    place
 }
 
 // Tells the commands of some places, each twice.
@@ -69,49 +57,47 @@ fn tell_list<O: Office>(
     office: &mut O,
     told: &mut Told,
     random: &mut Random,
-    (first, end): (u64, u64),
-) -> Result<(), Fail> {
+    (first, end): (usize, usize),
+) -> Result<(), Stop> {
     for place in first..end {
-        let command = command(random, place).ok_or("a command")?;
-        let reference = reference(alloc, random, place)?;
-        tell(rt, alloc, office, told, &reference, &command)?;
-        tell(rt, alloc, office, told, &reference, &command)?;
+        let drawn = draw(alloc, random, place)?;
+        let number = number_at(random, place as u64);
+        tell(rt, alloc, office, told, number, &drawn)?;
+        tell(rt, alloc, office, told, number, &drawn)?;
     }
     Ok(())
 }
 
-// Tells each accepted command again.
-fn tell_again<O: Office>(
-    rt: &impl Abort,
-    alloc: Global,
-    office: &mut O,
-    told: &mut Told,
-) -> Result<(), Fail> {
-    for place in 0..told.sent.len() {
-        let sent = told.sent.get(place).copied().ok_or("a reference")?;
-        let command = read_body(told.body_at(place)).ok_or("a command")?;
-        tell(rt, alloc, office, told, &sent.reference, &command)?;
+// Each accepted command that is told again is answered as it was.
+fn tell_again<O: Office>(rt: &impl Abort, office: &mut O, told: &Told) {
+    for (place, sent) in told.sent.iter().enumerate() {
+        let found = office.acts(sent.line.as_str());
+        assert!(rt; is_answered(&found, told, &Ok(place)));
     }
-    Ok(())
 }
 
 // The keeper's book is that of the plain lists.
 fn has_book<O: Office>(rt: &impl Abort, office: &O, told: &Told) {
-    assert!(rt; office.commands() == Some(told.sent.len()));
-    has_posted(rt, office, &told.counted);
-    has_figures(rt, office, &told.plain, &told.counted);
+    assert!(rt; office.shown().is_some());
+    if let Some(book) = office.shown() {
+        assert!(rt; book.commands() == told.sent.len());
+        has_posted(rt, book, &told.counted);
+        has_figures(rt, book, &told.plain, &told.counted);
+    }
 }
 
-// A new book of the two days is kept through the most of a list.
+// A new book of the two days is kept through the most of a list; another keeper goes on.
 fn begins<O: Office>(
     rt: &impl Abort,
     alloc: Global,
-    office: &mut O,
     told: &mut Told,
     random: &mut Random,
-) -> Result<(), Fail> {
-    office.makes()?;
-    tell_list(rt, alloc, office, told, random, (0, 40))
+) -> Result<O, Stop> {
+    let mut first = O::opens(alloc)?;
+    first.makes(b"1970-01-02", 2, b"UTC0")?;
+    tell_list(rt, alloc, &mut first, told, random, (0, 40))?;
+    let (second, _) = first.again(alloc, Work::Run(""))?;
+    Ok(second)
 }
 
 // The book is loaded and kept through the rest of the list.
@@ -121,56 +107,46 @@ fn goes_on<O: Office>(
     office: &mut O,
     told: &mut Told,
     random: &mut Random,
-) -> Result<(), Fail> {
+) -> Result<(), Stop> {
     office.loads()?;
     has_book(rt, office, told);
     tell_list(rt, alloc, office, told, random, (40, 50))?;
-    tell_again(rt, alloc, office, told)?;
+    tell_again(rt, office, told);
     has_book(rt, office, told);
     Ok(())
 }
 
-// The tables have the rows of the plain lists.
-fn leaves<O: Office>(rt: &impl Abort, alloc: Global, office: O, told: &Told) -> Result<(), Fail> {
-    let found = office.rows(alloc)?;
-    assert!(rt; found == rows_of(alloc, told)?);
-    Ok(())
-}
-
-// A list is kept, by one keeper and then by another one, and leaves its rows in the tables.
-fn keeps<O: Office>(
-    rt: &impl Abort,
-    alloc: Global,
-    told: &mut Told,
-    random: &mut Random,
-) -> Result<(), Fail> {
-    let mut first = O::opens(alloc)?;
-    begins(rt, alloc, &mut first, told, random)?;
-    let mut second = first.reopened(alloc)?;
-    goes_on(rt, alloc, &mut second, told, random)?;
-    leaves(rt, alloc, second, told)
-}
-
-// A list is kept; how many of its commands were told under a reference of another one.
-fn keeps_list<O: Office>(rt: &impl Abort, alloc: Global, random: &mut Random) -> Result<u32, Fail> {
+// A list is kept, by one keeper and then by another one, and the tables have its rows. Answers how many of its commands were told
+// under a reference of another one.
+fn keeps_list<O: Office>(rt: &impl Abort, alloc: Global, random: &mut Random) -> Result<u32, Stop> {
     let mut told = Told::new(alloc)?;
-    keeps::<O>(rt, alloc, &mut told, random)?;
+    let mut office: O = begins(rt, alloc, &mut told, random)?;
+    goes_on(rt, alloc, &mut office, &mut told, random)?;
+    let (_, found) = office.again(alloc, Work::Rows)?;
+    assert!(rt; found.rows.as_slice() == rows_of(alloc, &told)?.as_bytes());
     Ok(told.conflicts)
 }
 
-// So many lists are kept; many of their commands were told under a reference of another one.
-fn keeps_lists<O: Office>(rt: &impl Abort, alloc: Global, lists: u32) -> Result<(), Fail> {
+/// So many lists are kept, by keepers over databases that hold nothing. Answers whether many of their commands were told under a
+/// reference of another one.
+pub fn keeps_lists<O: Office>(rt: &impl Abort, alloc: Global, lists: u32) -> Result<bool, Stop> {
     let mut random = Random::new(19_700_103);
     let mut conflicts = 0u32;
     for _ in 0..lists {
         let found = keeps_list::<O>(rt, alloc, &mut random)?;
         conflicts = conflicts.saturating_add(found);
     }
-    assert!(rt; conflicts > 20);
-    Ok(())
+    Ok(conflicts > 20)
 }
 
+const LISTS: Story = Story {
+    title: "random lists",
+    book: &[],
+    cases: &[&[Step::Lists(20)]],
+    then: &[],
+};
+
 #[test]
-fn keepers_answer_as_the_plain_lists_do(rt: HostRuntime) -> Result<(), Fail> {
-    keeps_lists::<InMemory>(&rt, rt.alloc(), 20)
+fn keepers_answer_as_the_plain_lists_do(rt: HostRuntime) -> Result<(), Stop> {
+    steps::tell(&rt, rt.alloc(), LISTS)
 }

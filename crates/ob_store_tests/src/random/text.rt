@@ -1,38 +1,43 @@
 //! Rows and body texts of words and numbers, with one space between.
-use std::alloc::Global;
-use std::test::Fail;
+use ob_net::Second;
+use std::alloc::{AllocError, Global};
 
 /// What stands in a row or in a body text.
 #[derive(Clone, Copy)]
-pub enum Cell<'a> {
-    Word(&'a [u8]),
+pub enum Cell {
+    Word(&'static str),
     Number(u64),
+    /// A place in a list, as a number.
+    Place(usize),
+    /// 1 where it is so, else 0.
+    Flag(bool),
+    /// The second after the last one of a service or a life, `-` where it has no end.
+    End(Second),
 }
 
-/// Puts a row behind others.
-pub fn put_row(alloc: Global, text: &mut Vec<u8>, cells: &[Cell<'_>]) -> Result<(), Fail> {
-    put_cells(alloc, text, cells)?;
-    text.push(b'\n')?;
-    Ok(())
-}
-
-/// Puts cells behind a text.
-pub fn put_cells(alloc: Global, text: &mut Vec<u8>, cells: &[Cell<'_>]) -> Result<(), Fail> {
-    let mut between: &[u8] = b"";
+/// Puts cells behind a text, and then its end.
+pub fn put_cells(
+    alloc: Global,
+    text: &mut String,
+    cells: &[Cell],
+    end: &str,
+) -> Result<(), AllocError> {
+    let mut between = "";
     for cell in cells {
-        text.extend_from_slice(between)?;
+        text.push_str(between)?;
         put_cell(alloc, text, cell)?;
-        between = b" ";
+        between = " ";
     }
-    Ok(())
+    text.push_str(end)
 }
 
-fn put_cell(alloc: Global, text: &mut Vec<u8>, cell: &Cell<'_>) -> Result<(), Fail> {
-    match cell {
-        Cell::Word(word) => text.extend_from_slice(word)?,
-        Cell::Number(number) => {
-            text.extend_from_slice(format!(in alloc; "{number}")?.as_bytes())?
-        }
-    }
-    Ok(())
+fn put_cell(alloc: Global, text: &mut String, cell: &Cell) -> Result<(), AllocError> {
+    let number = match *cell {
+        Cell::Word(word) => return text.push_str(word),
+        Cell::End(second) if second == Second::MAX => return text.push_str("-"),
+        Cell::End(number) | Cell::Number(number) => number,
+        Cell::Place(place) => place as u64,
+        Cell::Flag(is_so) => u64::from(is_so),
+    };
+    text.push_str(format!(in alloc; "{number}")?.as_str())
 }

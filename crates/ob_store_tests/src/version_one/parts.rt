@@ -36,19 +36,23 @@ fn parts_come_first(rt: HostRuntime) -> Result<(), Fail> {
     fit(&rt, &sheet, PARTS, true)?;
     fit(&rt, &sheet, OTHERS, true)?;
     fit(&rt, &sheet, NEW, false)?;
-    switch_once(&mut sheet)?;
+    switch_once(&rt, &mut sheet, b"K1", 5, 3)?;
     fit_behind_an_entry(&rt, &sheet)?;
     assert!(rt; sheet.withdraw(1, 1).is_ok());
     fit_behind_an_entry(&rt, &sheet)
 }
 
-fn switch_once(sheet: &mut Sheet) -> Result<(), Fail> {
-    let crew = Crew::read(b"K1").ok_or("a crew")?;
-    if sheet.is_full() {
-        return Err("no entry".into());
-    }
+fn switch_once(
+    rt: &impl Abort,
+    sheet: &mut Sheet,
+    crew: &[u8],
+    second: u64,
+    cause: u8,
+) -> Result<(), Fail> {
+    let crew = Crew::read(crew).ok_or("a crew")?;
+    assert!(rt; !sheet.is_full());
     sheet.reserve_one()?;
-    sheet.enter(0, Opened, 5, 3, crew);
+    sheet.enter(0, Opened, second, cause, crew);
     Ok(())
 }
 
