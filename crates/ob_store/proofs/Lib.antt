@@ -5,6 +5,7 @@ pub mod Accepting
 pub mod Answered
 pub mod Staying
 pub mod Beginning
+pub mod Failing
 pub mod Reading
 pub mod Naming
 pub mod Laws
