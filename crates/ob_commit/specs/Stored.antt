@@ -1,5 +1,6 @@
 -- What a command moved, as rows.
-use Rattle.std.specs.Prelude.{◌≡◌, ℕ, List, [], map, filter, IsSorted}
+use Rattle.std.specs.Prelude.{◌≡◌, ◌<◌, ◌^◌, ℕ, List, [], map, filter, IsSorted}
+use Rattle.std.specs.List.{All}
 use Rattle.std.specs.List.Sorted.{IsPermutation}
 use Rattle.std.specs.declared.cmp.Ordering.{Ordering}
 use Rattle.sqlite_value.specs.Keys.{rising}
@@ -19,6 +20,10 @@ row_of id m = moved_row id (dim_number m.dim) m.key m.delta
 -- the rows of what it moved
 abbrev pub rows_of : ℕ → List Moved → List Columns
 rows_of id moves = map (row_of id) moves
+
+-- the keys are numbers of 16 bits, as the program reads them
+abbrev pub HaveSmallKeys : List Moved → Type 0
+HaveSmallKeys moves = All (λ m. m.key < 2 ^ 16) moves
 
 -- the store's order of rows by the second column and then by the third
 abbrev pub by_dimension_and_key : Row → Row → Ordering

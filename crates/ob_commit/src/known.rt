@@ -1,12 +1,13 @@
 //! What stands under a reference.
-ghost use Rattle.std.specs.Prelude.{◌≡◌, ◌∷◌, [], false, filter, IsPermutation, IfOk, IfErr};
+ghost use Rattle.std.specs.Prelude.{◌≡◌, ◌<◌, ◌^◌, ◌∷◌, [], ℕ, false, filter, List, IsPermutation, IsOk, IfOk, IfErr};
 ghost use Rattle.sqlite.specs.Held.{state};
 ghost use Rattle.sqlite.specs.State.{HasCleanDisk, Survives};
-ghost use Rattle.ob_tables.specs.Steps.{IsStoreFault};
-ghost use Rattle.ob_tables.specs.Rows.{Tables, is_reference};
+ghost use Rattle.ob_tables.specs.Schema.{book_schema};
+ghost use Rattle.ob_tables.specs.Steps.{HasFaultCause, IsStoreFault};
+ghost use Rattle.ob_tables.specs.Rows.{Tables, command_row, is_reference};
 ghost use Rattle.ob_tables.specs.declared.table.Table.{Table as ATable};
 ghost use Rattle.ob_commit.specs.Keeps.{Keeps};
-ghost use Rattle.ob_commit.specs.Known.{IsUnder, store_fault};
+ghost use Rattle.ob_commit.specs.Known.{AreOfOne, IsUnder, store_fault};
 
 use crate::columns::{number_at, text_at};
 use ob_base::{Fault, Stop};
@@ -40,6 +41,10 @@ pub fn look_up<S: Alter>(
         → IfOk result (λ known. (t : Tables) → Keeps (state S.Store conn.old) t
         → IsUnder (filter (is_reference reference.now) (t ATable.Command)) reference.now body.now
         known) }
+    ensures cause { HasCleanDisk (state S.Store conn.new) → (t : Tables)
+        → Keeps (state S.Store conn.old) t
+        → AreOfOne (filter (is_reference reference.now) (t ATable.Command)) reference.now
+        → HasFaultCause (state S.Store conn.old) (state S.Store conn.new) result }
 {
     match known_rows(conn, reference) {
         Ok(rows) => tell(&rows, reference, body),
@@ -58,6 +63,8 @@ fn known_rows<S: Alter>(conn: &mut Connection<S>, reference: &[u8]) -> Result<Ve
     ensures found { HasCleanDisk (state S.Store conn.new)
         → IfOk result (λ rows. (t : Tables) → Keeps (state S.Store conn.old) t
         → IsPermutation (filter (is_reference reference.now) (t ATable.Command)) rows.items) }
+    ensures cause { HasCleanDisk (state S.Store conn.new) → conn.old.schema ≡ book_schema
+        → HasFaultCause (state S.Store conn.old) (state S.Store conn.new) result }
 {
     let mut tx = conn.transaction();
     find_commands(&mut tx, reference)
@@ -67,6 +74,7 @@ fn known_rows<S: Alter>(conn: &mut Connection<S>, reference: &[u8]) -> Result<Ve
 fn tell(rows: &[Row], reference: &[u8], body: &[u8]) -> Result<Known, Stop>
     ensures told { IfOk result (IsUnder rows.now reference.now body.now) }
     ensures fault { IfErr result (λ stop. stop ≡ store_fault) }
+    ensures known { AreOfOne rows.now reference.now → IsOk result }
 {
     match rows {
         [] => Ok(Known::New),
@@ -79,6 +87,8 @@ fn tell(rows: &[Row], reference: &[u8], body: &[u8]) -> Result<Known, Stop>
 fn tell_row(row: &Row, reference: &[u8], body: &[u8]) -> Result<Known, Stop>
     ensures told { IfOk result (IsUnder (row.now ∷ []) reference.now body.now) }
     ensures fault { IfErr result (λ stop. stop ≡ store_fault) }
+    ensures known { (n : ℕ) (its : List ℕ) → n < 2 ^ 32
+        → row.now ≡ command_row n reference.now its → IsOk result }
 {
     let no = number_at(row, 0)?;
     let its_reference = text_at(row, 1)?;

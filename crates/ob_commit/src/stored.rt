@@ -1,17 +1,20 @@
 //! What a command moved, as its rows tell.
-ghost use Rattle.std.specs.Prelude.{◌≡◌, false, List, IsPermutation, filter, IfOk, IfErr};
+ghost use Rattle.std.specs.Prelude.{◌≡◌, ◌<◌, ◌^◌, ℕ, false, List, length, IsPermutation, filter, IsOk, IfOk, IfErr};
 ghost use Rattle.sqlite.specs.Held.{state};
 ghost use Rattle.sqlite.specs.State.{HasCleanDisk, Survives};
 ghost use Rattle.sqlite.specs.Order.{column};
 ghost use Rattle.ob_post.specs.Keys.{dim_number};
 ghost use Rattle.ob_post.specs.Moved.{AreInOrder};
+ghost use Rattle.ob_base.specs.Stop.{out_of_memory};
+ghost use Rattle.ob_post.specs.declared.Dim.{Dim as ADim};
 ghost use Rattle.ob_post.specs.declared.Moved.{Moved as AMoved};
-ghost use Rattle.ob_tables.specs.Steps.{Reads, IsStoreFault};
+ghost use Rattle.ob_tables.specs.Schema.{book_schema};
+ghost use Rattle.ob_tables.specs.Steps.{HasFaultCause, Reads, IsStoreFault};
 ghost use Rattle.ob_tables.specs.Rows.{Tables, number, is_key};
 ghost use Rattle.ob_tables.specs.declared.table.Table.{Table as ATable};
 ghost use Rattle.ob_commit.specs.Keeps.{Keeps};
 ghost use Rattle.ob_commit.specs.Known.{store_fault};
-ghost use Rattle.ob_commit.specs.Stored.{FindsMoves, AreMovesIn, row_of, rows_of};
+ghost use Rattle.ob_commit.specs.Stored.{FindsMoves, AreMovesIn, HaveSmallKeys, row_of, rows_of};
 
 use crate::columns::{number_at, signed_at};
 use ob_base::{Fault, Stop};
@@ -38,6 +41,11 @@ pub fn stored_moves<S: Alter>(
         → (expected : List AMoved) → AreInOrder expected
         → IsPermutation (filter (is_key no) (t ATable.Moved)) (rows_of no expected)
         → moves.items ≡ expected) }
+    ensures cause { HasCleanDisk (state S.Store conn.new) → (t : Tables)
+        → Keeps (state S.Store conn.old) t → (expected : List AMoved)
+        → IsPermutation (filter (is_key no) (t ATable.Moved)) (rows_of no expected)
+        → HaveSmallKeys expected
+        → HasFaultCause (state S.Store conn.old) (state S.Store conn.new) result }
 {
     match moved_rows(conn, no) {
         Ok(rows) => read_moves(alloc, &rows, no),
@@ -56,6 +64,8 @@ fn moved_rows<S: Alter>(conn: &mut Connection<S>, no: u32) -> Result<Vec<Row>, S
     ensures found { HasCleanDisk (state S.Store conn.new)
         → IfOk result (λ rows. (t : Tables) → Keeps (state S.Store conn.old) t
         → AreMovesIn (t ATable.Moved) no rows.items) }
+    ensures cause { HasCleanDisk (state S.Store conn.new) → conn.old.schema ≡ book_schema
+        → HasFaultCause (state S.Store conn.old) (state S.Store conn.new) result }
 {
     let mut tx = conn.transaction();
     find_moves(&mut tx, no)
@@ -66,6 +76,9 @@ fn find_moves<S: Alter>(tx: &mut Transaction<'_, S>, no: u32) -> Result<Vec<Row>
     ensures reads { Reads S.Store tx.old.conn tx.new.conn result }
     ensures found { HasCleanDisk (state S.Store tx.new.conn.now)
         → IfOk result (λ rows. FindsMoves (state S.Store tx.old.conn.now) no rows.items) }
+    ensures cause { HasCleanDisk (state S.Store tx.new.conn.now)
+        → tx.old.conn.now.schema ≡ book_schema
+        → HasFaultCause (state S.Store tx.old.conn.now) (state S.Store tx.new.conn.now) result }
 {
     match tx.query_all(
         "SELECT cmd, dim, k, delta FROM moved WHERE cmd = ?1 ORDER BY dim, k",
@@ -80,6 +93,8 @@ fn find_moves<S: Alter>(tx: &mut Transaction<'_, S>, no: u32) -> Result<Vec<Row>
 fn read_moves(alloc: Global, rows: &[Row], no: u32) -> Result<Vec<Moved>, Stop>
     ensures told { IfOk result (λ moves. rows.now ≡ rows_of no moves.items) }
     ensures faults { IfErr result IsStoreFault }
+    ensures readable { (moves : List AMoved) → rows.now ≡ rows_of no moves → HaveSmallKeys moves
+        → IfErr result (λ stop. stop ≡ out_of_memory) }
 {
     let mut moves = Vec::new(alloc);
     'rows: for row in rows {
@@ -92,6 +107,7 @@ fn read_moves(alloc: Global, rows: &[Row], no: u32) -> Result<Vec<Moved>, Stop>
 fn read_move(row: &Row, no: u32) -> Result<Moved, Stop>
     ensures told { IfOk result (λ it. row.now ≡ row_of no it) }
     ensures fault { IfErr result (λ stop. stop ≡ store_fault) }
+    ensures readable { (m : AMoved) → m.key < 2 ^ 16 → row.now ≡ row_of no m → IsOk result }
 {
     let its_no = number_at(row, 0)?;
     let dim = dim_at(row, 1)?;
@@ -107,6 +123,8 @@ fn read_move(row: &Row, no: u32) -> Result<Moved, Stop>
 fn dim_at(row: &Row, place: usize) -> Result<Dim, Stop>
     ensures value { IfOk result (λ dim. column row.now place ≡ number (dim_number dim)) }
     ensures fault { IfErr result (λ stop. stop ≡ store_fault) }
+    ensures readable { (dim : ADim) → place < length row.now
+        → column row.now place ≡ number (dim_number dim) → IsOk result }
 {
     match number_at(row, place)? {
         1 => Ok(Dim::Cause),
@@ -120,6 +138,8 @@ fn dim_at(row: &Row, place: usize) -> Result<Dim, Stop>
 fn key_at(row: &Row, place: usize) -> Result<u16, Stop>
     ensures value { IfOk result (λ key. column row.now place ≡ number key) }
     ensures fault { IfErr result (λ stop. stop ≡ store_fault) }
+    ensures readable { (key : ℕ) → place < length row.now → key < 2 ^ 16
+        → column row.now place ≡ number key → IsOk result }
 {
     match u16::try_from(number_at(row, place)?) {
         Ok(key) => Ok(key),

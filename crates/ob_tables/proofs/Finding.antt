@@ -1,9 +1,10 @@
 -- The command of a reference is found.
-use Rattle.std.proofs.Common.{◌≡◌, ℕ, List, [], ◌∷◌, map, filter, codes, true, false, refl, sym, ap, subst, ◌∙◌}
+use Rattle.std.proofs.Common.{◌≡◌, ℕ, List, [], ◌∷◌, map, filter, codes, true, false, refl, sym, ap, subst, ◌∙◌, inl, inr, arith, true≢false}
 use Rattle.std.specs.List.Sorted.{IsPermutation}
 use Rattle.std.proofs.lemmas.List.Sorted.{IsPermutation-sym, IsPermutation-trans}
 use Rattle.sqlite_trees.proofs.ListLemmas.{IsPermutation-filter, filter-map}
 use Rattle.sqlite.specs.Order.{Row, column}
+use Rattle.sqlite_schema.specs.declared.program.Program.{Program}
 use Rattle.sqlite.specs.declared.types.Value.TheVariants.{Null, Text}
 use Rattle.sqlite.specs.Term.{Term, col, op2}
 use Rattle.sqlite.specs.Collation.TheVariants.{Binary}
@@ -21,6 +22,8 @@ use Rattle.ob_tables.specs.Steps.{Makes}
 use Rattle.ob_tables.specs.declared.table.Table.TheVariants.{Command}
 use Rattle.ob_tables.proofs.Queries.{whole}
 use Rattle.ob_tables.proofs.Answers.{answered}
+use Rattle.ob_tables.proofs.Failing.{query_accepted}
+use Rattle.ob_tables.specs.Queries.{IsAlwaysAnswered}
 
 abbrev pub find_text : List ℕ
 find_text = codes "SELECT id, ref, body FROM cmd WHERE ref = ?1"
@@ -36,6 +39,20 @@ find_plain = (refl, refl)
 find_unlisted : reads_listing book_schema find_text ≡ false
 unfolding understood everything
 find_unlisted = refl
+
+-- no database of a book refuses it
+abbrev find_program : Program
+find_program = record { lets = []; body = whole (op2 (Compare Eq Binary) (col 1 2) (col 0 0) ∷ []) (col 1 0 ∷ col 1 2 ∷ col 1 3 ∷ []) 10 }
+
+pub find_answered : (reference : List ℕ) → IsAlwaysAnswered book_schema find_text (Text reference ∷ [])
+unfolding understood everything
+find_answered reference = record {
+  whole = omega arith;
+  given = refl;
+  timeless = refl;
+  plain = refl;
+  accepted = query_accepted book_schema find_program (Text reference ∷ []) true≢false (λ db over. elim over [ inl none ↦ none | inr some ↦ some.4 ]);
+}
 
 -- a plain query changes nothing
 shown_unchanged : (sql : List ℕ) (params : Row) (old new : State) (rows : List Row) → IsPlain (understood old.now.schema sql) → Shown sql params old new rows → IsUnchanged old new

@@ -2,6 +2,7 @@ pub mod Adding
 pub mod Answers
 pub mod Casts
 pub mod Creating
+pub mod Failing
 pub mod Finding
 pub mod Keyed
 pub mod Posting

@@ -1,8 +1,9 @@
 //! The statements that read rows, each in a function of its own.
-ghost use Rattle.std.specs.Prelude.{IfOk};
+ghost use Rattle.std.specs.Prelude.{◌≡◌, IfOk};
 ghost use Rattle.sqlite.specs.Held.{state};
 ghost use Rattle.sqlite.specs.State.{HasCleanDisk};
-ghost use Rattle.ob_tables.specs.Steps.{Reads, Finds};
+ghost use Rattle.ob_tables.specs.Schema.{book_schema};
+ghost use Rattle.ob_tables.specs.Steps.{Reads, Finds, HasFaultCause};
 ghost use Rattle.ob_tables.specs.Rows.{is_reference};
 ghost use Rattle.ob_tables.specs.declared.table.Table.{Table as ATable};
 
@@ -20,6 +21,9 @@ pub fn find_commands<S: Alter>(
     ensures found { HasCleanDisk (state S.Store tx.new.conn.now)
         → IfOk result (λ rows. Finds (state S.Store tx.old.conn.now) ATable.Command
         (is_reference reference.now) rows.items) }
+    ensures cause { HasCleanDisk (state S.Store tx.new.conn.now)
+        → tx.old.conn.now.schema ≡ book_schema
+        → HasFaultCause (state S.Store tx.old.conn.now) (state S.Store tx.new.conn.now) result }
 {
     match tx.query_all(
         "SELECT id, ref, body FROM cmd WHERE ref = ?1",

@@ -3,6 +3,7 @@ ghost use Rattle.std.specs.Prelude.{◌≡◌, ◌<◌, ◌^◌, pos, IfSome};
 ghost use Rattle.sqlite.specs.Values.{bound};
 ghost use Rattle.sqlite_value.specs.Value.{owned};
 ghost use Rattle.sqlite.specs.declared.types.Value.TheVariants.{Int};
+ghost use Rattle.ob_base.specs.Stop.{out_of_memory};
 ghost use Rattle.ob_tables.specs.Steps.{Runs, IsStoreFault};
 ghost use Rattle.ob_tables.specs.Rows.{number, number_or_null, position_number};
 
@@ -26,7 +27,8 @@ pub(crate) fn run<S: Alter>(
 
 /// A failure of the store as a fault.
 pub fn stop_of(error: Error) -> Stop
-    ensures { IsStoreFault result }
+    ensures faults { IsStoreFault result }
+    ensures memory { error ≡ Error.SqliteFailure ErrorCode.OutOfMemory → result ≡ out_of_memory }
 {
     match error {
         Error::SqliteFailure(ErrorCode::OutOfMemory) => Stop::Fault(Fault::OutOfMemory),

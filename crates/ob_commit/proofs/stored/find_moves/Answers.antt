@@ -40,7 +40,7 @@ returns-in-Err-clause-reads g c =
         survives = c.query_all.ensures.survives;
         kept = λ clean. kept_unread old new _ _ c.in-Err.error (c.in-Err.ensures.err clean);
       };
-      faults = c.stop_of.ensures;
+      faults = c.stop_of.ensures.faults;
       live = λ clean. tt;
       stays = λ clean. tt;
     }

@@ -20,7 +20,7 @@ returns-in-Err g c =
               subst (λ h. KeepsCommit old (state g.S.Store h)) (sym same) (record { was_open = λ live. live; committed = λ live. refl })
         ];
       };
-      faults = c.stop_of.ensures;
+      faults = c.stop_of.ensures.faults;
       ran = λ clean. tt;
     }
 
