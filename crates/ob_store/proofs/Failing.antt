@@ -1,4 +1,4 @@
--- A store that failed at one step failed over all of them.
+-- Why a reading of the tables tells that the store failed.
 use Rattle.std.proofs.Common.{◌≡◌, ◌⊎◌, inl, inr, ℕ, ◌≤◌, List, [], length, Bool, true, false, true≢false, Result, Ok, Err, refl, sym, ap, subst, ◌∙◌, arith}
 use Rattle.std.specs.Prelude.{IsSome}
 use Rattle.sqlite_trees.specs.declared.error.StoreError.{StoreError}
@@ -16,25 +16,9 @@ use Rattle.ob_base.specs.declared.stop.Stop.{Stop}
 use Rattle.ob_base.specs.declared.stop.Stop.TheVariants.{Fault}
 use Rattle.ob_base.specs.declared.stop.Fault.TheVariants.{Store}
 use Rattle.ob_tables.specs.Steps.{HasFailed, HasFaultCause}
+use Rattle.ob_tables.proofs.Failing.{failed_after}
 use Rattle.ob_compare.specs.Reading.{bad_book}
 use Rattle.ob_store.specs.Keeping.{HasStoreCause, IsBroken}
-
--- a store that is open or not
-either_way : (b : Bool) → (b ≡ true) ⊎ (b ≡ false)
-either_way true = inl refl
-either_way false = inr refl
-
--- the steps before the one that failed
-pub failed_later : (old mid new : State) → Survives old mid (λ _. ⊥) → Survives mid new (λ _. ⊥) → HasCleanDisk mid → HasFailed mid new → HasFailed old new
-failed_later old mid new first second clean (inl disk) = inl (omega (arith, disk, first.counts))
-failed_later old mid new first second clean (inr (inr limit)) = inr (inr (subst IsSome first.limit limit))
-failed_later old mid new first second clean (inr (inl shut)) = elim (either_way old.is_open) [
-  | inr was ↦ inr (inl was)
-  | inl live ↦ elim (first.closes clean live) [
-    | inl still ↦ absurd (true≢false (sym still ∙ shut))
-    | inr disk ↦ inl (omega (arith, disk, second.counts))
-  ]
-]
 
 -- over a file that isn't broken, and over one that may be
 pub as_store_cause : {X : Type 0} (old new : State) (r : Result X Stop) → HasFaultCause old new r → HasStoreCause old new r
@@ -45,7 +29,7 @@ as_store_cause old new (Err stop) cause = λ is. inl (cause is)
 pub cause_later : {X : Type 0} (old mid new : State) (r : Result X Stop) → Survives old mid (λ _. ⊥) → Survives mid new (λ _. ⊥) → HasCleanDisk mid → mid.now ≡ old.now → HasStoreCause mid new r → HasStoreCause old new r
 cause_later old mid new (Ok x) first second clean same cause = tt
 cause_later old mid new (Err stop) first second clean same cause = λ is. elim (cause is) [
-  | inl failed ↦ inl (failed_later old mid new first second clean failed)
+  | inl failed ↦ inl (failed_after old mid new _ _ first clean second failed)
   | inr broken ↦ inr (subst (λ (d : Database). IsBroken d.trees) same broken)
 ]
 
