@@ -1,6 +1,7 @@
 -- A listing whose text was prepared and asked, and whose rows were then read.
-use Rattle.std.proofs.Common.{◌≡◌, ℕ, List, [], inl, arith, IsTrue, OnOk}
+use Rattle.std.proofs.Common.{◌≡◌, ℕ, List, [], inl, ap, ◌∙◌, arith, IsTrue, OnOk}
 use Rattle.std.specs.Prelude.{Result}
+use Rattle.sqlite.specs.Effect.{Database}
 use Rattle.sqlite.specs.Held.{Held, state}
 use Rattle.sqlite.specs.Given.{HasBegun, HasGiven}
 use Rattle.sqlite.specs.State.{HasCleanDisk, IsUnchanged, Survives, CommitsShowing}
@@ -11,6 +12,8 @@ use Rattle.ob_tables.specs.Versions.{schema_of}
 use Rattle.ob_tables.specs.declared.version.Version.{Version}
 use Rattle.ob_tables.specs.declared.version.Version.TheVariants.{Two}
 use Rattle.ob_tables.specs.Rows.{Tables}
+use Rattle.ob_tables.specs.Steps.{HasFaultCause}
+use Rattle.ob_tables.proofs.Failing.{cause_after}
 use Rattle.ob_commit.specs.Keeps.{KeepsIn}
 use Rattle.ob_commit.proofs.Steps.{on_ok}
 use Rattle.ob_compare.specs.Faults.{IsMissed}
@@ -53,6 +56,14 @@ module _ {S : Type 0} {g : Ghosts S} {l : Listing} {old mid start last : Held S}
       on_ok r same (λ step v has.
       let b = begun_read clean v has in
       unchanged_then (state g old) (state g start) (state g last) b.1 (step b.1.0.is_open))
+
+  -- what the rows tell of a failure holds of the whole
+  pub cause_read : {X : Type 0} (r : Result X Stop) → HasCleanDisk (state g last) → (v : Version) → (state g old).now.schema ≡ schema_of v
+      → (IsTrue (state g start).is_open → (state g start).now.schema ≡ schema_of v → HasGiven g l.text [] start [] → HasFaultCause (state g start) (state g last) r) → HasFaultCause (state g old) (state g last) r
+  cause_read r clean v has told =
+      let b = begun_read clean v has in
+      let first = listing_quiet l (means Two) (state g old) (state g mid) (state g start) text it.prepared it.first it.asked in
+      cause_after (state g old) (state g start) (state g last) _ _ r first (clean_start clean) it.rest (told b.1.0.is_open (ap (λ (d : Database). d.schema) b.1.0.now_is ∙ has) b.0)
 
   -- a store keeps what it kept
   pub kept_read : (v : Version) (t : Tables) → (KeepsIn v (state g start) t → KeepsIn v (state g last) t) → KeepsIn v (state g old) t → KeepsIn v (state g last) t

@@ -2,6 +2,7 @@ pub mod Asking
 pub mod Filing
 pub mod Headings
 mod Asked
+mod Failing
 mod Kept
 mod Passing
 pub mod Listing

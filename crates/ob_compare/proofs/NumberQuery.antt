@@ -1,5 +1,5 @@
 -- What the query of the numbers of the rows of amounts answers.
-use Rattle.std.proofs.Common.{◌≡◌, ℕ, zero, suc, ◌+◌, ◌<◌, List, [], ◌∷◌, ◌++◌, map, filter, length, Option, IsTrue, true, false, refl, sym, ap, subst, ◌∙◌, ℤ, slice_index_or, true≢false}
+use Rattle.std.proofs.Common.{◌≡◌, ℕ, zero, suc, ◌+◌, ◌<◌, List, [], ◌∷◌, ◌++◌, map, filter, length, Option, IsTrue, IsSome, true, false, inl, inr, lit≤, refl, sym, ap, subst, ◌∙◌, ℤ, slice_index_or, true≢false}
 use Rattle.std.specs.Prelude.{◌↔◌}
 use Rattle.std.specs.List.{AllByRecursion}
 use Rattle.std.specs.List.Sorted.{IsPermutation, IsSorted}
@@ -12,15 +12,21 @@ use Rattle.sqlite.specs.Order.{Row, column, value_cmp}
 use Rattle.sqlite.specs.Tree.{rowid}
 use Rattle.sqlite.specs.Query.{Output, output, output_cmp}
 use Rattle.sqlite.specs.Term.{col}
-use Rattle.sqlite.specs.Listing.{understood, reads_listing}
-use Rattle.sqlite.specs.Effect.{Database}
+use Rattle.sqlite.specs.Schema.{Schema}
+use Rattle.sqlite.specs.Listing.{IsSourceOf, understood, reads_listing}
+use Rattle.sqlite.specs.Effect.{Database, RefusesToRead}
+use Rattle.sqlite.specs.declared.error.Error.{Error}
+use Rattle.sqlite_sql.specs.Program.{ProgramOverflows}
+use Rattle.sqlite_trees.specs.Tree.{Trees}
 use Rattle.sqlite.proofs.Callers.{IsPlain, command_of}
 use Rattle.sqlite_tied.specs.Compute.{everything}
 use Rattle.ob_tables.specs.Versions.{schema_of}
 use Rattle.ob_tables.specs.declared.version.Version.{Version}
 use Rattle.ob_tables.specs.declared.version.Version.TheVariants.{One, Two}
+use Rattle.ob_tables.specs.Queries.{IsAlwaysAnswered}
 use Rattle.ob_tables.specs.Rows.{AreApart}
 use Rattle.ob_tables.proofs.Answers.{answered_in_order}
+use Rattle.ob_tables.proofs.Failing.{IsUntyped, query_accepted}
 use Rattle.ob_compare.specs.Apart.{IsAbove, ListsNumbers, number_command, number_query, number_text}
 use Rattle.ob_compare.specs.Listing.{ShowsNoWrite, upward}
 use Rattle.ob_compare.proofs.NoWrite.{shows_no_write}
@@ -45,6 +51,18 @@ pub numbers_unlisted : (v : Version) → reads_listing (schema_of v) number_text
 unfolding understood everything
 numbers_unlisted One = refl
 numbers_unlisted Two = refl
+
+no_sum : (db : Trees) → ¬ (ProgramOverflows db [] [] [] number_query)
+no_sum db (inl none) = none
+no_sum db (inr some) = some.4
+
+number_accepted : (schema : Schema) → ¬ (IsUntyped schema (record { lets = []; body = number_query }) []) → (limit : Option ℕ) (now db : Database) (e : Error) → now.schema ≡ schema → IsSourceOf false now db → RefusesToRead limit number_command db [] e → IsSome limit
+number_accepted schema typed = query_accepted schema (record { lets = []; body = number_query }) [] typed no_sum
+
+pub numbers_answered : (v : Version) → IsAlwaysAnswered (schema_of v) number_text []
+unfolding understood everything
+numbers_answered One = record { whole = lit≤ tt; given = refl; timeless = refl; plain = refl; accepted = number_accepted (schema_of One) true≢false }
+numbers_answered Two = record { whole = lit≤ tt; given = refl; timeless = refl; plain = refl; accepted = number_accepted (schema_of Two) true≢false }
 
 -- ---- an answer is the numbers of the rows, in an order that doesn't fall
 abbrev IsBoth : Output → Type 0

@@ -11,13 +11,11 @@ use Rattle.std.proofs.lemmas.List.{append-nil, length-map}
 use Rattle.std.proofs.lemmas.List.Sorted.{IsPermutation-sym, IsPermutation-trans}
 use Rattle.sqlite.specs.Order.{Row}
 use Rattle.sqlite.specs.Query.{output_cmp}
-use Rattle.sqlite.specs.Listing.{understood}
 use Rattle.sqlite.specs.Effect.{Database}
 use Rattle.sqlite.specs.Held.{Held, state}
 use Rattle.sqlite.specs.Given.{HasGiven}
 use Rattle.sqlite_trees.specs.declared.store.Store.{Ghosts}
 use Rattle.sqlite_value.proofs.OrderLemmas.{value_cmp-Int, then-Equal}
-use Rattle.sqlite_tied.specs.Compute.{everything}
 use Rattle.ob_post.specs.Keys.{dim_number}
 use Rattle.ob_state.specs.State.{BookState}
 use Rattle.ob_state.specs.Next.{next}
@@ -35,16 +33,15 @@ use Rattle.ob_compare.specs.Listing.{IsListingOver, Lists, IsOff, Goes, Ends, li
 use Rattle.ob_compare.specs.Moves.{moved_listing, HasMoved, commands_of}
 use Rattle.ob_compare.specs.Versioned.{accepts_in, next_all_in}
 use Rattle.ob_compare.proofs.Same.{rises_mapped}
-use Rattle.ob_compare.proofs.NoWrite.{shows_no_write}
 use Rattle.ob_compare.proofs.Listing.{lists_rows, append_last, no_more, row_on, row_off}
+use Rattle.ob_compare.proofs.Selects.{is_listing}
 use Rattle.ob_compare.proofs.Order.{Numbered, numbered_row, numbered_cmp, numbered, rows_are, rise}
 use Rattle.ob_compare.proofs.Versions.{led, led_here}
 
 -- the text means one query at the schemas of both versions
 pub moved_is : (v : Version) → IsListingOver (schema_of v) moved_listing
-unfolding understood everything
-moved_is One = record { means = refl; plain = (refl, refl); unlisted = refl; silent = shows_no_write moved_listing.text (λ schema base. refl) }
-moved_is Two = record { means = refl; plain = (refl, refl); unlisted = refl; silent = shows_no_write moved_listing.text (λ schema base. refl) }
+moved_is One = is_listing One MovedTable tt
+moved_is Two = is_listing Two MovedTable tt
 
 -- ---- the rows rise by their key
 same_pos : (m n : ℕ) → int_cmp (pos m) (pos n) ≡ nat_cmp m n

@@ -17,6 +17,7 @@ use Rattle.sqlite_resolve.specs.declared.error.CompileError.{CompileError}
 use Rattle.sqlite.specs.Held.{Held, state}
 use Rattle.sqlite.specs.Given.{HasGiven, IsPlain}
 use Rattle.ob_book.specs.Acts.{Referenced}
+use Rattle.ob_tables.specs.Queries.{IsAlwaysAnswered}
 use Rattle.ob_tables.specs.Rows.{tree_of, places_of}
 use Rattle.ob_tables.specs.declared.table.Table.{Table}
 use Rattle.ob_compare.specs.declared.filed.Filed.{Filed}
@@ -63,6 +64,8 @@ pub record IsListingOver (schema : Schema) (l : Listing) : Type 0 where
   pub plain : IsPlain (understood schema l.text)
   pub unlisted : reads_listing schema l.text ≡ false
   pub silent : ShowsNoWrite l.text
+  -- and no database of the schema refuses it
+  pub answered : IsAlwaysAnswered schema l.text []
 
 -- the key of a row, and the row
 abbrev pub keyed : Listing → Row → Output

@@ -52,6 +52,10 @@ fn next_number<S: Alter>(rows: &mut Rows<'_, S>, last: Option<i64>) -> Result<Ne
     ensures mode { rows.old.conn.now.in_transaction ≡ false
         → rows.new.conn.now.in_transaction ≡ false }
     ensures faults { IfErr result IsStoreFault }
+    ensures cause { HasCleanDisk (state S.Store rows.new.conn.now)
+        → (v : Version) → (state S.Store rows.old.conn.now).now.schema ≡ schema_of v
+        → (given : List ARow) → HasGiven S.Store number_text [] rows.old.conn.now given
+        → HasFaultCause (state S.Store rows.old.conn.now) (state S.Store rows.new.conn.now) result }
     ensures kept { (v : Version) (t : Tables) → KeepsIn v (state S.Store rows.old.conn.now) t
         → KeepsIn v (state S.Store rows.new.conn.now) t }
     ensures above { IfOk result (IsNextAbove last) }
@@ -81,6 +85,11 @@ fn rise<S: Alter>(rows: &mut Rows<'_, S>) -> Result<bool, Stop>
     ensures mode { rows.old.conn.now.in_transaction ≡ false
         → rows.new.conn.now.in_transaction ≡ false }
     ensures faults { IfErr result IsStoreFault }
+    ensures cause { HasCleanDisk (state S.Store rows.new.conn.now)
+        → IsTrue (state S.Store rows.old.conn.now).is_open
+        → (v : Version) → (state S.Store rows.old.conn.now).now.schema ≡ schema_of v
+        → HasGiven S.Store number_text [] rows.old.conn.now []
+        → HasFaultCause (state S.Store rows.old.conn.now) (state S.Store rows.new.conn.now) result }
     ensures kept { (v : Version) (t : Tables) → KeepsIn v (state S.Store rows.old.conn.now) t
         → KeepsIn v (state S.Store rows.new.conn.now) t }
     ensures same { HasCleanDisk (state S.Store rows.new.conn.now) → OnOk result

@@ -106,6 +106,10 @@ fn next_filed<S: Alter>(
     ensures mode { rows.old.conn.now.in_transaction ≡ false
         → rows.new.conn.now.in_transaction ≡ false }
     ensures faults { IfErr result IsStoreFault }
+    ensures cause { HasCleanDisk (state S.Store rows.new.conn.now)
+        → (v : AVersion) → (state S.Store rows.old.conn.now).now.schema ≡ schema_of v
+        → (given : List ARow) → HasGiven S.Store command_listing.text [] rows.old.conn.now given
+        → HasFaultCause (state S.Store rows.old.conn.now) (state S.Store rows.new.conn.now) result }
     ensures valid { IfOk result (IsNext version last) }
     ensures same { HasCleanDisk (state S.Store rows.new.conn.now)
         → OnOk result (IsUnchanged (state S.Store rows.old.conn.now)
@@ -149,6 +153,11 @@ fn filed_rows<S: Alter>(
     ensures mode { rows.old.conn.now.in_transaction ≡ false
         → rows.new.conn.now.in_transaction ≡ false }
     ensures faults { IfErr result IsStoreFault }
+    ensures cause { HasCleanDisk (state S.Store rows.new.conn.now)
+        → IsTrue (state S.Store rows.old.conn.now).is_open
+        → (v : AVersion) → (state S.Store rows.old.conn.now).now.schema ≡ schema_of v
+        → HasGiven S.Store command_listing.text [] rows.old.conn.now []
+        → HasFaultCause (state S.Store rows.old.conn.now) (state S.Store rows.new.conn.now) result }
     ensures valid { IfOk result (AreFiled version) }
     ensures same { HasCleanDisk (state S.Store rows.new.conn.now) → OnOk result
         (IsTrue (state S.Store rows.old.conn.now).is_open

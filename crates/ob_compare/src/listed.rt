@@ -9,7 +9,7 @@ ghost use Rattle.sqlite.specs.State.{HasCleanDisk, IsUnchanged, Survives};
 ghost use Rattle.ob_tables.specs.Versions.{Has, schema_of};
 ghost use Rattle.ob_tables.specs.declared.version.Version.{Version};
 ghost use Rattle.ob_tables.specs.Rows.{Columns, Tables};
-ghost use Rattle.ob_tables.specs.Steps.{IsStoreFault};
+ghost use Rattle.ob_tables.specs.Steps.{HasFaultCause, IsStoreFault};
 ghost use Rattle.ob_tables.specs.declared.table.Table.{Table as ATable};
 ghost use Rattle.ob_commit.specs.Keeps.{KeepsIn};
 ghost use Rattle.ob_record.specs.Tables.{Shows};
@@ -81,6 +81,10 @@ fn goes_on<S: Alter, L: Listed>(rows: &mut Rows<'_, S>, listed: &L, at: usize) -
     ensures mode { rows.old.conn.now.in_transaction ≡ false
         → rows.new.conn.now.in_transaction ≡ false }
     ensures faults { IfErr result IsStoreFault }
+    ensures cause { HasCleanDisk (state S.Store rows.new.conn.now) → (v : Version) → Has v L.table
+        → rows.old.conn.now.schema ≡ schema_of v → (given : List ARow)
+        → HasGiven S.Store (select_of L.table) [] rows.old.conn.now given
+        → HasFaultCause (state S.Store rows.old.conn.now) (state S.Store rows.new.conn.now) result }
     ensures same { HasCleanDisk (state S.Store rows.new.conn.now)
         → OnOk result (IsTrue (state S.Store rows.old.conn.now).is_open
         → IsUnchanged (state S.Store rows.old.conn.now) (state S.Store rows.new.conn.now)) }
@@ -110,6 +114,11 @@ fn follows<S: Alter, L: Listed>(rows: &mut Rows<'_, S>, listed: &L) -> Result<bo
     ensures mode { rows.old.conn.now.in_transaction ≡ false
         → rows.new.conn.now.in_transaction ≡ false }
     ensures faults { IfErr result IsStoreFault }
+    ensures cause { HasCleanDisk (state S.Store rows.new.conn.now)
+        → IsTrue (state S.Store rows.old.conn.now).is_open → (v : Version) → Has v L.table
+        → rows.old.conn.now.schema ≡ schema_of v → (given : List ARow)
+        → HasGiven S.Store (select_of L.table) [] rows.old.conn.now given
+        → HasFaultCause (state S.Store rows.old.conn.now) (state S.Store rows.new.conn.now) result }
     ensures same { HasCleanDisk (state S.Store rows.new.conn.now)
         → OnOk result (IsTrue (state S.Store rows.old.conn.now).is_open
         → IsUnchanged (state S.Store rows.old.conn.now) (state S.Store rows.new.conn.now)) }
@@ -139,6 +148,11 @@ fn matches<S: Alter, L: Listed>(rows: &mut Rows<'_, S>, listed: &L) -> Result<bo
     ensures mode { rows.old.conn.now.in_transaction ≡ false
         → rows.new.conn.now.in_transaction ≡ false }
     ensures faults { IfErr result IsStoreFault }
+    ensures cause { HasCleanDisk (state S.Store rows.new.conn.now)
+        → IsTrue (state S.Store rows.old.conn.now).is_open → (v : Version) → Has v L.table
+        → rows.old.conn.now.schema ≡ schema_of v
+        → HasGiven S.Store (select_of L.table) [] rows.old.conn.now []
+        → HasFaultCause (state S.Store rows.old.conn.now) (state S.Store rows.new.conn.now) result }
     ensures same { HasCleanDisk (state S.Store rows.new.conn.now)
         → OnOk result (IsTrue (state S.Store rows.old.conn.now).is_open
         → IsUnchanged (state S.Store rows.old.conn.now) (state S.Store rows.new.conn.now)) }

@@ -64,6 +64,10 @@ fn next_is<S: Alter>(rows: &mut Rows<'_, S>, no: u32, it: &Moved) -> Result<bool
     ensures mode { rows.old.conn.now.in_transaction ≡ false
         → rows.new.conn.now.in_transaction ≡ false }
     ensures faults { IfErr result IsStoreFault }
+    ensures cause { HasCleanDisk (state S.Store rows.new.conn.now)
+        → (v : AVersion) → (state S.Store rows.old.conn.now).now.schema ≡ schema_of v
+        → (given : List ARow) → HasGiven S.Store moved_listing.text [] rows.old.conn.now given
+        → HasFaultCause (state S.Store rows.old.conn.now) (state S.Store rows.new.conn.now) result }
     ensures same { HasCleanDisk (state S.Store rows.new.conn.now)
         → OnOk result (IsUnchanged (state S.Store rows.old.conn.now)
         (state S.Store rows.new.conn.now)) }
@@ -90,6 +94,11 @@ fn matches<S: Alter>(rows: &mut Rows<'_, S>, no: u32, moves: &[Moved]) -> Result
     ensures mode { rows.old.conn.now.in_transaction ≡ false
         → rows.new.conn.now.in_transaction ≡ false }
     ensures faults { IfErr result IsStoreFault }
+    ensures cause { HasCleanDisk (state S.Store rows.new.conn.now)
+        → IsTrue (state S.Store rows.old.conn.now).is_open
+        → (v : AVersion) → (state S.Store rows.old.conn.now).now.schema ≡ schema_of v
+        → (given : List ARow) → HasGiven S.Store moved_listing.text [] rows.old.conn.now given
+        → HasFaultCause (state S.Store rows.old.conn.now) (state S.Store rows.new.conn.now) result }
     ensures same { HasCleanDisk (state S.Store rows.new.conn.now)
         → OnOk result (IsTrue (state S.Store rows.old.conn.now).is_open
         → IsUnchanged (state S.Store rows.old.conn.now) (state S.Store rows.new.conn.now)) }
@@ -137,6 +146,11 @@ fn takes_on<S: Alter, T: Timeline>(
     ensures mode { rows.old.conn.now.in_transaction ≡ false
         → rows.new.conn.now.in_transaction ≡ false }
     ensures faults { IfErr result IsStoreFault }
+    ensures cause { HasCleanDisk (state S.Store rows.new.conn.now)
+        → IsTrue (state S.Store rows.old.conn.now).is_open
+        → (v : AVersion) → (state S.Store rows.old.conn.now).now.schema ≡ schema_of v
+        → (given : List ARow) → HasGiven S.Store moved_listing.text [] rows.old.conn.now given
+        → HasFaultCause (state S.Store rows.old.conn.now) (state S.Store rows.new.conn.now) result }
     ensures same { HasCleanDisk (state S.Store rows.new.conn.now)
         → OnOk result (IsTrue (state S.Store rows.old.conn.now).is_open
         → IsUnchanged (state S.Store rows.old.conn.now) (state S.Store rows.new.conn.now)) }
@@ -183,6 +197,11 @@ fn follows<S: Alter, T: Timeline, P: Progress>(
     ensures mode { rows.old.conn.now.in_transaction ≡ false
         → rows.new.conn.now.in_transaction ≡ false }
     ensures faults { IfErr result IsStoreFault }
+    ensures cause { HasCleanDisk (state S.Store rows.new.conn.now)
+        → IsTrue (state S.Store rows.old.conn.now).is_open
+        → (v : AVersion) → (state S.Store rows.old.conn.now).now.schema ≡ schema_of v
+        → HasGiven S.Store moved_listing.text [] rows.old.conn.now []
+        → HasFaultCause (state S.Store rows.old.conn.now) (state S.Store rows.new.conn.now) result }
     ensures same { HasCleanDisk (state S.Store rows.new.conn.now)
         → OnOk result (IsTrue (state S.Store rows.old.conn.now).is_open
         → IsUnchanged (state S.Store rows.old.conn.now) (state S.Store rows.new.conn.now)) }

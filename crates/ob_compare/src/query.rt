@@ -1,11 +1,13 @@
 //! Queries of the rows of a table.
-ghost use Rattle.std.specs.Prelude.{◌≡◌, ◌≢◌, ◌↔◌, false, IfOk, IfErr};
+ghost use Rattle.std.specs.Prelude.{◌≡◌, ◌≢◌, ◌↔◌, false, [], IfOk, IfErr};
 ghost use Rattle.sqlite.specs.Held.{state};
 ghost use Rattle.sqlite.specs.Schema.{Schema};
 ghost use Rattle.sqlite.specs.State.{HasCleanDisk, IsUnchanged, Survives};
 ghost use Rattle.ob_base.specs.Stop.{out_of_memory};
 ghost use Rattle.ob_tables.specs.declared.version.Version.{Version};
 ghost use Rattle.ob_tables.specs.Rows.{Tables};
+ghost use Rattle.ob_tables.specs.Queries.{IsAlwaysAnswered};
+ghost use Rattle.ob_tables.specs.Steps.{HasFaultCause};
 ghost use Rattle.ob_tables.specs.Versions.{schema_of};
 ghost use Rattle.ob_commit.specs.Keeps.{KeepsIn};
 ghost use Rattle.ob_compare.specs.Listing.{Listing, IsListingOver, Lists};
@@ -36,6 +38,8 @@ pub(crate) fn prepare<S: Alter>(conn: &mut Connection<S>, sql: &str) -> Result<S
     ensures kept { (v : Version) (t : Tables) → KeepsIn v (state S.Store conn.old) t
         → KeepsIn v (state S.Store conn.new) t }
     ensures faults { IfErr result IsReadFault }
+    ensures cause { HasCleanDisk (state S.Store conn.new) → IsAlwaysAnswered conn.old.schema sql.now []
+        → HasFaultCause (state S.Store conn.old) (state S.Store conn.new) result }
     ensures foreign { HasCleanDisk (state S.Store conn.new)
         → IfErr result (λ stop. stop ≡ bad_book → HasNoMeaning conn.old.schema sql.now
         × IsUnchanged (state S.Store conn.old) (state S.Store conn.new)) }
@@ -56,6 +60,8 @@ pub(crate) fn list_all<S: Alter>(conn: &mut Connection<S>, sql: &str) -> Result<
     ensures mode { conn.old.in_transaction ≡ false → conn.new.in_transaction ≡ false }
     ensures clean { HasCleanDisk (state S.Store conn.new) → HasCleanDisk (state S.Store conn.old) }
     ensures faults { IfErr result IsReadFault }
+    ensures cause { HasCleanDisk (state S.Store conn.new) → IsAlwaysAnswered conn.old.schema sql.now []
+        → HasFaultCause (state S.Store conn.old) (state S.Store conn.new) result }
     ensures foreign { HasCleanDisk (state S.Store conn.new)
         → IfErr result (λ stop. stop ≡ bad_book → (schema : Schema) (l : Listing)
         → IsListingOver schema l → l.text ≡ sql.now → conn.old.schema ≢ schema) }

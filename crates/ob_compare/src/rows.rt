@@ -1,5 +1,5 @@
 //! Rows of a query, one after another, against what is expected.
-ghost use Rattle.std.specs.Prelude.{◌≡◌, ◌↔◌, false, List, [], map, IsTrue, IfOk, IfErr, OnOk};
+ghost use Rattle.std.specs.Prelude.{◌≡◌, ◌↔◌, ℕ, false, List, [], map, IsTrue, IfOk, IfErr, OnOk};
 ghost use Rattle.sqlite.specs.Order.{Row as ARow};
 ghost use Rattle.sqlite.specs.Held.{state};
 ghost use Rattle.sqlite.specs.Schema.{Schema};
@@ -8,7 +8,8 @@ ghost use Rattle.sqlite.specs.State.{HasCleanDisk, IsUnchanged, Survives};
 ghost use Rattle.sqlite_value.specs.Value.{owned};
 ghost use Rattle.ob_tables.specs.declared.version.Version.{Version};
 ghost use Rattle.ob_tables.specs.Rows.{Tables};
-ghost use Rattle.ob_tables.specs.Steps.{IsStoreFault};
+ghost use Rattle.ob_tables.specs.Queries.{IsAlwaysAnswered};
+ghost use Rattle.ob_tables.specs.Steps.{HasFaultCause, IsStoreFault};
 ghost use Rattle.ob_commit.specs.Keeps.{KeepsIn};
 ghost use Rattle.ob_compare.specs.Listing.{Listing, IsListingOver, Ends};
 
@@ -46,6 +47,10 @@ pub(crate) fn advance<S: Alter>(rows: &mut Rows<'_, S>) -> Result<(), Stop>
     ensures mode { rows.old.conn.now.in_transaction ≡ false
         → rows.new.conn.now.in_transaction ≡ false }
     ensures faults { IfErr result IsStoreFault }
+    ensures cause { HasCleanDisk (state S.Store rows.new.conn.now) → (text : List ℕ)
+        → IsAlwaysAnswered rows.old.conn.now.schema text [] → (given : List ARow)
+        → HasGiven S.Store text [] rows.old.conn.now given
+        → HasFaultCause (state S.Store rows.old.conn.now) (state S.Store rows.new.conn.now) result }
     ensures same { HasCleanDisk (state S.Store rows.new.conn.now)
         → OnOk result (IsUnchanged (state S.Store rows.old.conn.now)
         (state S.Store rows.new.conn.now)) }
@@ -69,6 +74,10 @@ pub(crate) fn is_over<S: Alter>(rows: &mut Rows<'_, S>) -> Result<bool, Stop>
     ensures mode { rows.old.conn.now.in_transaction ≡ false
         → rows.new.conn.now.in_transaction ≡ false }
     ensures faults { IfErr result IsStoreFault }
+    ensures cause { HasCleanDisk (state S.Store rows.new.conn.now) → (text : List ℕ)
+        → IsAlwaysAnswered rows.old.conn.now.schema text [] → (given : List ARow)
+        → HasGiven S.Store text [] rows.old.conn.now given
+        → HasFaultCause (state S.Store rows.old.conn.now) (state S.Store rows.new.conn.now) result }
     ensures same { HasCleanDisk (state S.Store rows.new.conn.now)
         → OnOk result (IsUnchanged (state S.Store rows.old.conn.now)
         (state S.Store rows.new.conn.now)) }

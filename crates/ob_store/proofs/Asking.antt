@@ -1,5 +1,5 @@
 -- A store that is asked keeps on what it kept, and what it answers comes of an open one.
-use Rattle.std.proofs.Common.{◌≡◌, ◌≢◌, ◌⊎◌, inl, inr, [], Result, Ok, Err, IsTrue, refl, sym, ap, subst, ◌∙◌, arith}
+use Rattle.std.proofs.Common.{◌≡◌, ◌≢◌, ◌⊎◌, inl, inr, [], Result, Ok, Err, IsTrue, refl, sym, ap, subst, ◌∙◌}
 use Rattle.std.specs.Prelude.{⊤, OnOk}
 use Rattle.sqlite_trees.specs.declared.store.Store.{Ghosts}
 use Rattle.sqlite.specs.Tree.{Trees}
@@ -24,6 +24,7 @@ use Rattle.ob_tables.specs.Rows.{Tables}
 use Rattle.ob_tables.specs.Steps.{HasFailed}
 use Rattle.ob_tables.specs.Versions.{HoldsIn, schema_of}
 use Rattle.ob_tables.specs.declared.version.Version.{Version}
+use Rattle.ob_tables.specs.declared.table.Table.TheVariants.{Meta}
 use Rattle.ob_tables.specs.declared.version.Version.TheVariants.{One, Two}
 use Rattle.ob_commit.specs.Keeps.{IsSettledIn, KeepsEitherIn, KeepsIn}
 use Rattle.ob_commit.proofs.Commits.{settled_as}
@@ -31,16 +32,20 @@ use Rattle.ob_record.specs.Tables.{tables_of}
 use Rattle.ob_compare.specs.Faults.{HasNoMeaning, IsMissed, IsReadFault, bad_book}
 use Rattle.ob_compare.specs.Reading.{IsInputError}
 use Rattle.ob_compare.specs.Version.{HasVersion, IsOfBook}
+use Rattle.ob_tables.proofs.Failing.{not_run, stop_cause}
+use Rattle.ob_compare.specs.Listing.{IsListingOver}
 use Rattle.ob_compare.proofs.Asking.{missed, not_understood}
+use Rattle.ob_compare.proofs.Failing.{answered_over}
 use Rattle.ob_compare.proofs.Headings.{meta_listing, no_meaning}
 use Rattle.ob_compare.proofs.Listing.{still_then}
+use Rattle.ob_compare.proofs.Selects.{is_listing}
 use Rattle.ob_parts.specs.OldTables.{old_tables_of}
 use Rattle.ob_store.specs.Differing.{NoneSo}
 use Rattle.ob_store.specs.Finding.{Finds}
 use Rattle.ob_store.specs.Keeping.{Answers, HasStoreCause, IsAnswer}
 use Rattle.ob_store.specs.Shapes.{IsShapeOf}
 use Rattle.ob_store.specs.Versions.{AnyTrees, Asks, Looks, Tells}
-use Rattle.ob_store.proofs.Failing.{IsWhole, cause_later, not_run}
+use Rattle.ob_store.proofs.Failing.{cause_later}
 use Rattle.ob_store.proofs.Handing.{spared_unread}
 use Rattle.ob_store.proofs.Reading.{if_err, if_ok, no_more, on_ok}
 use Rattle.ob_store.proofs.Telling.{unversioned}
@@ -78,10 +83,9 @@ unfolding understood everything
 plain_heading One = (refl, refl)
 plain_heading Two = (refl, refl)
 
-whole_heading : (v : Version) → IsWhole meta_listing.text (understood (schema_of v) meta_listing.text)
-unfolding understood everything
-whole_heading One = (omega arith, refl, refl)
-whole_heading Two = (omega arith, refl, refl)
+meta_is : (v : Version) → IsListingOver (schema_of v) meta_listing
+meta_is One = is_listing One Meta tt
+meta_is Two = is_listing Two Meta tt
 
 has_meaning : (v : Version) (schema : Schema) → schema ≡ schema_of v → HasNoMeaning schema meta_listing.text → ⊥
 has_meaning v schema is none = go (understood (schema_of v) meta_listing.text) refl (plain_heading v)
@@ -104,7 +108,7 @@ module _ (old new : State) (e : Error) (fails : IsNotRun old new meta_listing.te
 
   -- over the tables of a version the store failed
   pub looked_failed : (v : Version) → old.now.schema ≡ schema_of v → (stop : Stop) → (e ≡ SqliteFailure code.OutOfMemory → stop ≡ out_of_memory) → stop ≡ Fault Store → HasFailed old new
-  looked_failed v schema stop memory is = not_run old new e stop memory is meta_listing.text (subst (λ s. IsWhole meta_listing.text (understood s meta_listing.text)) (sym schema) (whole_heading v)) fails
+  looked_failed v schema stop memory is = stop_cause old new e stop memory (not_run old new meta_listing.text [] e (answered_over meta_listing (meta_is v) schema) fails) is
 
   -- nor is an empty database one
   pub looked_empty : (stop : Stop) → (IsInputError e → stop ≡ bad_book) → (e ≡ SqliteFailure code.OutOfMemory → stop ≡ out_of_memory) → old.now.schema ≡ no_schema → IsMissed {X = ⊤} old new (Err stop)

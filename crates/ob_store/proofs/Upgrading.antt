@@ -391,10 +391,10 @@ module _ {S : Type 0} (g : Ghosts S) where
 
       -- the tables were being made those of version 2
       failed_cause : HasCleanDisk (state g new) → (v : Version) → old.schema ≡ schema_of v → HasUpgradeCause g old new (Err stop)
-      failed_cause clean One schema is =
+      failed_cause clean One schema store =
           let it = found old mid is other told end up second new clean_then survives (Err stop) upgrades clean schema in
           inr (schema, (it.0, it.1))
-      failed_cause clean Two schema is = absurd (not_current old mid is other told end up second new clean_then survives (Err stop) upgrades clean schema)
+      failed_cause clean Two schema store = absurd (not_current old mid is other told end up second new clean_then survives (Err stop) upgrades clean schema)
 
       pub failed : IsStoreFault stop → Migrates g old new (Err stop)
       failed fault = record {

@@ -39,6 +39,10 @@ all_moves b = flat_map (moves_of b) (range_with_len 1 (length b.accepted))
 abbrev pub row_of_move : Numbered → Columns
 row_of_move x = moved_row x.0 (dim_number x.1.dim) x.1.key x.1.delta
 
+-- the row is that of an amount, with a number of 32 bits and a key of 16
+abbrev pub IsMoveRow : Row → Type 0
+IsMoveRow row = (it : Numbered) × (it.0 < 2 ^ 32) × (it.1.key < 2 ^ 16) × (row ≡ row_of_move it)
+
 -- their rows are those of the table of moved amounts, in order
 abbrev pub MovesAreRows : Type 0
 MovesAreRows = (b : ActState) → map row_of_move (all_moves b) ≡ tables_of b MovedTable
@@ -99,16 +103,22 @@ module _ {V : Type 0} (takes : Takes V) where
   HandsOut was is b (Err (halts.Sink fault)) = FailsAmong was (all_moves b) fault is
   HandsOut was is b (Err (halts.Store stop)) = TakesFront was (all_moves b) is
 
+-- where the store is told to have failed, it has
+abbrev pub HasHaltCause : State → State → Result ℕ Halt → Type 0
+HasHaltCause old new (Ok count) = ⊤
+HasHaltCause old new (Err (halts.Sink fault)) = ⊤
+HasHaltCause old new (Err (halts.Store stop)) = stop ≡ Fault Store → HasFailed old new
+
 -- what comes after the rows that were given: that of an amount, or none
 abbrev pub ComesNext : {S : Type 0} (g : Ghosts S) → Option Numbered → Held S → List Row → Type 0
 ComesNext g (Some x) new given = HasGiven g moved_listing.text [] new (given ++ row_of_move x ∷ [])
 ComesNext g None new given = Lists moved_listing (state g new).now given
 
 module _ {S : Type 0} (g : Ghosts S) where
-  -- memory was refused, and nothing has changed; or the store failed, and there is no book
+  -- memory was refused, and nothing has changed; or the store failed, for a cause, and there is no book
   abbrev pub StoreFails : KeeperValue S → KeeperValue S → ActState → AFault → Type 0
   StoreFails old new b OutOfMemory = Ties g new b × (new.book ≡ old.book)
-  StoreFails old new b Store = KeepsBook (state g new.conn) b × (new.book ≡ None)
+  StoreFails old new b Store = KeepsBook (state g new.conn) b × (new.book ≡ None) × HasFailed (state g old.conn) (state g new.conn)
   StoreFails old new b _ = ⊥
 
   -- the sink took all that the commands of the book moved, so many amounts, or a first part of it; the store keeps the book

@@ -11,9 +11,13 @@ use Rattle.ob_commit.specs.Keeps.{KeepsIn}
 use Rattle.ob_compare.specs.Apart.{number_text}
 use Rattle.ob_compare.proofs.Kept.{kept_still, kept_text, not_run, unread}
 use Rattle.ob_compare.proofs.Listing.{still_then}
-use Rattle.ob_compare.proofs.NumberQuery.{numbers_plain, numbers_silent}
+use Rattle.ob_compare.proofs.NumberQuery.{numbers_answered, numbers_plain, numbers_silent}
 use Rattle.ob_compare.proofs.Rowing.{if_ok}
 use Rattle.ob_compare.proofs.Texts.{begins_empty, commits_none}
+use Rattle.ob_tables.specs.Queries.{IsAlwaysAnswered}
+use Rattle.ob_tables.specs.Steps.{HasFaultCause}
+use Rattle.ob_tables.proofs.Failing.{cause_after, not_run as not_asked, stop_cause}
+use Rattle.ob_compare.proofs.Failing.{asked_cause}
 use Rattle.ob_compare.proofs.apart.are_apart.Goals as goal
 
 pub returns-in-Ok-query_prepared-clause-survives : goal.returns-in-Ok-query_prepared-clause-survives
@@ -99,3 +103,36 @@ returns-clause-kept g c v t keeps =
     let refused = rw c.in-Err-query_prepared.is at c.query_prepared.follows.holds-at-none in
     kept_text v number_text (numbers_plain v) old mid end text c.in-Ok.ensures.ok t keeps c.prepare.ensures.survives refused.survives
     (λ late plain. unread mid end text [] c.in-Err-query_prepared.error (refused.err late))
+
+pub returns-in-Ok-query_prepared-clause-cause : goal.returns-in-Ok-query_prepared-clause-cause
+returns-in-Ok-query_prepared-clause-cause g c clean v has =
+    let old = c.args.conn.now in
+    let mid = c.prepare.new.self in
+    let start = c.in-Ok-query_prepared.rows.conn.now in
+    let last = c.rise.new.rows.conn.now in
+    let same : last ≡ c.conn-1.given.0 = search rules in
+    let late : HasCleanDisk (state g.S.Store last) = subst (λ x. HasCleanDisk (state g.S.Store x)) (sym same) clean in
+    let begun : HasCleanDisk (state g.S.Store start) = omega (arith, c.rise.ensures.survives.clean, late) in
+    let early : HasCleanDisk (state g.S.Store mid) = omega (arith, c.in-Ok-query_prepared.ensures.survives.clean, begun) in
+    let b = begins_empty (schema_of v) number_text (numbers_plain v) g.S.Store old mid start c.in-Ok.statement.text (c.in-Ok.ensures.ok early) has (c.in-Ok-query_prepared.ensures.begun begun) in
+    let first = still_then (state g.S.Store old) (state g.S.Store mid) (state g.S.Store start) c.prepare.ensures.survives (commits_none number_text numbers_silent (state g.S.Store old) (state g.S.Store mid) (state g.S.Store start) c.in-Ok.statement.text c.in-Ok.ensures.ok c.in-Ok-query_prepared.ensures.survives) in
+    subst (λ x. HasFaultCause (state g.S.Store old) (state g.S.Store x) c.rise.result) same
+    (cause_after (state g.S.Store old) (state g.S.Store start) (state g.S.Store last) _ _ c.rise.result first begun c.rise.ensures.survives
+    (c.rise.ensures.cause late b.1.0.is_open v (ap (λ (d : Database). d.schema) b.1.0.now_is ∙ has) b.0))
+
+pub returns-clause-cause : goal.returns-clause-cause
+returns-clause-cause g c clean v has =
+    let old = state g.S.Store c.args.conn.now in
+    let mid = state g.S.Store c.prepare.new.self in
+    let end = state g.S.Store c.query_prepared.follows.lender-at-none in
+    let refused = rw c.in-Err-query_prepared.is at c.query_prepared.follows.holds-at-none in
+    let early : HasCleanDisk mid = omega (arith, refused.survives.clean, clean) in
+    asked_cause old mid end _ number_text c.in-Ok.statement.text c.in-Err-query_prepared.error c.stop_of.result c.stop_of.ensures.memory (subst (λ s. IsAlwaysAnswered s number_text []) (sym has) (numbers_answered v)) (c.in-Ok.ensures.ok early)
+    c.prepare.ensures.survives early refused.survives (refused.err clean)
+
+pub returns-in-Err-clause-cause : goal.returns-in-Err-clause-cause
+returns-in-Err-clause-cause g c clean v has =
+    let old = state g.S.Store c.args.conn.now in
+    let new = state g.S.Store c.prepare.new.self in
+    stop_cause old new c.in-Err.error c.stop_of.result c.stop_of.ensures.memory
+    (not_asked old new number_text [] c.in-Err.error (subst (λ s. IsAlwaysAnswered s number_text []) (sym has) (numbers_answered v)) (c.in-Err.ensures.err clean []))

@@ -4,8 +4,11 @@ use Rattle.sqlite.specs.Given.{GivesOn, row_if}
 use Rattle.ob_tables.specs.Versions.{schema_of}
 use Rattle.ob_compare.specs.Apart.{number_command, number_text}
 use Rattle.ob_compare.proofs.Filing.{none_some}
-use Rattle.ob_compare.proofs.NumberQuery.{numbers_mean, numbers_plain, numbers_unlisted}
+use Rattle.ob_compare.proofs.NumberQuery.{numbers_answered, numbers_mean, numbers_plain, numbers_unlisted}
 use Rattle.ob_compare.proofs.Texts.{on_answer, whole_answer}
+use Rattle.sqlite.specs.Held.{state}
+use Rattle.ob_compare.proofs.Failing.{cause_of_error}
+use Rattle.ob_tables.specs.Queries.{IsAlwaysAnswered}
 use Rattle.ob_compare.proofs.apart.next_number.Goals as goal
 
 pub returns-in_default-clause-stands : goal.returns-in_default-clause-stands
@@ -38,3 +41,8 @@ pub returns-in-Some-higher_in-clause-above : goal.returns-in-Some-higher_in-clau
 returns-in-Some-higher_in-clause-above g c =
     let fits : FitsSigned w64 c.in-Some-higher_in.number = search rules in
     rw (to_z-of_z fits) ((c.in-Some-higher_in.ensures c.in-Some-higher_in.number).0 refl).1
+
+pub returns-in_err-advance-clause-cause : goal.returns-in_err-advance-clause-cause
+returns-in_err-advance-clause-cause g c late v has given it =
+    cause_of_error (state g.S.Store c.args.rows.now.conn.now) (state g.S.Store c.advance.new.rows.conn.now) c.from_residual.result _ c.from_residual.ensures.1
+    (c.in_err-advance.ensures.cause late number_text (subst (λ s. IsAlwaysAnswered s number_text []) (sym has) (numbers_answered v)) given it)

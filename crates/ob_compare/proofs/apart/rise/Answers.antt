@@ -8,6 +8,8 @@ use Rattle.ob_compare.specs.Apart.{IsNextAbove, ListsNumbers, NumberStands}
 use Rattle.ob_compare.proofs.Listing.{still_then}
 use Rattle.ob_compare.proofs.NumberQuery.{all_apart, some_together}
 use Rattle.ob_compare.proofs.RowNumbers.{RiseTo, rise_more}
+use Rattle.ob_compare.proofs.Failing.{cause_of_error}
+use Rattle.ob_tables.proofs.Failing.{failed_after}
 use Rattle.ob_compare.proofs.apart.rise.Goals as goal
 
 pub returns-in-Other-clause-apart : goal.returns-in-Other-clause-apart
@@ -59,3 +61,15 @@ rows-preserved g c =
           ),
       λ v t keeps. step.kept v t (c.rows.invariant.4 v t keeps),
     )
+
+pub returns-in_err-number-clause-cause : goal.returns-in_err-number-clause-cause
+returns-in_err-number-clause-cause g c late live v has begun =
+    let old = state g.S.Store c.args.rows.now.conn.now in
+    let mid = state g.S.Store c.rows.rows.conn.now in
+    let new = state g.S.Store c.next_number.new.rows.conn.now in
+    let early : HasCleanDisk mid = omega (arith, c.next_number.ensures.survives.clean, late) in
+    let was = c.rows.invariant.3 early in
+    let there = ap (λ (d : Database). d.schema) (was.0 live).0.now_is ∙ has in
+    let so = was.1 live v has begun in
+    cause_of_error old new c.from_residual.result _ c.from_residual.ensures.1
+    (λ store. failed_after old mid new _ _ c.rows.invariant.1 early c.next_number.ensures.survives (c.in_err-number.ensures.cause late v there so.0 so.1 store))

@@ -18,6 +18,8 @@ use Rattle.ob_compare.proofs.Passing.{clean_before, no_value, of_error, unchange
 use Rattle.ob_compare.proofs.Selects.{lists_commands}
 use Rattle.ob_compare.proofs.Standing.{all_referenced, pushed_length}
 use Rattle.ob_compare.proofs.Ordered.{IsRead, all_read, one_read, other_read, rows_read, too_many}
+use Rattle.ob_compare.proofs.Failing.{answered_over, cause_of_error}
+use Rattle.ob_tables.proofs.Failing.{failed_after, no_fault}
 use Rattle.ob_compare.proofs.commands.filed_rows.Goals as goal
 
 pub returns-in-Other-clause-read : goal.returns-in-Other-clause-read
@@ -259,3 +261,30 @@ returns-else-branch-clause-same g c late =
     let mid = state g.S.Store c.commands.rows.conn.now in
     let new = state g.S.Store c.is_over.new.rows.conn.now in
     unchanged_after (state g.S.Store c.args.rows.now.conn.now) mid new (c.commands.invariant.4 (clean_before mid new c.is_over.ensures.survives late)) (c.in_ok-is_over.ensures.same late)
+
+pub returns-in_err-number-clause-cause : goal.returns-in_err-number-clause-cause
+returns-in_err-number-clause-cause g c late live v has given =
+    let old = state g.S.Store c.args.rows.now.conn.now in
+    let mid = state g.S.Store c.commands.rows.conn.now in
+    let new = state g.S.Store c.next_filed.new.rows.conn.now in
+    let early : HasCleanDisk mid = clean_before mid new c.next_filed.ensures.survives late in
+    let there = ap (λ (d : Database). d.schema) (c.commands.invariant.4 early live).0.now_is ∙ has in
+    cause_of_error old new c.from_residual.result _ c.from_residual.ensures.1
+    (λ store. failed_after old mid new _ _ c.commands.invariant.1 early c.next_filed.ensures.survives
+    (c.in_err-number.ensures.cause late v there (rows_under c.args.version c.commands.invariant.7) (c.commands.invariant.9 early live v has given) store))
+
+pub returns-in_err-is_over-clause-cause : goal.returns-in_err-is_over-clause-cause
+returns-in_err-is_over-clause-cause g c late live v has given =
+    let old = state g.S.Store c.args.rows.now.conn.now in
+    let mid = state g.S.Store c.commands.rows.conn.now in
+    let new = state g.S.Store c.is_over.new.rows.conn.now in
+    let early : HasCleanDisk mid = clean_before mid new c.is_over.ensures.survives late in
+    let there = ap (λ (d : Database). d.schema) (c.commands.invariant.4 early live).0.now_is ∙ has in
+    cause_of_error old new c.from_residual-in_err-is_over.result _ c.from_residual-in_err-is_over.ensures.1
+    (λ store. failed_after old mid new _ _ c.commands.invariant.1 early c.is_over.ensures.survives
+    (c.in_err-is_over.ensures.cause late command_listing.text (answered_over command_listing (lists_commands v) there) (rows_under c.args.version c.commands.invariant.7) (c.commands.invariant.9 early live v has given) store))
+
+pub returns-in_err-push-in-Higher-clause-cause : goal.returns-in_err-push-in-Higher-clause-cause
+returns-in_err-push-in-Higher-clause-cause g c late live v has given =
+    no_fault (state g.S.Store c.args.rows.now.conn.now) (state g.S.Store c.next_filed.new.rows.conn.now) c.from_residual-in_err-push-in-Higher.result
+    (of_error c.from_residual-in_err-push-in-Higher.result _ c.from_residual-in_err-push-in-Higher.ensures.1 (λ stop is. is))

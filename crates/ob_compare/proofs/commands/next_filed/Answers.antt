@@ -10,6 +10,8 @@ use Rattle.ob_compare.proofs.Filing.{none_some}
 use Rattle.ob_compare.proofs.Listing.{whole_list}
 use Rattle.ob_compare.proofs.Selects.{lists_commands}
 use Rattle.ob_compare.proofs.Standing.{one_stands}
+use Rattle.sqlite.specs.Held.{state}
+use Rattle.ob_compare.proofs.Failing.{answered_over, cause_of_error}
 use Rattle.ob_compare.proofs.commands.next_filed.Goals as goal
 
 pub returns-in_default-clause-stands : goal.returns-in_default-clause-stands
@@ -54,3 +56,8 @@ returns-in_default-2-clause-stands g c clean v has given it =
     let more = subst (GivesOn g.S.Store command_listing.text [] old new given) at (c.in_ok-advance.ensures.goes clean command_listing.text [] given it) in
     let one = one_stands g.S.Store v old new has (c.in_ok-advance.ensures.same clean) given c.in-Some.row.now more in
     (c.in-Some.row.now, one.0, one.1, λ n f above filed is. none_some c.in_ok-filed.field-0 f c.in_default-2.is ((c.in_ok-filed.ensures.filed f).1 (filed, is ∙ ap (λ w. row_with c.args.version w (referenced f)) (sym (ap rowid is)))))
+
+pub returns-in_err-advance-clause-cause : goal.returns-in_err-advance-clause-cause
+returns-in_err-advance-clause-cause g c late v has given it =
+    cause_of_error (state g.S.Store c.args.rows.now.conn.now) (state g.S.Store c.advance.new.rows.conn.now) c.from_residual.result _ c.from_residual.ensures.1
+    (c.in_err-advance.ensures.cause late command_listing.text (answered_over command_listing (lists_commands v) has) given it)

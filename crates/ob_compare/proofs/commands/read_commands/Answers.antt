@@ -8,13 +8,16 @@ use Rattle.ob_commit.specs.Keeps.{KeepsIn}
 use Rattle.ob_compare.specs.Faults.{HasNoMeaning}
 use Rattle.ob_compare.specs.Reading.{command_listing}
 use Rattle.ob_tables.specs.declared.version.Version.TheVariants.{Two}
-use Rattle.ob_compare.proofs.Asked.{IsRead, begun_read, clean_read, kept_read, missed_read, same_read, survives_read}
+use Rattle.ob_compare.proofs.Asked.{IsRead, begun_read, cause_read, clean_read, kept_read, missed_read, same_read, survives_read}
 use Rattle.ob_compare.proofs.Asking.{faults_alone, faults_read, foreign_tables, listing_quiet, never_clean}
 use Rattle.ob_compare.proofs.Passing.{clean_before}
 use Rattle.ob_compare.proofs.Kept.{kept_asked, unread}
 use Rattle.ob_compare.proofs.Rowing.{if_ok}
 use Rattle.ob_compare.proofs.Selects.{lists_commands}
 use Rattle.ob_compare.proofs.commands.read_commands.Given.{Over}
+use Rattle.ob_tables.specs.Queries.{IsAlwaysAnswered}
+use Rattle.ob_tables.specs.Steps.{HasFaultCause}
+use Rattle.ob_compare.proofs.Failing.{answered_over, asked_cause}
 use Rattle.ob_compare.proofs.commands.read_commands.Goals as goal
 
 -- the connection is given back as the rows left it
@@ -127,7 +130,28 @@ pub returns-clause-mode : goal.returns-clause-mode
 returns-clause-mode g c idle = (rw c.in-Err-query_prepared.is at c.query_prepared.follows.holds-at-none).mode (c.prepare.ensures.mode idle)
 
 pub returns-clause-faults : goal.returns-clause-faults
-returns-clause-faults g c = inl c.stop_of.ensures
+returns-clause-faults g c = inl c.stop_of.ensures.faults
 
 pub returns-clause-foreign : goal.returns-clause-foreign
-returns-clause-foreign g c clean = faults_alone {X = Bool} (Err c.stop_of.result) _ c.stop_of.ensures
+returns-clause-foreign g c clean = faults_alone {X = Bool} (Err c.stop_of.result) _ c.stop_of.ensures.faults
+
+pub returns-in-Err-clause-cause : goal.returns-in-Err-clause-cause
+returns-in-Err-clause-cause g c clean v has = c.in-Err.ensures.cause clean (subst (λ t. IsAlwaysAnswered c.args.conn.now.schema t []) (sym c.select_of.ensures) (answered_over command_listing (lists_commands v) has))
+
+pub returns-in-Ok-query_prepared-clause-cause : goal.returns-in-Ok-query_prepared-clause-cause
+returns-in-Ok-query_prepared-clause-cause g c clean v has =
+    let start = state g.S.Store c.in-Ok-query_prepared.rows.conn.now in
+    let late : HasCleanDisk (state g.S.Store c.filed_rows.new.rows.conn.now) = subst (λ x. HasCleanDisk (state g.S.Store x)) (sym (given_back g c)) clean in
+    cause_read (read_all g c) lists_commands c.filed_rows.result clean v has
+    (λ live there given. subst (λ x. HasFaultCause start (state g.S.Store x) c.filed_rows.result) (given_back g c) (c.filed_rows.ensures.cause late live v there given))
+
+pub returns-clause-cause : goal.returns-clause-cause
+returns-clause-cause g c clean v has =
+    let old = state g.S.Store c.args.conn.now in
+    let mid = state g.S.Store c.prepare.new.conn in
+    let end = state g.S.Store c.query_prepared.follows.lender-at-none in
+    let refused = rw c.in-Err-query_prepared.is at c.query_prepared.follows.holds-at-none in
+    let early : HasCleanDisk mid = omega (arith, refused.survives.clean, clean) in
+    let ready = c.in-Ok.ensures.prepared early in
+    asked_cause old mid end _ command_listing.text c.in-Ok.statement.text c.in-Err-query_prepared.error c.stop_of.result c.stop_of.ensures.memory (answered_over command_listing (lists_commands v) has) (ready.0 ∙ c.select_of.ensures, ready.1)
+    c.prepare.ensures.survives early refused.survives (refused.err clean)

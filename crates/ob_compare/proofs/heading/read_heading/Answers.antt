@@ -1,4 +1,4 @@
-use Rattle.std.proofs.Common.{List, sym, subst}
+use Rattle.std.proofs.Common.{List, [], sym, subst}
 use Rattle.sqlite.specs.Held.{state}
 use Rattle.sqlite.specs.Order.{Row}
 use Rattle.ob_tables.specs.Versions.{schema_of}
@@ -8,6 +8,9 @@ use Rattle.ob_compare.specs.Reading.{IsHeading}
 use Rattle.ob_compare.proofs.Headings.{meta_listing, heading_read, no_meaning, ok_always}
 use Rattle.ob_compare.proofs.Selects.{lists_heading}
 use Rattle.ob_compare.proofs.Rowing.{if_ok}
+use Rattle.ob_tables.specs.Queries.{IsAlwaysAnswered}
+use Rattle.ob_tables.proofs.Failing.{no_fault}
+use Rattle.ob_compare.proofs.Failing.{answered_over}
 use Rattle.ob_compare.proofs.heading.read_heading.Goals as goal
 
 pub returns-in-Ok-clause-survives : goal.returns-in-Ok-clause-survives
@@ -46,3 +49,9 @@ returns-in-Ok-clause-missed g c none = let it = c.in-Ok.ensures.missed (subst (H
 
 pub returns-in-Err-clause-missed : goal.returns-in-Err-clause-missed
 returns-in-Err-clause-missed g c none = c.in-Err.ensures.missed (subst (HasNoMeaning c.args.conn.now.schema) (sym c.select_of.ensures) none)
+
+pub returns-in-Ok-clause-cause : goal.returns-in-Ok-clause-cause
+returns-in-Ok-clause-cause g c clean v has = no_fault (state g.S.Store c.args.conn.now) (state g.S.Store c.list_all.new.conn) c.heading_in.result c.heading_in.ensures.err
+
+pub returns-in-Err-clause-cause : goal.returns-in-Err-clause-cause
+returns-in-Err-clause-cause g c clean v has = c.in-Err.ensures.cause clean (subst (λ t. IsAlwaysAnswered c.args.conn.now.schema t []) (sym c.select_of.ensures) (answered_over meta_listing (lists_heading v) has))

@@ -9,6 +9,8 @@ use Rattle.sqlite.proofs.Callers.{unchanged_then}
 use Rattle.ob_compare.specs.Parts.{listing_of, select_of, standing}
 use Rattle.ob_compare.proofs.Listing.{still_then}
 use Rattle.ob_compare.proofs.Places.{place_on, place_off}
+use Rattle.ob_compare.proofs.Failing.{cause_of_error}
+use Rattle.ob_tables.proofs.Failing.{failed_after}
 use Rattle.ob_compare.proofs.listed.follows.Goals as goal
 
 pub returns-then-not-branch-clause-goes : goal.returns-then-not-branch-clause-goes
@@ -52,3 +54,15 @@ returns-clause-goes g c late live v own has given it =
     let ps = g.L.Listed.places c.args.listed.now in
     let all = take_all c.places.at ps (omega (arith, c.places-test.false)) in
     subst (λ (rows : List Row). HasGiven g.S.Store (select_of g.L.Listed.table) [] c.places.rows.conn.now (given ++ rows)) (ap standing all) ((c.places.invariant.3 late).1 live v own has given it)
+
+pub returns-in_err-goes_on-clause-cause : goal.returns-in_err-goes_on-clause-cause
+returns-in_err-goes_on-clause-cause g c late live v own has given it =
+    let old = state g.S.Store c.args.rows.now.conn.now in
+    let mid = state g.S.Store c.places.rows.conn.now in
+    let new = state g.S.Store c.goes_on.new.rows.conn.now in
+    let early : HasCleanDisk mid = omega (arith, c.goes_on.ensures.survives.clean, late) in
+    let was = c.places.invariant.3 early in
+    let there = ap (λ (d : Database). d.schema) (was.0 live).0.now_is ∙ has in
+    cause_of_error old new c.from_residual.result _ c.from_residual.ensures.1
+    (λ store. failed_after old mid new _ _ c.places.invariant.1 early c.goes_on.ensures.survives
+    (c.in_err-goes_on.ensures.cause late v own there (given ++ standing (take c.places.at (g.L.Listed.places c.args.listed.now))) (was.1 live v own has given it) store))

@@ -6,6 +6,9 @@ use Rattle.sqlite.proofs.Callers.{begun_plain, unchanged_then}
 use Rattle.ob_compare.specs.Faults.{HasNoMeaning}
 use Rattle.ob_compare.specs.Parts.{Compares, listing_of, standing, select_of}
 use Rattle.ob_compare.proofs.Asking.{faults_alone, faults_read, foreign_tables, never_clean}
+use Rattle.ob_tables.specs.Queries.{IsAlwaysAnswered}
+use Rattle.ob_tables.proofs.Failing.{cause_after}
+use Rattle.ob_compare.proofs.Failing.{answered_over, asked_cause}
 use Rattle.ob_compare.proofs.Kept.{kept_asked, unread}
 use Rattle.ob_compare.proofs.Listing.{still_then, quiet, begins}
 use Rattle.ob_compare.proofs.Places.{rows_alike, if_ok, on_ok}
@@ -40,6 +43,10 @@ returns-in-Ok-query_prepared g c v own =
           (λ late plain. inl (begun_plain g.S.Store text [] at_mid at_start plain (c.in-Ok-query_prepared.ensures.begun late)).1));
       clean = λ clean. omega (arith, c.prepare.ensures.survives.clean, c.in-Ok-query_prepared.ensures.survives.clean, c.matches.ensures.survives.clean, clean);
       faults = faults_read c.matches.result c.matches.ensures.faults;
+      cause = λ clean has.
+          let b = begins g.S.Store (listing_of t) (is_listing v t own) at_old at_mid at_start text (ready (early clean)) has (c.in-Ok-query_prepared.ensures.begun (begun clean)) in
+          cause_after old start last _ _ c.matches.result (still_then old mid start c.prepare.ensures.survives (quiet (listing_of t) (is_listing v t own) old mid start text ready c.in-Ok-query_prepared.ensures.survives)) (begun clean) c.matches.ensures.survives
+          (c.matches.ensures.cause clean b.1.0.is_open v own (ap (λ (d : Database). d.schema) b.1.0.now_is ∙ has) b.0);
       foreign = λ clean. faults_alone c.matches.result _ c.matches.ensures.faults;
       missed = λ none.
           let never : HasCleanDisk start → ⊥ = λ clean. c.in-Ok.ensures.missed (omega (arith, c.in-Ok-query_prepared.ensures.survives.clean, clean)) (subst (HasNoMeaning old.now.schema) (sym text_is) none) in
@@ -69,8 +76,11 @@ returns g c v own =
       survives = still_then old mid end c.prepare.ensures.survives (quiet (listing_of t) (is_listing v t own) old mid end text ready refused.survives);
       kept = λ x keeps. kept_asked v (listing_of t) (is_listing v t own) old mid end text ready x keeps c.prepare.ensures.survives refused.survives (λ late plain. unread mid end text [] c.in-Err-query_prepared.error (refused.err late));
       clean = λ clean. omega (arith, c.prepare.ensures.survives.clean, refused.survives.clean, clean);
-      faults = inl c.stop_of.ensures;
-      foreign = λ clean. faults_alone {X = Bool} (Err c.stop_of.result) _ c.stop_of.ensures;
+      faults = inl c.stop_of.ensures.faults;
+      cause = λ clean has.
+          let early : HasCleanDisk mid = omega (arith, refused.survives.clean, clean) in
+          asked_cause old mid end _ (select_of t) text c.in-Err-query_prepared.error c.stop_of.result c.stop_of.ensures.memory (answered_over (listing_of t) (is_listing v t own) has) (ready early) c.prepare.ensures.survives early refused.survives (refused.err clean);
+      foreign = λ clean. faults_alone {X = Bool} (Err c.stop_of.result) _ c.stop_of.ensures.faults;
       missed = λ none.
           let never : HasCleanDisk end → ⊥ = λ clean. c.in-Ok.ensures.missed (omega (arith, refused.survives.clean, clean)) (subst (HasNoMeaning old.now.schema) (sym text_is) none) in
           (never_clean old mid end _ c.prepare.ensures.survives refused.survives never, λ clean. absurd (never clean));
@@ -88,6 +98,7 @@ returns-in-Err g c v own =
       kept = c.prepare.ensures.kept v;
       clean = λ clean. omega (arith, c.prepare.ensures.survives.clean, clean);
       faults = c.in-Err.ensures.faults;
+      cause = λ clean has. c.in-Err.ensures.cause clean (subst (λ x. IsAlwaysAnswered c.args.conn.now.schema x []) (sym text_is) (answered_over (listing_of t) (is_listing v t own) has));
       foreign = λ clean bad. foreign_tables (listing_of t) (is_listing v t own) (state g.S.Store c.args.conn.now) _ (sym text_is) (c.in-Err.ensures.foreign clean bad).0;
       missed = λ none. (c.prepare.ensures.survives, λ clean. c.in-Err.ensures.missed clean (subst (HasNoMeaning c.args.conn.now.schema) (sym text_is) none));
       same = λ clean. tt;

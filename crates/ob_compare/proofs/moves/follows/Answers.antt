@@ -16,6 +16,8 @@ use Rattle.ob_commit.proofs.Steps.{on_ok}
 use Rattle.ob_compare.proofs.Listing.{still_then, goes_off, goes_given}
 use Rattle.ob_compare.proofs.Passing.{clean_before, no_is_no, unchanged_after}
 use Rattle.ob_compare.proofs.Rowing.{leads, expected, leads_on, front_more, leads_here, all_given, off_all, over, if_ok_and, moved_is}
+use Rattle.ob_compare.proofs.Failing.{answered_over, cause_of_error}
+use Rattle.ob_tables.proofs.Failing.{cause_after, failed_after}
 use Rattle.ob_compare.proofs.moves.follows.Goals as goal
 
 pub overflow_cast-no : goal.overflow_cast-no
@@ -157,3 +159,28 @@ returns-clause-book g c e =
 
 pub returns-clause-noted : goal.returns-clause-noted
 returns-clause-noted g c e noted = c.commands.invariant.5 noted
+
+pub returns-in_err-takes_on-clause-cause : goal.returns-in_err-takes_on-clause-cause
+returns-in_err-takes_on-clause-cause g c late live v has given =
+    let old = state g.S.Store c.args.rows.now.conn.now in
+    let mid = state g.S.Store c.commands.rows.conn.now in
+    let new = state g.S.Store c.takes_on.new.rows.conn.now in
+    let early : HasCleanDisk mid = clean_before mid new c.takes_on.ensures.survives late in
+    let was = c.commands.invariant.6 early in
+    let at = was.1 live v has given in
+    let there = ap (λ (d : Database). d.schema) (was.0 live).0.now_is ∙ has in
+    cause_of_error old new c.from_residual.result _ c.from_residual.ensures.1
+    (λ store. failed_after old mid new _ _ c.commands.invariant.1 early c.takes_on.ensures.survives
+    (c.in_err-takes_on.ensures.cause late (was.0 live).0.is_open v there at.0 at.1 store))
+
+pub returns-clause-cause : goal.returns-clause-cause
+returns-clause-cause g c late live v has given =
+    let old = state g.S.Store c.args.rows.now.conn.now in
+    let mid = state g.S.Store c.commands.rows.conn.now in
+    let new = state g.S.Store c.is_over.new.rows.conn.now in
+    let early : HasCleanDisk mid = clean_before mid new c.is_over.ensures.survives late in
+    let was = c.commands.invariant.6 early in
+    let at = was.1 live v has given in
+    let there = ap (λ (d : Database). d.schema) (was.0 live).0.now_is ∙ has in
+    cause_after old mid new _ _ c.is_over.result c.commands.invariant.1 early c.is_over.ensures.survives
+    (c.is_over.ensures.cause late moved_listing.text (answered_over moved_listing (moved_is v) there) at.0 at.1)

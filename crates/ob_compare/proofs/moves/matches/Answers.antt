@@ -12,6 +12,8 @@ use Rattle.ob_compare.proofs.Listing.{still_then}
 use Rattle.ob_compare.proofs.Passing.{clean_before, no_value, of_error, unchanged_after}
 use Rattle.ob_compare.specs.Moves.{moved_listing}
 use Rattle.ob_compare.proofs.Rowing.{move_on, move_off, row_of}
+use Rattle.ob_compare.proofs.Failing.{cause_of_error}
+use Rattle.ob_tables.proofs.Failing.{failed_after}
 use Rattle.ob_compare.proofs.moves.matches.Goals as goal
 
 pub returns-then-not-branch-clause-goes : goal.returns-then-not-branch-clause-goes
@@ -107,3 +109,15 @@ returns-clause-goes g c late live v has given it =
     let rows = rows_of_moves c.args.no c.args.moves.now in
     let all = take_all c.moves.at rows (omega (arith, length-map c.args.moves.now (row_of c.args.no), c.moves-test.false)) in
     subst (λ (l : List Row). HasGiven g.S.Store moved_listing.text [] c.moves.rows.conn.now (given ++ l)) all ((c.moves.invariant.3 late).1 live v has given it)
+
+pub returns-in_err-next_is-clause-cause : goal.returns-in_err-next_is-clause-cause
+returns-in_err-next_is-clause-cause g c late live v has given it =
+    let old = state g.S.Store c.args.rows.now.conn.now in
+    let mid = state g.S.Store c.moves.rows.conn.now in
+    let new = state g.S.Store c.next_is.new.rows.conn.now in
+    let early : HasCleanDisk mid = clean_before mid new c.next_is.ensures.survives late in
+    let was = c.moves.invariant.3 early in
+    let there = ap (λ (d : Database). d.schema) (was.0 live).0.now_is ∙ has in
+    cause_of_error old new c.from_residual.result _ c.from_residual.ensures.1
+    (λ store. failed_after old mid new _ _ c.moves.invariant.1 early c.next_is.ensures.survives
+    (c.in_err-next_is.ensures.cause late v there (given ++ take c.moves.at (rows_of_moves c.args.no c.args.moves.now)) (was.1 live v has given it) store))

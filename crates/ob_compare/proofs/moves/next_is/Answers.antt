@@ -5,6 +5,8 @@ use Rattle.ob_tables.specs.Rows.{moved_row}
 use Rattle.ob_compare.specs.Moves.{moved_listing}
 use Rattle.ob_compare.proofs.Listing.{goes_on, ends_off}
 use Rattle.ob_compare.proofs.Rowing.{moved_is}
+use Rattle.sqlite.specs.Held.{state}
+use Rattle.ob_compare.proofs.Failing.{answered_over, cause_of_error}
 use Rattle.ob_compare.proofs.moves.next_is.Goals as goal
 
 pub returns-in-Some-clause-goes : goal.returns-in-Some-clause-goes
@@ -24,3 +26,8 @@ returns-in-None-clause-goes g c clean v has given it =
     let at : row_if c.advance.new.rows.has_row new ≡ None = sym (rw c.in-None.is at c.get.ensures) in
     let shown = subst (GivesOn g.S.Store moved_listing.text [] old new given) at (step.goes clean moved_listing.text [] given it) in
     ends_off g.S.Store moved_listing (moved_is v) old new has (step.same clean) given (moved_row c.args.no (dim_number c.args.it.now.dim) c.args.it.now.key c.args.it.now.delta) shown
+
+pub returns-in_err-advance-clause-cause : goal.returns-in_err-advance-clause-cause
+returns-in_err-advance-clause-cause g c late v has given it =
+    cause_of_error (state g.S.Store c.args.rows.now.conn.now) (state g.S.Store c.advance.new.rows.conn.now) c.from_residual.result _ c.from_residual.ensures.1
+    (c.in_err-advance.ensures.cause late moved_listing.text (answered_over moved_listing (moved_is v) has) given it)

@@ -15,6 +15,8 @@ use Rattle.ob_compare.proofs.Listing.{still, goes_off, goes_given}
 use Rattle.ob_compare.proofs.Passing.{no_is_no}
 use Rattle.ob_compare.proofs.Texts.{same_state}
 use Rattle.ob_compare.proofs.Versions.{accepted, unfit, unrefused}
+use Rattle.ob_compare.proofs.Failing.{cause_of_error}
+use Rattle.ob_tables.proofs.Failing.{no_fault}
 use Rattle.ob_compare.proofs.moves.takes_on.Goals as goal
 
 -- what a plan moves is what its command moves
@@ -144,3 +146,8 @@ returns-in_default-clause-book g c e = absurd (no_is_no e)
 
 pub returns-in_default-clause-noted : goal.returns-in_default-clause-noted
 returns-in_default-clause-noted g c e = absurd (no_is_no e)
+
+pub returns-in_err-matches-clause-cause : goal.returns-in_err-matches-clause-cause
+returns-in_err-matches-clause-cause g c late live v has given it =
+    cause_of_error (state g.S.Store c.args.rows.now.conn.now) (state g.S.Store c.matches.new.rows.conn.now) c.from_residual-in_err-matches.result _ c.from_residual-in_err-matches.ensures.1
+    (c.in_err-matches.ensures.cause late live v has given it)

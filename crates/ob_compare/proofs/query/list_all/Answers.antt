@@ -3,6 +3,7 @@ use Rattle.sqlite.specs.Held.{state}
 use Rattle.sqlite.specs.State.{HasCleanDisk}
 use Rattle.ob_compare.proofs.Asking.{listing_quiet, listing_whole, never_clean, shown_unchanged}
 use Rattle.ob_compare.proofs.Kept.{kept_asked, unread}
+use Rattle.ob_compare.proofs.Failing.{asked_cause}
 use Rattle.ob_compare.proofs.query.list_all.Goals as goal
 
 pub returns-in-Ok-query_all-clause-survives : goal.returns-in-Ok-query_all-clause-survives
@@ -60,3 +61,12 @@ returns-clause-kept g c v l means text t keeps =
     let sql = c.in-Ok.statement.text in
     kept_asked v l means old mid new sql (λ clean. let it = c.in-Ok.ensures.prepared clean in (it.0 ∙ sym text, it.1)) t keeps c.prepare.ensures.survives c.query_all.ensures.survives
     (λ late plain. unread mid new sql [] c.in-Err-query_all.error (c.in-Err-query_all.ensures.err late))
+
+pub returns-clause-cause : goal.returns-clause-cause
+returns-clause-cause g c late is =
+    let old = state g.S.Store c.args.conn.now in
+    let mid = state g.S.Store c.prepare.new.conn in
+    let new = state g.S.Store c.query_all.new.conn in
+    let early : HasCleanDisk mid = omega (arith, c.query_all.ensures.survives.clean, late) in
+    asked_cause old mid new _ c.args.sql.now c.in-Ok.statement.text c.in-Err-query_all.error c.stop_of.result c.stop_of.ensures.memory is (c.in-Ok.ensures.prepared early) c.prepare.ensures.survives early c.query_all.ensures.survives
+    (c.in-Err-query_all.ensures.err late)

@@ -2,6 +2,7 @@ use Rattle.std.proofs.Common.{[], inl}
 use Rattle.sqlite.specs.Held.{state}
 use Rattle.ob_compare.proofs.Asking.{missed, no_outline, not_understood}
 use Rattle.ob_compare.proofs.Kept.{kept_still, not_run}
+use Rattle.ob_tables.proofs.Failing.{not_run as not_asked, stop_cause}
 use Rattle.ob_compare.proofs.query.prepare.Goals as goal
 
 pub returns-in-Err-clause-foreign : goal.returns-in-Err-clause-foreign
@@ -24,3 +25,9 @@ returns-in-Err-clause-kept g c v t keeps =
     let old = state g.S.Store c.args.conn.now in
     let new = state g.S.Store c.prepare.new.self in
     kept_still v old new t (λ clean. not_run old new c.args.sql.now [] c.in-Err.error (c.in-Err.ensures.err clean [])) c.prepare.ensures.survives keeps
+
+pub returns-in-Err-clause-cause : goal.returns-in-Err-clause-cause
+returns-in-Err-clause-cause g c clean is =
+    let old = state g.S.Store c.args.conn.now in
+    let new = state g.S.Store c.prepare.new.self in
+    stop_cause old new c.in-Err.error c.stop_of_prepare.result c.stop_of_prepare.ensures.memory.0 (not_asked old new c.args.sql.now [] c.in-Err.error is (c.in-Err.ensures.err clean []))

@@ -1,4 +1,4 @@
-use Rattle.std.proofs.Common.{List, IsTrue, inl, inr, sym, subst}
+use Rattle.std.proofs.Common.{List, [], IsTrue, inl, inr, sym, subst}
 use Rattle.std.specs.Prelude.{◌↔◌}
 use Rattle.sqlite.specs.Held.{state}
 use Rattle.sqlite.specs.Order.{Row}
@@ -13,6 +13,8 @@ use Rattle.ob_compare.proofs.Headings.{meta_listing, no_meaning, version_read}
 use Rattle.ob_compare.proofs.Selects.{lists_heading}
 use Rattle.ob_compare.proofs.version.has_version.Given.{Over}
 use Rattle.ob_compare.proofs.version.has_version.Goals.{After-drop-rows}
+use Rattle.ob_tables.specs.Queries.{IsAlwaysAnswered}
+use Rattle.ob_compare.proofs.Failing.{answered_over}
 use Rattle.ob_compare.proofs.version.has_version.Goals as goal
 
 -- the rows are an answer over the tables of either version, and nothing changed
@@ -56,3 +58,6 @@ returns-in-Ok-clause-missed g c none = let it = c.in-Ok.ensures.missed (subst (H
 
 pub returns-in-Err-clause-missed : goal.returns-in-Err-clause-missed
 returns-in-Err-clause-missed g c none = c.in-Err.ensures.missed (subst (HasNoMeaning c.args.conn.now.schema) (sym c.select_of.ensures) none)
+
+pub returns-in-Err-clause-cause : goal.returns-in-Err-clause-cause
+returns-in-Err-clause-cause g c clean v has = c.in-Err.ensures.cause clean (subst (λ t. IsAlwaysAnswered c.args.conn.now.schema t []) (sym c.select_of.ensures) (answered_over meta_listing (lists_heading v) has))

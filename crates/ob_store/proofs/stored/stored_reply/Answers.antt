@@ -49,7 +49,7 @@ returns-in-Err-clause-cause g c clean b keeps least most =
     subst (λ k. filter (is_key k) (tables_of b tables.Moved) ≡ rows_of_moves k (moves old (book_at b (suc i)))) number (moves_of_reply b i (omega (arith, least, most)))
     ∙ ap (λ k. rows_of_moves id (moves old (book_at b k))) after in
     let same = subst (λ x. IsPermutation x (rows_of_moves id expected)) (sym rows) (IsPermutation-refl (rows_of_moves id expected)) in
-    let days : day_count old.period ≡ day_count b.book.period = ap day_count (period_at c.next_law.ensures b i) in
+    let days : day_count old.period ≡ day_count b.book.period = ap day_count (period_at c.next_law.ensures.period b i) in
     let few : day_count old.period ≤ 366 = omega (arith, days, keeps.reached.period.days_in) in
     let keys = c.move_laws.ensures.keys (change_from (amount old) (amount new)) (day_count old.period) in
     c.in-Err.ensures.cause clean (tables_of b) keeps.kept expected same (small_keys (day_count old.period) few expected keys)
