@@ -1,5 +1,5 @@
 -- What the one row under a reference is, and what tells it.
-use Rattle.std.proofs.Common.{◌≡◌, ◌≢◌, ℕ, Bool, true, false, List, [], ◌∷◌, length, sym, ap, ◌∙◌, arith, bytes_eq, not, true≢false}
+use Rattle.std.proofs.Common.{◌≡◌, ◌≢◌, ℕ, Bool, true, false, List, [], ◌∷◌, length, sym, ap, ◌∙◌, arith, bytes_eq, not, true≢false, inl, inr}
 use Rattle.std.specs.List.Sorted.{IsPermutation}
 use Rattle.std.proofs.lemmas.List.{nil_from_length}
 use Rattle.std.proofs.lemmas.Slice.Eq.{bytes_eq-Decides}
@@ -8,7 +8,7 @@ use Rattle.sqlite.proofs.Callers.{one_permutation}
 use Rattle.sqlite.specs.Order.{column}
 use Rattle.sqlite.specs.declared.types.Value.TheVariants.{Text}
 use Rattle.ob_tables.specs.Rows.{Columns, number, command_row}
-use Rattle.ob_commit.specs.Known.{IsUnder}
+use Rattle.ob_commit.specs.Known.{AreOfOne, IsUnder}
 use Rattle.ob_commit.specs.declared.known.Known.{Known}
 use Rattle.ob_commit.specs.declared.known.Known.TheVariants.{New, Same, Other}
 
@@ -36,3 +36,7 @@ pub under_any : (rows found : List Columns) (reference body : List ℕ) (known :
 under_any rows found reference body New same is = nil_from_length rows (sym (length_permutation rows found same) ∙ ap length is)
 under_any rows found reference body (Same n) same is = one_permutation _ rows (rw is at (IsPermutation-sym rows found same))
 under_any rows found reference body (Other n) same (other, differs, is) = (other, differs, one_permutation _ rows (rw is at (IsPermutation-sym rows found same)))
+
+pub one_any : (rows found : List Columns) (reference : List ℕ) → IsPermutation rows found → AreOfOne rows reference → AreOfOne found reference
+one_any rows found reference same (inl none) = inl (nil_from_length found (length_permutation rows found same ∙ ap length none))
+one_any rows found reference same (inr (n, low, body, is)) = inr (n, low, body, one_permutation _ found (rw is at same))

@@ -1,5 +1,5 @@
 -- The rows of what a command moved are found, in order.
-use Rattle.std.proofs.Common.{◌≡◌, ◌∙◌, refl, sym, ap, subst, subst₂, ℕ, ◌+◌, ◌<◌, pos, List, [], ◌∷◌, map, filter, length, get_or, ap₂, codes, false, arith}
+use Rattle.std.proofs.Common.{◌≡◌, ◌∙◌, refl, sym, ap, subst, subst₂, ℕ, ◌+◌, ◌<◌, pos, List, [], ◌∷◌, map, filter, length, get_or, ap₂, codes, false, inl, inr, arith, true≢false}
 use Rattle.std.specs.Prelude.{IsSorted}
 use Rattle.std.specs.Ordering.{is_lt}
 use Rattle.std.specs.List.{All}
@@ -26,6 +26,8 @@ use Rattle.sqlite.proofs.Callers.{IsPlain, command_of, reads_as}
 use Rattle.ob_tables.specs.Schema.{book_schema}
 use Rattle.ob_tables.specs.Rows.{Tables, Holds, shown, is_key}
 use Rattle.ob_tables.specs.declared.table.Table.TheVariants.{Moved}
+use Rattle.ob_tables.specs.Queries.{IsAlwaysAnswered}
+use Rattle.ob_tables.proofs.Failing.{query_accepted}
 use Rattle.ob_tables.proofs.Queries.{whole}
 use Rattle.ob_tables.proofs.Answers.{answered_in_order}
 use Rattle.ob_commit.specs.Stored.{by_dimension_and_key, AreMovesIn}
@@ -53,6 +55,17 @@ moves_plain = (refl, refl)
 moves_unlisted : reads_listing book_schema moves_text ≡ false
 unfolding understood everything
 moves_unlisted = refl
+
+-- no database of a book refuses it
+pub moves_answered : (id : ℕ) → IsAlwaysAnswered book_schema moves_text (Int (pos id) ∷ [])
+unfolding understood everything
+moves_answered id = record {
+  whole = omega arith;
+  given = refl;
+  timeless = refl;
+  plain = refl;
+  accepted = query_accepted book_schema (record { lets = []; body = moves_query }) (Int (pos id) ∷ []) true≢false (λ db over. elim over [ inl none ↦ none | inr some ↦ some.4 ]);
+}
 
 -- what a row is sorted by stands in it
 abbrev keyed : Row → Output

@@ -1,12 +1,12 @@
 -- What the rows of one command are, and which list of moves they tell.
 use Rattle.std.proofs.Common.{◌≡◌, ◌∙◌, sym, ap₂, refl, ℕ, suc, ◌<◌, pos, List, [], ◌∷◌, ◌++◌, ◌+◌, get_or, take, filter, length, inl, inr, arith, Less, Equal}
-use Rattle.std.specs.List.{AllByRecursion}
+use Rattle.std.specs.List.{All, AllByRecursion}
 use Rattle.std.specs.List.Sorted.{IsPermutation, IsStrictlySortedBy}
 use Rattle.std.specs.Ordering.{nat_cmp, int_cmp}
 use Rattle.std.proofs.lemmas.Bool.Decides.{nat_tests}
 use Rattle.std.proofs.lemmas.List.{take_more, map_push}
-use Rattle.std.proofs.lemmas.List.Elements.{recursion_from_All}
-use Rattle.std.proofs.lemmas.List.Sorted.{IsPermutation-sym, IsPermutation-trans}
+use Rattle.std.proofs.lemmas.List.Elements.{All-map, recursion_from_All}
+use Rattle.std.proofs.lemmas.List.Sorted.{All-permutation, IsPermutation-sym, IsPermutation-trans}
 use Rattle.sqlite_value.specs.Keys.{rising}
 use Rattle.sqlite_value.proofs.OrderLemmas.{value_cmp-Int}
 use Rattle.sqlite_sql.proofs.QueryLemmas.{key_cmp_total}
@@ -19,7 +19,7 @@ use Rattle.ob_post.specs.Keys.{dim_number}
 use Rattle.ob_post.specs.Moved.{IsBefore, AreInOrder}
 use Rattle.ob_post.proofs.Deltas.{tail_in_order}
 use Rattle.ob_tables.specs.Rows.{Columns, number, is_key}
-use Rattle.ob_commit.specs.Stored.{row_of, rows_of, by_dimension_and_key, AreMovesIn}
+use Rattle.ob_commit.specs.Stored.{HaveSmallKeys, IsMoveOf, row_of, rows_of, by_dimension_and_key, AreMovesIn}
 use Rattle.ob_commit.proofs.Same.{same_when_sorted}
 
 -- a row of four columns, of which each is known
@@ -104,3 +104,9 @@ pub told_moves : (table : List Columns) (id : ℕ) (rows : List Row) (moves expe
 told_moves table id rows moves expected found told order same =
     let all : IsPermutation rows (rows_of id expected) = IsPermutation-trans _ _ _ (IsPermutation-sym _ _ found.same) same in
     same_moves id moves expected (sym told ∙ same_when_sorted by_dimension_and_key (key_cmp_total (rising 2 []) 1) rows (rows_of id expected) all found.sorted (rise id expected order))
+
+-- each row of a command is that of an amount, where the tables' are
+pub all_moves : (id : ℕ) (table : List Columns) (rows : List Row) (expected : List Moved) → AreMovesIn table id rows → IsPermutation (filter (is_key id) table) (rows_of id expected) → HaveSmallKeys expected → All (IsMoveOf id) rows
+all_moves id table rows expected found same small =
+    All-permutation (IsMoveOf id) (rows_of id expected) rows (IsPermutation-trans _ _ _ (IsPermutation-sym _ _ same) found.same)
+    (All-map (IsMoveOf id) (row_of id) expected (λ i d low. (_, small i d low, refl)))

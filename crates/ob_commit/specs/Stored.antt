@@ -25,6 +25,10 @@ rows_of id moves = map (row_of id) moves
 abbrev pub HaveSmallKeys : List Moved → Type 0
 HaveSmallKeys moves = All (λ m. m.key < 2 ^ 16) moves
 
+-- the row is that of an amount that the command of a number moved, under such a key
+abbrev pub IsMoveOf : ℕ → Row → Type 0
+IsMoveOf id row = (m : Moved) × (m.key < 2 ^ 16) × (row ≡ row_of id m)
+
 -- the store's order of rows by the second column and then by the third
 abbrev pub by_dimension_and_key : Row → Row → Ordering
 by_dimension_and_key = key_cmp 1 (rising 2 [])

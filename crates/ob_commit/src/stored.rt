@@ -1,5 +1,5 @@
 //! What a command moved, as its rows tell.
-ghost use Rattle.std.specs.Prelude.{◌≡◌, ◌<◌, ◌^◌, ℕ, false, List, length, IsPermutation, filter, IsOk, IfOk, IfErr};
+ghost use Rattle.std.specs.Prelude.{◌≡◌, ◌<◌, ◌^◌, ℕ, false, List, All, length, IsPermutation, filter, IsOk, IfOk, IfErr};
 ghost use Rattle.sqlite.specs.Held.{state};
 ghost use Rattle.sqlite.specs.State.{HasCleanDisk, Survives};
 ghost use Rattle.sqlite.specs.Order.{column};
@@ -14,7 +14,7 @@ ghost use Rattle.ob_tables.specs.Rows.{Tables, number, is_key};
 ghost use Rattle.ob_tables.specs.declared.table.Table.{Table as ATable};
 ghost use Rattle.ob_commit.specs.Keeps.{Keeps};
 ghost use Rattle.ob_commit.specs.Known.{store_fault};
-ghost use Rattle.ob_commit.specs.Stored.{FindsMoves, AreMovesIn, HaveSmallKeys, row_of, rows_of};
+ghost use Rattle.ob_commit.specs.Stored.{FindsMoves, AreMovesIn, HaveSmallKeys, IsMoveOf, row_of, rows_of};
 
 use crate::columns::{number_at, signed_at};
 use ob_base::{Fault, Stop};
@@ -93,8 +93,7 @@ fn find_moves<S: Alter>(tx: &mut Transaction<'_, S>, no: u32) -> Result<Vec<Row>
 fn read_moves(alloc: Global, rows: &[Row], no: u32) -> Result<Vec<Moved>, Stop>
     ensures told { IfOk result (λ moves. rows.now ≡ rows_of no moves.items) }
     ensures faults { IfErr result IsStoreFault }
-    ensures readable { (moves : List AMoved) → rows.now ≡ rows_of no moves → HaveSmallKeys moves
-        → IfErr result (λ stop. stop ≡ out_of_memory) }
+    ensures readable { All (IsMoveOf no) rows.now → IfErr result (λ stop. stop ≡ out_of_memory) }
 {
     let mut moves = Vec::new(alloc);
     'rows: for row in rows {
@@ -107,7 +106,7 @@ fn read_moves(alloc: Global, rows: &[Row], no: u32) -> Result<Vec<Moved>, Stop>
 fn read_move(row: &Row, no: u32) -> Result<Moved, Stop>
     ensures told { IfOk result (λ it. row.now ≡ row_of no it) }
     ensures fault { IfErr result (λ stop. stop ≡ store_fault) }
-    ensures readable { (m : AMoved) → m.key < 2 ^ 16 → row.now ≡ row_of no m → IsOk result }
+    ensures readable { IsMoveOf no row.now → IsOk result }
 {
     let its_no = number_at(row, 0)?;
     let dim = dim_at(row, 1)?;

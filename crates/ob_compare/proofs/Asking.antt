@@ -3,7 +3,7 @@ use Rattle.std.proofs.Common.{◌≡◌, ◌≢◌, ℕ, List, [], inl, inr, ref
 use Rattle.std.specs.Prelude.{◌⊎◌, Result, Ok, Err, IfErr}
 use Rattle.sqlite.specs.Order.{Row}
 use Rattle.sqlite.specs.Effect.{Database}
-use Rattle.sqlite.specs.Listing.{understood}
+use Rattle.sqlite.specs.Listing.{IsSourceOf, reads_listing, understood}
 use Rattle.sqlite.specs.Clock.{timed}
 use Rattle.sqlite.specs.Outline.{Outline}
 use Rattle.sqlite.specs.Steps.{Outlines}
@@ -22,7 +22,7 @@ use Rattle.sqlite.proofs.Callers.{IsPlain, command_of, reads_as, unchanged_then}
 use Rattle.sqlite.specs.Command.{Command as SqlCommand}
 use Rattle.sqlite.specs.Schema.{Schema}
 use Rattle.ob_tables.specs.Steps.{IsStoreFault}
-use Rattle.ob_compare.specs.Listing.{Listing, IsListingOver, Lists, Means, list_command}
+use Rattle.ob_compare.specs.Listing.{Listing, IsListingOver, Lists, Means, ShowsNoWrite, list_command}
 use Rattle.ob_compare.specs.Faults.{IsReadFault, bad_book}
 use Rattle.ob_compare.specs.Reading.{HasNoMeaning, HasTrouble, IsInputError}
 use Rattle.ob_compare.proofs.Listing.{quiet, still_then}
@@ -83,6 +83,21 @@ shown_unchanged sql params old new rows plain h =
     let none = (subst IsPlain h.1.is plain).0 in
     let it = subst (ShowsRows old new sql h.0 (timed params h.0.formats h.1.now) rows) none h.2 in
     it.3
+
+-- what a query of a text that was prepared shows, it shows from the start
+pub shown_before : (old mid new : State) (sql text : List ℕ) (rows : List Row) → ShowsNoWrite sql → (text ≡ sql) × IsUnchanged old mid → Shown text [] mid new rows → Shown sql [] old new rows
+unfolding Shown
+shown_before old mid new sql text rows silent ready shown =
+    let h = subst (λ t. Shown t [] mid new rows) ready.0 shown in
+    let none = silent mid.now.schema h.0 h.1.is in
+    let full = timed [] h.0.formats h.1.now in
+    let it = subst (ShowsRows mid new sql h.0 full rows) none h.2 in
+    let now = ready.1.0.now_is in (
+      h.0,
+      record { is = subst (λ (d : Database). understood d.schema sql ≡ Ok h.0) now h.1.is; whole = h.1.whole; given = h.1.given; now = h.1.now },
+      subst (ShowsRows old new sql h.0 full rows) (sym none)
+          (it.0, subst (λ (d : Database). IsSourceOf (reads_listing d.schema sql) d it.0) now it.1, it.2, unchanged_then old mid new ready.1 it.3),
+    )
 
 module _ {at : Schema} (l : Listing) (means : IsListingOver at l) (old mid new : State) (text : List ℕ) (prepared : HasCleanDisk mid → (text ≡ l.text) × IsUnchanged old mid) where
   -- a whole listing commits nothing

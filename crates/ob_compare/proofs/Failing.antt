@@ -1,5 +1,5 @@
 -- Why the store fails at the queries of the tables.
-use Rattle.std.proofs.Common.{◌≡◌, ℕ, List, [], Option, Ok, Err, IsErrAnd, IsSome, false, sym, ap, subst, ◌∙◌}
+use Rattle.std.proofs.Common.{◌≡◌, ℕ, List, [], Option, Ok, Err, IsErrAnd, IsSome, false, inl, inr, sym, subst, ◌∙◌}
 use Rattle.std.specs.Prelude.{Result}
 use Rattle.sqlite_trees.specs.Tree.{Trees}
 use Rattle.sqlite_schema.specs.declared.program.Program.{Program}

@@ -13,7 +13,8 @@ use Rattle.ob_compare.specs.Parts.{listing_of, select_of}
 use Rattle.ob_compare.proofs.Failing.{list_accepted}
 use Rattle.ob_compare.proofs.NoWrite.{shows_no_write}
 
-writes_nothing : (t : Table) → ShowsNoWrite (select_of t)
+-- they show no rows of a write
+pub writes_nothing : (t : Table) → ShowsNoWrite (select_of t)
 unfolding everything
 writes_nothing Meta = shows_no_write (select_of Meta) (λ schema base. refl)
 writes_nothing Cause = shows_no_write (select_of Cause) (λ schema base. refl)

@@ -2,7 +2,7 @@
 ghost use Rattle.std.specs.Prelude.{◌≡◌, ◌≢◌, ◌↔◌, false, [], IfOk, IfErr};
 ghost use Rattle.sqlite.specs.Held.{state};
 ghost use Rattle.sqlite.specs.Schema.{Schema};
-ghost use Rattle.sqlite.specs.State.{HasCleanDisk, IsUnchanged, Survives};
+ghost use Rattle.sqlite.specs.State.{HasCleanDisk, IsUnchanged, Shown, Survives};
 ghost use Rattle.ob_base.specs.Stop.{out_of_memory};
 ghost use Rattle.ob_tables.specs.declared.version.Version.{Version};
 ghost use Rattle.ob_tables.specs.Rows.{Tables};
@@ -10,7 +10,7 @@ ghost use Rattle.ob_tables.specs.Queries.{IsAlwaysAnswered};
 ghost use Rattle.ob_tables.specs.Steps.{HasFaultCause};
 ghost use Rattle.ob_tables.specs.Versions.{schema_of};
 ghost use Rattle.ob_commit.specs.Keeps.{KeepsIn};
-ghost use Rattle.ob_compare.specs.Listing.{Listing, IsListingOver, Lists};
+ghost use Rattle.ob_compare.specs.Listing.{Listing, IsListingOver, Lists, ShowsNoWrite};
 ghost use Rattle.ob_compare.specs.Reading.{HasNoMeaning, IsInputError, IsMissed, IsReadFault, bad_book};
 
 use ob_base::{Fault, Refusal, Stop};
@@ -74,6 +74,9 @@ pub(crate) fn list_all<S: Alter>(conn: &mut Connection<S>, sql: &str) -> Result<
     ensures kept { (v : Version) (l : Listing) → IsListingOver (schema_of v) l → l.text ≡ sql.now
         → (t : Tables) → KeepsIn v (state S.Store conn.old) t
         → KeepsIn v (state S.Store conn.new) t }
+    ensures shown { HasCleanDisk (state S.Store conn.new) → ShowsNoWrite sql.now
+        → IfOk result (λ rows. Shown sql.now [] (state S.Store conn.old) (state S.Store conn.new)
+        rows.items) }
     ensures listed { HasCleanDisk (state S.Store conn.new)
         → IfOk result (λ rows. (schema : Schema) (l : Listing) → IsListingOver schema l
         → l.text ≡ sql.now → conn.old.schema ≡ schema

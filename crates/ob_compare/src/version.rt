@@ -1,11 +1,11 @@
 //! The version of a book, read from its heading.
-ghost use Rattle.std.specs.Prelude.{◌≡◌, ◌↔◌, false, IsTrue, IfOk, IfErr, OnOk};
+ghost use Rattle.std.specs.Prelude.{◌≡◌, ◌↔◌, false, List, [], IsTrue, IfOk, IfErr, OnOk};
 ghost use Rattle.sqlite.specs.Held.{state};
-ghost use Rattle.sqlite.specs.State.{HasCleanDisk, IsUnchanged, Survives};
+ghost use Rattle.sqlite.specs.State.{HasCleanDisk, IsUnchanged, Shown, Survives};
 ghost use Rattle.ob_tables.specs.Schema.{no_schema};
 ghost use Rattle.ob_tables.specs.Versions.{schema_of};
 ghost use Rattle.ob_tables.specs.declared.version.Version.{Version};
-ghost use Rattle.ob_tables.specs.Rows.{Tables};
+ghost use Rattle.ob_tables.specs.Rows.{Columns, Tables};
 ghost use Rattle.ob_tables.specs.Steps.{HasFaultCause};
 ghost use Rattle.ob_tables.specs.declared.table.Table.{Table as ATable};
 ghost use Rattle.ob_commit.specs.Keeps.{KeepsIn};
@@ -49,6 +49,11 @@ pub fn has_version<S: Alter>(conn: &mut Connection<S>, version: u32) -> Result<b
         → IsMissed (state S.Store conn.old) (state S.Store conn.new) result) }
     ensures same { HasCleanDisk (state S.Store conn.new) → OnOk result (IsOfBook conn.old.schema
         → IsUnchanged (state S.Store conn.old) (state S.Store conn.new)) }
+    // Whatever the tables, these rows were shown.
+    ensures shown { HasCleanDisk (state S.Store conn.new)
+        → IfOk result (λ is. (rows : List Columns) × Shown (select_of ATable.Meta) []
+        (state S.Store conn.old) (state S.Store conn.new) rows
+        × (IsTrue is ↔ IsVersionRow version rows)) }
     ensures version { HasCleanDisk (state S.Store conn.new)
         → IfOk result (λ is. IsOfBook conn.old.schema
         → IsTrue is ↔ HasVersion version (state S.Store conn.old).now.trees) }

@@ -1,5 +1,6 @@
 pub mod Known
 pub mod Replying
+pub mod Few
 pub mod Answering
 pub mod Accepting
 pub mod Answered

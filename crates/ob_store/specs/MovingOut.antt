@@ -1,10 +1,11 @@
 -- What a keeper hands to a sink of what its accepted commands moved.
-use Rattle.std.specs.Prelude.{◌≡◌, ◌⊎◌, ⊤, ℕ, List, [], ◌∷◌, ◌++◌, length, map, Option, Some, None, Result, Ok, Err}
-use Rattle.std.specs.List.{flat_map, range_with_len}
+use Rattle.std.specs.Prelude.{◌≡◌, ◌⊎◌, ⊤, ℕ, ◌-◌, ◌<◌, ◌^◌, List, [], ◌∷◌, ◌++◌, length, map, Option, Some, None, Result, Ok, Err}
+use Rattle.std.specs.List.{AllByRecursion, flat_map, range_with_len}
 use Rattle.sqlite_trees.specs.declared.store.Store.{Ghosts}
 use Rattle.sqlite.specs.Order.{Row}
 use Rattle.sqlite.specs.Given.{HasGiven}
 use Rattle.sqlite.specs.Held.{Held, state}
+use Rattle.sqlite.specs.State.{State}
 use Rattle.ob_base.specs.declared.stop.Fault.{Fault as AFault}
 use Rattle.ob_base.specs.declared.stop.Fault.TheVariants.{OutOfMemory, Store}
 use Rattle.ob_base.specs.declared.stop.Stop.{Stop}
@@ -13,8 +14,9 @@ use Rattle.ob_post.specs.Keys.{dim_number}
 use Rattle.ob_post.specs.declared.Moved.{Moved}
 use Rattle.ob_book.specs.Acts.{ActState, reply_of}
 use Rattle.ob_tables.specs.Rows.{Columns, moved_row}
-use Rattle.ob_tables.specs.Steps.{IsStoreFault}
+use Rattle.ob_tables.specs.Steps.{HasFailed, IsStoreFault}
 use Rattle.ob_tables.specs.declared.table.Table.TheVariants.{Moved as MovedTable}
+use Rattle.ob_record.specs.Reached.{IsReached}
 use Rattle.ob_record.specs.Tables.{tables_of}
 use Rattle.ob_compare.specs.Listing.{Lists}
 use Rattle.ob_compare.specs.Moves.{moved_listing}
@@ -39,9 +41,22 @@ all_moves b = flat_map (moves_of b) (range_with_len 1 (length b.accepted))
 abbrev pub row_of_move : Numbered → Columns
 row_of_move x = moved_row x.0 (dim_number x.1.dim) x.1.key x.1.delta
 
--- the row is that of an amount, with a number of 32 bits and a key of 16
+-- the number has 32 bits, and the key has 16
+abbrev pub IsSmall : Numbered → Type 0
+IsSmall x = (x.0 < 2 ^ 32) × (x.1.key < 2 ^ 16)
+
+-- the row is that of such an amount
 abbrev pub IsMoveRow : Row → Type 0
-IsMoveRow row = (it : Numbered) × (it.0 < 2 ^ 32) × (it.1.key < 2 ^ 16) × (row ≡ row_of_move it)
+IsMoveRow row = (it : Numbered) × IsSmall it × (row ≡ row_of_move it)
+
+-- the amounts that the accepted commands moved are such ones, and a number of 64 bits counts them
+pub record AreFewMoves (b : ActState) : Type 0 where
+  pub small : AllByRecursion IsSmall (all_moves b)
+  pub few : length (all_moves b) < 2 ^ 64 - 1
+
+-- so they are in each book
+abbrev pub MovesAreFew : Type 0
+MovesAreFew = (b : ActState) → IsReached b → AreFewMoves b
 
 -- their rows are those of the table of moved amounts, in order
 abbrev pub MovesAreRows : Type 0

@@ -1,8 +1,12 @@
-use Rattle.std.proofs.Common.{rules, w64, FitsSigned, to_z-of_z}
+use Rattle.std.proofs.Common.{pos, [], ◌∷◌, sym, subst, rules, w64, FitsSigned, to_z-of_z}
+use Rattle.sqlite.specs.Order.{Row}
+use Rattle.sqlite.specs.declared.types.Value.TheVariants.{Int}
 use Rattle.sqlite.specs.Held.{state}
+use Rattle.ob_tables.specs.Queries.{IsAlwaysAnswered}
+use Rattle.ob_tables.proofs.Failing.{not_answered_inside, stop_cause}
 use Rattle.ob_tables.proofs.Finding.{stays_as}
 use Rattle.ob_tables.proofs.Silence.{kept_read, kept_unread, live_read}
-use Rattle.ob_commit.proofs.Listing.{lists}
+use Rattle.ob_commit.proofs.Listing.{lists, moves_answered, moves_text}
 use Rattle.ob_commit.proofs.stored.find_moves.Goals as goal
 
 pub returns-in-Ok-clause-found : goal.returns-in-Ok-clause-found
@@ -44,3 +48,14 @@ returns-in-Err-clause-reads g c =
       live = λ clean. tt;
       stays = λ clean. tt;
     }
+
+pub returns-in-Err-clause-cause : goal.returns-in-Err-clause-cause
+returns-in-Err-clause-cause g c clean has =
+    let old = state g.S.Store c.args.tx.now.conn.now in
+    let new = state g.S.Store c.query_all.new.self.conn.now in
+    let e = c.in-Err.error in
+    let params : Row = Int (pos c.args.no) ∷ [] in
+    let fits : FitsSigned w64 c.from.result = search rules in
+    let failed = rw (to_z-of_z fits, c.from.ensures) at (c.in-Err.ensures.err clean) in
+    let answered = subst (λ s. IsAlwaysAnswered s moves_text params) (sym has) (moves_answered c.args.no) in
+    stop_cause old new e c.stop_of.result c.stop_of.ensures.memory (not_answered_inside old new moves_text params e answered failed)

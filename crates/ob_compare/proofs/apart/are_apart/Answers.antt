@@ -127,7 +127,7 @@ returns-clause-cause g c clean v has =
     let end = state g.S.Store c.query_prepared.follows.lender-at-none in
     let refused = rw c.in-Err-query_prepared.is at c.query_prepared.follows.holds-at-none in
     let early : HasCleanDisk mid = omega (arith, refused.survives.clean, clean) in
-    asked_cause old mid end _ number_text c.in-Ok.statement.text c.in-Err-query_prepared.error c.stop_of.result c.stop_of.ensures.memory (subst (λ s. IsAlwaysAnswered s number_text []) (sym has) (numbers_answered v)) (c.in-Ok.ensures.ok early)
+    asked_cause old mid end _ number_text c.in-Ok.statement.text c.in-Err-query_prepared.error c.stop_of-in-Err-query_prepared.result c.stop_of-in-Err-query_prepared.ensures.memory (subst (λ s. IsAlwaysAnswered s number_text []) (sym has) (numbers_answered v)) (c.in-Ok.ensures.ok early)
     c.prepare.ensures.survives early refused.survives (refused.err clean)
 
 pub returns-in-Err-clause-cause : goal.returns-in-Err-clause-cause

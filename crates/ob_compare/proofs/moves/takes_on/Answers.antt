@@ -16,7 +16,6 @@ use Rattle.ob_compare.proofs.Passing.{no_is_no}
 use Rattle.ob_compare.proofs.Texts.{same_state}
 use Rattle.ob_compare.proofs.Versions.{accepted, unfit, unrefused}
 use Rattle.ob_compare.proofs.Failing.{cause_of_error}
-use Rattle.ob_tables.proofs.Failing.{no_fault}
 use Rattle.ob_compare.proofs.moves.takes_on.Goals as goal
 
 -- what a plan moves is what its command moves

@@ -1,7 +1,7 @@
 use Rattle.std.proofs.Common.{[], inl, sym, ◌∙◌, arith}
 use Rattle.sqlite.specs.Held.{state}
 use Rattle.sqlite.specs.State.{HasCleanDisk}
-use Rattle.ob_compare.proofs.Asking.{listing_quiet, listing_whole, never_clean, shown_unchanged}
+use Rattle.ob_compare.proofs.Asking.{listing_quiet, listing_whole, never_clean, shown_before, shown_unchanged}
 use Rattle.ob_compare.proofs.Kept.{kept_asked, unread}
 use Rattle.ob_compare.proofs.Failing.{asked_cause}
 use Rattle.ob_compare.proofs.query.list_all.Goals as goal
@@ -70,3 +70,11 @@ returns-clause-cause g c late is =
     let early : HasCleanDisk mid = omega (arith, c.query_all.ensures.survives.clean, late) in
     asked_cause old mid new _ c.args.sql.now c.in-Ok.statement.text c.in-Err-query_all.error c.stop_of.result c.stop_of.ensures.memory is (c.in-Ok.ensures.prepared early) c.prepare.ensures.survives early c.query_all.ensures.survives
     (c.in-Err-query_all.ensures.err late)
+
+pub returns-in-Ok-query_all-clause-shown : goal.returns-in-Ok-query_all-clause-shown
+returns-in-Ok-query_all-clause-shown g c late silent =
+    let old = state g.S.Store c.args.conn.now in
+    let mid = state g.S.Store c.prepare.new.conn in
+    let new = state g.S.Store c.query_all.new.conn in
+    let early : HasCleanDisk mid = omega (arith, c.query_all.ensures.survives.clean, late) in
+    shown_before old mid new c.args.sql.now c.in-Ok.statement.text c.in-Ok-query_all.rows.items silent (c.in-Ok.ensures.prepared early) (c.in-Ok-query_all.ensures.ok late)

@@ -2,19 +2,20 @@ use Rattle.std.proofs.Common.{List, [], IsTrue, inl, inr, sym, subst}
 use Rattle.std.specs.Prelude.{◌↔◌}
 use Rattle.sqlite.specs.Held.{state}
 use Rattle.sqlite.specs.Order.{Row}
-use Rattle.sqlite.specs.State.{HasCleanDisk, IsUnchanged}
+use Rattle.sqlite.specs.State.{HasCleanDisk, IsUnchanged, Shown}
 use Rattle.ob_tables.specs.Creation.{old_schema}
 use Rattle.ob_tables.specs.Schema.{book_schema}
 use Rattle.ob_tables.specs.declared.version.Version.TheVariants.{One, Two}
 use Rattle.ob_compare.specs.Faults.{HasNoMeaning}
-use Rattle.ob_compare.specs.Listing.{Lists}
+use Rattle.ob_compare.specs.Listing.{Lists, ShowsNoWrite}
 use Rattle.ob_compare.specs.Version.{IsOfBook, IsVersionRow}
 use Rattle.ob_compare.proofs.Headings.{meta_listing, no_meaning, version_read}
-use Rattle.ob_compare.proofs.Selects.{lists_heading}
+use Rattle.ob_compare.proofs.Selects.{lists_heading, writes_nothing}
 use Rattle.ob_compare.proofs.version.has_version.Given.{Over}
 use Rattle.ob_compare.proofs.version.has_version.Goals.{After-drop-rows}
 use Rattle.ob_tables.specs.Queries.{IsAlwaysAnswered}
 use Rattle.ob_compare.proofs.Failing.{answered_over}
+use Rattle.ob_tables.specs.declared.table.Table.TheVariants.{Meta}
 use Rattle.ob_compare.proofs.version.has_version.Goals as goal
 
 -- the rows are an answer over the tables of either version, and nothing changed
@@ -61,3 +62,13 @@ returns-in-Err-clause-missed g c none = c.in-Err.ensures.missed (subst (HasNoMea
 
 pub returns-in-Err-clause-cause : goal.returns-in-Err-clause-cause
 returns-in-Err-clause-cause g c clean v has = c.in-Err.ensures.cause clean (subst (λ t. IsAlwaysAnswered c.args.conn.now.schema t []) (sym c.select_of.ensures) (answered_over meta_listing (lists_heading v) has))
+
+pub returns-in-Ok-clause-shown : goal.returns-in-Ok-clause-shown
+returns-in-Ok-clause-shown g c clean =
+    let old = state g.S.Store c.args.conn.now in
+    let new = state g.S.Store c.list_all.new.conn in
+    let rows = c.in-Ok.rows.items in (
+      rows,
+      subst (λ t. Shown t [] old new rows) c.select_of.ensures (c.in-Ok.ensures.shown clean (subst ShowsNoWrite (sym c.select_of.ensures) (writes_nothing Meta))),
+      subst (λ (l : List Row). IsTrue c.is_version.result ↔ IsVersionRow c.args.version l) c.deref.ensures.value c.is_version.ensures,
+    )

@@ -50,6 +50,6 @@ returns-in-Err-clause-cause g c clean b keeps least most =
     ∙ ap (λ k. rows_of_moves id (moves old (book_at b k))) after in
     let same = subst (λ x. IsPermutation x (rows_of_moves id expected)) (sym rows) (IsPermutation-refl (rows_of_moves id expected)) in
     let days : day_count old.period ≡ day_count b.book.period = ap day_count (period_at c.next_law.ensures.period b i) in
-    let few : day_count old.period ≤ 366 = omega (arith, days, keeps.reached.period.days_in) in
+    let few : day_count old.period ≤ 366 = omega (arith, days, keeps.reached.period.period.days_in) in
     let keys = c.move_laws.ensures.keys (change_from (amount old) (amount new)) (day_count old.period) in
     c.in-Err.ensures.cause clean (tables_of b) keeps.kept expected same (small_keys (day_count old.period) few expected keys)
