@@ -2,7 +2,7 @@ pub mod Asking
 pub mod Filing
 pub mod Headings
 mod Asked
-mod Failing
+pub mod Failing
 mod Kept
 mod Passing
 pub mod Listing
@@ -11,7 +11,7 @@ pub mod Ordered
 pub mod Rowing
 pub mod Same
 pub mod Standing
-mod Selects
+pub mod Selects
 mod Places
 pub mod Reaching
 mod Twins

@@ -64,11 +64,12 @@ module _ (stays : PeriodStays) (have_keys : MovesHaveKeys) (are_few : ReachedAre
       let of_feeder = changes_under change days Feeder in
       let of_day = changes_under change days Day in
       let tested = filter_short (λ (m : Moved). is_nonzero m.delta) (of_cause ++ of_feeder ++ of_day) in
-      let parts : length (of_cause ++ of_feeder ++ of_day) ≡ length of_cause + (length of_feeder + length of_day) = length-append of_cause (of_feeder ++ of_day) ∙ ap (λ k. length of_cause + k) (length-append of_feeder of_day) in
+      let parts = length-append (of_cause ++ of_feeder) of_day in
+      let first = length-append of_cause of_feeder in
       let cause : length of_cause ≤ 366 = subst (λ k. k ≤ 366) (sym (map_length _ (keys days Cause))) (under_few days Cause (days_at (n - 1))) in
       let feeder : length of_feeder ≤ 366 = subst (λ k. k ≤ 366) (sym (map_length _ (keys days Feeder))) (under_few days Feeder (days_at (n - 1))) in
       let day : length of_day ≤ 366 = subst (λ k. k ≤ 366) (sym (map_length _ (keys days Day))) (under_few days Day (days_at (n - 1))) in
-      omega (arith, map_length (λ (m : Moved). (n, m)) (reply_of b n).moved, tested, parts, cause, feeder, day)
+      omega (arith, map_length {Y = Numbered} (λ (m : Moved). (n, m)) (reply_of b n).moved, tested, parts, first, cause, feeder, day)
 
   -- ---- what all of them moved
   abbrev numbers : List ℕ

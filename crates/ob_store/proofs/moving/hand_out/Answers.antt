@@ -108,7 +108,7 @@ returns-clause-cause g c clean b keeps =
     let first : HasCleanDisk old = omega (arith, c.prepare.ensures.survives.clean, early) in
     let prepared = c.in-Ok.ensures.ok early in
     let has = (keeps.kept.settled first prepared.1.0.was_open).schema in
-    asked_cause old mid end _ moved_listing.text c.in-Ok.statement.text c.in-Err-query_prepared.error c.stop_of-2.result c.stop_of-2.ensures.memory (answered_over moved_listing (moved_is Two) has) prepared
+    asked_cause old mid end _ moved_listing.text c.in-Ok.statement.text c.in-Err-query_prepared.error c.stop_of-in-Err-query_prepared.result c.stop_of-in-Err-query_prepared.ensures.memory (answered_over moved_listing (moved_is Two) has) prepared
     c.prepare.ensures.survives early refused.survives (refused.err clean)
 
 pub returns-in-Err-clause-cause : goal.returns-in-Err-clause-cause

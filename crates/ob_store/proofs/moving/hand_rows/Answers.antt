@@ -124,4 +124,4 @@ returns-clause-cause g c clean b few keeps live given store =
     let has = (keeps.kept.settled start live).schema in
     let kept = c.moves.invariant.3 (tables_of b) keeps.kept in
     let some = front_of g.S.Store b c.moves.rows.conn.now kept clean so.0.0.is_open was.0 (so.1 has given) in
-    absurd (omega (arith, was.2, few.few, ap length some.1, length-append was.0 some.0, c.moves-test.false, c.moves.auto.at-end))
+    absurd (omega (arith, was.2, few.few, ap length some.1, length-append was.0 some.0, c.moves-test.false))

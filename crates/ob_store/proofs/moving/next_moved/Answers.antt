@@ -35,8 +35,8 @@ returns-in_err-advance-clause-cause g c clean b few keeps live front it =
     let first : HasCleanDisk old = omega (arith, c.advance.ensures.survives.clean, clean) in
     cause_of_error old new c.from_residual.result _ c.from_residual.ensures.1 (c.in_err-advance.ensures.cause clean (keeps.kept.settled first live).schema (map row_of_move front) it)
 
-pub returns-in-None-clause-cause : goal.returns-in-None-clause-cause
-returns-in-None-clause-cause g c clean b few keeps live front it =
+pub returns-in-None-read_moved-clause-cause : goal.returns-in-None-read_moved-clause-cause
+returns-in-None-read_moved-clause-cause g c clean b few keeps live front it =
     let old = c.args.rows.now.conn.now in
     let new = c.advance.new.rows.conn.now in
     let row = c.in-Some.row.now in
@@ -44,4 +44,4 @@ returns-in-None-clause-cause g c clean b few keeps live front it =
     let more = subst (GivesOn g.S.Store moved_listing.text [] old new (map row_of_move front)) at (c.in_ok-advance.ensures.goes clean moved_listing.text [] (map row_of_move front) it) in
     let is = row_of g.S.Store b new few (c.advance.ensures.kept (tables_of b) keeps.kept) clean (c.in_ok-advance.ensures.same clean).0.is_open front row more in
     let some = c.read_moved.ensures.readable is in
-    absurd (true≢false (sym some ∙ ap is_some c.in-None.is))
+    absurd (true≢false (sym some ∙ ap is_some c.in-None-read_moved.is))
