@@ -1,7 +1,8 @@
 //! The tables of a book, read back row by row and compared with what a book of their commands has.
 //!
 //! Each reading holds over the tables of either version that has the table; which body texts are read, and which commands are
-//! accepted, is told by the version that is asked for. Promises that nothing is written, and that a store keeps what it kept.
+//! accepted, is told by the version that is asked for. Promises that nothing is written, and that a store keeps what it kept;
+//! and that over such tables the store is told to have failed only where the disk failed, it was shut, or steps are limited.
 //! What makes a book of the tables, or finds what is wrong with them, stands above it.
 #![tactic(auto)]
 
