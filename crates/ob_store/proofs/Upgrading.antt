@@ -393,7 +393,7 @@ module _ {S : Type 0} (g : Ghosts S) where
       failed_cause : HasCleanDisk (state g new) → (v : Version) → old.schema ≡ schema_of v → HasUpgradeCause g old new (Err stop)
       failed_cause clean One schema store =
           let it = found old mid is other told end up second new clean_then survives (Err stop) upgrades clean schema in
-          inr (schema, (it.0, it.1))
+          inr (schema, it.0, it.1)
       failed_cause clean Two schema store = absurd (not_current old mid is other told end up second new clean_then survives (Err stop) upgrades clean schema)
 
       pub failed : IsStoreFault stop → Migrates g old new (Err stop)
