@@ -158,7 +158,7 @@ module _ {W : Type 0} (contents : W → Option (List ℕ)) where
 
     by_store : (was is : Lines W) (fault : AFault) → AppendsPart (bytes_of was) (bytes_of is) (lines_of (all_moves b)) → StoreFails g old new b fault → Ended was is fault
     by_store was is OutOfMemory text fails = (text, fails.0, fails.1)
-    by_store was is Store text fails = (text, fails.0, fails.1)
+    by_store was is Store text fails = (text, fails.0, fails.1, fails.2)
     by_store was is Output text fails = absurd fails
     by_store was is Reopen text fails = absurd fails
     by_store was is Input text fails = absurd fails
@@ -175,7 +175,7 @@ module _ {W : Type 0} (contents : W → Option (List ℕ)) where
     headed was mid is head text (Ok n) before h = (Appends-trans _ _ _ _ _ before h.0, h.1, h.2, h.3)
     headed was mid is head text (Err (Refused refusal)) before h = absurd h
     headed was mid is head text (Err (Fault OutOfMemory)) before h = (headed_part was mid (watched_bytes contents is) head text before h.0, h.1, h.2)
-    headed was mid is head text (Err (Fault Store)) before h = (headed_part was mid (watched_bytes contents is) head text before h.0, h.1, h.2)
+    headed was mid is head text (Err (Fault Store)) before h = (headed_part was mid (watched_bytes contents is) head text before h.0, h.1, h.2, h.3)
     headed was mid is head text (Err (Fault Output)) before h = (headed_part was mid (watched_bytes contents is) head text before h.0, h.1, h.2, h.3)
     headed was mid is head text (Err (Fault Reopen)) before h = absurd h
     headed was mid is head text (Err (Fault Input)) before h = absurd h

@@ -11,6 +11,7 @@ use Rattle.ob_stream.specs.Streams.{AppendsFront}
 use Rattle.ob_stream.specs.Watching.{HasJustFailed, watched_bytes}
 use Rattle.ob_stream.specs.declared.watched.Watched.{Watched}
 use Rattle.ob_book.specs.Acts.{ActState}
+use Rattle.ob_tables.specs.Steps.{HasFailed}
 use Rattle.ob_store.specs.Keeping.{KeeperValue, KeepsBook, Ties}
 use Rattle.ob_store.specs.MovingOut.{all_moves}
 
@@ -31,7 +32,7 @@ module _ {W : Type 0} (contents : W → Option (List ℕ)) where
   PutsLine old new line (Err fault) = ⊥
 
   -- behind these bytes the text was written whole, with what the book's commands moved, so many amounts; or a first part of
-  -- it, and then memory was refused, the store failed, or the writer's last call did. The store keeps the book as before
+  -- it, and then memory was refused, the store failed for a cause, or the writer's last call did. The store keeps the book as before
   abbrev pub Exports : {S : Type 0} → Ghosts S → KeeperValue S → KeeperValue S → Option (List ℕ) → Watched W → ActState → List ℕ → Result ℕ Stop → Type 0
   Exports g old new was is b text (Ok count) =
       Appends was (watched_bytes contents is) text × (count ≡ length (all_moves b)) × Ties g new b × (new.book ≡ old.book)
@@ -39,7 +40,7 @@ module _ {W : Type 0} (contents : W → Option (List ℕ)) where
   Exports g old new was is b text (Err (Fault OutOfMemory)) =
       AppendsPart was (watched_bytes contents is) text × Ties g new b × (new.book ≡ old.book)
   Exports g old new was is b text (Err (Fault Store)) =
-      AppendsPart was (watched_bytes contents is) text × KeepsBook (state g new.conn) b × (new.book ≡ None)
+      AppendsPart was (watched_bytes contents is) text × KeepsBook (state g new.conn) b × (new.book ≡ None) × HasFailed (state g old.conn) (state g new.conn)
   Exports g old new was is b text (Err (Fault Output)) =
       AppendsPart was (watched_bytes contents is) text × HasJustFailed is × Ties g new b × (new.book ≡ old.book)
   Exports g old new was is b text (Err (Fault fault)) = ⊥

@@ -17,11 +17,14 @@ use Rattle.sqlite_tied.specs.Compute.{everything}
 use Rattle.ob_base.specs.Stop.{out_of_memory}
 use Rattle.ob_base.specs.declared.stop.Stop.{Stop}
 use Rattle.ob_base.specs.declared.stop.Stop.TheVariants.{Refused, Fault}
+use Rattle.ob_base.specs.declared.stop.Fault.TheVariants.{Store}
 use Rattle.ob_tables.specs.Creation.{old_schema}
 use Rattle.ob_tables.specs.Schema.{no_schema}
 use Rattle.ob_tables.specs.Rows.{Tables}
+use Rattle.ob_tables.specs.Steps.{HasFailed}
 use Rattle.ob_tables.specs.Versions.{HoldsIn, schema_of}
 use Rattle.ob_tables.specs.declared.version.Version.{Version}
+use Rattle.ob_tables.specs.declared.table.Table.TheVariants.{Meta}
 use Rattle.ob_tables.specs.declared.version.Version.TheVariants.{One, Two}
 use Rattle.ob_commit.specs.Keeps.{IsSettledIn, KeepsEitherIn, KeepsIn}
 use Rattle.ob_commit.proofs.Commits.{settled_as}
@@ -29,15 +32,20 @@ use Rattle.ob_record.specs.Tables.{tables_of}
 use Rattle.ob_compare.specs.Faults.{HasNoMeaning, IsMissed, IsReadFault, bad_book}
 use Rattle.ob_compare.specs.Reading.{IsInputError}
 use Rattle.ob_compare.specs.Version.{HasVersion, IsOfBook}
+use Rattle.ob_tables.proofs.Failing.{not_run, stop_cause}
+use Rattle.ob_compare.specs.Listing.{IsListingOver}
 use Rattle.ob_compare.proofs.Asking.{missed, not_understood}
+use Rattle.ob_compare.proofs.Failing.{answered_over}
 use Rattle.ob_compare.proofs.Headings.{meta_listing, no_meaning}
 use Rattle.ob_compare.proofs.Listing.{still_then}
+use Rattle.ob_compare.proofs.Selects.{is_listing}
 use Rattle.ob_parts.specs.OldTables.{old_tables_of}
 use Rattle.ob_store.specs.Differing.{NoneSo}
 use Rattle.ob_store.specs.Finding.{Finds}
-use Rattle.ob_store.specs.Keeping.{Answers, IsAnswer}
+use Rattle.ob_store.specs.Keeping.{Answers, HasStoreCause, IsAnswer}
 use Rattle.ob_store.specs.Shapes.{IsShapeOf}
 use Rattle.ob_store.specs.Versions.{AnyTrees, Asks, Looks, Tells}
+use Rattle.ob_store.proofs.Failing.{cause_later}
 use Rattle.ob_store.proofs.Handing.{spared_unread}
 use Rattle.ob_store.proofs.Reading.{if_err, if_ok, no_more, on_ok}
 use Rattle.ob_store.proofs.Telling.{unversioned}
@@ -75,6 +83,10 @@ unfolding understood everything
 plain_heading One = (refl, refl)
 plain_heading Two = (refl, refl)
 
+meta_is : (v : Version) → IsListingOver (schema_of v) meta_listing
+meta_is One = is_listing One Meta tt
+meta_is Two = is_listing Two Meta tt
+
 has_meaning : (v : Version) (schema : Schema) → schema ≡ schema_of v → HasNoMeaning schema meta_listing.text → ⊥
 has_meaning v schema is none = go (understood (schema_of v) meta_listing.text) refl (plain_heading v)
   where
@@ -93,6 +105,10 @@ module _ (old new : State) (e : Error) (fails : IsNotRun old new meta_listing.te
   looked_foreign input of =
       let none : HasNoMeaning old.now.schema meta_listing.text = (not_understood old new meta_listing.text [] e input fails).0 in
       elim of [ inl has ↦ has_meaning Two old.now.schema has none | inr has ↦ has_meaning One old.now.schema has none ]
+
+  -- over the tables of a version the store failed
+  pub looked_failed : (v : Version) → old.now.schema ≡ schema_of v → (stop : Stop) → (e ≡ SqliteFailure code.OutOfMemory → stop ≡ out_of_memory) → stop ≡ Fault Store → HasFailed old new
+  looked_failed v schema stop memory is = stop_cause old new e stop memory (not_run old new meta_listing.text [] e (answered_over meta_listing (meta_is v) schema) fails) is
 
   -- nor is an empty database one
   pub looked_empty : (stop : Stop) → (IsInputError e → stop ≡ bad_book) → (e ≡ SqliteFailure code.OutOfMemory → stop ≡ out_of_memory) → old.now.schema ≡ no_schema → IsMissed {X = ⊤} old new (Err stop)
@@ -154,7 +170,7 @@ module _ {S : Type 0} (g : Ghosts S) where
   -- ---- then the version was looked at
   pub told_none : (old mid : Held S) (stop : Stop) → Looks g old mid (Err stop) → Tells g AnyTrees NoneSo old mid (Err stop)
   told_none old mid stop look =
-      unversioned g old mid look.mode look.survives look.clean (λ t keeps. looked_kept old mid (Err stop) look Two t keeps) stop look.faults look.foreign
+      unversioned g old mid look.mode look.survives look.clean (λ t keeps. looked_kept old mid (Err stop) look Two t keeps) stop look.faults look.cause look.foreign
 
   module _ (old mid new : Held S) (look : Looks g old mid (Ok tt)) (r : Result ⊤ Stop) (it : Tells g AnyTrees NoneSo mid new r) where
     same : HasCleanDisk (state g new) → IsUnchanged (state g old) (state g mid)
@@ -176,6 +192,7 @@ module _ {S : Type 0} (g : Ghosts S) where
       survives = still_then (state g old) (state g mid) (state g new) look.survives it.survives;
       kept = λ t keeps. it.kept t (looked_kept old mid (Ok tt) look Two t keeps);
       faults = it.faults;
+      cause = λ c v has. cause_later (state g old) (state g mid) (state g new) r look.survives it.survives (it.clean c) (seen c) (it.cause c v (there c ∙ has));
       same = λ c. on_ok r (it.same c) (λ step has. unchanged_then (state g old) (state g mid) (state g new) (same c) (step (there c ∙ has)));
       same_bad = λ c. if_err r (it.same_bad c) (λ stop step is of. step is (of_there c of) ∙ seen c);
       good = λ c. if_ok r (it.good c) (λ x found has. (subst (λ (d : Database). ¬ (HasVersion 1 d.trees)) (seen c) (found (there c ∙ has)).0, tt));
@@ -235,8 +252,9 @@ module _ {S : Type 0} (g : Ghosts S) where
     }
 
   -- ---- what was kept of tables was kept of books
-  pub answers : {X : Type 0} (old new : Held S) (r : Result X Stop) → Asks g old new r → (HasCleanDisk (state g new) → OnOk r (IsShapeOf Two old.schema)) → Answers g old new r
-  answers old new r it shape = record {
+  pub answers : {X : Type 0} (old new : Held S) (r : Result X Stop) → Asks g old new r → (HasCleanDisk (state g new) → OnOk r (IsShapeOf Two old.schema))
+      → (HasCleanDisk (state g new) → (v : Version) → old.schema ≡ schema_of v → HasStoreCause (state g old) (state g new) r) → Answers g old new r
+  answers old new r it shape cause = record {
     live = it.live;
     keeps = record {
       book = λ b k. record { kept = it.kept Two (tables_of b) k.kept; reached = k.reached; valid = k.valid };
@@ -256,11 +274,12 @@ module _ {S : Type 0} (g : Ghosts S) where
     };
     shape = shape;
     empty = it.empty;
+    cause = cause;
   }
 
   -- the same of what a keeper answers then
   pub answers_ok : {X Y : Type 0} (old new : Held S) (x : X) (y : Y) → Answers g old new (Ok x) → Answers g old new (Ok y)
-  answers_ok old new x y it = record { live = it.live; keeps = it.keeps; first = it.first; shape = it.shape; empty = it.empty }
+  answers_ok old new x y it = record { live = it.live; keeps = it.keeps; first = it.first; shape = it.shape; empty = it.empty; cause = λ clean v schema. tt }
 
   pub answers_err : {X Y : Type 0} (old new : Held S) (stop : Stop) → Answers g {X = X} old new (Err stop) → Answers g {X = Y} old new (Err stop)
   answers_err {X} {Y} old new stop it = record {
@@ -269,4 +288,5 @@ module _ {S : Type 0} (g : Ghosts S) where
     first = λ clean answer. it.first clean (refused_as Y X stop answer);
     shape = λ clean. tt;
     empty = it.empty;
+    cause = it.cause;
   }

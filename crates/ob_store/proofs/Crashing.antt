@@ -2,6 +2,7 @@
 use Rattle.std.proofs.Common.{◌≡◌, ◌⊎◌, inl, inr, ℕ, List, [], ◌∷◌, None, Result, Ok, Err, IsTrue, refl, ap, subst, ◌∙◌, arith}
 use Rattle.std.specs.Prelude.{⊤}
 use Rattle.std.specs.List.{AllByRecursion}
+use Rattle.std.proofs.lemmas.Bool.{cases_Bool}
 use Rattle.sqlite_trees.specs.declared.store.Store.{Ghosts}
 use Rattle.sqlite.specs.Tree.{Trees}
 use Rattle.sqlite.specs.Order.{column}
@@ -19,11 +20,13 @@ use Rattle.sqlite_catalog.specs.Listing.{IsSound}
 use Rattle.sqlite_catalog.proofs.ReadLemmas.{read_once, reads}
 use Rattle.ob_base.specs.declared.stop.Stop.{Stop}
 use Rattle.ob_base.specs.declared.stop.Stop.TheVariants.{Refused, Fault}
+use Rattle.ob_base.specs.declared.stop.Fault.TheVariants.{Store}
 use Rattle.ob_base.specs.declared.stop.Refusal.{Refusal}
 use Rattle.ob_base.specs.declared.stop.Refusal.TheVariants.{BadField, UnknownName, NameTaken, OutOfPeriod, UnknownEntry, Stale, Withdrawn, UnknownCustomer, BadService, RefConflict, Full, MarkedAlready, NotMarked, UnknownCause, BadPeriod, BadBook, BadLife, OldVersion}
 use Rattle.ob_book.specs.Acts.{ActState}
 use Rattle.ob_tables.specs.Schema.{book_schema}
 use Rattle.ob_tables.specs.declared.table.Table.TheVariants.{Meta, Command}
+use Rattle.ob_tables.specs.Steps.{HasFaultCause}
 use Rattle.ob_tables.specs.declared.version.Version.{Version}
 use Rattle.ob_tables.specs.declared.version.Version.TheVariants.{One, Two}
 use Rattle.ob_commit.specs.Keeps.{Leaves}
@@ -140,6 +143,19 @@ module _ {S : Type 0} (g : Ghosts S) (few : ReachedAreFew) (old new : KeeperValu
   loaded_first (Err (Refused refusal)) loads = loaded_open (Err (Refused refusal)) loads (loads.answers.live clean tt)
   loaded_first (Err (Fault fault)) loads = tt
 
+  -- the file of a store that keeps a book isn't broken
+  loaded_cause : (r : Result ⊤ Stop) → Loads g old new r → HasFaultCause (state g old.conn) (state g new.conn) r
+  loaded_cause (Ok done) loads = tt
+  loaded_cause (Err stop) loads = λ store. elim (cases_Bool (state g old.conn).is_open) [
+    | inl opened ↦
+      let it = keeps.kept.settled (loads.clean clean) opened in
+      elim (loads.answers.cause clean Two it.schema store) [
+        | inl failed ↦ failed
+        | inr broken ↦ absurd (broken it.holds.apart)
+      ]
+    | inr shut ↦ inr (inl shut)
+  ]
+
 -- a book is the first of two that are the same
 as_either : (s : State) (b : ActState) → KeepsBook s b → KeepsEitherBook s b b
 as_either s b keeps = record {
@@ -151,5 +167,9 @@ as_either s b keeps = record {
 }
 
 pub load_law : {S : Type 0} (g : Ghosts S) → ReachedAreFew → LoadLaw g
-load_law g few old new r loads clean =
-    (λ b keeps. loaded_first g few old new clean b b (as_either (state g old.conn) b keeps) r loads, λ b c keeps. loaded_first g few old new clean b c keeps r loads)
+load_law g few old new r loads clean = (
+  λ b keeps. loaded_first g few old new clean b b (as_either (state g old.conn) b keeps) r loads,
+  λ b c keeps. loaded_first g few old new clean b c keeps r loads,
+  λ b keeps. loaded_cause g few old new clean b b (as_either (state g old.conn) b keeps) r loads,
+  λ b c keeps. loaded_cause g few old new clean b c keeps r loads,
+)

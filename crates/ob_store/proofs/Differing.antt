@@ -109,7 +109,7 @@ module _ {S : Type 0} (g : Ghosts S) where
         let rows = map (shown t) ((state g old).now.trees (tree_of t)) in
         read_ok g Two (Decides t) NoneSo old new is it.mode it.survives it.clean it.kept it.same (λ clean has. it.holds clean has rows (IsPermutation-refl rows))
     compared t old new (Err stop) it =
-        read_err g Two (Decides t) NoneSo old new stop it.mode it.survives it.clean it.kept it.faults it.foreign
+        read_err g Two (Decides t) NoneSo old new stop it.mode it.survives it.clean it.kept it.faults it.cause it.foreign
 
     part : (t : Table) (old new : Held S) (r : Result Bool Stop) → Compares g Two t (parts_in Two b t) old new r → Finds g Two (Decides t) NoneSo old new r
     part t old new r it = compared t old new r (subst (λ rows. Compares g Two t rows old new r) (rows_are t) it)

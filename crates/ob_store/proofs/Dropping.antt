@@ -10,7 +10,7 @@ use Rattle.ob_base.specs.declared.stop.Stop.TheVariants.{Refused, Fault}
 use Rattle.ob_base.specs.declared.stop.Fault.TheVariants.{OutOfMemory, Store, Reopen, Input, Output}
 use Rattle.ob_state.specs.State.{BookState}
 use Rattle.ob_book.specs.Acts.{ActState, Referenced}
-use Rattle.ob_tables.specs.Steps.{IsStoreFault}
+use Rattle.ob_tables.specs.Steps.{HasFailed, IsStoreFault}
 use Rattle.ob_store.specs.Acting.{Acted, Acts}
 use Rattle.ob_store.specs.Creating.{Created, Creates}
 use Rattle.ob_store.specs.Keeping.{IsBookAfter, KeeperValue, KeepsBook, Ties}
@@ -105,9 +105,9 @@ module _ {S : Type 0} (g : Ghosts S) (old new : KeeperValue S) where
 
     -- ---- why the moves were handed out in part
     module _ {V : Type 0} (takes : Takes V) (was is : V) (front : TakesFront takes was (all_moves b) is) (keeps : KeepsBook (state g new.conn) b) where
-      pub moved_err : (stop : Stop) → IsStoreFault stop → IsBookAfter old.book new.book stop → MovesOut g takes old new was is b (Err stop)
-      moved_err stop (inl memory) book =
+      pub moved_err : (stop : Stop) → IsStoreFault stop → (stop ≡ Fault Store → HasFailed (state g old.conn) (state g new.conn)) → IsBookAfter old.book new.book stop → MovesOut g takes old new was is b (Err stop)
+      moved_err stop (inl memory) cause book =
           let same : new.book ≡ old.book = subst (IsBookAfter old.book new.book) memory book in
           subst (λ s. MovesOut g takes old new was is b (Err s)) (sym memory) (inr (front, (tied b ties keeps same, same)))
-      moved_err stop (inr store) book =
-          subst (λ s. MovesOut g takes old new was is b (Err s)) (sym store) (inr (front, (keeps, subst (IsBookAfter old.book new.book) store book)))
+      moved_err stop (inr store) cause book =
+          subst (λ s. MovesOut g takes old new was is b (Err s)) (sym store) (inr (front, (keeps, subst (IsBookAfter old.book new.book) store book, cause store)))

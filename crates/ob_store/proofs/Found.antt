@@ -1,5 +1,5 @@
 -- What was found of the tables once a book was led along their commands.
-use Rattle.std.proofs.Common.{◌≡◌, ◌≢◌, inl, inr, Bool, true, [], Option, Some, None, Result, Ok, Err, refl, sym, subst, ◌∙◌, IsTrue}
+use Rattle.std.proofs.Common.{◌≡◌, ◌≢◌, inl, inr, Bool, true, false, true≢false, [], Option, Some, None, Result, Ok, Err, refl, sym, subst, ◌∙◌, IsTrue}
 use Rattle.std.specs.Prelude.{◌↔◌}
 use Rattle.sqlite_trees.specs.declared.store.Store.{Ghosts}
 use Rattle.sqlite.specs.Tree.{Trees}
@@ -17,12 +17,16 @@ use Rattle.ob_tables.specs.declared.version.Version.TheVariants.{Two}
 use Rattle.ob_store.specs.Finding.{Finds, HasNoBook}
 use Rattle.ob_store.specs.Differing.{IsFirstOff, NoneSo}
 use Rattle.ob_store.specs.Leading.{IsLed}
+use Rattle.ob_store.specs.Keeping.{IsBroken}
 use Rattle.ob_store.specs.Loading.{Finding, Holding, HoldsNoBook}
 use Rattle.ob_store.proofs.Reading.{fails, then_bad, then_fault, then_good, then_more}
 
 -- no row numbers are told to be the same where there is no such table
 abbrev pub Apart : Trees → Bool → Type 0
 Apart trees is = IsTrue is ↔ AreApart (trees 14)
+
+pub not_apart : (trees : Trees) (is : Bool) → is ≡ false → Apart trees is → IsBroken trees
+not_apart trees is off so apart = true≢false (sym (so.1 apart) ∙ off)
 
 -- a store that is broken is no other book
 pub store_alone : Fault Store ≢ bad_book
@@ -43,6 +47,7 @@ module _ {S : Type 0} (g : Ghosts S) {X : Type 0} (P : ActState → Trees → X 
     survives = (it bare refl).survives;
     kept = (it bare refl).kept;
     faults = tt;
+    cause = λ clean schema. tt;
     same = (it bare refl).same;
     same_bad = λ clean. tt;
     good = λ clean schema b is. (it b is).good clean schema;
@@ -54,6 +59,7 @@ module _ {S : Type 0} (g : Ghosts S) {X : Type 0} (P : ActState → Trees → X 
     survives = (it bare refl).survives;
     kept = (it bare refl).kept;
     faults = (it bare refl).faults;
+    cause = (it bare refl).cause;
     same = λ clean. tt;
     same_bad = (it bare refl).same_bad;
     good = λ clean. tt;
@@ -117,8 +123,9 @@ module _ {S : Type 0} (g : Ghosts S) {L : Type 0} (state_of : L → BookState) (
     pub apart_err : {Y : Type 0} (Good : Trees → Y → Type 0) (Bad : Trees → Type 0) (stop : Stop) → Finds g Two Apart NoneSo new end (Err stop) → Finds g Two Good Bad old end (Err stop)
     apart_err Good Bad stop third = fails g Two All Nothing Good Bad old end stop (λ trees none. absurd none.1) (all (Err stop) third)
 
-    pub broken : {Y : Type 0} (Good : Trees → Y → Type 0) (Bad : Trees → Type 0) (is : Bool) → Finds g Two Apart NoneSo new end (Ok is) → Finds g Two Good Bad old end (Err (Fault Store))
-    broken Good Bad is third = then_fault g Two All Nothing Good Bad old end is (all (Ok is) third) (Fault Store) (inl (inr refl)) store_alone
+    pub broken : {Y : Type 0} (Good : Trees → Y → Type 0) (Bad : Trees → Type 0) (is : Bool) → is ≡ false → Finds g Two Apart NoneSo new end (Ok is) → Finds g Two Good Bad old end (Err (Fault Store))
+    broken Good Bad is off third =
+        then_fault g Two All Nothing Good Bad old end is (all (Ok is) third) (Fault Store) (inl (inr refl)) store_alone (λ store trees it. not_apart trees is off it.1)
 
     pub loads : {B : Type 0} (book_of : B → BookState) (book : B) → book_of book ≡ state_of l → (is : Bool) → is ≡ true → Finds g Two Apart NoneSo new end (Ok is) → Finds g Two (λ trees b. Holding trees (book_of b)) HoldsNoBook old end (Ok book)
     loads book_of book same is so third =

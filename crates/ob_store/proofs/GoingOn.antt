@@ -8,6 +8,7 @@ use Rattle.ob_base.specs.declared.stop.Stop.{Stop}
 use Rattle.ob_book.specs.Acts.{ActState}
 use Rattle.ob_tables.specs.Rows.{Tables}
 use Rattle.ob_tables.specs.Schema.{book_schema, no_schema}
+use Rattle.ob_tables.specs.Versions.{schema_of}
 use Rattle.ob_tables.specs.declared.version.Version.{Version}
 use Rattle.ob_tables.specs.declared.version.Version.TheVariants.{One, Two}
 use Rattle.ob_commit.specs.Keeps.{KeepsEitherIn, KeepsIn}
@@ -16,7 +17,7 @@ use Rattle.ob_compare.specs.Reading.{IsReadFault}
 use Rattle.ob_parts.specs.OldTables.{old_tables_of}
 use Rattle.ob_store.specs.Finding.{Finds}
 use Rattle.ob_store.specs.Keeping.{KeepsBook, KeepsEitherBook, KeepsEitherVersion, KeepsOldBook}
-use Rattle.ob_store.specs.Migrating.{MigratesKept, MigratesOn}
+use Rattle.ob_store.specs.Migrating.{HasUpgradeCause, MigratesKept, MigratesOn}
 use Rattle.ob_store.specs.Shapes.{IsShapeOf}
 use Rattle.ob_store.specs.Upgrading.{IsTold, IsUntold, Migrates}
 use Rattle.ob_store.specs.Versions.{Asks}
@@ -39,10 +40,11 @@ module _ {S : Type 0} (g : Ghosts S) where
       };
       version = λ clean. tt;
       empty = λ clean none. absurd (it.empty clean none);
+      cause = λ clean v schema. tt;
     }
 
-    pub on_err : (stop : Stop) → Asks g {X = Bool} old new (Err stop) → MigratesOn g old new (Err stop)
-    on_err stop it = record {
+    pub on_err : (stop : Stop) → Asks g {X = Bool} old new (Err stop) → (HasCleanDisk (state g new) → (v : Version) → old.schema ≡ schema_of v → HasUpgradeCause g old new (Err stop)) → MigratesOn g old new (Err stop)
+    on_err stop it cause = record {
       live = it.live;
       shape = λ clean. tt;
       book = λ b k. record { kept = it.kept Two (tables_of b) k.kept; reached = k.reached; valid = k.valid };
@@ -55,6 +57,7 @@ module _ {S : Type 0} (g : Ghosts S) where
       };
       version = λ clean b k. record { kept = it.either One (old_tables_of b) (tables_of b) k.kept; reached = k.reached; valid = k.valid };
       empty = it.empty;
+      cause = cause;
     }
 
   -- no tables of version 2 stood where the heading told another version
@@ -105,4 +108,5 @@ module _ {S : Type 0} (g : Ghosts S) where
       };
       version = λ clean. versions r it.faults (λ b k. of_old b k clean);
       empty = λ clean none. absurd (filled clean none);
+      cause = it.cause;
     }

@@ -1,12 +1,13 @@
 -- The rows of what commands moved are handed out in order, and the store keeps its tables.
-use Rattle.std.proofs.Common.{◌≡◌, ◌⊎◌, inl, inr, ℕ, ◌+◌, ◌-◌, List, [], ◌∷◌, ◌++◌, length, map, take, IsTrue, None, Some, Option, Ok, refl, sym, ap, ap₂, subst, ◌∙◌, arith}
-use Rattle.std.specs.List.{flat_map, range_with_len}
+use Rattle.std.proofs.Common.{◌≡◌, ◌⊎◌, inl, inr, ℕ, ◌+◌, ◌-◌, List, [], ◌∷◌, ◌++◌, length, map, take, IsTrue, None, Some, Option, Result, Ok, Err, refl, sym, ap, ap₂, subst, ◌∙◌, arith}
+use Rattle.std.specs.List.{AllByRecursion, flat_map, range_with_len}
 use Rattle.std.proofs.lemmas.List.{append_assoc, append-nil, length-append}
 use Rattle.std.proofs.lemmas.List.Sums.{fold_push}
 use Rattle.sqlite_trees.specs.declared.store.Store.{Ghosts}
 use Rattle.sqlite_resolve.specs.declared.compiled.Compiled.{Compiled}
 use Rattle.sqlite_schema.specs.declared.command.Returning.{Returning}
 use Rattle.sqlite.specs.Order.{Row}
+use Rattle.sqlite.specs.Tree.{Trees}
 use Rattle.sqlite.specs.Effect.{Database}
 use Rattle.sqlite.specs.Clock.{timed}
 use Rattle.sqlite.specs.declared.error.Error.{Error}
@@ -33,7 +34,11 @@ use Rattle.ob_compare.proofs.Listing.{begun_list, quiet, still_then}
 use Rattle.ob_compare.proofs.Order.{numbered, rows_are}
 use Rattle.ob_compare.proofs.Rowing.{moved_is, lists_moved}
 use Rattle.ob_tables.specs.declared.version.Version.TheVariants.{Two}
-use Rattle.ob_store.specs.MovingOut.{Numbered, Takes, TakesAll, all_moves, moves_of, row_of_move}
+use Rattle.ob_tables.proofs.Failing.{failed_after}
+use Rattle.ob_store.specs.MovingOut.{AreFewMoves, HasHaltCause, IsMoveRow, IsSmall, Numbered, Takes, TakesAll, all_moves, moves_of, row_of_move}
+use Rattle.ob_store.specs.declared.moving.Halt.{Halt}
+use Rattle.ob_store.specs.declared.moving.Halt.TheVariants as halts
+use Rattle.ob_store.proofs.Few.{among}
 
 -- ---- what the store keeps
 -- nothing has changed, or all was undone
@@ -197,6 +202,27 @@ module _ {S : Type 0} (g : Ghosts S) (b : ActState) (h : Held S) (keeps : Keeps 
   front_and xs x given =
       let it = front_of (xs ++ x ∷ []) (subst (HasGiven g moved_listing.text [] h) (sym (map_push xs x)) given) in
       (it.0, it.1 ∙ append_assoc xs (x ∷ []) it.0)
+
+-- the next row is that of an amount
+pub row_of : {S : Type 0} (g : Ghosts S) (b : ActState) (h : Held S) → AreFewMoves b → Keeps (state g h) (tables_of b) → HasCleanDisk (state g h) → IsTrue (state g h).is_open → (xs : List Numbered) (row : Row)
+    → HasGiven g moved_listing.text [] h (map row_of_move xs ++ row ∷ []) → IsMoveRow row
+row_of g b h few keeps clean live xs row given =
+    let all = begun_list g moved_listing (moved_is Two) h (map row_of_move xs ++ row ∷ []) (keeps.settled clean live).schema live given in
+    let is = sym (append_assoc (map row_of_move xs) (row ∷ []) all.0) ∙ answer_is b (state g h) keeps clean live ((map row_of_move xs ++ row ∷ []) ++ all.0) all.1 in
+    let it = first_of xs (row ∷ all.0) (all_moves b) is in
+    go it.0 it.1 it.2
+  where
+    go : {tail : List Row} (zs : List Numbered) → all_moves b ≡ xs ++ zs → row ∷ tail ≡ map row_of_move zs → IsMoveRow row
+    go [] parts is = absurd cc
+    go (z ∷ zs) parts is =
+        let first : row ≡ row_of_move z = cc in
+        (z, among IsSmall xs z zs (subst (AllByRecursion IsSmall) parts few.small), first)
+
+-- a halt of the store at a later step
+pub halt_after : (old mid new : State) (P Q : Trees → Type 0) (r : Result ℕ Halt) → Survives old mid P → HasCleanDisk mid → Survives mid new Q → HasHaltCause mid new r → HasHaltCause old new r
+halt_after old mid new P Q (Ok count) one clean two cause = tt
+halt_after old mid new P Q (Err (halts.Sink fault)) one clean two cause = tt
+halt_after old mid new P Q (Err (halts.Store stop)) one clean two cause = λ store. failed_after old mid new P Q one clean two (cause store)
 
 pub given_more : {S : Type 0} (g : Ghosts S) (h : Held S) (xs : List Numbered) (x : Numbered) → HasGiven g moved_listing.text [] h (map row_of_move xs ++ row_of_move x ∷ []) → HasGiven g moved_listing.text [] h (map row_of_move (xs ++ x ∷ []))
 given_more g h xs x given = subst (HasGiven g moved_listing.text [] h) (sym (map_push xs x)) given

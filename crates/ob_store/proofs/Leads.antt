@@ -14,6 +14,7 @@ use Rattle.ob_store.specs.declared.named.Named.{Named}
 use Rattle.ob_store.specs.Finding.{Finds, HasNoBook, IsNamed}
 use Rattle.ob_store.specs.Leading.{HasNoPeriodOf, IsLed, IsLedBy, LeadsNowhere, MovesAre}
 use Rattle.ob_store.specs.Laws.{Laws}
+use Rattle.ob_store.proofs.Failing.{no_store}
 use Rattle.ob_store.proofs.Reading.{fails, read_fault, then_bad, then_fault, then_good, then_more}
 use Rattle.ob_store.proofs.Leading.{is_led, no_period, nowhere, twice}
 
@@ -42,7 +43,7 @@ module _ {S : Type 0} (g : Ghosts S) {L : Type 0} (state_of : L → BookState) (
 
   -- memory was refused
   pub led_no_memory : (stop : Stop) → stop ≡ out_of_memory → Finds g Two Good HasNoBook old mid (Err stop)
-  led_no_memory stop memory = then_fault g Two (IsNamed Two) HasNoBook Good HasNoBook old mid it first stop (read_fault stop (inr memory)) (memory_alone stop memory)
+  led_no_memory stop memory = then_fault g Two (IsNamed Two) HasNoBook Good HasNoBook old mid it first stop (read_fault stop (inr memory)) (memory_alone stop memory) (no_store stop (inr memory))
 
   module _ (new : Held S) where
     both : (r : Result (Option L) Stop) → Finds g Two Follows Lost mid new r → Finds g Two Both Neither old new r
@@ -56,7 +57,7 @@ module _ {S : Type 0} (g : Ghosts S) {L : Type 0} (state_of : L → BookState) (
     pub led_nowhere : (found : Option L) → Finds g Two Follows Lost mid new (Ok found) → (stop : Stop) → (stop ≡ bad_book) ⊎ (stop ≡ out_of_memory) → (stop ≡ bad_book → LeadsNowhere it) → Finds g Two Good HasNoBook old new (Err stop)
     led_nowhere found second stop (inl bad) none =
         subst (λ s. Finds g Two Good HasNoBook old new (Err s)) (sym bad) (then_bad g Two Both Neither Good HasNoBook old new found (both (Ok found) second) (λ trees named. nowhere laws trees it named.0 (none bad)))
-    led_nowhere found second stop (inr memory) none = then_fault g Two Both Neither Good HasNoBook old new found (both (Ok found) second) stop (read_fault stop (inr memory)) (memory_alone stop memory)
+    led_nowhere found second stop (inr memory) none = then_fault g Two Both Neither Good HasNoBook old new found (both (Ok found) second) stop (read_fault stop (inr memory)) (memory_alone stop memory) (no_store stop (inr memory))
 
     -- they lead to this one
     pub led_at : (found : Option L) → Finds g Two Follows Lost mid new (Ok found) → AreDistinct (filed_of it.commands.items)

@@ -1,10 +1,12 @@
 pub mod Known
 pub mod Replying
+pub mod Few
 pub mod Answering
 pub mod Accepting
 pub mod Answered
 pub mod Staying
 pub mod Beginning
+pub mod Failing
 pub mod Reading
 pub mod Naming
 pub mod Laws

@@ -36,6 +36,7 @@ use Rattle.ob_store.specs.Upgrading.{HasOldParts, HasOldRows, IsOldPart, IsUpgra
 use Rattle.ob_store.proofs.Counting.{rows_counted}
 use Rattle.ob_store.specs.Laws.{Laws}
 use Rattle.ob_store.proofs.Leading.{commands_are, is_led, led_is, moved_is, no_period, twice}
+use Rattle.ob_store.proofs.Failing.{no_store}
 use Rattle.ob_store.proofs.Reading.{fails, read_fault, then_bad, then_fault, then_good, then_more}
 
 -- ---- a book of version 1 that trees hold is one that they name
@@ -110,7 +111,7 @@ module _ {S : Type 0} (g : Ghosts S) (laws : Laws One) (old_law : OldIsReached) 
     lead_twice same = then_bad g One (IsNamed One) HoldsNoOldBook Good HoldsNoOldBook old mid it first (λ trees named. twice_old laws old_law trees it named same)
 
     pub lead_no_memory : (stop : Stop) → stop ≡ out_of_memory → Finds g One Good HoldsNoOldBook old mid (Err stop)
-    lead_no_memory stop memory = then_fault g One (IsNamed One) HoldsNoOldBook Good HoldsNoOldBook old mid it first stop (read_fault stop (inr memory)) (memory_alone stop memory)
+    lead_no_memory stop memory = then_fault g One (IsNamed One) HoldsNoOldBook Good HoldsNoOldBook old mid it first stop (read_fault stop (inr memory)) (memory_alone stop memory) (no_store stop (inr memory))
 
     module _ (new : Held S) where
       both : (r : Result (Option L) Stop) → Finds g One Follows Lost mid new r → Finds g One Both Neither old new r
@@ -236,7 +237,7 @@ module _ {S : Type 0} (g : Ghosts S) (laws : Laws One) (old_law : OldIsReached) 
       check_fails stop second = fails g One LedParts LedOff Upgradable HoldsNoOldBook old new stop (λ trees none. other_rows trees (as_led trees none.0) none.1) (checked (Err stop) second)
 
       bodies_fail : Finds g One Parts Off mid new (Ok tt) → (stop : Stop) → stop ≡ out_of_memory → Finds g One Upgradable HoldsNoOldBook old new (Err stop)
-      bodies_fail second stop memory = then_fault g One LedParts LedOff Upgradable HoldsNoOldBook old new tt (checked (Ok tt) second) stop (read_fault stop (inr memory)) (memory_alone stop memory)
+      bodies_fail second stop memory = then_fault g One LedParts LedOff Upgradable HoldsNoOldBook old new tt (checked (Ok tt) second) stop (read_fault stop (inr memory)) (memory_alone stop memory) (no_store stop (inr memory))
 
       found_old : UpgradedLaw → Finds g One Parts Off mid new (Ok tt) → (up : Upgrade) → texts_of up.bodies.items ≡ new_texts 1 (filed_of it.commands.items) → up.devices ≡ length s.network.devices
           → Finds g One Upgradable HoldsNoOldBook old new (Ok up)

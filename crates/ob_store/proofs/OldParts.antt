@@ -22,7 +22,7 @@ use Rattle.ob_store.specs.Differing.{NoneSo}
 use Rattle.ob_store.specs.Finding.{Finds}
 use Rattle.ob_store.specs.Upgrading.{HasOldParts, HasOldRows, IsOldPart, bare}
 use Rattle.ob_store.proofs.Differing.{below_or_at}
-use Rattle.ob_store.proofs.Found.{Apart, store_alone}
+use Rattle.ob_store.proofs.Found.{Apart, not_apart, store_alone}
 use Rattle.ob_store.proofs.Reading.{fails, find_as, read_err, read_ok, then_bad, then_fault, then_good, then_more}
 
 -- the tables in their order
@@ -100,7 +100,7 @@ module _ {S : Type 0} (g : Ghosts S) (s : BookState) where
   compared t old new (Ok is) it =
       let rows = map (shown t) ((state g old).now.trees (tree_of t)) in
       read_ok g One (Decides t) NoneSo old new is it.mode it.survives it.clean it.kept it.same (λ clean has. it.holds clean has rows (IsPermutation-refl rows))
-  compared t old new (Err stop) it = read_err g One (Decides t) NoneSo old new stop it.mode it.survives it.clean it.kept it.faults it.foreign
+  compared t old new (Err stop) it = read_err g One (Decides t) NoneSo old new stop it.mode it.survives it.clean it.kept it.faults it.cause it.foreign
 
   goes_on : (n : ℕ) (t : Table) (old mid new : Held S) (r : Result Bool Stop) → Begun n old mid → Finds g One (Decides t) NoneSo mid new r → Finds g One (Next n t) NoneSo old new r
   goes_on n t old mid new r (inl first) it =
@@ -173,8 +173,9 @@ module _ {S : Type 0} (g : Ghosts S) (s : BookState) where
       pub rows_apart : (apart : Bool) → apart ≡ true → Finds g One Apart NoneSo mid new (Ok apart) → Finds g One Good Bad old new (Ok tt)
       rows_apart apart so second = then_good g One Both Neither Good Bad old new apart (both (Ok apart) second) tt (λ trees it. (it.0.0 right, it.1.0 so))
 
-      pub rows_broken : (apart : Bool) → Finds g One Apart NoneSo mid new (Ok apart) → Finds g One Good Bad old new (Err (Fault Store))
-      rows_broken apart second = then_fault g One Both Neither Good Bad old new apart (both (Ok apart) second) (Fault Store) (inl (inr refl)) store_alone
+      pub rows_broken : (apart : Bool) → apart ≡ false → Finds g One Apart NoneSo mid new (Ok apart) → Finds g One Good Bad old new (Err (Fault Store))
+      rows_broken apart off second =
+          then_fault g One Both Neither Good Bad old new apart (both (Ok apart) second) (Fault Store) (inl (inr refl)) store_alone (λ store trees it. not_apart trees apart off it.1)
 
       pub rows_unread : (stop : Stop) → Finds g One Apart NoneSo mid new (Err stop) → Finds g One Good Bad old new (Err stop)
       rows_unread stop second = fails g One Both Neither Good Bad old new stop (λ trees none. absurd none.1) (both (Err stop) second)

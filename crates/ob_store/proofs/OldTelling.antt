@@ -12,6 +12,7 @@ use Rattle.ob_tables.specs.Creation.{old_schema}
 use Rattle.ob_tables.specs.Schema.{book_schema}
 use Rattle.sqlite_tied.specs.Compute.{everything}
 use Rattle.ob_tables.specs.Rows.{Tables}
+use Rattle.ob_tables.specs.Steps.{HasFaultCause}
 use Rattle.ob_tables.specs.Versions.{schema_of}
 use Rattle.ob_tables.specs.declared.version.Version.{Version}
 use Rattle.ob_tables.specs.declared.version.Version.TheVariants.{One, Two}
@@ -24,6 +25,7 @@ use Rattle.ob_store.specs.Shapes.{IsShapeOf}
 use Rattle.ob_store.specs.Upgrading.{IsTold, IsUntold}
 use Rattle.ob_store.specs.Versions.{Looks}
 use Rattle.ob_store.proofs.Asking.{looked_kept}
+use Rattle.ob_store.proofs.Failing.{no_store}
 use Rattle.ob_store.proofs.Reading.{fails, find_as, read_err, read_ok, then_bad, then_more}
 
 pub of_book : (v : Version) (schema : Schema) → schema ≡ schema_of v → IsOfBook schema
@@ -64,8 +66,8 @@ module _ {S : Type 0} (g : Ghosts S) where
         → Finds g v (Decides n) NoneSo old new (Ok is)
     looked is same version = read_ok g v (Decides n) NoneSo old new is mode survives clean (kept v) (λ c schema. same c (of_book v old.schema schema)) (λ c schema. version c (of_book v old.schema schema))
 
-    pub unread : (stop : Stop) → IsReadFault stop → (HasCleanDisk (state g new) → stop ≡ bad_book → ¬ (IsOfBook old.schema)) → Finds g v (Decides n) NoneSo old new (Err stop)
-    unread stop fault foreign = read_err g v (Decides n) NoneSo old new stop mode survives clean (kept v) fault (λ c bad schema. foreign c bad (of_book v old.schema schema))
+    pub unread : (stop : Stop) → IsReadFault stop → (HasCleanDisk (state g new) → (v : Version) → old.schema ≡ schema_of v → HasFaultCause {X = Bool} (state g old) (state g new) (Err stop)) → (HasCleanDisk (state g new) → stop ≡ bad_book → ¬ (IsOfBook old.schema)) → Finds g v (Decides n) NoneSo old new (Err stop)
+    unread stop fault cause foreign = read_err g v (Decides n) NoneSo old new stop mode survives clean (kept v) fault (λ c. cause c v) (λ c bad schema. foreign c bad (of_book v old.schema schema))
 
   module _ (v : Version) (old mid : Held S) where
     -- it tells version 2
@@ -76,6 +78,7 @@ module _ {S : Type 0} (g : Ghosts S) where
       survives = it.survives;
       kept = it.kept;
       faults = tt;
+      cause = λ c schema. tt;
       same = it.same;
       same_bad = λ c. tt;
       good = λ c schema. (it.good c schema).0 so;
@@ -117,6 +120,7 @@ module _ {S : Type 0} (g : Ghosts S) where
           survives = read.survives;
           kept = read.kept;
           faults = inr refl;
+          cause = λ c schema. no_store bad_book (inl refl);
           same = λ c. tt;
           same_bad = λ c is schema. (read.same c schema).0.now_is;
           good = λ c. tt;
@@ -130,6 +134,7 @@ module _ {S : Type 0} (g : Ghosts S) where
           survives = read.survives;
           kept = read.kept;
           faults = tt;
+          cause = λ c schema. tt;
           same = read.same;
           same_bad = λ c. tt;
           good = λ c schema. told_old v old.schema schema (shape.0 so) (state g old).now.trees (not_two (state g old).now.trees (read.good c schema).0);
@@ -139,7 +144,7 @@ module _ {S : Type 0} (g : Ghosts S) where
   -- ---- where the store is open
   pub looked_err : (v : Version) (old mid : Held S) (stop : Stop) → Looks g old mid (Err stop) → Finds g v (IsTold v) (IsUntold v) old mid (Err stop)
   looked_err v old mid stop look =
-      read_err g v (IsTold v) (IsUntold v) old mid stop look.mode look.survives look.clean (looked_kept g old mid (Err stop) look v) look.faults (λ c bad schema. look.foreign c bad (of_book v old.schema schema))
+      read_err g v (IsTold v) (IsUntold v) old mid stop look.mode look.survives look.clean (looked_kept g old mid (Err stop) look v) look.faults (λ c. look.cause c v) (λ c bad schema. look.foreign c bad (of_book v old.schema schema))
 
   pub looked_then : (v : Version) (old mid new : Held S) (r : Result Bool Stop) → Looks g old mid (Ok tt) → Finds g v (IsTold v) (IsUntold v) mid new r → Finds g v (IsTold v) (IsUntold v) old new r
   looked_then v old mid new r look it =

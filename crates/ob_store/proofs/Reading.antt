@@ -8,6 +8,8 @@ use Rattle.sqlite.specs.Held.{Held, state}
 use Rattle.sqlite.specs.State.{State, HasCleanDisk, IsUnchanged, Survives}
 use Rattle.sqlite.proofs.Callers.{unchanged_then}
 use Rattle.ob_base.specs.declared.stop.Stop.{Stop}
+use Rattle.ob_base.specs.declared.stop.Stop.TheVariants.{Fault}
+use Rattle.ob_base.specs.declared.stop.Fault.TheVariants.{Store}
 use Rattle.ob_base.specs.Stop.{out_of_memory}
 use Rattle.ob_tables.specs.Versions.{schema_of}
 use Rattle.ob_tables.specs.declared.version.Version.{Version}
@@ -16,7 +18,10 @@ use Rattle.ob_tables.proofs.Silence.{silent_same}
 use Rattle.ob_commit.specs.Keeps.{KeepsIn}
 use Rattle.ob_compare.specs.Reading.{IsReadFault, bad_book}
 use Rattle.ob_compare.proofs.Listing.{still_then}
+use Rattle.ob_tables.specs.Steps.{HasFaultCause}
 use Rattle.ob_store.specs.Finding.{Finds}
+use Rattle.ob_store.specs.Keeping.{IsBroken}
+use Rattle.ob_store.proofs.Failing.{as_store_cause, cause_later, no_store}
 
 pub on_ok : {X E : Type 0} {P Q : Type 0} (r : Result X E) → OnOk r P → (P → Q) → OnOk r Q
 on_ok (Ok x) p f = f p
@@ -48,6 +53,7 @@ module _ {S : Type 0} (g : Ghosts S) (v : Version) where
         survives = still_then (state g old) (state g mid) (state g new) first.survives second.survives;
         kept = λ t keeps. second.kept t (first.kept t keeps);
         faults = second.faults;
+        cause = λ clean schema. cause_later (state g old) (state g mid) (state g new) r first.survives second.survives (second.clean clean) (seen clean schema) (second.cause clean (at clean schema).1);
         same = λ clean. on_ok r (second.same clean) (λ step schema. unchanged_then (state g old) (state g mid) (state g new) (at clean schema).0 (step (at clean schema).1));
         same_bad = λ clean. if_err r (second.same_bad clean) (λ stop step is schema. step is (at clean schema).1 ∙ (at clean schema).0.0.now_is);
         good = λ clean. if_ok r (second.good clean) (λ z found schema.
@@ -65,6 +71,7 @@ module _ {S : Type 0} (g : Ghosts S) (v : Version) where
     survives = it.survives;
     kept = it.kept;
     faults = it.faults;
+    cause = it.cause;
     same = it.same;
     same_bad = it.same_bad;
     good = λ clean. tt;
@@ -80,6 +87,7 @@ module _ {S : Type 0} (g : Ghosts S) (v : Version) where
     survives = it.survives;
     kept = it.kept;
     faults = it.faults;
+    cause = λ clean schema. tt;
     same = it.same;
     same_bad = λ clean. tt;
     good = λ clean has. better (state g old).now.trees x (it.good clean has);
@@ -88,14 +96,15 @@ module _ {S : Type 0} (g : Ghosts S) (v : Version) where
   find_as Good Good' Bad Bad' old new (Err stop) better worse it = fails Good Bad Good' Bad' old new stop worse it
 
   module _ {X Y : Type 0} (Good : Trees → X → Type 0) (Bad : Trees → Type 0) (Good' : Trees → Y → Type 0) (Bad' : Trees → Type 0) (old mid : Held S) (x : X) (first : Finds g v Good Bad old mid (Ok x)) where
-    -- what was read leads to an error that says nothing of the tables
-    pub then_fault : (stop : Stop) → IsReadFault stop → stop ≢ bad_book → Finds g v Good' Bad' old mid (Err stop)
-    then_fault stop fault other = record {
+    -- what was read leads to an error that says nothing of the tables, or that the file is broken
+    pub then_fault : (stop : Stop) → IsReadFault stop → stop ≢ bad_book → (stop ≡ Fault Store → (trees : Trees) → Good trees x → IsBroken trees) → Finds g v Good' Bad' old mid (Err stop)
+    then_fault stop fault other broken = record {
       mode = first.mode;
       clean = first.clean;
       survives = first.survives;
       kept = first.kept;
       faults = fault;
+      cause = λ clean schema is. inr (broken is (state g old).now.trees (first.good clean schema));
       same = λ clean. tt;
       same_bad = λ clean is. absurd (other is);
       good = λ clean. tt;
@@ -110,6 +119,7 @@ module _ {S : Type 0} (g : Ghosts S) (v : Version) where
       survives = first.survives;
       kept = first.kept;
       faults = inr refl;
+      cause = λ clean schema. no_store bad_book (inl refl);
       same = λ clean. tt;
       same_bad = λ clean is schema. (first.same clean schema).0.now_is;
       good = λ clean. tt;
@@ -124,6 +134,7 @@ module _ {S : Type 0} (g : Ghosts S) (v : Version) where
       survives = first.survives;
       kept = first.kept;
       faults = tt;
+      cause = λ clean schema. tt;
       same = first.same;
       same_bad = λ clean. tt;
       good = λ clean schema. found (state g old).now.trees (first.good clean schema);
@@ -144,6 +155,7 @@ none_read g v Good Bad conn stop fault none = record {
   survives = (silent_same (state g conn)).survives;
   kept = λ t keeps. keeps;
   faults = read_fault stop fault;
+  cause = λ clean schema. no_store stop fault;
   same = λ clean. tt;
   same_bad = λ clean is schema. refl;
   good = λ clean. tt;
@@ -162,6 +174,7 @@ module _ {S : Type 0} (g : Ghosts S) (v : Version) {X : Type 0} (Good : Trees �
     survives = survives;
     kept = kept;
     faults = tt;
+    cause = λ clean schema. tt;
     same = same;
     same_bad = λ is. tt;
     good = good;
@@ -171,13 +184,15 @@ module _ {S : Type 0} (g : Ghosts S) (v : Version) {X : Type 0} (Good : Trees �
   -- a reading that failed, or found the tables of no book
   pub read_err : (stop : Stop) → (old.in_transaction ≡ false → new.in_transaction ≡ false) → Survives (state g old) (state g new) (λ _. ⊥) → (HasCleanDisk (state g new) → HasCleanDisk (state g old))
       → ((t : Tables) → KeepsIn v (state g old) t → KeepsIn v (state g new) t)
-      → IsReadFault stop → (HasCleanDisk (state g new) → stop ≡ bad_book → old.schema ≢ schema_of v) → Finds g v Good Bad old new (Err stop)
-  read_err stop mode survives clean kept fault foreign = record {
+      → IsReadFault stop → (HasCleanDisk (state g new) → old.schema ≡ schema_of v → HasFaultCause {X = X} (state g old) (state g new) (Err stop)) → (HasCleanDisk (state g new) → stop ≡ bad_book → old.schema ≢ schema_of v)
+      → Finds g v Good Bad old new (Err stop)
+  read_err stop mode survives clean kept fault cause foreign = record {
     mode = mode;
     clean = clean;
     survives = survives;
     kept = kept;
     faults = fault;
+    cause = λ clean schema. as_store_cause {X = X} (state g old) (state g new) (Err stop) (cause clean schema);
     same = λ is. tt;
     same_bad = λ is bad schema. absurd (foreign is bad schema);
     good = λ is. tt;

@@ -1,20 +1,24 @@
 -- The rows of what one command moved, among those of all.
-use Rattle.std.proofs.Common.{◌≡◌, ℕ, ◌+◌, ◌<◌, ◌==◌, Bool, true, false, List, [], ◌∷◌, ◌++◌, length, filter, fold, take, Some, refl, sym, ap, ap₂, ◌∙◌, arith, zero, suc, pos}
+use Rattle.std.proofs.Common.{◌≡◌, ℕ, ◌+◌, ◌<◌, ◌≤◌, ◌^◌, ◌==◌, Bool, true, false, List, [], ◌∷◌, ◌++◌, length, filter, fold, take, Some, refl, sym, ap, ap₂, ◌∙◌, arith, zero, suc, pos}
 use Rattle.std.proofs.lemmas.Bool.Decides.{nat_tests}
 use Rattle.std.specs.Ordering.{is_eq, int_cmp}
 use Rattle.sqlite_value.proofs.OrderLemmas.{value_cmp-Int}
-use Rattle.std.proofs.lemmas.List.Elements.{filter-append}
+use Rattle.std.proofs.lemmas.List.Elements.{All-weaker, filter-append}
 use Rattle.sqlite_sql.specs.Ops.{binary, is_true, from_truth}
 use Rattle.sqlite_schema.specs.Rules.{equal}
 use Rattle.sqlite.specs.Collation.TheVariants.{Binary}
-use Rattle.ob_post.specs.Keys.{dim_number}
+use Rattle.ob_post.specs.Keys.{IsKey, dim_number}
+use Rattle.ob_post.specs.Moved.{HaveKeys}
+use Rattle.ob_post.specs.declared.Dim.{Dim}
+use Rattle.ob_post.specs.declared.Dim.TheVariants.{Cause, Feeder, Day}
 use Rattle.ob_post.specs.declared.Moved.{Moved}
 use Rattle.ob_state.specs.State.{BookState, empty_book}
 use Rattle.ob_state.specs.Next.{next}
 use Rattle.ob_state.specs.Amounts.{moves}
-use Rattle.ob_book.specs.Acts.{ActState, Referenced, book_at, start, take_on}
+use Rattle.ob_book.specs.Acts.{ActState, PeriodStays, Referenced, book_at, start, take_on}
 use Rattle.ob_tables.specs.Rows.{Columns, number, is_key}
 use Rattle.ob_tables.specs.declared.table.Table.TheVariants as tables
+use Rattle.ob_commit.specs.Stored.{HaveSmallKeys}
 use Rattle.ob_record.specs.Tables.{rows_of_moves, moved_rows, tables_of}
 
 truth_is : (b : Bool) → is_true (from_truth (Some b)) ≡ b
@@ -81,3 +85,20 @@ pub moves_of_reply : (b : ActState) (i : ℕ) → i < length b.accepted
 moves_of_reply b i low =
     moved_at i 1 (empty_book b.book.period) b.accepted low
     ∙ ap₂ (λ s t. rows_of_moves (1 + i) (moves s t)) (sym (book_of (start b.book.period) (take i b.accepted))) (sym (book_of (start b.book.period) (take (suc i) b.accepted)))
+
+-- ---- what a command moved has keys of 16 bits
+-- the period stays from state to state
+period_after : PeriodStays → (s : ActState) (list : List Referenced) → (fold take_on s list).book.period ≡ s.book.period
+period_after stays s [] = refl
+period_after stays s (a ∷ list) = period_after stays (take_on s a) list ∙ stays s.book a.command
+
+pub period_at : PeriodStays → (b : ActState) (i : ℕ) → (book_at b i).period ≡ b.book.period
+period_at stays b i = period_after stays (start b.book.period) (take i b.accepted)
+
+small_key : (days : ℕ) → days ≤ 366 → (dim : Dim) (key : ℕ) → IsKey days dim key → key < 2 ^ 16
+small_key days few Cause key is = omega (arith, is)
+small_key days few Feeder key is = omega (arith, is.1)
+small_key days few Day key is = omega (arith, is, few)
+
+pub small_keys : (days : ℕ) → days ≤ 366 → (moved : List Moved) → HaveKeys days moved → HaveSmallKeys moved
+small_keys days few moved keys = All-weaker (λ (m : Moved). IsKey days m.dim m.key) (λ (m : Moved). m.key < 2 ^ 16) (λ m is. small_key days few m.dim m.key is) moved keys

@@ -1,6 +1,6 @@
 -- The version of a book, and then its tables.
 use Rattle.std.proofs.Common.{◌≡◌, ◌≢◌, ◌⊎◌, inl, inr, ℕ, length, Bool, true, false, true≢false, IsTrue, Result, Ok, Err, refl, sym, ap, subst, ◌∙◌, arith}
-use Rattle.std.specs.Prelude.{◌↔◌, IfErr}
+use Rattle.std.specs.Prelude.{◌↔◌, ⊤, IfErr}
 use Rattle.sqlite_tied.specs.Compute.{everything}
 use Rattle.sqlite_trees.specs.declared.store.Store.{Ghosts}
 use Rattle.sqlite.specs.Tree.{Trees}
@@ -19,12 +19,17 @@ use Rattle.ob_tables.specs.Rows.{Tables}
 use Rattle.ob_commit.specs.Keeps.{Keeps}
 use Rattle.ob_compare.specs.Reading.{IsReadFault, bad_book}
 use Rattle.ob_compare.specs.Version.{HasVersion, IsOfBook}
-use Rattle.ob_tables.specs.declared.version.Version.TheVariants.{Two}
+use Rattle.ob_tables.specs.Steps.{HasFaultCause}
+use Rattle.ob_tables.specs.Versions.{schema_of}
+use Rattle.ob_tables.specs.declared.version.Version.{Version}
+use Rattle.ob_tables.specs.declared.version.Version.TheVariants.{One, Two}
 use Rattle.ob_compare.proofs.Listing.{still_then}
 use Rattle.ob_store.specs.Finding.{Finds}
+use Rattle.ob_store.specs.Keeping.{HasStoreCause}
 use Rattle.ob_store.specs.Differing.{NoneSo}
 use Rattle.ob_store.specs.Shapes.{IsShapeOf}
 use Rattle.ob_store.specs.Versions.{AnyTrees, Tells, old_version}
+use Rattle.ob_store.proofs.Failing.{as_store_cause, cause_later, no_store}
 use Rattle.ob_store.proofs.Reading.{if_err, if_ok, on_ok}
 
 -- ---- the tables of version 2 have their names, and those of version 1 haven't
@@ -54,13 +59,14 @@ module _ {S : Type 0} (g : Ghosts S) where
   module _ (old new : Held S) (mode : old.in_transaction ≡ false → new.in_transaction ≡ false) (survives : Survives (state g old) (state g new) (λ _. ⊥)) (clean : HasCleanDisk (state g new) → HasCleanDisk (state g old))
       (kept : (t : Tables) → Keeps (state g old) t → Keeps (state g new) t) where
     -- no version was read
-    pub unversioned : (stop : Stop) → IsReadFault stop → (HasCleanDisk (state g new) → stop ≡ bad_book → ¬ (IsOfBook old.schema)) → Tells g AnyTrees NoneSo old new (Err stop)
-    unversioned stop fault foreign = record {
+    pub unversioned : (stop : Stop) → IsReadFault stop → (HasCleanDisk (state g new) → (v : Version) → old.schema ≡ schema_of v → HasFaultCause {X = ⊤} (state g old) (state g new) (Err stop)) → (HasCleanDisk (state g new) → stop ≡ bad_book → ¬ (IsOfBook old.schema)) → Tells g AnyTrees NoneSo old new (Err stop)
+    unversioned stop fault cause foreign = record {
       mode = mode;
       clean = clean;
       survives = survives;
       kept = kept;
       faults = inl fault;
+      cause = λ c v schema. as_store_cause {X = ⊤} (state g old) (state g new) (Err stop) (cause c v schema);
       same = λ c. tt;
       same_bad = λ c is of. absurd (foreign c (either_stop stop fault is) of);
       good = λ c. tt;
@@ -79,6 +85,7 @@ module _ {S : Type 0} (g : Ghosts S) where
         survives = survives;
         kept = kept;
         faults = inr refl;
+        cause = λ c v schema is. absurd cc;
         same = λ c. tt;
         same_bad = λ c stop of. (same c of).0.now_is;
         good = λ c. tt;
@@ -100,6 +107,7 @@ module _ {S : Type 0} (g : Ghosts S) where
           survives = survives;
           kept = kept;
           faults = tt;
+          cause = λ c v schema. tt;
           same = λ c has. same c (inl has);
           same_bad = λ c. tt;
           good = λ c has. (none c (inl has), tt);
@@ -117,6 +125,7 @@ module _ {S : Type 0} (g : Ghosts S) where
           survives = survives;
           kept = kept;
           faults = inl (inr refl);
+          cause = λ c v schema. no_store bad_book (inl refl);
           same = λ c. tt;
           same_bad = λ c stop of. (same c of).0.now_is;
           good = λ c. tt;
@@ -134,6 +143,7 @@ module _ {S : Type 0} (g : Ghosts S) where
     survives = it.survives;
     kept = it.kept;
     faults = it.faults;
+    cause = it.cause;
     same = λ c. tt;
     same_bad = it.same_bad;
     good = λ c. tt;
@@ -163,6 +173,10 @@ module _ {S : Type 0} (g : Ghosts S) where
     not_old : HasCleanDisk (state g new) → old.schema ≡ book_schema → ¬ (HasVersion 1 (state g old).now.trees)
     not_old c has = (first.good (second.clean c) has).0
 
+    causes : HasCleanDisk (state g new) → (v : Version) → old.schema ≡ schema_of v → HasStoreCause (state g old) (state g new) r
+    causes c Two has = cause_later (state g old) (state g mid) (state g new) r first.survives second.survives (second.clean c) (seen c has) (second.cause c (there c has))
+    causes c One has = absurd (first.never (second.clean c) has)
+
     pub then_tables : Tells g Good Bad old new r
     then_tables = record {
       mode = λ idle. second.mode (first.mode idle);
@@ -170,6 +184,7 @@ module _ {S : Type 0} (g : Ghosts S) where
       survives = still_then (state g old) (state g mid) (state g new) first.survives second.survives;
       kept = λ t keeps. second.kept t (first.kept t keeps);
       faults = if_err r second.faults (λ stop fault. inl fault);
+      cause = causes;
       same = λ c. on_ok r (second.same c) (λ step has. unchanged_then (state g old) (state g mid) (state g new) (unchanged c has) (step (there c has)));
       same_bad = λ c. both_err r (second.same_bad c) second.faults (λ stop step fault is of. elim of [
         | inl has ↦ step (either_stop stop fault is) (there c has) ∙ seen c has

@@ -20,7 +20,7 @@ use Rattle.ob_tables.specs.Creation.{old_schema}
 use Rattle.ob_tables.specs.Rows.{AreApart, Columns, Tables, number}
 use Rattle.ob_tables.specs.Schema.{book_schema}
 use Rattle.ob_tables.specs.Steps.{IsStoreFault}
-use Rattle.ob_tables.specs.Versions.{HoldsOld}
+use Rattle.ob_tables.specs.Versions.{HoldsOld, schema_of}
 use Rattle.ob_tables.specs.declared.version.Version.{Version}
 use Rattle.ob_tables.specs.declared.version.Version.TheVariants.{One, Two}
 use Rattle.ob_commit.specs.Keeps.{Keeps, KeepsIn, Leaves, LeavesIn}
@@ -32,8 +32,8 @@ use Rattle.ob_parts.specs.Laws.{OldIsReached}
 use Rattle.ob_parts.specs.OldTables.{HasOldBook, old_tables_of}
 use Rattle.ob_store.specs.declared.migrating.Upgrade.{Upgrade}
 use Rattle.ob_store.specs.Finding.{Finds, OnlyReads}
-use Rattle.ob_store.specs.Keeping.{KeepsBook}
-use Rattle.ob_store.specs.Migrating.{HoldsNoOldBook, KeepsEitherVersion, KeepsOldBook, LeavesKept, LeftAsItWas, Migrated, MigratesKept, OnlyReadsOld, StaysOrUpgrades}
+use Rattle.ob_store.specs.Keeping.{HasStoreCause, KeepsBook}
+use Rattle.ob_store.specs.Migrating.{HasUpgradeCause, HoldsNoOldBook, KeepsEitherVersion, KeepsOldBook, LeavesKept, LeftAsItWas, Migrated, MigratesKept, OnlyReadsOld, StaysOrUpgrades}
 use Rattle.ob_store.specs.Shapes.{IsShapeOf}
 use Rattle.ob_store.specs.Upgrading.{IsTold, IsUntold, IsUpgradeOf, LeavesWritten, Migrates, Upgradable, Upgraded}
 use Rattle.ob_store.proofs.Accepting.{keeps_as, leaves_as}
@@ -197,6 +197,7 @@ module _ {S : Type 0} (g : Ghosts S) where
         clean = (at One).clean;
         survives = still old new (at One).survives;
         faults = tt;
+        cause = λ clean v schema. tt;
         migrated = λ clean schema. ((at One).good clean schema, (reads_old (IsTold One) (IsUntold One) (Ok true) clean (at One), ((at One).same clean schema).0.now_is));
         current = λ clean schema. ((at Two).good clean schema, (reads_now (IsTold Two) (IsUntold Two) (Ok true) clean (at Two), ((at Two).same clean schema).0.now_is));
         kept = λ clean opened b keeps.
@@ -226,11 +227,17 @@ module _ {S : Type 0} (g : Ghosts S) where
           let has = kept_has old (it.clean clean) opened b keeps in
           absurd ((it.bad clean bad has.0).1 b has.1)
 
-      pub stopped : (HasCleanDisk (state g new) → old.schema ≡ book_schema → LeftAsItWas g old new (Err stop)) → Migrates g old new (Err stop)
-      stopped current = record {
+      cause_of : (HasCleanDisk (state g new) → old.schema ≡ book_schema → HasStoreCause {X = Bool} (state g old) (state g new) (Err stop)) → HasCleanDisk (state g new) → (v : Version) → old.schema ≡ schema_of v → HasUpgradeCause g old new (Err stop)
+      cause_of now clean One schema is = inl (it.cause clean schema is)
+      cause_of now clean Two schema is = inl (now clean schema is)
+
+      pub stopped : (HasCleanDisk (state g new) → old.schema ≡ book_schema → HasStoreCause {X = Bool} (state g old) (state g new) (Err stop)) → (HasCleanDisk (state g new) → old.schema ≡ book_schema → LeftAsItWas g old new (Err stop))
+          → Migrates g old new (Err stop)
+      stopped now current = record {
         clean = it.clean;
         survives = still old new it.survives;
         faults = it.faults;
+        cause = cause_of now;
         migrated = λ clean schema. not_migrated clean schema it.faults;
         current = current;
         kept = λ clean opened b keeps. not_kept clean opened b keeps it.faults;
@@ -247,7 +254,7 @@ module _ {S : Type 0} (g : Ghosts S) where
       pub untold : Migrates g old new (Err stop)
       untold =
           stopped (IsTold One) stop (fails g One (IsTold One) (IsUntold One) (IsTold One) Foreign old new stop (λ trees none. (none.0, no_old trees none)) (told One))
-          (λ clean schema. left_now clean schema (told Two).faults)
+          (told Two).cause (λ clean schema. left_now clean schema (told Two).faults)
 
   -- ---- the heading tells version 1, and the tables are read
   module _ (old mid : Held S) (is : Bool) (other : is ≡ false) (told : (v : Version) → Finds g v (IsTold v) (IsUntold v) old mid (Ok is)) (end : Held S) where
@@ -267,7 +274,7 @@ module _ {S : Type 0} (g : Ghosts S) where
     both r second = then_more g One (IsTold One) (IsUntold One) Upgradable HoldsNoOldBook old mid end false r (first One) second
 
     pub unfound : (stop : Stop) → Finds g One Upgradable HoldsNoOldBook mid end (Err stop) → Migrates g old end (Err stop)
-    unfound stop second = stopped old end Both stop (both (Err stop) second) (λ clean schema. absurd (not_now (second.clean clean) schema))
+    unfound stop second = stopped old end Both stop (both (Err stop) second) (λ clean schema. absurd (not_now (second.clean clean) schema)) (λ clean schema. absurd (not_now (second.clean clean) schema))
 
     module _ (up : Upgrade) (second : Finds g One Upgradable HoldsNoOldBook mid end (Ok up)) (new : Held S) (clean_then : HasCleanDisk (state g new) → HasCleanDisk (state g end))
         (survives : Survives (state g end) (state g new) (LeavesWritten g end up))
@@ -336,6 +343,7 @@ module _ {S : Type 0} (g : Ghosts S) where
       clean = λ clean. (read old mid is other told end up second new clean_then survives (Ok tt) upgrades).clean (clean_then clean);
       survives = all_survives old mid is other told end up second new clean_then survives (Ok tt) upgrades opened shape;
       faults = tt;
+      cause = λ clean v schema. tt;
       migrated = λ clean schema.
           let it = found old mid is other told end up second new clean_then survives (Ok tt) upgrades clean schema in
           (it.0, it.1, upgraded_so old mid is other told end up second new clean_then survives (Ok tt) upgrades clean schema);
@@ -381,11 +389,19 @@ module _ {S : Type 0} (g : Ghosts S) where
           let at : Upgraded g end new b (Err (Fault Store)) = subst (λ s. Upgraded g end new b (Err s)) store so in
           subst (λ s. MigratesKept g new b (Err s)) (sym store) at.0
 
+      -- the tables were being made those of version 2
+      failed_cause : HasCleanDisk (state g new) → (v : Version) → old.schema ≡ schema_of v → HasUpgradeCause g old new (Err stop)
+      failed_cause clean One schema store =
+          let it = found old mid is other told end up second new clean_then survives (Err stop) upgrades clean schema in
+          inr (schema, it.0, it.1)
+      failed_cause clean Two schema store = absurd (not_current old mid is other told end up second new clean_then survives (Err stop) upgrades clean schema)
+
       pub failed : IsStoreFault stop → Migrates g old new (Err stop)
       failed fault = record {
         clean = λ clean. (read old mid is other told end up second new clean_then survives (Err stop) upgrades).clean (clean_then clean);
         survives = all_survives old mid is other told end up second new clean_then survives (Err stop) upgrades opened shape;
         faults = inl fault;
+        cause = failed_cause;
         migrated = λ clean schema. failed_so clean schema fault;
         current = λ clean schema. absurd (not_current old mid is other told end up second new clean_then survives (Err stop) upgrades clean schema);
         kept = λ clean opened b keeps. failed_kept fault b (of_kept old mid is other told end up second new clean_then survives (Err stop) upgrades clean opened b keeps);

@@ -9,6 +9,7 @@ use Rattle.ob_base.specs.declared.stop.Stop.TheVariants.{Refused, Fault}
 use Rattle.ob_book.specs.Acts.{ActState}
 use Rattle.ob_tables.specs.Creation.{old_schema}
 use Rattle.ob_tables.specs.Schema.{book_schema}
+use Rattle.ob_tables.specs.Steps.{HasFaultCause}
 use Rattle.ob_tables.specs.declared.version.Version.{Version}
 use Rattle.ob_commit.specs.Keeps.{Leaves}
 use Rattle.ob_record.specs.Naming.{IsReferenced}
@@ -69,9 +70,11 @@ module _ {S : Type 0} (g : Ghosts S) where
     pub crash : CrashLaw g g
 
   -- a load on a keeper whose store keeps a book, or while it is open the first of two, gives that book; or memory was refused, or
-  -- the store failed
+  -- the store failed, for a cause
   abbrev pub LoadLaw : Type 0
   LoadLaw =
       (old new : KeeperValue S) (result : Result ⊤ Stop) → Loads old new result → HasCleanDisk (state g new.conn)
       → ((b : ActState) → KeepsBook (state g old.conn) b → HasLoaded g (λ x. x ≡ b) new result)
       × ((b c : ActState) → KeepsEitherBook (state g old.conn) b c → HasLoaded g (λ x. x ≡ b) new result)
+      × ((b : ActState) → KeepsBook (state g old.conn) b → HasFaultCause (state g old.conn) (state g new.conn) result)
+      × ((b c : ActState) → KeepsEitherBook (state g old.conn) b c → HasFaultCause (state g old.conn) (state g new.conn) result)

@@ -23,7 +23,7 @@ use Rattle.ob_time.specs.Calendar.{Calendar, day_count}
 use Rattle.ob_time.specs.Dates.{day_text}
 use Rattle.ob_commit.specs.Keeps.{KeepsIn}
 use Rattle.ob_store.specs.Books.{IsReachedIn}
-use Rattle.ob_store.specs.Keeping.{KeepsBook}
+use Rattle.ob_store.specs.Keeping.{HasStoreCause, KeepsBook}
 use Rattle.ob_store.specs.declared.named.Named.{Named}
 
 -- the place of a table among those that are compared
@@ -116,6 +116,8 @@ module _ {S : Type 0} (g : Ghosts S) (version : Version) where
     -- and what the store keeps it keeps on
     pub kept : (t : Tables) → KeepsIn version (state g old) t → KeepsIn version (state g new) t
     pub faults : IfErr result IsReadFault
+    -- over the tables of the version the store is told to have failed only where it has, or the file is broken
+    pub cause : HasCleanDisk (state g new) → old.schema ≡ schema_of version → HasStoreCause (state g old) (state g new) result
     pub same : HasCleanDisk (state g new) → OnOk result (old.schema ≡ schema_of version → IsUnchanged (state g old) (state g new))
     pub same_bad : HasCleanDisk (state g new)
         → IfErr result (λ stop. stop ≡ bad_book → old.schema ≡ schema_of version → (state g new).now ≡ (state g old).now)

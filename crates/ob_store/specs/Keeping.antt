@@ -1,9 +1,10 @@
 -- What a store keeps of a book, and how a keeper is tied to it.
-use Rattle.std.specs.Prelude.{◌≡◌, ⊤, Option, None, IfSome, Result, Ok, Err, IsTrue, OnOk, refl}
+use Rattle.std.specs.Prelude.{◌≡◌, ◌⊎◌, ⊤, Option, None, IfSome, Result, Ok, Err, IsTrue, IfErr, OnOk, refl}
 use Rattle.std.specs.List.{AllByRecursion}
 use Rattle.std.specs.Coded.{Coded, code_by, coded×, coded_option}
 use Rattle.sqlite_trees.specs.declared.store.Store.{Ghosts}
 use Rattle.sqlite.specs.Held.{Held, state}
+use Rattle.sqlite.specs.Tree.{Trees}
 use Rattle.sqlite.specs.State.{State, HasCleanDisk}
 use Rattle.ob_base.specs.declared.stop.Stop.{Stop}
 use Rattle.ob_base.specs.declared.stop.Stop.TheVariants.{Refused, Fault}
@@ -11,6 +12,10 @@ use Rattle.ob_base.specs.declared.stop.Fault.TheVariants.{Store}
 use Rattle.ob_state.specs.State.{BookState}
 use Rattle.ob_book.specs.Acts.{ActState}
 use Rattle.ob_tables.specs.Schema.{no_schema}
+use Rattle.ob_tables.specs.Rows.{AreApart}
+use Rattle.ob_tables.specs.Steps.{HasFailed}
+use Rattle.ob_tables.specs.Versions.{schema_of}
+use Rattle.ob_tables.specs.declared.version.Version.{Version}
 use Rattle.ob_tables.specs.declared.version.Version.TheVariants.{One, Two}
 use Rattle.ob_commit.specs.Keeps.{Keeps, KeepsEither, KeepsIn}
 use Rattle.ob_commit.specs.Upgrade.{KeepsOldOr}
@@ -67,6 +72,14 @@ IsAnswer (Ok x) = ⊤
 IsAnswer (Err (Refused refusal)) = ⊤
 IsAnswer (Err (Fault fault)) = ⊥
 
+-- the file is broken: two amounts stand under one hidden row number, or one has none
+abbrev pub IsBroken : Trees → Type 0
+IsBroken trees = ¬ (AreApart (trees 14))
+
+-- where the store is told to have failed, it has, or the file is broken
+abbrev pub HasStoreCause : {X : Type 0} → State → State → Result X Stop → Type 0
+HasStoreCause old new result = IfErr result (λ stop. stop ≡ Fault Store → HasFailed old new ⊎ IsBroken old.now.trees)
+
 -- a connection to the store, and the state of the book, where there is one
 pub record KeeperValue (S : Type 0) : Type 0 where
   pub conn : Held S
@@ -87,13 +100,15 @@ IsBookAfter was is (Fault fault) = is ≡ was
 module _ {S : Type 0} (g : Ghosts S) where
   -- the tables were read: what the store kept it keeps on; an answer or a refusal is given by an open store alone, which then
   -- keeps the first of two that it may have kept, and an answer over tables that have the names of those of version 2; an empty
-  -- database is told as that of no book, unless other trouble came before
+  -- database is told as that of no book, unless other trouble came before; over the tables of a version the store is told to have
+  -- failed only where it has, or the file is broken
   pub record Answers {X : Type 0} (old new : Held S) (result : Result X Stop) : Type 0 where
     pub live : HasCleanDisk (state g new) → IsAnswer result → IsTrue (state g old).is_open
     pub keeps : KeepsOn (state g old) (state g new)
     pub first : HasCleanDisk (state g new) → IsAnswer result → KeepsFirst (state g old) (state g new)
     pub shape : HasCleanDisk (state g new) → OnOk result (IsShapeOf Two old.schema)
     pub empty : HasCleanDisk (state g new) → old.schema ≡ no_schema → IsMissed (state g old) (state g new) result
+    pub cause : HasCleanDisk (state g new) → (v : Version) → old.schema ≡ schema_of v → HasStoreCause (state g old) (state g new) result
 
   -- the keeper's store keeps the tables of the book and its commands, and its book, where there is one, has their state
   pub record Ties (k : KeeperValue S) (b : ActState) : Type 0 where

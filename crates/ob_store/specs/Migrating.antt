@@ -11,6 +11,9 @@ use Rattle.ob_base.specs.declared.stop.Fault.TheVariants.{OutOfMemory, Store}
 use Rattle.ob_book.specs.Acts.{ActState}
 use Rattle.ob_tables.specs.Creation.{old_schema}
 use Rattle.ob_tables.specs.Schema.{no_schema}
+use Rattle.ob_tables.specs.Steps.{HasFailed}
+use Rattle.ob_tables.specs.Versions.{schema_of}
+use Rattle.ob_tables.specs.declared.version.Version.{Version}
 use Rattle.ob_tables.specs.declared.version.Version.TheVariants.{One}
 use Rattle.ob_commit.specs.Keeps.{Leaves}
 use Rattle.ob_record.specs.Tables.{tables_of}
@@ -18,7 +21,7 @@ use Rattle.ob_compare.specs.Reading.{IsMissed}
 use Rattle.ob_compare.specs.Version.{HasVersion}
 use Rattle.ob_parts.specs.OldTables.{HasOldBook}
 use Rattle.ob_store.specs.Finding.{OnlyReads, ShowsTheSame}
-use Rattle.ob_store.specs.Keeping.{IsAnswer, KeepsBook, KeepsEitherBook}
+use Rattle.ob_store.specs.Keeping.{IsAnswer, IsBroken, KeepsBook, KeepsEitherBook}
 pub use Rattle.ob_store.specs.Keeping.{KeepsEitherVersion, KeepsOldBook}
 use Rattle.ob_store.specs.Loading.{trees_in}
 use Rattle.ob_store.specs.Shapes.{IsShapeOf}
@@ -90,9 +93,16 @@ module _ {S : Type 0} (g : Ghosts S) where
   MigratesKept new b (Err (Fault Store)) = KeepsEitherVersion (state g new) b
   MigratesKept new b (Err (Fault fault)) = ⊥
 
+  -- where the store is told to have failed, it has, or the file is broken; or the tables of version 1 of one book were being made
+  -- those of version 2
+  abbrev pub HasUpgradeCause : Held S → Held S → Result Bool Stop → Type 0
+  HasUpgradeCause old new result = IfErr result (λ stop. stop ≡ Fault Store
+      → (HasFailed (state g old) (state g new) ⊎ IsBroken (trees_in g old))
+      ⊎ ((old.schema ≡ old_schema) × (b : ActState) × HoldsOldBook (trees_in g old) b))
+
   -- an answer or a refusal comes of an open store alone, and true over tables that have the names of those of version 1. A book of version 2 that the store kept it keeps on, and so it does either
   -- of two; and where there is no answer, a book in the tables of either version. An empty database is told as that of no book,
-  -- unless other trouble came before
+  -- unless other trouble came before; and over the tables of a version a failure of the store has a cause
   pub record MigratesOn (old new : Held S) (result : Result Bool Stop) : Type 0 where
     pub live : HasCleanDisk (state g new) → IsAnswer result → IsTrue (state g old).is_open
     pub shape : HasCleanDisk (state g new) → IfOk result (λ done. IsTrue done → IsShapeOf One old.schema)
@@ -101,3 +111,4 @@ module _ {S : Type 0} (g : Ghosts S) where
     pub version : HasCleanDisk (state g new) → IfErr result (λ stop. (b : ActState) → KeepsEitherVersion (state g old) b
         → KeepsEitherVersion (state g new) b)
     pub empty : HasCleanDisk (state g new) → old.schema ≡ no_schema → IsMissed (state g old) (state g new) result
+    pub cause : HasCleanDisk (state g new) → (v : Version) → old.schema ≡ schema_of v → HasUpgradeCause old new result

@@ -1,10 +1,11 @@
 -- What a keeper hands to a sink of what its accepted commands moved.
-use Rattle.std.specs.Prelude.{◌≡◌, ◌⊎◌, ⊤, ℕ, List, [], ◌∷◌, ◌++◌, length, map, Option, Some, None, Result, Ok, Err}
-use Rattle.std.specs.List.{flat_map, range_with_len}
+use Rattle.std.specs.Prelude.{◌≡◌, ◌⊎◌, ⊤, ℕ, ◌-◌, ◌<◌, ◌^◌, List, [], ◌∷◌, ◌++◌, length, map, Option, Some, None, Result, Ok, Err}
+use Rattle.std.specs.List.{AllByRecursion, flat_map, range_with_len}
 use Rattle.sqlite_trees.specs.declared.store.Store.{Ghosts}
 use Rattle.sqlite.specs.Order.{Row}
 use Rattle.sqlite.specs.Given.{HasGiven}
 use Rattle.sqlite.specs.Held.{Held, state}
+use Rattle.sqlite.specs.State.{State}
 use Rattle.ob_base.specs.declared.stop.Fault.{Fault as AFault}
 use Rattle.ob_base.specs.declared.stop.Fault.TheVariants.{OutOfMemory, Store}
 use Rattle.ob_base.specs.declared.stop.Stop.{Stop}
@@ -13,8 +14,9 @@ use Rattle.ob_post.specs.Keys.{dim_number}
 use Rattle.ob_post.specs.declared.Moved.{Moved}
 use Rattle.ob_book.specs.Acts.{ActState, reply_of}
 use Rattle.ob_tables.specs.Rows.{Columns, moved_row}
-use Rattle.ob_tables.specs.Steps.{IsStoreFault}
+use Rattle.ob_tables.specs.Steps.{HasFailed, IsStoreFault}
 use Rattle.ob_tables.specs.declared.table.Table.TheVariants.{Moved as MovedTable}
+use Rattle.ob_record.specs.Reached.{IsReached}
 use Rattle.ob_record.specs.Tables.{tables_of}
 use Rattle.ob_compare.specs.Listing.{Lists}
 use Rattle.ob_compare.specs.Moves.{moved_listing}
@@ -38,6 +40,23 @@ all_moves b = flat_map (moves_of b) (range_with_len 1 (length b.accepted))
 -- its row
 abbrev pub row_of_move : Numbered → Columns
 row_of_move x = moved_row x.0 (dim_number x.1.dim) x.1.key x.1.delta
+
+-- the number has 32 bits, and the key has 16
+abbrev pub IsSmall : Numbered → Type 0
+IsSmall x = (x.0 < 2 ^ 32) × (x.1.key < 2 ^ 16)
+
+-- the row is that of such an amount
+abbrev pub IsMoveRow : Row → Type 0
+IsMoveRow row = (it : Numbered) × IsSmall it × (row ≡ row_of_move it)
+
+-- the amounts that the accepted commands moved are such ones, and a number of 64 bits counts them
+pub record AreFewMoves (b : ActState) : Type 0 where
+  pub small : AllByRecursion IsSmall (all_moves b)
+  pub few : length (all_moves b) < 2 ^ 64 - 1
+
+-- so they are in each book
+abbrev pub MovesAreFew : Type 0
+MovesAreFew = (b : ActState) → IsReached b → AreFewMoves b
 
 -- their rows are those of the table of moved amounts, in order
 abbrev pub MovesAreRows : Type 0
@@ -99,16 +118,22 @@ module _ {V : Type 0} (takes : Takes V) where
   HandsOut was is b (Err (halts.Sink fault)) = FailsAmong was (all_moves b) fault is
   HandsOut was is b (Err (halts.Store stop)) = TakesFront was (all_moves b) is
 
+-- where the store is told to have failed, it has
+abbrev pub HasHaltCause : State → State → Result ℕ Halt → Type 0
+HasHaltCause old new (Ok count) = ⊤
+HasHaltCause old new (Err (halts.Sink fault)) = ⊤
+HasHaltCause old new (Err (halts.Store stop)) = stop ≡ Fault Store → HasFailed old new
+
 -- what comes after the rows that were given: that of an amount, or none
 abbrev pub ComesNext : {S : Type 0} (g : Ghosts S) → Option Numbered → Held S → List Row → Type 0
 ComesNext g (Some x) new given = HasGiven g moved_listing.text [] new (given ++ row_of_move x ∷ [])
 ComesNext g None new given = Lists moved_listing (state g new).now given
 
 module _ {S : Type 0} (g : Ghosts S) where
-  -- memory was refused, and nothing has changed; or the store failed, and there is no book
+  -- memory was refused, and nothing has changed; or the store failed, for a cause, and there is no book
   abbrev pub StoreFails : KeeperValue S → KeeperValue S → ActState → AFault → Type 0
   StoreFails old new b OutOfMemory = Ties g new b × (new.book ≡ old.book)
-  StoreFails old new b Store = KeepsBook (state g new.conn) b × (new.book ≡ None)
+  StoreFails old new b Store = KeepsBook (state g new.conn) b × (new.book ≡ None) × HasFailed (state g old.conn) (state g new.conn)
   StoreFails old new b _ = ⊥
 
   -- the sink took all that the commands of the book moved, so many amounts, or a first part of it; the store keeps the book

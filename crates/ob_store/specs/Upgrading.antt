@@ -15,6 +15,7 @@ use Rattle.ob_tables.specs.Rows.{AreApart}
 use Rattle.ob_tables.specs.Schema.{book_schema}
 use Rattle.ob_tables.specs.declared.table.Table.{Table}
 use Rattle.ob_tables.specs.declared.table.Table.TheVariants.{Life, Command, Moved}
+use Rattle.ob_tables.specs.Versions.{schema_of}
 use Rattle.ob_tables.specs.declared.version.Version.{Version}
 use Rattle.ob_tables.specs.declared.version.Version.TheVariants.{One, Two}
 use Rattle.ob_commit.specs.Keeps.{Leaves}
@@ -26,7 +27,7 @@ use Rattle.ob_parts.specs.OldTables.{HasOldBook, old_tables_of}
 use Rattle.ob_parts.specs.Parts.{parts_in}
 use Rattle.ob_store.specs.declared.migrating.Upgrade.{Upgrade}
 use Rattle.ob_store.specs.Keeping.{KeepsBook}
-use Rattle.ob_store.specs.Migrating.{HoldsOldBook, KeepsEitherVersion, KeepsOldBook, LeavesKept, LeftAsItWas, Migrated, MigratesKept}
+use Rattle.ob_store.specs.Migrating.{HasUpgradeCause, HoldsOldBook, KeepsEitherVersion, KeepsOldBook, LeavesKept, LeftAsItWas, Migrated, MigratesKept}
 
 -- what the heading tells: version 2, or another one; the tables of version 2 are told to be no other's
 abbrev pub IsTold : Version → Trees → Bool → Type 0
@@ -92,6 +93,7 @@ module _ {S : Type 0} (g : Ghosts S) where
     pub clean : HasCleanDisk (state g new) → HasCleanDisk (state g old)
     pub survives : Survives (state g old) (state g new) (LeavesKept (state g old))
     pub faults : IfErr result IsReadFault
+    pub cause : HasCleanDisk (state g new) → (v : Version) → old.schema ≡ schema_of v → HasUpgradeCause g old new result
     pub migrated : HasCleanDisk (state g new) → old.schema ≡ old_schema → Migrated g old new result
     pub current : HasCleanDisk (state g new) → old.schema ≡ book_schema → LeftAsItWas g old new result
     pub kept : HasCleanDisk (state g new) → IsTrue (state g old).is_open → (b : ActState) → KeepsOldBook (state g old) b

@@ -11,12 +11,14 @@ use Rattle.ob_base.specs.declared.stop.Fault.TheVariants.{OutOfMemory, Store}
 use Rattle.ob_tables.specs.Creation.{old_schema}
 use Rattle.ob_tables.specs.Schema.{book_schema, no_schema}
 use Rattle.ob_tables.specs.Rows.{Tables}
+use Rattle.ob_tables.specs.Steps.{HasFaultCause}
+use Rattle.ob_tables.specs.Versions.{schema_of}
 use Rattle.ob_tables.specs.declared.version.Version.{Version}
 use Rattle.ob_commit.specs.Keeps.{Keeps, KeepsEitherIn, KeepsIn}
 use Rattle.ob_compare.specs.Reading.{IsMissed, IsReadFault, bad_book}
 use Rattle.ob_compare.specs.Version.{HasVersion, IsOfBook}
 use Rattle.ob_store.specs.Finding.{OnlyReads, ShowsTheSame}
-use Rattle.ob_store.specs.Keeping.{IsAnswer, KeeperValue}
+use Rattle.ob_store.specs.Keeping.{HasStoreCause, IsAnswer, KeeperValue}
 
 -- the book is of version 1
 abbrev pub old_version : Stop
@@ -38,6 +40,8 @@ module _ {S : Type 0} (g : Ghosts S) where
     pub clean : HasCleanDisk (state g new) → HasCleanDisk (state g old)
     pub survives : Survives (state g old) (state g new) (λ _. ⊥)
     pub faults : IfErr result IsReadFault
+    -- over the tables of a version the store is told to have failed only where it has
+    pub cause : HasCleanDisk (state g new) → (v : Version) → old.schema ≡ schema_of v → HasFaultCause (state g old) (state g new) result
     pub whole : IsLive (state g old)
     pub left : IsTrue (state g old).is_open → (trees : Trees) → (state g old).may_leave trees
         → trees ≡ (state g old).committed.trees
@@ -64,6 +68,8 @@ module _ {S : Type 0} (g : Ghosts S) where
     pub survives : Survives (state g old) (state g new) (λ _. ⊥)
     pub kept : (t : Tables) → Keeps (state g old) t → Keeps (state g new) t
     pub faults : IfErr result IsLoadFault
+    -- over the tables of a version the store is told to have failed only where it has, or the file is broken
+    pub cause : HasCleanDisk (state g new) → (v : Version) → old.schema ≡ schema_of v → HasStoreCause (state g old) (state g new) result
     pub same : HasCleanDisk (state g new) → OnOk result (old.schema ≡ book_schema → IsUnchanged (state g old) (state g new))
     pub same_bad : HasCleanDisk (state g new) → IfErr result (λ stop. (stop ≡ bad_book) ⊎ (stop ≡ old_version)
         → IsOfBook old.schema → (state g new).now ≡ (state g old).now)

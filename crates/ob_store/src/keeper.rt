@@ -70,7 +70,7 @@ impl<S: Alter, T: Timeline> Keeper<S, T> {
     ghost use Rattle.ob_upgrade.specs.Laws.{AcceptedByBoth, SameFigures};
     ghost use Rattle.ob_store.specs.MovingOut.{HandsOver, IsBookAfterMoves, MovesAreRows, MovesOut};
     ghost use Rattle.ob_tables.specs.Schema.{book_schema};
-    ghost use Rattle.ob_tables.specs.Steps.{IsStoreFault};
+    ghost use Rattle.ob_tables.specs.Steps.{HasFaultCause, IsStoreFault};
     ghost use Rattle.ob_tables.specs.Creation.{old_schema};
     ghost use Rattle.ob_compare.specs.Reading.{IsReadFault};
     ghost use Rattle.ob_store.specs.Versions.{IsLoadFault, Outdated};
@@ -152,6 +152,10 @@ impl<S: Alter, T: Timeline> Keeper<S, T> {
         ensures replied { HasCleanDisk (state S.Store self.new.conn) → (b : ActState)
             → Ties S.Store self.old b → IsSome self.old.book
             → Replied S.Store self.old self.new b no result }
+        // the store is told to have failed only where it has
+        ensures cause { HasCleanDisk (state S.Store self.new.conn) → (b : ActState)
+            → Ties S.Store self.old b → IsSome self.old.book → HasFaultCause
+            (state S.Store self.old.conn) (state S.Store self.new.conn) result }
     {
         let Some(book) = &self.book else {
             return Err(Stop::Fault(Fault::Reopen));

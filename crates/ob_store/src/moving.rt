@@ -1,23 +1,27 @@
 //! What accepted commands moved, handed out row by row.
-ghost use Rattle.std.specs.Prelude.{◌≡◌, false, List, [], IsTrue, IfOk, IfErr, IfSome, OnOk};
+ghost use Rattle.std.specs.Prelude.{◌≡◌, ◌<◌, false, ℤ, List, [], length, map, IsSome, IsTrue, IfOk, IfErr, IfSome, OnOk};
 ghost use Rattle.sqlite.specs.Order.{Row as ARow, column};
 ghost use Rattle.sqlite.specs.Held.{state};
 ghost use Rattle.sqlite.specs.declared.types.Value.TheVariants.{Int};
 ghost use Rattle.sqlite.specs.Given.{Advances, HasGiven, row_if};
 ghost use Rattle.sqlite.specs.State.{HasCleanDisk, IsUnchanged, Survives};
 ghost use Rattle.ob_post.specs.Keys.{dim_number};
+ghost use Rattle.ob_post.specs.declared.Dim.{Dim as ADim};
 ghost use Rattle.ob_post.specs.declared.Moved.{Moved as AMoved};
 ghost use Rattle.ob_tables.specs.Schema.{book_schema};
 ghost use Rattle.ob_tables.specs.Rows.{Tables, number};
-ghost use Rattle.ob_tables.specs.Steps.{IsStoreFault};
+ghost use Rattle.ob_tables.specs.Steps.{HasFaultCause, IsStoreFault};
 ghost use Rattle.ob_commit.specs.Keeps.{Keeps};
 ghost use Rattle.ob_book.specs.Acts.{ActState};
 ghost use Rattle.ob_compare.specs.Moves.{moved_listing};
 ghost use Rattle.ob_store.specs.Keeping.{KeepsBook};
-ghost use Rattle.ob_store.specs.MovingOut.{ComesNext, Hands, HandsOut, MovesAreRows, row_of_move};
+ghost use Rattle.ob_store.specs.MovingOut.{AreFewMoves, ComesNext, Hands, HandsOut, HasHaltCause, IsMoveRow, MovesAreFew, MovesAreRows, Numbered, row_of_move};
 
 use ob_base::{Fault, Stop};
+use ob_book::next_law;
+use ob_post::laws::move_laws;
 use ob_post::{Dim, Moved};
+use ob_record::naming_law;
 use ob_tables::stop_of;
 use sqlite::{Alter, Connection, Row, Rows};
 use sqlite_value::value::ValueRef;
@@ -41,6 +45,15 @@ pub(crate) fn moves_law()
     ensures { MovesAreRows }
 {}
 
+/// A law of what commands moved: the numbers and the keys are such as rows are read for, and a count takes them all.
+fn few_moves_law()
+    ensures { MovesAreFew }
+{
+    next_law();
+    move_laws();
+    naming_law();
+}
+
 /// Why a handing out ended early.
 pub(crate) enum Halt {
     /// The sink failed.
@@ -51,7 +64,8 @@ pub(crate) enum Halt {
 
 /// The number in a column.
 fn int_at(row: &Row, at: usize) -> Option<i64>
-    ensures { IfSome result (λ n. column row.now at ≡ Int n) }
+    ensures value { IfSome result (λ n. column row.now at ≡ Int n) }
+    ensures readable { (n : ℤ) → at < length row.now → column row.now at ≡ Int n → IsSome result }
 {
     match row.get_ref(at) {
         Ok(ValueRef::Int(n)) => Some(n),
@@ -61,7 +75,8 @@ fn int_at(row: &Row, at: usize) -> Option<i64>
 
 /// The dimension of a number.
 fn dim_of(n: i64) -> Option<Dim>
-    ensures { IfSome result (λ dim. Int n ≡ number (dim_number dim)) }
+    ensures value { IfSome result (λ dim. Int n ≡ number (dim_number dim)) }
+    ensures readable { (dim : ADim) → Int n ≡ number (dim_number dim) → IsSome result }
 {
     match n {
         1 => Some(Dim::Cause),
@@ -73,7 +88,8 @@ fn dim_of(n: i64) -> Option<Dim>
 
 /// What a row says that a command moved, under the number of the command.
 fn read_moved(row: &Row) -> Option<(u32, Moved)>
-    ensures { IfSome result (λ it. row.now ≡ row_of_move it) }
+    ensures told { IfSome result (λ it. row.now ≡ row_of_move it) }
+    ensures readable { IsMoveRow row.now → IsSome result }
 {
     if row.column_count() != 4 {
         return None;
@@ -101,6 +117,10 @@ fn advance<S: Alter>(rows: &mut Rows<'_, S>) -> Result<(), Stop>
     ensures goes { HasCleanDisk (state S.Store rows.new.conn.now)
         → OnOk result (Advances S.Store rows.old.conn.now rows.new.conn.now
         (row_if rows.new.has_row rows.new.conn.now)) }
+    ensures cause { HasCleanDisk (state S.Store rows.new.conn.now)
+        → (state S.Store rows.old.conn.now).now.schema ≡ book_schema → (given : List ARow)
+        → HasGiven S.Store moved_listing.text [] rows.old.conn.now given
+        → HasFaultCause (state S.Store rows.old.conn.now) (state S.Store rows.new.conn.now) result }
 {
     match rows.advance() {
         Ok(()) => Ok(()),
@@ -125,6 +145,11 @@ fn next_moved<S: Alter>(rows: &mut Rows<'_, S>) -> Result<Option<(u32, Moved)>, 
         (state S.Store rows.old.conn.now).now.schema ≡ book_schema → (given : List ARow)
         → HasGiven S.Store moved_listing.text [] rows.old.conn.now given
         → ComesNext S.Store found rows.new.conn.now given) }
+    ensures cause { HasCleanDisk (state S.Store rows.new.conn.now) → (b : ActState)
+        → AreFewMoves b → KeepsBook (state S.Store rows.old.conn.now) b
+        → IsTrue (state S.Store rows.old.conn.now).is_open → (front : List Numbered)
+        → HasGiven S.Store moved_listing.text [] rows.old.conn.now (map row_of_move front)
+        → HasFaultCause (state S.Store rows.old.conn.now) (state S.Store rows.new.conn.now) result }
 {
     advance(rows)?;
     match rows.get() {
@@ -151,6 +176,11 @@ fn hand_rows<S: Alter, V: MoveSink>(rows: &mut Rows<'_, S>, sink: &mut V) -> Res
         → IsTrue (state S.Store rows.old.conn.now).is_open
         → HasGiven S.Store moved_listing.text [] rows.old.conn.now []
         → HandsOut V.takes sink.old sink.new b result }
+    ensures cause { HasCleanDisk (state S.Store rows.new.conn.now) → (b : ActState)
+        → AreFewMoves b → KeepsBook (state S.Store rows.old.conn.now) b
+        → IsTrue (state S.Store rows.old.conn.now).is_open
+        → HasGiven S.Store moved_listing.text [] rows.old.conn.now []
+        → HasHaltCause (state S.Store rows.old.conn.now) (state S.Store rows.new.conn.now) result }
 {
     'moves: for count in 0..u64::MAX {
         match next_moved(rows) {
@@ -177,7 +207,11 @@ pub(crate) fn hand_out<S: Alter, V: MoveSink>(
         → KeepsBook (state S.Store conn.new) b }
     ensures hands { HasCleanDisk (state S.Store conn.new) → (b : ActState)
         → KeepsBook (state S.Store conn.old) b → HandsOut V.takes sink.old sink.new b result }
+    ensures cause { HasCleanDisk (state S.Store conn.new) → (b : ActState)
+        → KeepsBook (state S.Store conn.old) b
+        → HasHaltCause (state S.Store conn.old) (state S.Store conn.new) result }
 {
+    few_moves_law();
     let statement = match conn.prepare(
         "SELECT cmd, dim, k, delta FROM moved ORDER BY cmd, dim, k",
     ) {

@@ -2,7 +2,7 @@
 ghost use Rattle.std.specs.Prelude.{◌≡◌, ◌≤◌, false, length, IfOk, IfErr};
 ghost use Rattle.sqlite.specs.Held.{state};
 ghost use Rattle.sqlite.specs.State.{HasCleanDisk, Survives};
-ghost use Rattle.ob_tables.specs.Steps.{IsStoreFault};
+ghost use Rattle.ob_tables.specs.Steps.{HasFaultCause, IsStoreFault};
 ghost use Rattle.ob_book.specs.Acts.{ActState, reply_of};
 ghost use Rattle.ob_store.specs.Keeping.{KeepsBook};
 ghost use Rattle.ob_store.specs.Acting.{reply_as};
@@ -10,7 +10,7 @@ ghost use Rattle.ob_store.specs.Replying.{Replies};
 
 use crate::reply::{Moves, Reply};
 use ob_base::{Fault, Stop};
-use ob_book::Book;
+use ob_book::{Book, next_law};
 use ob_commit::stored_moves;
 use ob_post::laws::move_laws;
 use ob_record::reached_law;
@@ -33,7 +33,11 @@ pub(crate) fn stored_reply<S: Alter>(
     ensures reply { HasCleanDisk (state S.Store conn.new) → IfOk result (λ r. (b : ActState)
         → KeepsBook (state S.Store conn.old) b → 1 ≤ no → no ≤ length b.accepted
         → reply_as r ≡ reply_of b no) }
+    ensures cause { HasCleanDisk (state S.Store conn.new) → (b : ActState)
+        → KeepsBook (state S.Store conn.old) b → 1 ≤ no → no ≤ length b.accepted
+        → HasFaultCause (state S.Store conn.old) (state S.Store conn.new) result }
 {
+    next_law();
     move_laws();
     match stored_moves(alloc, conn, no) {
         Ok(moves) => Ok(Reply {
@@ -58,6 +62,9 @@ pub(crate) fn reply_at<S: Alter, T: Timeline>(
     ensures replies { HasCleanDisk (state S.Store conn.new) → (b : ActState)
         → KeepsBook (state S.Store conn.old) b → book.now.state ≡ b.book
         → Replies S.Store conn.new b no result }
+    ensures cause { HasCleanDisk (state S.Store conn.new) → (b : ActState)
+        → KeepsBook (state S.Store conn.old) b → book.now.state ≡ b.book
+        → HasFaultCause (state S.Store conn.old) (state S.Store conn.new) result }
 {
     reached_law();
     if no == 0 {

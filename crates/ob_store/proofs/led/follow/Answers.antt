@@ -52,4 +52,4 @@ pub returns-in-Err-holds_moves-clause-finds : goal.returns-in-Err-holds_moves-cl
 returns-in-Err-holds_moves-clause-finds g c =
     let it = c.args.named.now in
     let e = c.in-Err-holds_moves.ensures in
-    read_err g.S.Store c.args.version (λ trees found. MovesAre c.args.version it trees (is_some found)) (λ _. HasNoPeriodOf it.heading) c.args.conn.now c.holds_moves.new.conn c.in-Err-holds_moves.stop e.mode e.survives e.clean (e.kept c.args.version) e.faults (λ clean bad. e.foreign clean bad c.args.version)
+    read_err g.S.Store c.args.version (λ trees found. MovesAre c.args.version it trees (is_some found)) (λ _. HasNoPeriodOf it.heading) c.args.conn.now c.holds_moves.new.conn c.in-Err-holds_moves.stop e.mode e.survives e.clean (e.kept c.args.version) e.faults (λ clean. e.cause clean c.args.version) (λ clean bad. e.foreign clean bad c.args.version)

@@ -14,10 +14,11 @@ returns-in-Ok-clause-answers g c =
     answers g.S.Store c.args.conn.now c.find_off.new.conn c.find_off.result
     (asks_then g.S.Store Finding HasNoBook c.args.conn.now c.check_version.new.conn c.find_off.new.conn c.find_off.result c.in-Ok.ensures.tells c.in-Ok.ensures.asks c.find_off.ensures)
     (λ clean. whatever c.find_off.result (c.in-Ok.ensures.shape (c.find_off.ensures.clean clean)))
+    (then_tables g.S.Store Finding HasNoBook c.args.conn.now c.check_version.new.conn c.find_off.new.conn c.find_off.result c.in-Ok.ensures.tells c.find_off.ensures).cause
 
 pub returns-in-Err-clause-tells : goal.returns-in-Err-clause-tells
 returns-in-Err-clause-tells g c = tells_err g.S.Store Finding HasNoBook c.args.conn.now c.check_version.new.conn c.in-Err.stop c.in-Err.ensures.tells
 
 pub returns-in-Err-clause-answers : goal.returns-in-Err-clause-answers
 returns-in-Err-clause-answers g c =
-    answers g.S.Store c.args.conn.now c.check_version.new.conn (Err c.in-Err.stop) (asks_err g.S.Store c.args.conn.now c.check_version.new.conn c.in-Err.stop c.in-Err.ensures.asks) (λ clean. tt)
+    answers g.S.Store c.args.conn.now c.check_version.new.conn (Err c.in-Err.stop) (asks_err g.S.Store c.args.conn.now c.check_version.new.conn c.in-Err.stop c.in-Err.ensures.asks) (λ clean. tt) c.in-Err.ensures.tells.cause

@@ -39,7 +39,7 @@ returns-in-Ok-false g c first read =
     let third : Finds g.S.Store Two Apart NoneSo mid end (Ok c.in-Ok-false.field-0) = read_ok g.S.Store Two Apart NoneSo mid end c.in-Ok-false.field-0 e.mode e.survives e.clean (e.kept Two) (λ clean. e.same clean Two) (λ clean. e.apart clean Two) in
     broken g.S.Store (λ (l : Led g.row.T.Denot). l.book.state) (λ (l : Led g.row.T.Denot). l.counted) (λ (l : Led g.row.T.Denot). l.moved) c.args.led.now first c.args.conn.now mid read end
     (λ b is. subst (λ o. Finds g.S.Store Two (IsFirstOff b c.args.led.now.counted c.args.led.now.moved) NoneSo c.args.conn.now mid (Ok o)) c.in-Ok-None.field-0-is (c.in-Ok-None.ensures b is))
-    (λ trees (done : ⊤). Holding trees c.args.led.now.book.state) HoldsNoBook c.in-Ok-false.field-0 third
+    (λ trees (done : ⊤). Holding trees c.args.led.now.book.state) HoldsNoBook c.in-Ok-false.field-0 c.in-Ok-false.field-0-test third
 
 no_other : (stop : Stop) → IsStoreFault stop → stop ≢ bad_book
 no_other stop (inl memory) bad = absurd (let e = sym memory ∙ bad in cc)
@@ -51,7 +51,7 @@ returns-in-Err-are_apart g c first read =
     let e = it.ensures in
     let mid = c.first_off.new.conn in
     let end = c.are_apart.new.conn in
-    let third : Finds g.S.Store Two Apart NoneSo mid end (Err it.stop) = read_err g.S.Store Two Apart NoneSo mid end it.stop e.mode e.survives e.clean (e.kept Two) (inl e.faults) (λ clean bad. absurd (no_other it.stop e.faults bad)) in
+    let third : Finds g.S.Store Two Apart NoneSo mid end (Err it.stop) = read_err g.S.Store Two Apart NoneSo mid end it.stop e.mode e.survives e.clean (e.kept Two) (inl e.faults) (λ clean. e.cause clean Two) (λ clean bad. absurd (no_other it.stop e.faults bad)) in
     apart_err g.S.Store (λ (l : Led g.row.T.Denot). l.book.state) (λ (l : Led g.row.T.Denot). l.counted) (λ (l : Led g.row.T.Denot). l.moved) c.args.led.now first c.args.conn.now mid read end
     (λ b is. subst (λ o. Finds g.S.Store Two (IsFirstOff b c.args.led.now.counted c.args.led.now.moved) NoneSo c.args.conn.now mid (Ok o)) c.in-Ok-None.field-0-is (c.in-Ok-None.ensures b is))
     (λ trees (done : ⊤). Holding trees c.args.led.now.book.state) HoldsNoBook it.stop third

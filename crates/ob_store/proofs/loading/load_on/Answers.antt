@@ -14,6 +14,7 @@ returns-in-Ok-clause-answers g c =
     answers g.S.Store c.args.conn.now c.load_tables.new.conn c.load_tables.result
     (asks_then g.S.Store (λ trees (b : Book g.row.T.Denot). Holding trees b.state) HoldsNoBook c.args.conn.now c.check_version.new.conn c.load_tables.new.conn c.load_tables.result c.in-Ok.ensures.tells c.in-Ok.ensures.asks c.load_tables.ensures)
     (λ clean. whatever c.load_tables.result (c.in-Ok.ensures.shape (c.load_tables.ensures.clean clean)))
+    (then_tables g.S.Store (λ trees (b : Book g.row.T.Denot). Holding trees b.state) HoldsNoBook c.args.conn.now c.check_version.new.conn c.load_tables.new.conn c.load_tables.result c.in-Ok.ensures.tells c.load_tables.ensures).cause
 
 pub returns-in-Err-clause-tells : goal.returns-in-Err-clause-tells
 returns-in-Err-clause-tells g c =
@@ -21,4 +22,4 @@ returns-in-Err-clause-tells g c =
 
 pub returns-in-Err-clause-answers : goal.returns-in-Err-clause-answers
 returns-in-Err-clause-answers g c =
-    answers g.S.Store c.args.conn.now c.check_version.new.conn (Err c.in-Err.stop) (asks_err g.S.Store c.args.conn.now c.check_version.new.conn c.in-Err.stop c.in-Err.ensures.asks) (λ clean. tt)
+    answers g.S.Store c.args.conn.now c.check_version.new.conn (Err c.in-Err.stop) (asks_err g.S.Store c.args.conn.now c.check_version.new.conn c.in-Err.stop c.in-Err.ensures.asks) (λ clean. tt) c.in-Err.ensures.tells.cause

@@ -33,7 +33,7 @@ returns-in-Ok-false-are_apart g c =
     let mid = c.has_old_rows.new.conn in
     let end = c.are_apart.new.conn in
     let third : Finds g.S.Store One Apart NoneSo mid end (Ok it.field-0) = read_ok g.S.Store One Apart NoneSo mid end it.field-0 e.mode e.survives e.clean (e.kept One) (λ clean. e.same clean One) (λ clean. e.apart clean One) in
-    rows_broken g.S.Store c.args.led.now.book.state c.args.conn.now mid c.in-Ok-true.field-0 c.in-Ok-true.field-0-test c.in-Ok-true.ensures end it.field-0 third
+    rows_broken g.S.Store c.args.led.now.book.state c.args.conn.now mid c.in-Ok-true.field-0 c.in-Ok-true.field-0-test c.in-Ok-true.ensures end it.field-0 it.field-0-test third
 
 no_other : (stop : Stop) → IsStoreFault stop → stop ≢ bad_book
 no_other stop (inl memory) bad = absurd (let e = sym memory ∙ bad in cc)
@@ -45,5 +45,5 @@ returns-in-Err-are_apart g c =
     let e = it.ensures in
     let mid = c.has_old_rows.new.conn in
     let end = c.are_apart.new.conn in
-    let third : Finds g.S.Store One Apart NoneSo mid end (Err it.stop) = read_err g.S.Store One Apart NoneSo mid end it.stop e.mode e.survives e.clean (e.kept One) (inl e.faults) (λ clean bad. absurd (no_other it.stop e.faults bad)) in
+    let third : Finds g.S.Store One Apart NoneSo mid end (Err it.stop) = read_err g.S.Store One Apart NoneSo mid end it.stop e.mode e.survives e.clean (e.kept One) (inl e.faults) (λ clean. e.cause clean One) (λ clean bad. absurd (no_other it.stop e.faults bad)) in
     rows_unread g.S.Store c.args.led.now.book.state c.args.conn.now mid c.in-Ok-true.field-0 c.in-Ok-true.field-0-test c.in-Ok-true.ensures end it.stop third

@@ -47,7 +47,8 @@ pub returns-in-Ok-true-clause-goes_on : goal.returns-in-Ok-true-clause-goes_on
 returns-in-Ok-true-clause-goes_on g c = on_ok g.S.Store c.args.conn.now c.tells_new.new.conn c.in-Ok-true.field-0 c.in-Ok-true.ensures.asks
 
 pub returns-in-Err-clause-goes_on : goal.returns-in-Err-clause-goes_on
-returns-in-Err-clause-goes_on g c = on_err g.S.Store c.args.conn.now c.tells_new.new.conn c.in-Err.stop c.in-Err.ensures.asks
+returns-in-Err-clause-goes_on g c =
+    on_err g.S.Store c.args.conn.now c.tells_new.new.conn c.in-Err.stop c.in-Err.ensures.asks (untold g.S.Store c.args.conn.now c.tells_new.new.conn c.in-Err.stop c.in-Err.ensures.finds).cause
 
 pub returns-in-Err-find_old-clause-goes_on : goal.returns-in-Err-find_old-clause-goes_on
 returns-in-Err-find_old-clause-goes_on g c =

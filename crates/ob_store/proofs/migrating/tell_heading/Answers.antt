@@ -10,7 +10,7 @@ returns-in-Ok-true-clause-finds g c v =
 pub returns-in-Err-clause-finds : goal.returns-in-Err-clause-finds
 returns-in-Err-clause-finds g c v =
     let e = c.in-Err.ensures in
-    told_none g.S.Store v c.args.conn.now c.has_version.new.conn c.in-Err.stop (unread g.S.Store 2 v c.args.conn.now c.has_version.new.conn e.mode e.survives e.clean e.kept c.in-Err.stop e.faults e.foreign)
+    told_none g.S.Store v c.args.conn.now c.has_version.new.conn c.in-Err.stop (unread g.S.Store 2 v c.args.conn.now c.has_version.new.conn e.mode e.survives e.clean e.kept c.in-Err.stop e.faults e.cause e.foreign)
 
 pub returns-in-Ok-false-has_version-clause-finds : goal.returns-in-Ok-false-has_version-clause-finds
 returns-in-Ok-false-has_version-clause-finds g c v =
@@ -28,7 +28,7 @@ returns-in-Err-has_version-clause-finds g c v =
     let two = c.in-Err-has_version in
     let f = two.ensures in
     told_fault g.S.Store v c.args.conn.now c.has_version.new.conn it.field-0 it.field-0-test (looked g.S.Store 2 v c.args.conn.now c.has_version.new.conn e.mode e.survives e.clean e.kept it.field-0 e.same e.version)
-    c.has_version-2.new.conn two.stop (unread g.S.Store 1 v c.has_version.new.conn c.has_version-2.new.conn f.mode f.survives f.clean f.kept two.stop f.faults f.foreign)
+    c.has_version-2.new.conn two.stop (unread g.S.Store 1 v c.has_version.new.conn c.has_version-2.new.conn f.mode f.survives f.clean f.kept two.stop f.faults f.cause f.foreign)
 
 pub returns-then-is_old-clause-finds : goal.returns-then-is_old-clause-finds
 returns-then-is_old-clause-finds g c v =

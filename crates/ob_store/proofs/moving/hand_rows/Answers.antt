@@ -4,6 +4,8 @@ use Rattle.sqlite.specs.Effect.{Database}
 use Rattle.sqlite.specs.State.{HasCleanDisk}
 use Rattle.sqlite.specs.Held.{state}
 use Rattle.sqlite.proofs.Callers.{unchanged_then}
+use Rattle.ob_tables.proofs.Failing.{failed_after}
+use Rattle.ob_store.specs.Keeping.{KeepsBook}
 use Rattle.ob_compare.proofs.Listing.{still_then}
 use Rattle.ob_record.specs.Tables.{tables_of}
 use Rattle.ob_store.specs.MovingOut.{Numbered, ComesNext, TakesAll, all_moves, row_of_move}
@@ -99,3 +101,27 @@ moves-preserved g c =
             ),
       ),
     )
+
+pub returns-in-Err-clause-cause : goal.returns-in-Err-clause-cause
+returns-in-Err-clause-cause g c clean b few keeps live given store =
+    let old = state g.S.Store c.args.rows.now.conn.now in
+    let mid = state g.S.Store c.moves.rows.conn.now in
+    let new = state g.S.Store c.next_moved.new.rows.conn.now in
+    let was = c.moves.invariant.4 in
+    let early : HasCleanDisk mid = omega (arith, c.next_moved.ensures.survives.clean, clean) in
+    let start : HasCleanDisk old = omega (arith, c.moves.invariant.1.clean, early) in
+    let so = was.3 early live in
+    let has = (keeps.kept.settled start live).schema in
+    let kept : KeepsBook mid b = record { kept = c.moves.invariant.3 (tables_of b) keeps.kept; reached = keeps.reached; valid = keeps.valid } in
+    failed_after old mid new _ _ c.moves.invariant.1 early c.next_moved.ensures.survives (c.in-Err.ensures.cause clean b few kept so.0.0.is_open was.0 (so.1 has given) store)
+
+pub returns-clause-cause : goal.returns-clause-cause
+returns-clause-cause g c clean b few keeps live given store =
+    let old = state g.S.Store c.args.rows.now.conn.now in
+    let was = c.moves.invariant.4 in
+    let start : HasCleanDisk old = omega (arith, c.moves.invariant.1.clean, clean) in
+    let so = was.3 clean live in
+    let has = (keeps.kept.settled start live).schema in
+    let kept = c.moves.invariant.3 (tables_of b) keeps.kept in
+    let some = front_of g.S.Store b c.moves.rows.conn.now kept clean so.0.0.is_open was.0 (so.1 has given) in
+    absurd (omega (arith, was.2, few.few, ap length some.1, length-append was.0 some.0, c.moves-test.false))

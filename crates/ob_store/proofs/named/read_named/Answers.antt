@@ -39,7 +39,7 @@ pub returns-in-Err-clause-finds : goal.returns-in-Err-clause-finds
 returns-in-Err-clause-finds g c =
     let h = c.in-Err in
     let e = h.ensures in
-    read_err g.S.Store c.args.version (IsNamed c.args.version) (HasNoBookIn c.args.version) c.args.conn.now c.read_heading.new.conn h.stop e.mode e.survives e.clean (e.kept c.args.version) e.faults (λ clean bad. e.foreign clean bad c.args.version)
+    read_err g.S.Store c.args.version (IsNamed c.args.version) (HasNoBookIn c.args.version) c.args.conn.now c.read_heading.new.conn h.stop e.mode e.survives e.clean (e.kept c.args.version) e.faults (λ clean. e.cause clean c.args.version) (λ clean bad. e.foreign clean bad c.args.version)
 
 pub returns-in-Err-read_commands-clause-finds : goal.returns-in-Err-read_commands-clause-finds
 returns-in-Err-read_commands-clause-finds g c =
@@ -48,6 +48,6 @@ returns-in-Err-read_commands-clause-finds g c =
     let e = l.ensures in
     let first = read_ok g.S.Store c.args.version HeadingRead (HasNoBookIn c.args.version) c.args.conn.now c.read_heading.new.conn h.field-0 h.ensures.mode h.ensures.survives h.ensures.clean (h.ensures.kept c.args.version) (λ clean. h.ensures.same clean c.args.version) (λ clean. h.ensures.read clean c.args.version) in
     let second : Finds g.S.Store c.args.version (CommandsRead c.args.version) (HasNoBookIn c.args.version) c.read_heading.new.conn c.read_commands.new.conn (Err l.stop) =
-    read_err g.S.Store c.args.version (CommandsRead c.args.version) (HasNoBookIn c.args.version) c.read_heading.new.conn c.read_commands.new.conn l.stop e.mode e.survives e.clean (e.kept c.args.version) e.faults (λ clean bad. e.foreign clean bad c.args.version) in
+    read_err g.S.Store c.args.version (CommandsRead c.args.version) (HasNoBookIn c.args.version) c.read_heading.new.conn c.read_commands.new.conn l.stop e.mode e.survives e.clean (e.kept c.args.version) e.faults (λ clean. e.cause clean c.args.version) (λ clean bad. e.foreign clean bad c.args.version) in
     let both = then_more g.S.Store c.args.version HeadingRead (HasNoBookIn c.args.version) (CommandsRead c.args.version) (HasNoBookIn c.args.version) c.args.conn.now c.read_heading.new.conn c.read_commands.new.conn h.field-0 (Err l.stop) first second in
     fails g.S.Store c.args.version (λ trees z. HeadingRead trees h.field-0 × CommandsRead c.args.version trees z) (λ trees. HeadingRead trees h.field-0 × HasNoBookIn c.args.version trees) (IsNamed c.args.version) (HasNoBookIn c.args.version) c.args.conn.now c.read_commands.new.conn l.stop (λ trees none. none.1) both

@@ -3,7 +3,7 @@ use Rattle.sqlite.specs.Held.{state}
 use Rattle.sqlite.specs.Listing.{understood}
 use Rattle.ob_compare.proofs.Asking.{no_outline}
 use Rattle.ob_compare.proofs.Headings.{meta_listing, no_meaning}
-use Rattle.ob_store.proofs.Asking.{looked_empty, looked_foreign, looked_same, looked_still}
+use Rattle.ob_store.proofs.Asking.{looked_empty, looked_failed, looked_foreign, looked_same, looked_still}
 use Rattle.ob_store.proofs.version.look_at.Goals as goal
 
 pub returns : goal.returns
@@ -12,6 +12,7 @@ returns g c = record {
   clean = λ clean. omega (arith, c.prepare.ensures.survives.clean, clean);
   survives = c.prepare.ensures.survives;
   faults = tt;
+  cause = λ clean v schema. tt;
   whole = c.schema-schema.ensures.live;
   left = λ live trees may. g.met.S.Store.settled c.args.conn.now.store trees live may;
   still = λ clean. inl (c.in_default.ensures.ok clean).1;
@@ -31,6 +32,7 @@ returns-in-Err g c =
       clean = λ clean. omega (arith, c.prepare.ensures.survives.clean, clean);
       survives = c.prepare.ensures.survives;
       faults = stop.ensures.faults;
+      cause = λ clean v schema is. looked_failed old new e (c.in-Err.ensures.err clean []) v schema stop.result stop.ensures.memory is;
       whole = c.schema-schema.ensures.live;
       left = λ live trees may. g.met.S.Store.settled c.args.conn.now.store trees live may;
       still = λ clean. looked_still old new e (c.in-Err.ensures.err clean []);

@@ -11,7 +11,7 @@ returns-in-Ok-true-clause-tells g c =
 pub returns-in-Err-clause-tells : goal.returns-in-Err-clause-tells
 returns-in-Err-clause-tells g c =
     let e = c.in-Err.ensures in
-    unversioned g.S.Store c.args.conn.now c.has_version.new.conn e.mode e.survives e.clean (e.kept Two) c.in-Err.stop e.faults e.foreign
+    unversioned g.S.Store c.args.conn.now c.has_version.new.conn e.mode e.survives e.clean (e.kept Two) c.in-Err.stop e.faults e.cause e.foreign
 
 pub returns-then-is_book-clause-tells : goal.returns-then-is_book-clause-tells
 returns-then-is_book-clause-tells g c =

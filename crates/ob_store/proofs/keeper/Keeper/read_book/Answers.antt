@@ -1,4 +1,5 @@
 use Rattle.std.proofs.Common.{◌≡◌, rules, IsTrue, Option, Ok, Err, Some, refl, ap, subst}
+use Rattle.std.specs.Prelude.{⊤}
 use Rattle.std.specs.Option.{option_map}
 use Rattle.sqlite.specs.Held.{Held, state}
 use Rattle.sqlite.specs.State.{IsLive}
@@ -7,7 +8,7 @@ use Rattle.ob_state.specs.States.{BookValue}
 use Rattle.ob_store.specs.Keeping.{Answers, IsBookAfter, KeeperValue}
 use Rattle.ob_store.specs.Versions.{Tells}
 use Rattle.ob_store.specs.Loading.{Holding, HoldsNoBook}
-use Rattle.ob_store.proofs.Asking.{answers_ok}
+use Rattle.ob_store.proofs.Asking.{answers_err, answers_ok}
 use Rattle.ob_store.proofs.Holding.{loaded_ok, loaded_stopped}
 use Rattle.ob_store.proofs.keeper.Keeper.read_book.Goals as goal
 
@@ -25,6 +26,12 @@ returns-in-Ok-clause-answers g c =
     let new = c.load_on-read.new.conn in
     let conn_is : c.self.inside.conn ≡ c.args.self.now.conn = ap (λ (k : KeeperValue g.row.S.Denot). k.conn) c.self.view_is in
     answers_ok g.S.Store c.args.self.now.conn new c.in-Ok.book tt (subst (λ (h : Held g.row.S.Denot). Answers g.S.Store h new (Ok c.in-Ok.book)) conn_is c.in-Ok.ensures.answers)
+
+pub returns-in-Err-clause-answers : goal.returns-in-Err-clause-answers
+returns-in-Err-clause-answers g c =
+    let new = c.load_on-read.new.conn in
+    let conn_is : c.self.inside.conn ≡ c.args.self.now.conn = ap (λ (k : KeeperValue g.row.S.Denot). k.conn) c.self.view_is in
+    answers_err g.S.Store {X = BookValue} {Y = ⊤} c.args.self.now.conn new c.in-Err.stop (subst (λ (h : Held g.row.S.Denot). Answers g.S.Store {X = BookValue} h new (Err c.in-Err.stop)) conn_is c.in-Err.ensures.answers)
 
 pub returns-in-Err-clause-loaded : goal.returns-in-Err-clause-loaded
 returns-in-Err-clause-loaded g c clean schema =
