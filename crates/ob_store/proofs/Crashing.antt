@@ -148,11 +148,11 @@ module _ {S : Type 0} (g : Ghosts S) (few : ReachedAreFew) (old new : KeeperValu
   loaded_cause (Ok done) loads = tt
   loaded_cause (Err stop) loads = λ store. elim (cases_Bool (state g old.conn).is_open) [
     | inl opened ↦
-      let it = keeps.kept.settled (loads.clean clean) opened in
-      elim (loads.answers.cause clean Two it.schema store) [
-        | inl failed ↦ failed
-        | inr broken ↦ absurd (broken it.holds.apart)
-      ]
+        let it = keeps.kept.settled (loads.clean clean) opened in
+        elim (loads.answers.cause clean Two it.schema store) [
+          | inl failed ↦ failed
+          | inr broken ↦ absurd (broken it.holds.apart)
+        ]
     | inr shut ↦ inr (inl shut)
   ]
 
