@@ -1,6 +1,6 @@
 //! A desk over a store in memory, what streams are answered by it, and what it is tried by.
 use crate::log::Log;
-use crate::streams::{Sink, Source};
+use crate::streams::{Sink, Source, WHOLE, Way};
 use ob_base::Fault;
 use ob_desk::{Listener, Unserved, run_serve, serve_stream};
 use ob_requests::Request;
@@ -118,20 +118,33 @@ impl<S: Alter, T: Timeline> Desk for Keeper<S, T> {
     }
 }
 
-/// Whether a stream of these bytes is answered this, by so many replies.
-pub fn answers<D: Desk>(
-    alloc: Global,
-    desk: &mut D,
-    text: &[u8],
-    replies: u32,
-    wanted: &[u8],
-) -> bool {
-    told(alloc, desk, text).is(Ok(replies), wanted)
-}
-
 /// What a stream of these bytes is answered.
 pub fn told<D: Desk>(alloc: Global, desk: &mut D, text: &[u8]) -> Heard {
-    desk.hears(alloc, Source::whole(text), Sink::wide(alloc))
+    desk.hears(alloc, Source::new(text, &WHOLE), Sink::new(alloc, &WHOLE))
+}
+
+/// A stream and its way, how it ends, what is written, and how many commands the book then has; None where there is no book.
+#[derive(Drop)]
+pub struct Stream<'b> {
+    pub text: &'b [u8],
+    pub way: Way,
+    pub end: Result<u32, Fault>,
+    pub written: &'b [u8],
+    pub commands: Option<u32>,
+}
+
+/// The stream of this number ends so.
+pub fn ends_so<D: Desk>(
+    rt: &impl Abort,
+    alloc: Global,
+    desk: &mut D,
+    no: usize,
+    stream: &Stream<'_>,
+) {
+    let source = Source::new(stream.text, &stream.way);
+    let heard = desk.hears(alloc, source, Sink::new(alloc, &stream.way));
+    assert!(rt; heard.is(stream.end, stream.written), "stream {no}");
+    assert!(rt; desk.commands() == stream.commands, "stream {no}");
 }
 
 /// What a desk is tried by.
@@ -154,9 +167,23 @@ pub fn over_a_store<C: Trial>(
     let Ok(conn) = Connection::open_in_memory(alloc) else {
         return Err(AllocError);
     };
+    by_a_keeper::<MemStore, Windowed, C>(rt, alloc, conn, begins, trial)
+}
+
+// The one function that holds a keeper, of parts that it doesn't see. The keeper ends as its connection, so that no drop of a
+// book is proved here.
+fn by_a_keeper<S: Alter + Drop, T: Timeline, C: Trial>(
+    rt: &impl Abort,
+    alloc: Global,
+    conn: Connection<S>,
+    begins: bool,
+    trial: &C,
+) -> Result<(), AllocError> {
     assert!(rt; conn.is_autocommit());
-    let mut keeper: Keeper<MemStore, Windowed> = Keeper::adopt_connection(alloc, conn);
-    is_tried(rt, alloc, &mut keeper, begins, trial)
+    let mut keeper: Keeper<S, T> = Keeper::adopt_connection(alloc, conn);
+    let tried = is_tried(rt, alloc, &mut keeper, begins, trial);
+    let _ = keeper.into_connection();
+    tried
 }
 
 fn is_tried<D: Desk, C: Trial>(

@@ -1,58 +1,70 @@
 //! The worked exchange, whole and in pieces, cut, with readers and writers that fail.
-use crate::desk::{Desk, Heard, Trial, answers, over_a_book};
+use crate::desk::{Desk, Stream, Trial, ends_so, over_a_book, told};
 use crate::script::{Ask, Reply, Row, are_answered};
-use crate::streams::{Sink, Source};
-use crate::texts::{FIRST, STORM, json, post};
+use crate::streams::{WHOLE, Way};
+use crate::texts::{FIRST, STORM, digits, joined, json, post};
 use ob_base::Fault;
 use std::alloc::{AllocError, Global};
 use std::io::ErrorKind;
 use std::process::Abort;
 
-// The exchange in pieces of so many bytes; or byte by byte, and the reader and the writer are interrupted before each.
+/// Streams, one after the other, and how many commands the book then has.
 #[derive(Drop)]
-struct Exchange {
-    step: usize,
-    jolts: bool,
+pub struct Streams<'r> {
+    pub rows: &'r [Stream<'r>],
+    pub commands: u32,
 }
 
-impl Trial for Exchange {
+impl Trial for Streams<'_> {
     fn run<A: Abort, D: Desk>(
         &self,
         rt: &A,
         alloc: Global,
         desk: &mut D,
     ) -> Result<(), AllocError> {
-        let mut source = Source::new(STORM, self.step, None);
-        let mut sink = Sink::wide(alloc);
-        if self.jolts {
-            source.jolts = 1;
-            sink.step = 1;
-            sink.jolts = 1;
+        let mut no = 0usize;
+        for stream in self.rows {
+            no = no.saturating_add(1);
+            ends_so(rt, alloc, desk, no, stream);
         }
-        assert!(rt; desk.hears(alloc, source, sink).is(Ok(1), FIRST));
-        assert!(rt; desk.commands() == Some(1));
+        assert!(rt; desk.stands_with(self.commands));
         Ok(())
+    }
+}
+
+// The exchange by a way.
+fn exchange(way: Way) -> Stream<'static> {
+    Stream {
+        text: STORM,
+        way,
+        end: Ok(1),
+        written: FIRST,
+        commands: Some(1),
     }
 }
 
 #[test]
 fn whole_and_in_pieces(rt: HostRuntime) -> Result<(), AllocError> {
     for step in [1, 2, 64, 115, 4_096] {
-        over_a_book(&rt, rt.alloc(), &Exchange { step, jolts: false })?;
+        let rows = &[exchange(Way { step, ..WHOLE })];
+        over_a_book(&rt, rt.alloc(), &Streams { rows, commands: 1 })?;
     }
     Ok(())
 }
 
+// Byte by byte, and the reader and the writer are interrupted before each.
+const JOLTED: Way = Way {
+    step: 1,
+    reads: 1,
+    piece: 1,
+    writes: 1,
+    ..WHOLE
+};
+
 #[test]
 fn interrupted_before_each_piece(rt: HostRuntime) -> Result<(), AllocError> {
-    over_a_book(
-        &rt,
-        rt.alloc(),
-        &Exchange {
-            step: 1,
-            jolts: true,
-        },
-    )
+    let rows = &[exchange(JOLTED)];
+    over_a_book(&rt, rt.alloc(), &Streams { rows, commands: 1 })
 }
 
 // The exchange twice in one stream, and once more in another.
@@ -68,32 +80,6 @@ const TWICE: &[Row] = &[
 #[test]
 fn twice(rt: HostRuntime) -> Result<(), AllocError> {
     are_answered(&rt, rt.alloc(), TWICE, 1)
-}
-
-// Each front of the exchange is a fault, and nothing is written.
-struct Fronts;
-
-impl Trial for Fronts {
-    fn run<A: Abort, D: Desk>(
-        &self,
-        rt: &A,
-        alloc: Global,
-        desk: &mut D,
-    ) -> Result<(), AllocError> {
-        for count in 1..STORM.len() {
-            let source = Source::new(&STORM[..count], 9, None);
-            let heard = desk.hears(alloc, source, Sink::wide(alloc));
-            assert!(rt; heard.is(Err(Fault::Input), b""));
-        }
-        assert!(rt; answers(alloc, desk, b"", 0, b""));
-        assert!(rt; desk.stands_with(0));
-        Ok(())
-    }
-}
-
-#[test]
-fn cut_anywhere(rt: HostRuntime) -> Result<(), AllocError> {
-    over_a_book(&rt, rt.alloc(), &Fronts)
 }
 
 // A writer that fails behind each number of bytes of a reply of 90, and two that take none any more.
@@ -116,7 +102,8 @@ impl Trial for Writers {
     }
 }
 
-// A writer that fails behind so many bytes of the reply.
+// A writer with so much room is written just that front of a reply, there is one command more, and the repeat is answered by
+// its reply.
 fn breaks_off<D: Desk>(
     rt: &impl Abort,
     alloc: Global,
@@ -125,49 +112,50 @@ fn breaks_off<D: Desk>(
     stands: bool,
 ) -> Result<(), AllocError> {
     let no = desk.commands().unwrap_or(0).saturating_add(1);
-    let request = bus(alloc, no)?;
-    let wanted = accepted(alloc, no)?;
-    let sink = Sink::new(alloc, room, stands);
-    assert!(rt; is_broken_off(alloc, desk, sink, room, no, &request, &wanted));
+    let number = digits(alloc, no as usize)?;
+    let request = bus(alloc, &number)?;
+    let wanted = accepted(alloc, &number)?;
+    let broken = Stream {
+        text: &request,
+        way: Way {
+            room,
+            stands,
+            ..WHOLE
+        },
+        end: Err(Fault::Output),
+        written: &wanted[..room.min(wanted.len())],
+        commands: Some(no),
+    };
+    ends_so(rt, alloc, desk, room, &broken);
+    let again = Stream {
+        text: &request,
+        way: WHOLE,
+        end: Ok(1),
+        written: &wanted,
+        commands: Some(no),
+    };
+    ends_so(rt, alloc, desk, room, &again);
     Ok(())
 }
 
-// Whether a writer with so much room is written just that front of a reply, there is one command more, and the repeat is
-// answered by its reply.
-fn is_broken_off<D: Desk>(
-    alloc: Global,
-    desk: &mut D,
-    sink: Sink,
-    room: usize,
-    no: u32,
-    request: &[u8],
-    wanted: &[u8],
-) -> bool {
-    is_front(
-        &desk.hears(alloc, Source::whole(request), sink),
-        room,
-        wanted,
-    ) && desk.commands() == Some(no)
-        && answers(alloc, desk, request, 1, wanted)
-        && desk.commands() == Some(no)
-}
-
-// Whether a stream ended by its writer, which was written just so many bytes of this.
-fn is_front(heard: &Heard, room: usize, wanted: &[u8]) -> bool {
-    heard.end == Err(Fault::Output)
-        && heard.bytes.len() == room
-        && wanted.starts_with(heard.bytes.as_slice())
-}
-
 // A request that adds the bus of a number.
-fn bus(alloc: Global, no: u32) -> Result<Vec<u8>, AllocError> {
-    let body = format!(in alloc; "{{\"kind\":\"bus\",\"ref\":\"R{no}\",\"f1\":\"B{no}\"}}")?;
+fn bus(alloc: Global, no: &str) -> Result<Vec<u8>, AllocError> {
+    let body = joined(
+        alloc,
+        &[
+            "{\"kind\":\"bus\",\"ref\":\"R",
+            no,
+            "\",\"f1\":\"B",
+            no,
+            "\"}",
+        ],
+    )?;
     post(alloc, "/commands", &body)
 }
 
 // The reply to the command of a number that moves nothing.
-fn accepted(alloc: Global, no: u32) -> Result<Vec<u8>, AllocError> {
-    let body = format!(in alloc; "{{\"moved\":[],\"no\":{no}}}")?;
+fn accepted(alloc: Global, no: &str) -> Result<Vec<u8>, AllocError> {
+    let body = joined(alloc, &["{\"moved\":[],\"no\":", no, "}"])?;
     json(alloc, "200 OK", &body)
 }
 
@@ -187,75 +175,112 @@ const REPLIES: &'static [u8] = b"\
 HTTP/1.1 200 OK\r\nContent-Type: application/json\r\nContent-Length: 19\r\n\r\n{\"moved\":[],\"no\":1}\
 HTTP/1.1 200 OK\r\nContent-Type: application/json\r\nContent-Length: 19\r\n\r\n{\"moved\":[],\"no\":2}";
 
-// How many of the two requests are whole in so many bytes, and what is written then.
-fn whole_in(count: usize) -> (u32, &'static [u8]) {
-    if count < STORM.len() {
-        (0, b"")
-    } else if count < BOTH.len() {
-        (1, FIRST)
+// How many of two requests are whole in so many bytes of both.
+fn whole_in(count: usize, first: &[u8], both: &[u8]) -> u32 {
+    if count < first.len() {
+        0
+    } else if count < both.len() {
+        1
     } else {
-        (2, REPLIES)
+        2
     }
 }
 
-// Of two requests whose reader fails behind so many bytes, only the whole ones have acted.
-fn fails_behind<D: Desk>(rt: &impl Abort, alloc: Global, desk: &mut D, text: &[u8]) {
-    let source = Source::new(text, 1_000_000, Some(ErrorKind::Other));
-    let heard = desk.hears(alloc, source, Sink::wide(alloc));
-    let (whole, written) = whole_in(text.len());
-    assert!(rt; heard.is(Err(Fault::Input), written) && desk.commands() == Some(whole));
+// What is written to so many of the two.
+fn replies(whole: u32) -> &'static [u8] {
+    match whole {
+        0 => b"",
+        1 => FIRST,
+        _ => REPLIES,
+    }
 }
 
-// Readers that fail behind each number of bytes of two requests.
-struct Readers;
+// Fronts of the two requests by a way, of so many bytes to so many: each is a fault, and only the requests that are whole have
+// acted. A stream without a byte is none.
+#[derive(Drop)]
+struct Fronts {
+    first: usize,
+    last: usize,
+    way: Way,
+    commands: u32,
+}
 
-impl Trial for Readers {
+impl Trial for Fronts {
     fn run<A: Abort, D: Desk>(
         &self,
         rt: &A,
         alloc: Global,
         desk: &mut D,
     ) -> Result<(), AllocError> {
-        for count in 0..=BOTH.len() {
-            fails_behind(rt, alloc, desk, &BOTH[..count]);
+        for count in self.first..=self.last {
+            let whole = whole_in(count, STORM, BOTH);
+            let stream = Stream {
+                text: &BOTH[..count.min(BOTH.len())],
+                way: self.way,
+                end: Err(Fault::Input),
+                written: replies(whole),
+                commands: Some(whole),
+            };
+            ends_so(rt, alloc, desk, count, &stream);
         }
-        assert!(rt; desk.stands_with(2));
+        assert!(rt; told(alloc, desk, b"").is(Ok(0), b""));
+        assert!(rt; desk.stands_with(self.commands));
         Ok(())
     }
 }
 
 #[test]
+fn cut_anywhere(rt: HostRuntime) -> Result<(), AllocError> {
+    let fronts = Fronts {
+        first: 1,
+        last: STORM.len() - 1,
+        way: Way { step: 9, ..WHOLE },
+        commands: 0,
+    };
+    over_a_book(&rt, rt.alloc(), &fronts)
+}
+
+// All bytes at once, and then a failure.
+const FAILING: Way = Way {
+    failure: Some(ErrorKind::Other),
+    ..WHOLE
+};
+
+#[test]
 fn readers_that_fail(rt: HostRuntime) -> Result<(), AllocError> {
-    over_a_book(&rt, rt.alloc(), &Readers)
+    let fronts = Fronts {
+        first: 0,
+        last: BOTH.len(),
+        way: FAILING,
+        commands: 2,
+    };
+    over_a_book(&rt, rt.alloc(), &fronts)
 }
 
-// A reader that is interrupted for ever behind so many bytes is a fault; this is written.
-fn is_stuck<D: Desk>(alloc: Global, desk: &mut D, count: usize, written: &[u8]) -> bool {
-    let front = &STORM[..count.min(STORM.len())];
-    let stuck = Source::new(front, 1_000_000, Some(ErrorKind::Interrupted));
-    desk.hears(alloc, stuck, Sink::wide(alloc))
-        .is(Err(Fault::Input), written)
-}
+// All bytes at once, and then interruptions for ever.
+const STUCK: Way = Way {
+    failure: Some(ErrorKind::Interrupted),
+    ..WHOLE
+};
 
-// Readers that are interrupted for ever.
-struct Stuck;
-
-impl Trial for Stuck {
-    fn run<A: Abort, D: Desk>(
-        &self,
-        rt: &A,
-        alloc: Global,
-        desk: &mut D,
-    ) -> Result<(), AllocError> {
-        assert!(rt; is_stuck(alloc, desk, 0, b"") && is_stuck(alloc, desk, 20, b""));
-        assert!(rt; is_stuck(alloc, desk, 80, b"") && desk.commands() == Some(0));
-        assert!(rt; is_stuck(alloc, desk, STORM.len(), FIRST));
-        assert!(rt; desk.stands_with(1));
-        Ok(())
+// A stream that is interrupted for ever behind these bytes is a fault; this is written, and the book has so many commands.
+fn stuck(text: &'static [u8], written: &'static [u8], commands: u32) -> Stream<'static> {
+    Stream {
+        text,
+        way: STUCK,
+        end: Err(Fault::Input),
+        written,
+        commands: Some(commands),
     }
 }
 
 #[test]
 fn readers_interrupted_for_ever(rt: HostRuntime) -> Result<(), AllocError> {
-    over_a_book(&rt, rt.alloc(), &Stuck)
+    let rows = &[
+        stuck(b"", b"", 0),
+        stuck(&STORM[..20], b"", 0),
+        stuck(&STORM[..80], b"", 0),
+        stuck(STORM, FIRST, 1),
+    ];
+    over_a_book(&rt, rt.alloc(), &Streams { rows, commands: 1 })
 }

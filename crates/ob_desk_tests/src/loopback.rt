@@ -1,5 +1,5 @@
 //! Streams over a socket, in one process: the client writes and hangs up or waits, and then the desk serves.
-use crate::desk::{Desk, Trial, over_a_book, over_a_store};
+use crate::desk::{Desk, Trial, over_a_store};
 use crate::log::Log;
 use ob_base::Fault;
 use ob_desk::Unserved;
@@ -26,137 +26,88 @@ HTTP/1.1 200 OK\r\nContent-Type: application/json\r\nContent-Length: 43\r\nConne
 
 const CUT: &'static [u8] = b"POST /commands HTTP/1.1\r\nHost: a\r\nContent-Length: 49\r\n\r\n{";
 
-// A client that has written a text.
-fn client(host: &HostRuntime, listener: &TcpListener, text: &[u8]) -> io::Result<TcpStream> {
+// What a client writes, whether it hangs up then, and what it reads where it waits for the end.
+type Client = (&'static [u8], bool, Option<&'static [u8]>);
+
+// Clients that have written one after the other when the desk serves so many streams, or all, and how that ends; how many faults
+// are told, and the last; whether a client is left, whose stream can still be taken; and how many commands the book then has.
+#[derive(Drop)]
+struct Case {
+    clients: &'static [Client],
+    streams: u64,
+    end: Result<(), Unserved>,
+    faults: u32,
+    last: Option<Fault>,
+    leaves: bool,
+    commands: Option<u32>,
+}
+
+// A client that has written a text, and has hung up or waits.
+fn client(
+    host: &HostRuntime,
+    listener: &TcpListener,
+    text: &[u8],
+    hangs_up: bool,
+) -> io::Result<TcpStream> {
     let mut client = TcpStream::connect(host, listener.local_addr()?)?;
     client.write_all(text)?;
+    if hangs_up {
+        client.shutdown(Shutdown::Write)?;
+    }
     Ok(client)
 }
 
-// Whether a client that writes the whole request reads its reply, and then the end, where so many streams are served.
-fn is_replied<D: Desk>(
+fn clients(
     host: &HostRuntime,
-    desk: &mut D,
     listener: &TcpListener,
-    streams: u64,
-    log: &mut Log,
-) -> io::Result<bool> {
-    let mut client = client(host, listener, LAST_STORM)?;
-    if desk.serves(host.alloc(), listener, streams, log).is_err() {
-        return Ok(false);
+    rows: &[Client],
+) -> io::Result<Vec<TcpStream>> {
+    let mut clients = Vec::new(host.alloc());
+    for (text, hangs_up, _) in rows {
+        clients.push(client(host, listener, text, *hangs_up)?)?;
     }
-    let mut reply = Vec::new(host.alloc());
-    client.read_to_end(&mut reply)?;
-    Ok(reply.as_slice() == LAST_REPLY)
+    Ok(clients)
 }
 
-// One stream.
-fn is_one<D: Desk>(host: &HostRuntime, desk: &mut D, listener: &TcpListener) -> io::Result<bool> {
-    let mut log = Log::new();
-    Ok(is_replied(host, desk, listener, 1, &mut log)? && log.is(0, None))
-}
-
-// A client writes the front of a request and hangs up; the next one sends it whole.
-fn is_behind_a_cut<D: Desk>(
-    host: &HostRuntime,
-    desk: &mut D,
-    listener: &TcpListener,
-) -> io::Result<bool> {
-    let mut log = Log::new();
-    let cut = client(host, listener, CUT)?;
-    cut.shutdown(Shutdown::Write)?;
-    Ok(is_replied(host, desk, listener, 2, &mut log)? && log.is(1, Some(Fault::Input)))
-}
-
-// A client that asks for the totals, and for no more.
-fn asks(host: &HostRuntime, listener: &TcpListener) -> io::Result<TcpStream> {
-    client(host, listener, TOTALS)
-}
-
-// Whether a client reads the totals of the empty book, and then the end.
-fn is_told(alloc: Global, client: &mut TcpStream) -> io::Result<bool> {
+// Whether a client reads this, and then the end.
+fn is_told(alloc: Global, client: &mut TcpStream, wanted: &[u8]) -> io::Result<bool> {
     let mut reply = Vec::new(alloc);
     client.read_to_end(&mut reply)?;
-    Ok(reply.as_slice() == EMPTY_TOTALS)
+    Ok(reply.as_slice() == wanted)
 }
 
-// Of three clients the first two are served, and the stream of the third is still there to be taken.
-fn are_two_of_three<D: Desk>(
-    host: &HostRuntime,
-    desk: &mut D,
-    listener: &TcpListener,
-) -> io::Result<bool> {
-    let mut log = Log::new();
-    let mut first = asks(host, listener)?;
-    let mut second = asks(host, listener)?;
-    let _third = asks(host, listener)?;
-    let served = desk.serves(host.alloc(), listener, 2, &mut log);
-    listener.set_nonblocking(true)?;
-    Ok(
-        served == Ok(())
-            && log.is(0, None)
-            && is_told(host.alloc(), &mut first)?
-            && is_told(host.alloc(), &mut second)?
-            && listener.accept().is_ok(),
-    )
-}
-
-// Without a number all clients are served, until no stream can be taken any more.
-fn are_all<D: Desk>(host: &HostRuntime, desk: &mut D, listener: &TcpListener) -> io::Result<bool> {
-    let mut log = Log::new();
-    let mut first = asks(host, listener)?;
-    let mut second = asks(host, listener)?;
-    let mut third = asks(host, listener)?;
-    // Where no client waits, the next stream can't be taken.
-    listener.set_nonblocking(true)?;
-    let served = desk.serves(host.alloc(), listener, 0, &mut log);
-    Ok(
-        served == Err(Unserved::Listener)
-            && log.is(0, None)
-            && is_told(host.alloc(), &mut first)?
-            && is_told(host.alloc(), &mut second)?
-            && is_told(host.alloc(), &mut third)?,
-    )
-}
-
-// Without a book the first request that needs one ends the service.
-fn is_without_a_book<D: Desk>(
-    host: &HostRuntime,
-    desk: &mut D,
-    listener: &TcpListener,
-) -> io::Result<bool> {
-    let mut log = Log::new();
-    let _client = client(host, listener, LAST_STORM)?;
-    let served = desk.serves(host.alloc(), listener, 0, &mut log);
-    Ok(served == Err(Unserved::Reopen) && log.is(0, None))
-}
-
-// The streams of a listener.
-#[derive(Drop)]
-enum Kind {
-    One,
-    BehindACut,
-    TwoOfThree,
-    All,
-    WithoutABook,
-}
-
-fn is_served<D: Desk>(host: &HostRuntime, desk: &mut D, kind: &Kind) -> io::Result<bool> {
-    let listener = TcpListener::bind(host, "127.0.0.1:0")?;
-    match kind {
-        Kind::One => is_one(host, desk, &listener),
-        Kind::BehindACut => is_behind_a_cut(host, desk, &listener),
-        Kind::TwoOfThree => are_two_of_three(host, desk, &listener),
-        Kind::All => are_all(host, desk, &listener),
-        Kind::WithoutABook => is_without_a_book(host, desk, &listener),
+// Whether each client that waits reads its reply.
+fn are_told(alloc: Global, clients: &mut [TcpStream], rows: &[Client]) -> io::Result<bool> {
+    for (client, (_, _, reply)) in clients.iter_mut().zip(rows) {
+        if let Some(wanted) = reply {
+            if !is_told(alloc, client, wanted)? {
+                return Ok(false);
+            }
+        }
     }
+    Ok(true)
+}
+
+fn is_served<D: Desk>(host: &HostRuntime, desk: &mut D, case: &Case) -> io::Result<bool> {
+    let listener = TcpListener::bind(host, "127.0.0.1:0")?;
+    let mut clients = clients(host, &listener, case.clients)?;
+    // Where no client waits, the next stream can't be taken.
+    listener.set_nonblocking(case.streams == 0)?;
+    let mut log = Log::new();
+    let end = desk.serves(host.alloc(), &listener, case.streams, &mut log);
+    listener.set_nonblocking(true)?;
+    Ok(
+        end == case.end
+            && log.is(case.faults, case.last)
+            && are_told(host.alloc(), &mut clients, case.clients)?
+            && listener.accept().is_ok() == case.leaves,
+    )
 }
 
 #[derive(Drop)]
 struct Served<'h> {
     host: &'h HostRuntime,
-    kind: Kind,
-    commands: Option<u32>,
+    case: &'h Case,
 }
 
 impl Trial for Served<'_> {
@@ -166,81 +117,103 @@ impl Trial for Served<'_> {
         _alloc: Global,
         desk: &mut D,
     ) -> Result<(), AllocError> {
-        match is_served(self.host, desk, &self.kind) {
-            Ok(well) => assert!(rt; well && desk.commands() == self.commands),
-            Err(_) => assert!(rt; false),
-        }
+        let well = is_served(self.host, desk, self.case).unwrap_or(false);
+        assert!(rt; well && desk.commands() == self.case.commands);
         Ok(())
     }
 }
 
+// A case over a new book, or without one.
+fn is_well(
+    rt: &impl Abort,
+    host: &HostRuntime,
+    begins: bool,
+    case: &Case,
+) -> Result<(), AllocError> {
+    over_a_store(rt, host.alloc(), begins, &Served { host, case })
+}
+
+// A client that writes the whole request reads its reply, and then the end.
+const WHOLE: Client = (LAST_STORM, false, Some(LAST_REPLY));
+
+const ONE: Case = Case {
+    clients: &[WHOLE],
+    streams: 1,
+    end: Ok(()),
+    faults: 0,
+    last: None,
+    leaves: false,
+    commands: Some(1),
+};
+
 #[test]
 fn one_stream_over_a_socket(rt: HostRuntime) -> Result<(), AllocError> {
-    let (host, kind, commands) = (&rt, Kind::One, Some(1));
-    over_a_book(
-        &rt,
-        rt.alloc(),
-        &Served {
-            host,
-            kind,
-            commands,
-        },
-    )
+    is_well(&rt, &rt, true, &ONE)
 }
+
+// A client writes the front of a request and hangs up; the next one sends it whole.
+const BEHIND_A_CUT: Case = Case {
+    clients: &[(CUT, true, None), WHOLE],
+    streams: 2,
+    end: Ok(()),
+    faults: 1,
+    last: Some(Fault::Input),
+    leaves: false,
+    commands: Some(1),
+};
 
 #[test]
 fn a_cut_stream_and_the_next(rt: HostRuntime) -> Result<(), AllocError> {
-    let (host, kind, commands) = (&rt, Kind::BehindACut, Some(1));
-    over_a_book(
-        &rt,
-        rt.alloc(),
-        &Served {
-            host,
-            kind,
-            commands,
-        },
-    )
+    is_well(&rt, &rt, true, &BEHIND_A_CUT)
 }
+
+// A client that asks for the totals of the empty book, and for no more.
+const ASKS: Client = (TOTALS, false, Some(EMPTY_TOTALS));
+
+// Of three clients the first two are served, and the stream of the third is still there to be taken.
+const TWO_OF_THREE: Case = Case {
+    clients: &[ASKS, ASKS, (TOTALS, false, None)],
+    streams: 2,
+    end: Ok(()),
+    faults: 0,
+    last: None,
+    leaves: true,
+    commands: Some(0),
+};
 
 #[test]
 fn two_streams_of_three(rt: HostRuntime) -> Result<(), AllocError> {
-    let (host, kind, commands) = (&rt, Kind::TwoOfThree, Some(0));
-    over_a_book(
-        &rt,
-        rt.alloc(),
-        &Served {
-            host,
-            kind,
-            commands,
-        },
-    )
+    is_well(&rt, &rt, true, &TWO_OF_THREE)
 }
+
+// Without a number all clients are served, until no stream can be taken any more.
+const ALL: Case = Case {
+    clients: &[ASKS, ASKS, ASKS],
+    streams: 0,
+    end: Err(Unserved::Listener),
+    faults: 0,
+    last: None,
+    leaves: false,
+    commands: Some(0),
+};
 
 #[test]
 fn all_streams(rt: HostRuntime) -> Result<(), AllocError> {
-    let (host, kind, commands) = (&rt, Kind::All, Some(0));
-    over_a_book(
-        &rt,
-        rt.alloc(),
-        &Served {
-            host,
-            kind,
-            commands,
-        },
-    )
+    is_well(&rt, &rt, true, &ALL)
 }
+
+// Without a book the first request that needs one ends the service.
+const WITHOUT_A_BOOK: Case = Case {
+    clients: &[(LAST_STORM, false, None)],
+    streams: 0,
+    end: Err(Unserved::Reopen),
+    faults: 0,
+    last: None,
+    leaves: false,
+    commands: None,
+};
 
 #[test]
 fn a_keeper_without_a_book(rt: HostRuntime) -> Result<(), AllocError> {
-    let (host, kind, commands) = (&rt, Kind::WithoutABook, None);
-    over_a_store(
-        &rt,
-        rt.alloc(),
-        false,
-        &Served {
-            host,
-            kind,
-            commands,
-        },
-    )
+    is_well(&rt, &rt, false, &WITHOUT_A_BOOK)
 }

@@ -1,6 +1,6 @@
 //! The worked exchange where one allocation is refused.
 use crate::desk::{Desk, Heard, Trial, over_a_book};
-use crate::streams::{Sink, Source};
+use crate::streams::{Sink, Source, WHOLE};
 use crate::texts::{FIRST, STORM, UNAVAILABLE};
 use ob_base::Fault;
 use std::alloc::{AllocError, Global};
@@ -8,21 +8,26 @@ use std::process::Abort;
 
 // What the exchange is answered, by a writer that has its memory already.
 fn heard<D: Desk>(alloc: Global, desk: &mut D) -> Result<Heard, AllocError> {
-    let mut sink = Sink::wide(alloc);
+    let mut sink = Sink::new(alloc, &WHOLE);
     sink.taken.reserve(200)?;
-    Ok(desk.hears(alloc, Source::whole(STORM), sink))
+    Ok(desk.hears(alloc, Source::new(STORM, &WHOLE), sink))
+}
+
+// Whether this may be written by a stream that a fault ends: nothing, or 503.
+fn is_unanswered(bytes: &[u8]) -> bool {
+    bytes.is_empty() || bytes == UNAVAILABLE
 }
 
 // Whether the exchange is answered. Where a fault ends the stream, nothing is written, or 503; after a fault of the store there
 // is no book until it is loaded again.
 fn is_answered<D: Desk>(rt: &impl Abort, desk: &mut D, heard: &Heard) -> bool {
     match heard.end {
-        Ok(replies) => {
-            assert!(rt; replies == 1 && heard.bytes.as_slice() == FIRST);
+        Ok(_) => {
+            assert!(rt; heard.is(Ok(1), FIRST));
             true
         }
         Err(fault) => {
-            assert!(rt; heard.bytes.is_empty() || heard.bytes.as_slice() == UNAVAILABLE);
+            assert!(rt; is_unanswered(&heard.bytes));
             assert!(rt; fault == Fault::OutOfMemory || fault == Fault::Store);
             assert!(rt; desk.commands().is_none() == (fault == Fault::Store));
             false

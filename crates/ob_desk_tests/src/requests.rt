@@ -2,5 +2,4 @@
 //! interrupted. What is expected is worked out by hand from RFC 9112 and the bounds.
 mod heads;
 mod reading;
-mod source;
 mod streams;

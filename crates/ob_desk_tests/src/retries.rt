@@ -1,11 +1,11 @@
 //! Readers and writers that are interrupted many times: a stream has 65,536 tries more in all, whichever request and whichever
 //! of the two they are spent on.
-use crate::desk::{Desk, Heard, Trial, over_a_book};
-use crate::streams::{Sink, Source};
+use crate::desk::{Stream, over_a_book};
+use crate::exchange::Streams;
+use crate::streams::{WHOLE, Way};
 use crate::texts::FIRST;
 use ob_base::Fault;
-use std::alloc::{AllocError, Global};
-use std::process::Abort;
+use std::alloc::AllocError;
 
 // Two causes in requests of equal length, after the second of which the connection ends; and their replies.
 const BOTH: &'static [u8] = b"\
@@ -19,49 +19,39 @@ HTTP/1.1 200 OK\r\nContent-Type: application/json\r\nContent-Length: 19\r\n\r\n{
 HTTP/1.1 200 OK\r\nContent-Type: application/json\r\nContent-Length: 19\r\nConnection: close\r\n\r\n\
 {\"moved\":[],\"no\":2}";
 
-// What both requests are answered, one a read, where each read is interrupted so many times and each reply so many.
-fn heard<D: Desk>(alloc: Global, desk: &mut D, reads: u32, writes: u32) -> Heard {
-    let mut source = Source::new(BOTH, BOTH.len() / 2, None);
-    source.jolts = reads;
-    let mut sink = Sink::wide(alloc);
-    sink.jolts = writes;
-    desk.hears(alloc, source, sink)
-}
-
-// Whether both requests are answered where each read is interrupted so many times and each reply so many.
-fn is_answered<D: Desk>(alloc: Global, desk: &mut D, reads: u32, writes: u32) -> bool {
-    heard(alloc, desk, reads, writes).is(Ok(2), REPLIES)
-}
-
-// Whether this fault comes after the first reply.
-fn is_ended<D: Desk>(alloc: Global, desk: &mut D, reads: u32, writes: u32, fault: Fault) -> bool {
-    heard(alloc, desk, reads, writes).is(Err(fault), FIRST)
-}
-
-// 65,536 interruptions are got over, and not two or four more: of two reads, of two replies, and of both.
-struct Interrupted;
-
-impl Trial for Interrupted {
-    fn run<A: Abort, D: Desk>(
-        &self,
-        rt: &A,
-        alloc: Global,
-        desk: &mut D,
-    ) -> Result<(), AllocError> {
-        assert!(rt; is_ended(alloc, desk, 32_769, 0, Fault::Input));
-        assert!(rt; desk.commands() == Some(1));
-        assert!(rt; is_ended(alloc, desk, 0, 32_769, Fault::Output));
-        assert!(rt; desk.commands() == Some(2));
-        assert!(rt; is_ended(alloc, desk, 16_385, 16_385, Fault::Output));
-        assert!(rt; is_answered(alloc, desk, 32_768, 0));
-        assert!(rt; is_answered(alloc, desk, 0, 32_768));
-        assert!(rt; is_answered(alloc, desk, 16_384, 16_384));
-        assert!(rt; desk.stands_with(2));
-        Ok(())
+// The stream of both requests, one a read, where each read is interrupted so many times and each reply so many.
+fn interrupted(
+    reads: u32,
+    writes: u32,
+    end: Result<u32, Fault>,
+    written: &'static [u8],
+    commands: u32,
+) -> Stream<'static> {
+    let step = BOTH.len() / 2;
+    Stream {
+        text: BOTH,
+        way: Way {
+            step,
+            reads,
+            writes,
+            ..WHOLE
+        },
+        end,
+        written,
+        commands: Some(commands),
     }
 }
 
+// 65,536 interruptions are got over, and not two or four more: of two reads, of two replies, and of both.
 #[test]
 fn interrupted_in_two_requests(rt: HostRuntime) -> Result<(), AllocError> {
-    over_a_book(&rt, rt.alloc(), &Interrupted)
+    let rows = &[
+        interrupted(32_769, 0, Err(Fault::Input), FIRST, 1),
+        interrupted(0, 32_769, Err(Fault::Output), FIRST, 2),
+        interrupted(16_385, 16_385, Err(Fault::Output), FIRST, 2),
+        interrupted(32_768, 0, Ok(2), REPLIES, 2),
+        interrupted(0, 32_768, Ok(2), REPLIES, 2),
+        interrupted(16_384, 16_384, Ok(2), REPLIES, 2),
+    ];
+    over_a_book(&rt, rt.alloc(), &Streams { rows, commands: 2 })
 }

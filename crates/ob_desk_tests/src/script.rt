@@ -74,10 +74,12 @@ impl Trial for Script<'_> {
         alloc: Global,
         desk: &mut D,
     ) -> Result<(), AllocError> {
+        let mut no = 0usize;
         for (ask, end, reply) in self.rows {
+            no = no.saturating_add(1);
             let text = bytes_of_ask(alloc, ask)?;
             let wanted = bytes_of_reply(alloc, reply)?;
-            assert!(rt; told(alloc, desk, &text).is(*end, &wanted));
+            assert!(rt; told(alloc, desk, &text).is(*end, &wanted), "stream {no}");
         }
         assert!(rt; stands(desk, self.commands));
         Ok(())

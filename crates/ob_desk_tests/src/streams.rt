@@ -1,32 +1,52 @@
-//! A reader and a writer for tests.
+//! A reader and a writer for tests, and the ways in which they give and take.
 use std::alloc::Global;
 use std::io;
 use std::io::{ErrorKind, Read, Write};
 
-/// Gives at most `step` bytes a read, and is interrupted `jolts` times before each. Behind its bytes it answers this error, or
-/// ends.
+/// How the bytes of a stream come and go.
+#[derive(Clone, Copy)]
+pub struct Way {
+    /// At most so many bytes are read at once, after so many interruptions.
+    pub step: usize,
+    pub reads: u32,
+    /// Behind the bytes this error comes, for ever, or the end.
+    pub failure: Option<ErrorKind>,
+    /// There is room for so many bytes of replies, of which at most `piece` are written at once, after so many interruptions.
+    pub room: usize,
+    pub piece: usize,
+    pub writes: u32,
+    /// Behind the room none are taken any more; else a write fails.
+    pub stands: bool,
+}
+
+/// All in one piece, with more room than any replies here need.
+pub const WHOLE: Way = Way {
+    step: 1_000_000,
+    reads: 0,
+    failure: None,
+    room: 1_000_000,
+    piece: 1_000_000,
+    writes: 0,
+    stands: false,
+};
+
+/// Gives bytes in a way.
 #[derive(Drop)]
 pub struct Source<'b> {
     rest: &'b [u8],
     step: usize,
     failure: Option<ErrorKind>,
-    pub jolts: u32,
+    jolts: u32,
     jolted: u32,
 }
 
 impl<'b> Source<'b> {
-    /// These bytes in one piece, and then the end.
-    pub fn whole(rest: &'b [u8]) -> Source<'b> {
-        Source::new(rest, 1_000_000, None)
-    }
-
-    /// These bytes in pieces, and then this error for ever, or the end.
-    pub fn new(rest: &'b [u8], step: usize, failure: Option<ErrorKind>) -> Source<'b> {
+    pub fn new(rest: &'b [u8], way: &Way) -> Source<'b> {
         Source {
             rest,
-            step,
-            failure,
-            jolts: 0,
+            step: way.step,
+            failure: way.failure,
+            jolts: way.reads,
             jolted: 0,
         }
     }
@@ -52,32 +72,25 @@ impl Read for Source<'_> {
     }
 }
 
-/// Takes this many bytes more, at most `step` a write, and is interrupted `jolts` times before each. Then it fails, or takes
-/// none where `stands`.
+/// Takes bytes in a way.
 #[derive(Drop)]
 pub struct Sink {
     pub taken: Vec<u8>,
     room: usize,
     stands: bool,
-    pub step: usize,
-    pub jolts: u32,
+    step: usize,
+    jolts: u32,
     jolted: u32,
 }
 
 impl Sink {
-    /// Room for more than any reply here.
-    pub fn wide(alloc: Global) -> Sink {
-        Sink::new(alloc, 1_000_000, false)
-    }
-
-    /// Room for so many bytes; behind them it fails, or takes none.
-    pub fn new(alloc: Global, room: usize, stands: bool) -> Sink {
+    pub fn new(alloc: Global, way: &Way) -> Sink {
         Sink {
             taken: Vec::new(alloc),
-            room,
-            stands,
-            step: 1_000_000,
-            jolts: 0,
+            room: way.room,
+            stands: way.stands,
+            step: way.piece,
+            jolts: way.writes,
             jolted: 0,
         }
     }

@@ -1,8 +1,8 @@
 //! What is shown of a book with an outage, and of a keeper without a book.
-use crate::desk::{Desk, Trial, over_a_store, told};
+use crate::desk::{Desk, Stream, Trial, ends_so, over_a_store};
 use crate::imports::TAKES_OUTAGE;
-use crate::script::{Ask, Reply, Row, Script, are_answered};
-use crate::streams::{Sink, Source};
+use crate::script::{Ask, Many, Reply, Row, Script, are_answered};
+use crate::streams::{WHOLE, Way};
 use crate::texts::{GET_ALONE, NOT_FOUND, POST_ALONE, UNAVAILABLE, many};
 use ob_base::Fault;
 use std::alloc::{AllocError, Global};
@@ -270,19 +270,31 @@ impl Trial for Needy {
         alloc: Global,
         desk: &mut D,
     ) -> Result<(), AllocError> {
+        let mut no = 0usize;
         for request in NEEDY {
-            let text = many(
-                alloc,
-                &(request, b"", 0, b"GET /nothing HTTP/1.1\r\nHost: a\r\n\r\n"),
-            )?;
-            assert!(rt; told(alloc, desk, &text).is(Err(Fault::Reopen), UNAVAILABLE));
-            let heard = desk.hears(alloc, Source::whole(&text), Sink::new(alloc, 9, false));
-            assert!(rt; heard.is(Err(Fault::Reopen), &UNAVAILABLE[..9]));
+            no = no.saturating_add(1);
+            let parts: Many = (request, NOTHING, 1, b"");
+            let text = many(alloc, &parts)?;
+            for (way, written) in [(WHOLE, UNAVAILABLE), (NARROW, &UNAVAILABLE[..9])] {
+                let stream = Stream {
+                    text: &text,
+                    way,
+                    end: Err(Fault::Reopen),
+                    written,
+                    commands: None,
+                };
+                ends_so(rt, alloc, desk, no, &stream);
+            }
         }
-        assert!(rt; desk.commands().is_none());
         Ok(())
     }
 }
+
+// A request behind it, which is not read any more.
+const NOTHING: &'static [u8] = b"GET /nothing HTTP/1.1\r\nHost: a\r\n\r\n";
+
+// A writer that fails behind nine bytes.
+const NARROW: Way = Way { room: 9, ..WHOLE };
 
 #[test]
 fn without_a_book(rt: HostRuntime) -> Result<(), AllocError> {

@@ -1,31 +1,22 @@
 //! The replies to requests in their order.
 use crate::answers::texts::{Asked, COMMANDS, FIRST, IMPORTS, LAST, NEEDS, ROUTES, VIEWS};
 use crate::desk::{Desk, Trial, over_a_book, over_a_store};
+use crate::texts::request;
 use ob_base::Fault;
-use ob_requests::{Method, Request};
 use ob_routes::{ReplyText, Routes};
 use std::alloc::{AllocError, Global};
 use std::process::Abort;
 
-// A request without an interim reply.
-fn request(alloc: Global, method: Method, target: &str, body: &str) -> Result<Request, AllocError> {
-    Ok(Request {
-        method,
-        target: target.to_string(alloc)?,
-        body: body.as_bytes().to_vec(alloc)?,
-        waits: false,
-        closes: false,
-    })
-}
-
-fn routes(alloc: Global) -> Result<Routes, AllocError> {
-    Routes::new(alloc).map_err(|_| AllocError)
-}
-
-fn is_reply(found: &Result<ReplyText, Fault>, wanted: &[u8]) -> bool {
-    match found {
-        Ok(reply) => reply.bytes() == wanted,
-        Err(_) => false,
+fn is_answer(found: &Result<ReplyText, Fault>, wanted: &Result<&'static str, Fault>) -> bool {
+    match wanted {
+        Ok(text) => match found {
+            Ok(reply) => reply.bytes() == text.as_bytes(),
+            Err(_) => false,
+        },
+        Err(wanted) => match found {
+            Ok(_) => false,
+            Err(fault) => fault == wanted,
+        },
     }
 }
 
@@ -43,11 +34,13 @@ impl Trial for Answered<'_> {
         alloc: Global,
         desk: &mut D,
     ) -> Result<(), AllocError> {
-        let routes = routes(alloc)?;
+        let Ok(routes) = Routes::new(alloc) else {
+            return Err(AllocError);
+        };
         for (method, target, body, wanted) in self.table {
             let request = request(alloc, *method, target, body)?;
             let found = desk.replies(alloc, &routes, &request, self.closes);
-            assert!(rt; is_reply(&found, wanted.as_bytes()));
+            assert!(rt; is_answer(&found, wanted), "{target}");
         }
         Ok(())
     }
@@ -74,34 +67,9 @@ fn routes_without_a_book(rt: HostRuntime) -> Result<(), AllocError> {
     over_a_store(&rt, rt.alloc(), false, &Answered { table, closes })
 }
 
-fn is_fault(found: &Result<ReplyText, Fault>, wanted: Fault) -> bool {
-    match found {
-        Ok(_) => false,
-        Err(fault) => *fault == wanted,
-    }
-}
-
 // Without a book there is no reply to the requests that need one.
-struct Bookless;
-
-impl Trial for Bookless {
-    fn run<A: Abort, D: Desk>(
-        &self,
-        rt: &A,
-        alloc: Global,
-        desk: &mut D,
-    ) -> Result<(), AllocError> {
-        let routes = routes(alloc)?;
-        for (method, target, body) in NEEDS {
-            let request = request(alloc, *method, target, body)?;
-            let found = desk.replies(alloc, &routes, &request, false);
-            assert!(rt; is_fault(&found, Fault::Reopen));
-        }
-        Ok(())
-    }
-}
-
 #[test]
 fn requests_that_need_a_book(rt: HostRuntime) -> Result<(), AllocError> {
-    over_a_store(&rt, rt.alloc(), false, &Bookless)
+    let (table, closes) = (NEEDS, false);
+    over_a_store(&rt, rt.alloc(), false, &Answered { table, closes })
 }

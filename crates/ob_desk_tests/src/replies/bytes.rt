@@ -1,42 +1,41 @@
 //! The bytes of replies.
-use ob_base::Refusal;
+use ob_base::{Refusal, Stop};
 use ob_replies::{
     Allow, MediaType, Status, empty_reply, refusal_status, reply_text, report_status,
 };
 use std::alloc::Global;
 use std::process::Abort;
-use std::test::Fail;
 
-fn is_text(
-    rt: &impl Abort,
-    alloc: Global,
-    media_type: MediaType,
-    body: &[u8],
-    closes: bool,
-    text: &[u8],
-) -> Result<(), Fail> {
-    let reply = reply_text(alloc, Status::Ok, media_type, body, closes)?;
-    assert!(rt; reply.as_slice() == text);
+// A type, a body, whether the stream ends, and the reply.
+type Row<'t> = (MediaType, &'t [u8], bool, &'t [u8]);
+
+fn are_replies(rt: &impl Abort, alloc: Global, rows: &[Row<'_>]) -> Result<(), Stop> {
+    for (media_type, body, closes, text) in rows {
+        let found = reply_text(alloc, Status::Ok, *media_type, body, *closes)?;
+        assert!(rt; found.as_slice() == *text);
+    }
     Ok(())
 }
 
 #[test]
-fn replies_with_a_body(rt: HostRuntime) -> Result<(), Fail> {
-    is_text(
+fn replies_with_a_body(rt: HostRuntime) -> Result<(), Stop> {
+    are_replies(
         &rt,
         rt.alloc(),
-        MediaType::Json,
-        b"{\"moved\":[],\"no\":1}",
-        false,
-        b"HTTP/1.1 200 OK\r\nContent-Type: application/json\r\nContent-Length: 19\r\n\r\n{\"moved\":[],\"no\":1}",
-    )?;
-    is_text(
-        &rt,
-        rt.alloc(),
-        MediaType::PlainText,
-        b"P 86400 S 864000 W 9000\n",
-        true,
-        b"HTTP/1.1 200 OK\r\nContent-Type: text/plain\r\nContent-Length: 24\r\nConnection: close\r\n\r\nP 86400 S 864000 W 9000\n",
+        &[
+            (
+                MediaType::Json,
+                b"{\"moved\":[],\"no\":1}",
+                false,
+                b"HTTP/1.1 200 OK\r\nContent-Type: application/json\r\nContent-Length: 19\r\n\r\n{\"moved\":[],\"no\":1}",
+            ),
+            (
+                MediaType::PlainText,
+                b"P 86400 S 864000 W 9000\n",
+                true,
+                b"HTTP/1.1 200 OK\r\nContent-Type: text/plain\r\nContent-Length: 24\r\nConnection: close\r\n\r\nP 86400 S 864000 W 9000\n",
+            ),
+        ],
     )
 }
 

@@ -1,25 +1,30 @@
 //! Commands as JSON.
 use ob_base::{Refusal, Stop};
-use ob_command::body_text;
+use ob_command::{Command, body_text};
 use ob_replies::{json_commands_law, read_command};
 use std::alloc::Global;
 use std::process::Abort;
-use std::test::Fail;
 
 // A body, its reference and the text of its command.
 type Sent<'t> = (&'t [u8], &'t [u8], &'t [u8]);
 
-fn says(rt: &impl Abort, alloc: Global, bodies: &[Sent<'_>]) -> Result<(), Fail> {
+fn has_text(rt: &impl Abort, alloc: Global, command: &Command, text: &[u8]) -> Result<(), Stop> {
+    let found = body_text(alloc, command)?;
+    assert!(rt; found.as_slice() == text);
+    Ok(())
+}
+
+fn says(rt: &impl Abort, alloc: Global, bodies: &[Sent<'_>]) -> Result<(), Stop> {
     for (body, reference, text) in bodies {
         let (found, command) = read_command(alloc, body)?;
         assert!(rt; found.bytes() == *reference);
-        assert!(rt; body_text(alloc, &command)?.as_slice() == *text);
+        has_text(rt, alloc, &command, text)?;
     }
     Ok(())
 }
 
 #[test]
-fn commands(rt: HostRuntime) -> Result<(), Fail> {
+fn commands(rt: HostRuntime) -> Result<(), Stop> {
     json_commands_law();
     says(
         &rt,
@@ -45,7 +50,7 @@ fn commands(rt: HostRuntime) -> Result<(), Fail> {
 }
 
 #[test]
-fn commands_with_lives(rt: HostRuntime) -> Result<(), Fail> {
+fn commands_with_lives(rt: HostRuntime) -> Result<(), Stop> {
     says(
         &rt,
         rt.alloc(),

@@ -1,8 +1,11 @@
 //! What heads ask, and which are refused.
-use crate::requests::reading::told_of;
-use ob_requests::{Method, Request};
+use crate::requests::reading::{are_read, is_read};
+use crate::script::Many;
+use crate::streams::{WHOLE, Way};
+use crate::texts::request;
+use ob_requests::Method;
 use std::alloc::{AllocError, Global};
-use std::test::Fail;
+use std::process::Abort;
 
 const HEADS: &[(&'static str, &'static str)] = &[
     ("", "end"),
@@ -98,89 +101,68 @@ const HEADS: &[(&'static str, &'static str)] = &[
 ];
 
 #[test]
-fn heads(rt: HostRuntime) -> Result<(), Fail> {
+fn heads(rt: HostRuntime) -> Result<(), AllocError> {
     for (bytes, told) in HEADS {
-        assert!(rt; told_of(rt.alloc(), bytes.as_bytes(), 4096, None)?.as_str() == *told);
-        assert!(rt; told_of(rt.alloc(), bytes.as_bytes(), 1, None)?.as_str() == *told);
+        for step in [4096, 1] {
+            let way = Way { step, ..WHOLE };
+            are_read(&rt, rt.alloc(), bytes.as_bytes(), &way, told)?;
+        }
     }
     Ok(())
 }
 
 /// A text with so many of its middle part, and what is told of it: with 64 field lines and 65, with 16,383 bytes of a
 /// head and 16,384 that don't end it, and with 16,384 bytes that do and one more.
-const BOUNDS: &[(
-    &'static str,
-    &'static str,
-    usize,
-    &'static str,
-    &'static str,
-)] = &[
+const BOUNDS: &[(Many, &'static str)] = &[
     (
-        "GET /a HTTP/1.1\r\nHost: a\r\n",
-        "A:\r\n",
-        63,
-        "\r\n",
+        (b"GET /a HTTP/1.1\r\nHost: a\r\n", b"A:\r\n", 63, b"\r\n"),
         "GET /a 0;end",
     ),
     (
-        "GET /a HTTP/1.1\r\nHost: a\r\n",
-        "A:\r\n",
-        64,
-        "\r\n",
+        (b"GET /a HTTP/1.1\r\nHost: a\r\n", b"A:\r\n", 64, b"\r\n"),
         "431",
     ),
-    ("GET /", "a", 16_378, "", "cut"),
-    ("GET /", "a", 16_379, "", "431"),
+    ((b"GET /", b"a", 16_378, b""), "cut"),
+    ((b"GET /", b"a", 16_379, b""), "431"),
     (
-        "GET /a HTTP/1.1\r\nHost: ",
-        "a",
-        16_357,
-        "\r\n\r\n",
+        (b"GET /a HTTP/1.1\r\nHost: ", b"a", 16_357, b"\r\n\r\n"),
         "GET /a 0;end",
     ),
-    ("GET /a HTTP/1.1\r\nHost: ", "a", 16_358, "\r\n\r\n", "431"),
+    (
+        (b"GET /a HTTP/1.1\r\nHost: ", b"a", 16_358, b"\r\n\r\n"),
+        "431",
+    ),
 ];
 
-/// What is told of a text with so many of its middle part.
-fn told_of_many(
-    alloc: Global,
-    front: &str,
-    middle: &str,
-    count: usize,
-    back: &str,
-) -> Result<String, AllocError> {
-    let mut text = front.as_bytes().to_vec(alloc)?;
-    for _ in 0..count {
-        text.extend_from_slice(middle.as_bytes())?;
-    }
-    text.extend_from_slice(back.as_bytes())?;
-    told_of(alloc, &text, 4096, None)
-}
+// In pieces of 4,096 bytes.
+const IN_PIECES: Way = Way {
+    step: 4_096,
+    ..WHOLE
+};
 
 #[test]
-fn heads_at_the_bounds(rt: HostRuntime) -> Result<(), Fail> {
-    for (front, middle, count, back, told) in BOUNDS {
-        assert!(rt; told_of_many(rt.alloc(), front, middle, *count, back)?.as_str() == *told);
+fn heads_at_the_bounds(rt: HostRuntime) -> Result<(), AllocError> {
+    for (parts, told) in BOUNDS {
+        is_read(&rt, rt.alloc(), parts, &IN_PIECES, told)?;
     }
     Ok(())
 }
 
+fn has_path(rt: &impl Abort, alloc: Global, target: &str, path: &str) -> Result<(), AllocError> {
+    let request = request(alloc, Method::Get, target, "")?;
+    assert!(rt; request.path() == path);
+    Ok(())
+}
+
 #[test]
-fn paths(rt: HostRuntime) -> Result<(), Fail> {
+fn paths(rt: HostRuntime) -> Result<(), AllocError> {
     for (target, path) in [
         ("/a", "/a"),
         ("/a?b=%20", "/a"),
         ("/%3F?", "/%3F"),
         ("/?/?", "/"),
     ] {
-        let request = Request {
-            method: Method::Get,
-            target: String::from_str(rt.alloc(), target)?,
-            body: Vec::new(rt.alloc()),
-            waits: false,
-            closes: false,
-        };
-        assert!(rt; request.path() == path);
+        has_path(&rt, rt.alloc(), target, path)?;
     }
     Ok(())
 }

@@ -1,27 +1,26 @@
 //! What a stream is read as, as a text.
-use crate::requests::source::{Sink, Source};
+use crate::script::Many;
+use crate::streams::{Sink, Source, Way};
+use crate::texts::{digits, joined, many};
 use ob_base::Fault;
 use ob_requests::{Ahead, HeadRefusal, Method, Next, Request, read_request};
 use ob_stream::{Retries, Watched};
 use std::alloc::{AllocError, Global};
-use std::io::ErrorKind;
+use std::process::Abort;
 
-/// The method, the target and the body of a request, and what it asks of the connection.
-fn told_request(alloc: Global, told: &mut String, request: &Request) -> Result<(), AllocError> {
-    told.push_str(match request.method {
+/// The method, the target and the length of the body of a request, and what it asks of the connection.
+fn told_request(alloc: Global, request: &Request) -> Result<String, AllocError> {
+    let method = match request.method {
         Method::Get => "GET ",
         Method::Post => "POST ",
-    })?;
-    told.push_str(&request.target)?;
-    let length = request.body.len();
-    told.push_str(&format!(in alloc; " {length}")?)?;
-    if request.waits {
-        told.push_str(" waits")?;
-    }
-    if request.closes {
-        told.push_str(" closes")?;
-    }
-    told.push_str(";")
+    };
+    let length = digits(alloc, request.body.len())?;
+    let waits = if request.waits { " waits" } else { "" };
+    let closes = if request.closes { " closes" } else { "" };
+    joined(
+        alloc,
+        &[method, &request.target, " ", &length, waits, closes, ";"],
+    )
 }
 
 fn told_refusal(status: HeadRefusal) -> &'static str {
@@ -42,38 +41,14 @@ fn told_fault(fault: Fault) -> &'static str {
     }
 }
 
-/// The requests of these bytes, read in pieces of at most `step`, and then how they end; what was written goes behind.
-pub fn told_of(
-    alloc: Global,
-    bytes: &[u8],
-    step: usize,
-    failure: Option<ErrorKind>,
-) -> Result<String, AllocError> {
-    told_with_room(
-        alloc,
-        Source {
-            rest: bytes,
-            step,
-            failure,
-        },
-        1_000,
-    )
-}
-
-/// The requests of a reader, and then how they end; what was written goes behind, at most `room` bytes.
-pub fn told_with_room(alloc: Global, source: Source, room: usize) -> Result<String, AllocError> {
+/// What a reader's requests are told as, and then how they end; what was written goes behind.
+fn told_of(alloc: Global, source: Source<'_>, sink: Sink) -> Result<String, AllocError> {
     let mut told = String::new(alloc);
     let mut reader = Watched::new(source);
-    let mut writer = Watched::new(Sink {
-        taken: Vec::new(alloc),
-        room,
-    });
+    let mut writer = Watched::new(sink);
     told_requests(alloc, &mut told, &mut reader, &mut writer)?;
-    let (sink, _) = writer.into_parts();
-    if !sink.taken.is_empty() {
-        let text = String::from_utf8_lossy(alloc, &sink.taken)?;
-        told.push_str(&text)?;
-    }
+    let taken = writer.into_parts().0.taken;
+    told.push_str(&String::from_utf8_lossy(alloc, &taken)?)?;
     Ok(told)
 }
 
@@ -90,7 +65,7 @@ fn told_requests(
     for _ in 0..100 {
         match read_request(alloc, reader, writer, &mut retries, &mut ahead) {
             Ok(Next::Request(request)) => {
-                told_request(alloc, told, &request)?;
+                told.push_str(&told_request(alloc, &request)?)?;
                 if request.closes {
                     return Ok(());
                 }
@@ -102,4 +77,29 @@ fn told_requests(
         }
     }
     Ok(())
+}
+
+/// What is told of the requests of these bytes by a way, and what was written behind.
+pub fn are_read(
+    rt: &impl Abort,
+    alloc: Global,
+    bytes: &[u8],
+    way: &Way,
+    told: &str,
+) -> Result<(), AllocError> {
+    let found = told_of(alloc, Source::new(bytes, way), Sink::new(alloc, way))?;
+    assert!(rt; found.as_str() == told, "{found}, not {told}");
+    Ok(())
+}
+
+/// A text with so many of its middle part is read so by a way.
+pub fn is_read(
+    rt: &impl Abort,
+    alloc: Global,
+    parts: &Many,
+    way: &Way,
+    told: &str,
+) -> Result<(), AllocError> {
+    let text = many(alloc, parts)?;
+    are_read(rt, alloc, &text, way, told)
 }
