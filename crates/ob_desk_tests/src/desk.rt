@@ -170,7 +170,8 @@ pub fn over_a_store<C: Trial>(
     by_a_keeper::<MemStore, Windowed, C>(rt, alloc, conn, begins, trial)
 }
 
-// The one function that holds a keeper. It doesn't see of what parts, and lets the connection go, not the book.
+// The one function that holds a keeper, of parts that it doesn't see. The keeper ends as its connection, so that no drop of a
+// book is proved here.
 fn by_a_keeper<S: Alter + Drop, T: Timeline, C: Trial>(
     rt: &impl Abort,
     alloc: Global,
