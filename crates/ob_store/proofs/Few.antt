@@ -1,9 +1,9 @@
 -- What the commands of a book moved is few, under small numbers and keys.
-use Rattle.std.proofs.Common.{◌≡◌, ℕ, zero, suc, ◌+◌, ◌-◌, ◌*◌, ◌<◌, ◌≤◌, ◌^◌, Bool, not, List, [], ◌∷◌, ◌++◌, filter, length, map, refl, sym, ap, subst, ◌∙◌, arith}
-use Rattle.std.specs.List.{AllByRecursion, flat_map, range_with_len, sum_by}
+use Rattle.std.proofs.Common.{◌≡◌, ℕ, zero, suc, ◌+◌, ◌-◌, ◌*◌, ◌<◌, ◌≤◌, Bool, not, List, [], ◌∷◌, ◌++◌, filter, length, map, refl, sym, ap, subst, arith}
+use Rattle.std.specs.List.{AllByRecursion, range_with_len, sum_by}
 use Rattle.std.proofs.lemmas.List.{length-append}
 use Rattle.std.proofs.lemmas.List.Concat.{length-flat_map}
-use Rattle.std.proofs.lemmas.List.Elements.{All-from_recursion, recursion_from_All}
+use Rattle.std.proofs.lemmas.List.Elements.{recursion_from_All}
 use Rattle.std.proofs.lemmas.List.Filters.{length-filter_both}
 use Rattle.std.proofs.lemmas.List.FromFn.{length-range_with_len}
 use Rattle.std.proofs.lemmas.List.Sums.{sum_by-le}
@@ -19,7 +19,7 @@ use Rattle.ob_state.specs.Amounts.{amount}
 use Rattle.ob_book.specs.Acts.{ActState, PeriodStays, book_at, reply_of}
 use Rattle.ob_commit.specs.Stored.{HaveSmallKeys}
 use Rattle.ob_record.specs.Reached.{IsReached, ReachedAreFew}
-use Rattle.ob_store.specs.MovingOut.{AreFewMoves, IsSmall, MovesAreFew, Numbered, all_moves, moves_of}
+use Rattle.ob_store.specs.MovingOut.{AreFewMoves, IsSmall, Numbered, all_moves, moves_of}
 use Rattle.ob_store.proofs.Replying.{period_at, small_keys}
 
 -- ---- lists

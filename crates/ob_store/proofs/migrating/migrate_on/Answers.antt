@@ -1,4 +1,4 @@
-use Rattle.std.proofs.Common.{Ok, Err, true, false, arith}
+use Rattle.std.proofs.Common.{Ok, Err, true, arith}
 use Rattle.sqlite.specs.Held.{state}
 use Rattle.sqlite.specs.State.{HasCleanDisk}
 use Rattle.ob_tables.specs.declared.version.Version.TheVariants.{One}
