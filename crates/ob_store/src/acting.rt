@@ -29,6 +29,7 @@ pub(crate) fn act_on<S: Alter, T: Timeline>(
     ensures mode { conn.new.in_transaction ≡ false }
     ensures faults { IfErr result IsActStop }
     ensures clean { HasCleanDisk (state S.Store conn.new) → HasCleanDisk (state S.Store conn.old) }
+    ensures limit { conn.new.step_limit ≡ conn.old.step_limit }
     ensures book { OnErr result (book.new.state ≡ book.old.state) }
     ensures acts { HasCleanDisk (state S.Store conn.new) → (b : ActState)
         → KeepsBook (state S.Store conn.old) b → book.old.state ≡ b.book
@@ -63,6 +64,7 @@ fn accept<S: Alter, T: Timeline>(
     ensures mode { conn.new.in_transaction ≡ false }
     ensures faults { IfErr result IsActStop }
     ensures clean { HasCleanDisk (state S.Store conn.new) → HasCleanDisk (state S.Store conn.old) }
+    ensures limit { conn.new.step_limit ≡ conn.old.step_limit }
     ensures book { OnErr result (book.new.state ≡ book.old.state) }
     ensures acts { HasCleanDisk (state S.Store conn.new) → (b : ActState)
         → KeepsBook (state S.Store conn.old) b → book.old.state ≡ b.book

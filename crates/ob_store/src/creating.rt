@@ -24,6 +24,7 @@ pub(crate) fn create_on<S: Alter, T: Timeline>(
     requires mode { conn.old.in_transaction ≡ false }
     ensures mode { conn.new.in_transaction ≡ false }
     ensures clean { HasCleanDisk (state S.Store conn.new) → HasCleanDisk (state S.Store conn.old) }
+    ensures limit { conn.new.step_limit ≡ conn.old.step_limit }
     ensures creates { Creates S.Store conn.old conn.new first.now days zone.now result }
 {
     reached_law();

@@ -96,6 +96,7 @@ impl<S: Alter, T: Timeline> Keeper<S, T> {
         ensures lost { result ≡ Err (Stop.Fault Fault.Store) → self.new.book ≡ None }
         ensures clean { HasCleanDisk (state S.Store self.new.conn)
             → HasCleanDisk (state S.Store self.old.conn) }
+        ensures limit { self.new.conn.step_limit ≡ self.old.conn.step_limit }
         ensures created { Created S.Store self.old self.new first.now days zone.now result }
     {
         match create_on(self.alloc, &mut self.conn, first, days, zone) {
@@ -121,6 +122,7 @@ impl<S: Alter, T: Timeline> Keeper<S, T> {
             ↔ (result ≡ Err (Stop.Fault Fault.Store)) }
         ensures clean { HasCleanDisk (state S.Store self.new.conn)
             → HasCleanDisk (state S.Store self.old.conn) }
+        ensures limit { self.new.conn.step_limit ≡ self.old.conn.step_limit }
         ensures acted { HasCleanDisk (state S.Store self.new.conn) → (b : ActState)
             → Ties S.Store self.old b → IsSome self.old.book
             → Acted S.Store self.old self.new b (under reference command) result }
