@@ -51,5 +51,6 @@ fn put_line(row: &Row, text: &mut Vec<u8>) -> Result<(), AllocError> {
         Ok(found) => text.extend_from_slice(found.as_bytes())?,
         Err(_) => text.extend_from_slice(b"no text")?,
     }
-    text.push(b'\n')
+    text.push(b'\n')?;
+    Ok(())
 }

@@ -1,9 +1,10 @@
 //! The rows of the eleven tables, as the plain lists have them.
 use crate::random::count::{Counted, KEYS, key_at};
 use crate::random::plain::Plain;
-use crate::random::text::Cell::{self, End, Flag, Number, Place, Word};
+use crate::random::text::Cell::{self, End, Flag, Number, Place};
 use crate::random::text::put_cells;
 use crate::random::told::{Sent, Told};
+use crate::random::words::Word;
 use ob_post::{Dim, Moved};
 use std::alloc::{AllocError, Global};
 
@@ -40,7 +41,7 @@ fn put_causes(alloc: Global, text: &mut String, plain: &Plain) -> Result<(), All
     text.push_str(TABLE)?;
     for code in 0..64 {
         if let Some(cause) = plain.cause_of(code) {
-            put_cells(alloc, text, &[Number(code), Word(cause.name)], "\n")?;
+            put_cells(alloc, text, &[Number(code), Cell::Word(cause.name)], "\n")?;
         }
     }
     Ok(())
@@ -56,7 +57,7 @@ fn put_nodes(alloc: Global, text: &mut String, plain: &Plain) -> Result<(), Allo
         };
         let cells = &[
             Place(id),
-            Word(node.name),
+            Cell::Word(node.name),
             Number(kind),
             Number(node.feeder),
         ];
@@ -72,7 +73,7 @@ fn put_devices(alloc: Global, text: &mut String, plain: &Plain) -> Result<(), Al
         put_cells(
             alloc,
             text,
-            &[Place(id), Word(device.name), a, b, normal],
+            &[Place(id), Cell::Word(device.name), a, b, normal],
             "\n",
         )?;
     }
@@ -115,7 +116,7 @@ fn put_entries(alloc: Global, text: &mut String, plain: &Plain) -> Result<(), Al
             Flag(entry.is_closed),
             Number(entry.second),
             Number(entry.cause),
-            Word(entry.crew),
+            Cell::Word(entry.crew),
             Flag(entry.is_kept),
         ];
         put_cells(alloc, text, cells, "\n")?;
@@ -127,7 +128,7 @@ fn put_marks(alloc: Global, text: &mut String, plain: &Plain) -> Result<(), Allo
     text.push_str(TABLE)?;
     for day in 0..2usize {
         if let Some(engineer) = plain.engineer_of(day) {
-            put_cells(alloc, text, &[Place(day), Word(engineer)], "\n")?;
+            put_cells(alloc, text, &[Place(day), Cell::Word(engineer)], "\n")?;
         }
     }
     Ok(())
@@ -158,10 +159,14 @@ fn put_moves_of(
     moves: &[Moved],
 ) -> Result<(), AllocError> {
     for row in moves {
-        let sign = if row.delta < 0 { "-" } else { "+" };
+        let sign = if row.delta < 0 {
+            Word::Minus
+        } else {
+            Word::Plus
+        };
         let delta = Number(row.delta.unsigned_abs());
         let (dim, key) = (dimension(row.dim), Number(u64::from(row.key)));
-        put_cells(alloc, text, &[no, dim, key, Word(sign), delta], "\n")?;
+        put_cells(alloc, text, &[no, dim, key, Cell::Word(sign), delta], "\n")?;
     }
     Ok(())
 }

@@ -1,11 +1,12 @@
 //! Rows and body texts of words and numbers, with one space between.
+use crate::random::words::Word;
 use ob_net::Second;
 use std::alloc::{AllocError, Global};
 
 /// What stands in a row or in a body text.
 #[derive(Clone, Copy)]
 pub enum Cell {
-    Word(&'static str),
+    Word(Word),
     Number(u64),
     /// A place in a list, as a number.
     Place(usize),
@@ -33,7 +34,7 @@ pub fn put_cells(
 
 fn put_cell(alloc: Global, text: &mut String, cell: &Cell) -> Result<(), AllocError> {
     let number = match *cell {
-        Cell::Word(word) => return text.push_str(word),
+        Cell::Word(word) => return text.push_str(word.text()),
         Cell::End(second) if second == Second::MAX => return text.push_str("-"),
         Cell::End(number) | Cell::Number(number) => number,
         Cell::Place(place) => place as u64,

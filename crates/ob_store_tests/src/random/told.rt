@@ -110,6 +110,7 @@ impl Told {
             number,
             line,
             moves,
-        })
+        })?;
+        Ok(())
     }
 }
