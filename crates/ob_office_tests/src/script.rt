@@ -13,6 +13,7 @@ use std::alloc::{AllocError, Global};
 use std::process::Abort;
 
 /// What an import is answered.
+#[derive(Clone, Copy)]
 pub enum Outcome {
     /// So many rows were new, and so many were there already.
     Took(u32, u32),
@@ -153,6 +154,7 @@ fn is_sound<O: Office>(office: &mut O) -> bool {
 }
 
 // Steps in their order. The texts lie in memory, or each comes from a reader.
+#[derive(Clone, Copy)]
 struct Script<'s> {
     steps: &'s [Step],
     by_reader: bool,

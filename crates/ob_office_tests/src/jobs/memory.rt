@@ -57,6 +57,7 @@ fn is_done(ask: Ask, told: &Told, line: &[u8]) -> bool {
 }
 
 // Jobs, and what each tells at least; where memory is refused to the test itself, it ends there.
+#[derive(Clone, Copy)]
 struct Refused {
     jobs: &'static [(Ask, &'static str)],
     ended: bool,

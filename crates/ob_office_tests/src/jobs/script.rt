@@ -98,6 +98,7 @@ fn holds<O: Office>(alloc: Global, office: &mut O, step: &Step) -> bool {
 }
 
 // The steps of the part of this number.
+#[derive(Clone, Copy)]
 struct Script {
     part: usize,
     steps: &'static [Step],

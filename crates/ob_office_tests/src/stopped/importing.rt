@@ -1,6 +1,6 @@
 //! An import into a book whose store may stop, and the rows that are then kept.
 use crate::office::Office;
-use crate::stopped::sending::{BEFORE, failed, imported};
+use crate::stopped::sending::{BEFORE, failed, take_rows};
 use crate::stopped::tasks::Kept;
 use std::alloc::Global;
 use std::process::Abort;
@@ -30,7 +30,7 @@ pub fn import<O: Office>(rt: &impl Abort, alloc: Global, office: &mut O) -> Kept
     if let Err(stop) = office.loads() {
         return failed(rt, alloc, office, stop, Kept::all(BEFORE));
     }
-    let found = imported(alloc, office, ROWS);
+    let found = take_rows(alloc, office, ROWS);
     let rows = found.rows;
     assert!(rt; rows <= 3);
     match found.stop {
@@ -57,7 +57,7 @@ pub fn holds_rows<O: Office>(rt: &impl Abort, alloc: Global, office: &mut O, kep
     let (accepted, total) = office.shows().unwrap_or((0, 0));
     assert!(rt; kept.allows(accepted));
     assert!(rt; total == total_of(accepted));
-    let found = imported(alloc, office, ROWS);
+    let found = take_rows(alloc, office, ROWS);
     assert!(rt; found.rows == 3 && found.stop == None);
     assert!(rt; office.shows() == Some((IMPORTED, total_of(IMPORTED))));
     Kept::all(accepted)

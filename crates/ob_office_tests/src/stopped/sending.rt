@@ -98,6 +98,7 @@ pub fn holds<O: Office>(rt: &impl Abort, office: &mut O, kept: Kept, last: Last)
 }
 
 /// What an import tells: how many rows were there already, how many are acknowledged with them, and why it stopped.
+#[derive(Clone, Copy)]
 pub struct Imported {
     pub again: u32,
     pub rows: u32,
@@ -105,7 +106,7 @@ pub struct Imported {
 }
 
 /// What the import of a text tells.
-pub fn imported<O: Office>(alloc: Global, office: &mut O, text: &[u8]) -> Imported {
+pub fn take_rows<O: Office>(alloc: Global, office: &mut O, text: &[u8]) -> Imported {
     match office.takes(alloc, text) {
         Ok(it) => Imported {
             again: it.again,

@@ -95,6 +95,7 @@ fn closed<D: Disk + Drop>(conn: Connection<FileStore<D>>) -> Files<D> {
 }
 
 // What is done with a keeper, and how much the files then hold.
+#[derive(Clone, Copy)]
 struct Work {
     task: Task,
     kept: Kept,

@@ -3,7 +3,7 @@ use crate::office::Office;
 use crate::script::A_DAY;
 use crate::stopped::memory::{NO_MEMORY, goes_on, holds, load};
 use crate::stopped::scripts::{AFTERWARDS, COMMANDS, OUTAGE, ROWS};
-use crate::stopped::sending::{BEFORE, STORE, imported};
+use crate::stopped::sending::{BEFORE, STORE, take_rows};
 use crate::stopped::tasks::Kept;
 use ob_net::{Refusal, Stop};
 use std::alloc::Global;
@@ -108,7 +108,7 @@ pub fn act<O: Office>(rt: &impl Abort, alloc: Global, office: &mut O, kept: Kept
 
 // Imports all rows, of which so many were in the book.
 fn is_imported<O: Office>(rt: &impl Abort, alloc: Global, office: &mut O, before: u32) {
-    let found = imported(alloc, office, ROWS);
+    let found = take_rows(alloc, office, ROWS);
     assert!(rt; found.stop == None);
     assert!(rt; found.again == before && found.rows == COMMANDS);
     assert!(rt; holds(office, Kept::all(COMMANDS)));
@@ -121,7 +121,7 @@ pub fn read<O: Office>(rt: &impl Abort, alloc: Global, office: &mut O, kept: Kep
         return kept;
     }
     let before = accepted(office);
-    let found = imported(alloc, office, ROWS);
+    let found = take_rows(alloc, office, ROWS);
     let kept = or_one_more(before.max(found.rows));
     assert!(rt; found.again == before.min(found.rows));
     match found.stop {
