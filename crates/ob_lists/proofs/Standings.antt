@@ -121,7 +121,7 @@ module _ {S : Type 0} (g : Ghosts S) (old new : KeeperValue S) where
         let got = (law old new (Ok tt) loads clean).0 it.book it.ties.kept in
         (got.0, subst Is (sym got.1) it.is, got.2, got.3)
     load_found law loads clean (inr (inl it)) =
-        let got = (law old new (Ok tt) loads clean).1.0 it.book it.other it.keeps in
+        let got = (law old new (Ok tt) loads clean).1 it.book it.other it.keeps in
         (got.0, subst Is (sym got.1) it.is, got.2, got.3)
     load_found law loads clean (inr (inr it)) =
         let found = old_settled (loads.clean clean) (loads.answers.live clean tt) it in
@@ -165,7 +165,7 @@ module _ {S : Type 0} (g : Ghosts S) (old new : KeeperValue S) where
     pub loads_one : LoadLaw g → (r : Result ⊤ Stop) → Loads g old new r → HasCleanDisk (state g new.conn) → Stands g Is old → LoadsOne g Is old new r
     loads_one law (Ok done) loads clean stands = load_found law loads clean stands
     loads_one law (Err (Refused r)) loads clean (inl it) = absurd ((law old new (Err (Refused r)) loads clean).0 it.book it.ties.kept)
-    loads_one law (Err (Refused r)) loads clean (inr (inl it)) = absurd ((law old new (Err (Refused r)) loads clean).1.0 it.book it.other it.keeps)
+    loads_one law (Err (Refused r)) loads clean (inr (inl it)) = absurd ((law old new (Err (Refused r)) loads clean).1 it.book it.other it.keeps)
     loads_one law (Err (Refused r)) loads clean (inr (inr it)) =
         let found = old_settled (loads.clean clean) (loads.answers.live clean tt) it in
         told_old r (has_one (trees_in g old.conn) found.0 found.3) it (loads.outdated clean found.2.schema)
@@ -190,7 +190,7 @@ module _ {S : Type 0} (g : Ghosts S) (old new : KeeperValue S) where
 
     store_failed : (x : ActState) → Is x → (f : AFault) → StoreFails g old new x f → Stands g Is new
     store_failed x is OutOfMemory done = inl (record { book = x; is = is; ties = done.0 })
-    store_failed x is Store done = inl (record { book = x; is = is; ties = tie_none x done.0 done.1.0 })
+    store_failed x is Store done = inl (record { book = x; is = is; ties = tie_none x done.0 done.1 })
     store_failed x is Reopen done = absurd done
     store_failed x is Input done = absurd done
     store_failed x is Output done = absurd done
