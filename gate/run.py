@@ -19,7 +19,7 @@ from concurrent.futures import ThreadPoolExecutor
 from dataclasses import dataclass, field
 from pathlib import Path
 
-from crates import read_crates
+from crates import Crate, read_crates
 from edits import Planned, Why, kit_of, plan, turn_of, write_seen
 from packages import FOR_ALL, Missing, install_with, provided
 from parts import Part, Ran, run, say
@@ -31,6 +31,7 @@ from tree import copy_tree
 ROOT = Path(__file__).resolve().parent.parent
 PROGRAM = Path("crates/outagebook/out/outagebook")
 KILOBYTES_A_LANE = 4_500_000
+DATABASE = "sqlite"
 COUNTED_BY_RT = ("NOT REFUSED", "NOT TRIED")
 
 
@@ -96,13 +97,18 @@ def judge(planned: list[Planned], said: str, report: Report) -> dict[str, list[s
     return unseen
 
 
-def prove_first(place: Path) -> Ran:
-    """Proves the crates that others stand on. Without RT_JOBS rt gives a proof the processors that no other proof waits for;
-    with it a proof has one, and what all others wait for leaves the rest of the machine idle. What passes is kept, and
-    what fails is told by the run of the whole."""
-    crates = read_crates(place)
+def first_of(crates: dict[str, Crate]) -> list[str]:
+    """The crates of the first run: those that others stand on, and those without the database, whose tests fill the lanes beside
+    the chain of crates over it. What tests a crate over the database is left: rt takes it to want so much memory that, without
+    RT_JOBS, two at once are all."""
     used = {below for crate in crates.values() for below in crate.uses}
-    return run(["rt", "ci", *[name for name in crates if name in used]], place, shows=True)
+    return [name for name, crate in crates.items() if name in used or DATABASE not in crate.line]
+
+
+def prove_first(place: Path) -> Ran:
+    """Proves the crates of the first run without RT_JOBS, so that rt gives a proof that others wait for the processors that are idle.
+    What passes is kept, and what fails is told by the run of the whole."""
+    return run(["rt", "ci", *first_of(read_crates(place))], place, shows=True)
 
 
 def prove(place: Path, planned: list[Planned], report: Report, records: bool) -> dict[str, list[str]]:

@@ -15,10 +15,11 @@ from parts import Ran
 
 CRATES = """# The crates, lowest first.
 low: std
-middle: low
-high: low middle
-high_tests: high
-program: high
+middle: low sqlite
+high: low middle sqlite
+low_tests: low
+high_tests: high sqlite
+program: high sqlite
 """
 
 
@@ -48,9 +49,9 @@ class Rounds(unittest.TestCase):
             gate.prove(self.place, [], report, False)
         return report
 
-    def test_with_four_lanes_what_others_stand_on_comes_first(self) -> None:
+    def test_with_four_lanes_what_others_stand_on_or_has_no_database_comes_first(self) -> None:
         part = self.prove(4, "").parts[0]
-        self.assertEqual(self.calls, [(["rt", "ci", "low", "middle", "high"], None), (["rt", "ci"], "4")])
+        self.assertEqual(self.calls, [(["rt", "ci", "low", "middle", "high", "low_tests"], None), (["rt", "ci"], "4")])
         self.assertEqual((part.passed, part.failed, part.clock, part.processor), (7, 0, 10.0, 120.0))
 
     def test_with_two_lanes_all_is_one_run(self) -> None:
