@@ -1,8 +1,10 @@
 -- What a CREATE TABLE makes.
-use Rattle.std.proofs.Common.{◌≡◌, ℕ, ◌+◌, List, [], ◌∷◌, ◌++◌, map, Ok, true, false, refl, sym, ap, subst, ◌∙◌, arith}
+use Rattle.std.proofs.Common.{◌≡◌, ℕ, ◌+◌, List, [], ◌∷◌, ◌++◌, map, Result, Ok, Err, IsErrAnd, IsTrue, true, false, refl, sym, ap, subst, ◌∙◌, arith}
 use Rattle.std.specs.List.{AllByRecursion}
 use Rattle.std.specs.List.Sorted.{IsPermutation}
+use Rattle.std.specs.Borrow.{MutBor}
 use Rattle.std.proofs.lemmas.List.Sorted.{IsPermutation-refl}
+use Rattle.sqlite_trees.specs.declared.store.Store.{Ghosts}
 use Rattle.sqlite.specs.Tree.{Trees}
 use Rattle.sqlite.specs.Table as sql
 use Rattle.sqlite.specs.Schema.{Schema}
@@ -11,13 +13,18 @@ use Rattle.sqlite.specs.Compile.{table_defined_by}
 use Rattle.sqlite.specs.Listing.{understood}
 use Rattle.sqlite.specs.Change.{created, next_tree}
 use Rattle.sqlite.specs.Does.{lacks_sequence}
-use Rattle.sqlite.specs.State.{State}
+use Rattle.sqlite.specs.Held.{Held, state}
+use Rattle.sqlite.specs.State.{State, HasCleanDisk}
 use Rattle.sqlite_tied.specs.Compute.{everything}
 use Rattle.sqlite.proofs.Callers.{IsPlain, command_of, statement_of, runs_as}
 use Rattle.ob_tables.specs.Schema.{meta_table, cause_table, node_table, device_table, customer_table, entry_table, mark_table, command_table, moved_table, posting_table, life_table}
-use Rattle.ob_tables.specs.Creation.{create_text, before, schema_of_first, old_schema, MakesUpTo, MakesBook}
+use Rattle.ob_tables.specs.Creation.{create_text, before, schema_of_first, old_schema, LetsBook, LetsTable, MakesUpTo, MakesBook, Creates}
 use Rattle.ob_tables.specs.Rows.{Tables, tree_of, shown, AreApart}
-use Rattle.ob_tables.specs.Steps.{Ran}
+use Rattle.ob_tables.specs.Rules.{IsNumbered, AreNumbered}
+use Rattle.ob_base.specs.declared.stop.Stop.{Stop}
+use Rattle.ob_base.specs.declared.stop.Stop.TheVariants.{Fault}
+use Rattle.ob_base.specs.declared.stop.Fault.TheVariants.{Store}
+use Rattle.ob_tables.specs.Steps.{Ran, Silent, IsStoreFault, HasFailed}
 use Rattle.ob_tables.specs.Versions.{HoldsOld, MakesLife, without_lives}
 use Rattle.ob_tables.specs.declared.table.Table.{Table}
 use Rattle.ob_tables.specs.declared.table.Table.TheVariants.{Meta, Cause, Node, Device, Life, Customer, Entry, Mark, Command, Moved, Posting}
@@ -32,7 +39,7 @@ one_more P [] table all last = (last, tt)
 one_more P (t ∷ tables) table all last = (all.0, one_more P tables table all.1 last)
 
 -- what holds of a text that makes a table after the first n
-record MakesAfter (n : ℕ) (text : List ℕ) (table : sql.Table) : Type 0 where
+pub record MakesAfter (n : ℕ) (text : List ℕ) (table : sql.Table) : Type 0 where
   pub next : schema_of_first (n + 1) ≡ created (schema_of_first n) table
   pub defines : table_defined_by text ≡ Ok table
   pub is : command_of (understood (schema_of_first n) text) ≡ CreateTable
@@ -57,47 +64,47 @@ makes_after n text table it old new ran = record {
       };
 }
 
-meta_after : MakesAfter 0 (create_text Meta) meta_table
+pub meta_after : MakesAfter 0 (create_text Meta) meta_table
 unfolding understood everything
 meta_after = record { next = refl; defines = refl; is = refl; plain = (refl, refl); whole = refl; uncounted = refl }
 
-cause_after : MakesAfter 1 (create_text Cause) cause_table
+pub cause_after : MakesAfter 1 (create_text Cause) cause_table
 unfolding understood everything
 cause_after = record { next = refl; defines = refl; is = refl; plain = (refl, refl); whole = refl; uncounted = refl }
 
-node_after : MakesAfter 2 (create_text Node) node_table
+pub node_after : MakesAfter 2 (create_text Node) node_table
 unfolding understood everything
 node_after = record { next = refl; defines = refl; is = refl; plain = (refl, refl); whole = refl; uncounted = refl }
 
-device_after : MakesAfter 3 (create_text Device) device_table
+pub device_after : MakesAfter 3 (create_text Device) device_table
 unfolding understood everything
 device_after = record { next = refl; defines = refl; is = refl; plain = (refl, refl); whole = refl; uncounted = refl }
 
-customer_after : MakesAfter 4 (create_text Customer) customer_table
+pub customer_after : MakesAfter 4 (create_text Customer) customer_table
 unfolding understood everything
 customer_after = record { next = refl; defines = refl; is = refl; plain = (refl, refl); whole = refl; uncounted = refl }
 
-entry_after : MakesAfter 5 (create_text Entry) entry_table
+pub entry_after : MakesAfter 5 (create_text Entry) entry_table
 unfolding understood everything
 entry_after = record { next = refl; defines = refl; is = refl; plain = (refl, refl); whole = refl; uncounted = refl }
 
-mark_after : MakesAfter 6 (create_text Mark) mark_table
+pub mark_after : MakesAfter 6 (create_text Mark) mark_table
 unfolding understood everything
 mark_after = record { next = refl; defines = refl; is = refl; plain = (refl, refl); whole = refl; uncounted = refl }
 
-command_after : MakesAfter 7 (create_text Command) command_table
+pub command_after : MakesAfter 7 (create_text Command) command_table
 unfolding understood everything
 command_after = record { next = refl; defines = refl; is = refl; plain = (refl, refl); whole = refl; uncounted = refl }
 
-moved_after : MakesAfter 8 (create_text Moved) moved_table
+pub moved_after : MakesAfter 8 (create_text Moved) moved_table
 unfolding understood everything
 moved_after = record { next = refl; defines = refl; is = refl; plain = (refl, refl); whole = refl; uncounted = refl }
 
-posting_after : MakesAfter 9 (create_text Posting) posting_table
+pub posting_after : MakesAfter 9 (create_text Posting) posting_table
 unfolding understood everything
 posting_after = record { next = refl; defines = refl; is = refl; plain = (refl, refl); whole = refl; uncounted = refl }
 
-life_after : MakesAfter 10 (create_text Life) life_table
+pub life_after : MakesAfter 10 (create_text Life) life_table
 unfolding understood everything
 life_after = record { next = refl; defines = refl; is = refl; plain = (refl, refl); whole = refl; uncounted = refl }
 
@@ -130,6 +137,10 @@ no_row trees h Life = h.1.1.1.1.1.1.1.1.1.1.0
 apart_none : AreApart []
 apart_none = record { numbers = tt; apart = λ id. omega arith }
 
+-- without rows there is no row number
+none_numbered : (trees : Trees) → trees 12 ≡ [] → trees 14 ≡ [] → AreNumbered trees
+none_numbered trees moved amounts = record { moved = subst IsNumbered (sym moved) refl; amounts = subst IsNumbered (sym amounts) refl }
+
 -- eleven tables without rows are those of a book
 pub makes_book : (old new : State) → MakesUpTo 0 11 old new → MakesBook old new
 makes_book old new it = record {
@@ -144,6 +155,8 @@ makes_book old new it = record {
         rows = λ table. subst (λ rows. IsPermutation (map (shown table) rows) []) (sym (no_row new.now.trees all table)) (IsPermutation-refl []);
         apart = subst AreApart (sym (no_row new.now.trees all Posting)) apart_none;
       };
+  numbered = λ has.
+      let all = (it.made (record { schema = has; empty = tt })).empty in none_numbered new.now.trees (no_row new.now.trees all Moved) (no_row new.now.trees all Posting);
 }
 
 pub up_to_same : (a : State) → a.in_transaction ≡ true → MakesUpTo 0 0 a a
@@ -160,6 +173,27 @@ up_to_then a b c n m same one two =
       sound = λ low has. step.sound (omega arith) (one.made has);
     }
 
+-- over none of the tables the first is let in, and over those that were made the next
+pub lets_first : (a : State) → LetsBook a → LetsTable 0 a
+lets_first a lets = (record { schema = lets.0; empty = tt }, lets.1)
+
+pub lets_next : (b c : State) (n m : ℕ) → m ≡ n → MakesUpTo m (m + 1) b c → LetsTable n b → LetsTable (n + 1) c
+lets_next b c n m same made lets = let step = subst (λ k. MakesUpTo k (k + 1) b c) same made in (step.made lets.0, step.sound (omega arith) lets.0)
+
+-- where making one of them failed, making all failed of the same
+pub creates_none : {S X : Type 0} (g : Ghosts S) (old new : MutBor (Held S)) (result : Result X Stop) (stop : Stop) (Lets : State → Type 0) (Made : State → State → Type 0)
+    → IsErrAnd result (λ s. s ≡ stop) → new.ghost_name ≡ old.ghost_name → Silent (state g old.now) (state g new.now) → IsStoreFault stop
+    → (HasCleanDisk (state g new.now) → stop ≡ Fault Store → IsTrue (state g old.now).in_transaction → Lets (state g old.now) → HasFailed (state g old.now) (state g new.now))
+    → Creates g old new result Lets Made
+creates_none g old new (Ok x) stop Lets Made is same silent fault cause = absurd is
+creates_none g old new (Err s) stop Lets Made is same silent fault cause = record {
+  same_reference = same;
+  silent = silent;
+  faults = subst IsStoreFault (sym is) fault;
+  creates = λ clean. tt;
+  cause = λ clean store. cause clean (sym is ∙ store);
+}
+
 -- the table of lives, over those of version 1
 pub makes_life : (old new : State) → Ran (create_text Life) [] old new → MakesLife old new
 makes_life old new ran =
@@ -174,6 +208,10 @@ makes_life old new ran =
       holds = λ has t held. record {
         rows = lived old.now.trees new.now.trees t (made has).1 (made has).2 held;
         apart = subst AreApart (sym (made has).2.1.1.1.1.1.1.1.1.1.0) held.apart;
+      };
+      numbered = λ has were. record {
+        moved = subst IsNumbered (sym (made has).2.1.1.1.1.1.1.1.1.0) were.moved;
+        amounts = subst IsNumbered (sym (made has).2.1.1.1.1.1.1.1.1.1.0) were.amounts;
       };
     }
   where

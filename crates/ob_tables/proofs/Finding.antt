@@ -18,6 +18,7 @@ use Rattle.sqlite_tied.specs.Compute.{everything}
 use Rattle.sqlite.proofs.Callers.{IsPlain, command_of, reads_as}
 use Rattle.ob_tables.specs.Schema.{book_schema}
 use Rattle.ob_tables.specs.Rows.{Tables, shown, Holds, is_reference, Always}
+use Rattle.ob_tables.specs.Rules.{AreNumbered}
 use Rattle.ob_tables.specs.Steps.{Makes}
 use Rattle.ob_tables.specs.declared.table.Table.TheVariants.{Command}
 use Rattle.ob_tables.proofs.Queries.{whole}
@@ -83,4 +84,5 @@ stays_as old new same inside = record {
   schema = λ has. ap (λ (d : Rattle.sqlite.specs.Effect.Database). d.schema) same.0.now_is ∙ has;
   sound = λ has whole. subst Rattle.sqlite.specs.Effect.IsDatabase (sym same.0.now_is) whole;
   holds = λ has t held _. subst (λ (d : Rattle.sqlite.specs.Effect.Database). Holds d.trees t) (sym same.0.now_is) held;
+  numbered = λ has t held _ all. subst (λ (d : Rattle.sqlite.specs.Effect.Database). AreNumbered d.trees) (sym same.0.now_is) all;
 }

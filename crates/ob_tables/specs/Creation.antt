@@ -9,9 +9,12 @@ use Rattle.sqlite.specs.Effect.{Database, IsDatabase}
 use Rattle.sqlite.specs.Held.{Held, state}
 use Rattle.sqlite.specs.State.{State, HasCleanDisk}
 use Rattle.ob_base.specs.declared.stop.Stop.{Stop}
+use Rattle.ob_base.specs.declared.stop.Stop.TheVariants.{Fault}
+use Rattle.ob_base.specs.declared.stop.Fault.TheVariants.{Store}
 use Rattle.ob_tables.specs.Schema.{book_tables, no_schema, book_schema}
 use Rattle.ob_tables.specs.Rows.{Tables, Holds}
-use Rattle.ob_tables.specs.Steps.{Silent, IsStoreFault}
+use Rattle.ob_tables.specs.Rules.{AreNumbered}
+use Rattle.ob_tables.specs.Steps.{Silent, IsStoreFault, HasFailed}
 use Rattle.ob_tables.specs.declared.table.Table.{Table}
 use Rattle.ob_tables.specs.declared.table.Table.TheVariants.{Meta, Cause, Node, Device, Life, Customer, Entry, Mark, Command, Moved, Posting}
 
@@ -101,13 +104,26 @@ pub record MakesBook (old new : State) : Type 0 where
   pub schema : old.now.schema ≡ no_schema → new.now.schema ≡ book_schema
   pub sound : old.now.schema ≡ no_schema → IsDatabase new.now
   pub holds : old.now.schema ≡ no_schema → Holds new.now.trees no_rows
+  pub numbered : old.now.schema ≡ no_schema → AreNumbered new.now.trees
+
+-- a whole database that holds nothing
+abbrev pub LetsBook : State → Type 0
+LetsBook s = (s.now.schema ≡ no_schema) × IsDatabase s.now
+
+-- a whole database of so many of the tables, without rows
+abbrev pub LetsTable : ℕ → State → Type 0
+LetsTable n s = HasEmpty n s.now × IsDatabase s.now
 
 module _ {S : Type 0} (g : Ghosts S) where
-  -- statements inside a transaction made this, or one failed; nothing was committed
+  -- statements inside a transaction made this, or one failed, which it does only with a cause where they are let in;
+  -- nothing was committed
   pub record Creates {X : Type 0} (old new : MutBor (Held S)) (result : Result X Stop)
-      (Made : State → State → Type 0) : Type 0 where
+      (Lets : State → Type 0) (Made : State → State → Type 0) : Type 0 where
     pub same_reference : new.ghost_name ≡ old.ghost_name
     pub silent : Silent (state g old.now) (state g new.now)
     pub faults : IfErr result IsStoreFault
     pub creates : HasCleanDisk (state g new.now) → OnOk result (IsTrue (state g old.now).in_transaction
         → Made (state g old.now) (state g new.now))
+    pub cause : HasCleanDisk (state g new.now) → IfErr result (λ stop. stop ≡ Fault Store
+        → IsTrue (state g old.now).in_transaction → Lets (state g old.now)
+        → HasFailed (state g old.now) (state g new.now))

@@ -7,6 +7,7 @@ use Rattle.sqlite.specs.State.{State}
 use Rattle.sqlite.specs.Tree.{Trees}
 use Rattle.ob_tables.specs.Creation.{old_schema}
 use Rattle.ob_tables.specs.Rows.{AreApart, Holds, Tables, shown, tree_of}
+use Rattle.ob_tables.specs.Rules.{AreNumbered}
 use Rattle.ob_tables.specs.Schema.{book_schema}
 use Rattle.ob_tables.specs.declared.table.Table.{Table}
 use Rattle.ob_tables.specs.declared.table.Table.TheVariants.{Meta, Cause, Node, Device, Life, Customer, Entry, Mark, Command, Moved, Posting}
@@ -63,3 +64,8 @@ pub record MakesLife (old new : State) : Type 0 where
   pub sound : old.now.schema ≡ old_schema → IsDatabase old.now → IsDatabase new.now
   pub holds : old.now.schema ≡ old_schema → (tables : Tables) → HoldsOld old.now.trees tables
       → Holds new.now.trees (without_lives tables)
+  pub numbered : old.now.schema ≡ old_schema → AreNumbered old.now.trees → AreNumbered new.now.trees
+
+-- a whole database of the tables of version 1
+abbrev pub LetsLives : State → Type 0
+LetsLives s = (s.now.schema ≡ old_schema) × IsDatabase s.now

@@ -1,7 +1,8 @@
 //! The statements that change a row or take one away, each in a function of its own.
 ghost use Rattle.std.specs.Prelude.{◌≡◌, ◌<◌, ◌^◌, IfSome};
 ghost use Rattle.ob_tables.specs.Steps.{Changes};
-ghost use Rattle.ob_tables.specs.Rows.{with_change, serve, HasCustomer, relive, HasLife, rebody, HasCommand, reversion, HasHeading, correct, withdraw, HasEntry, without_key, HasMark, with_posting, HasPosting};
+ghost use Rattle.ob_tables.specs.Rows.{Always, with_change, serve, HasCustomer, relive, HasLife, rebody, HasCommand, reversion, HasHeading, correct, withdraw, HasEntry, without_key, HasMark, with_posting, HasPosting};
+ghost use Rattle.ob_tables.specs.Rules.{HasRoom, LetsBody, LetsVersion, LetsCorrected, LetsWithdrawn};
 ghost use Rattle.ob_tables.specs.declared.table.Table.{Table as ATable};
 
 use crate::run::{int, large, large_or_null, position, run};
@@ -18,7 +19,7 @@ pub fn set_service<S: Alter>(
 ) -> Result<(), Stop>
     requires since { since < 2 ^ 63 }
     requires until { IfSome until (λ end. end < 2 ^ 63) }
-    ensures { Changes S.Store tx.old.conn tx.new.conn result (HasCustomer no)
+    ensures { Changes S.Store tx.old.conn tx.new.conn result (HasCustomer no) Always
         (with_change ATable.Customer no (serve since until)) }
 {
     run(
@@ -37,7 +38,7 @@ pub fn set_life<S: Alter>(
 ) -> Result<(), Stop>
     requires since { since < 2 ^ 63 }
     requires until { IfSome until (λ end. end < 2 ^ 63) }
-    ensures { Changes S.Store tx.old.conn tx.new.conn result (HasLife device)
+    ensures { Changes S.Store tx.old.conn tx.new.conn result (HasLife device) Always
         (with_change ATable.Life device (relive since until)) }
 {
     run(
@@ -50,6 +51,7 @@ pub fn set_life<S: Alter>(
 /// Gives a command another body text.
 pub fn set_body<S: Alter>(tx: &mut Transaction<'_, S>, no: u32, body: &[u8]) -> Result<(), Stop>
     ensures { Changes S.Store tx.old.conn tx.new.conn result (HasCommand no)
+        (LetsBody no body.now)
         (with_change ATable.Command no (rebody body.now)) }
 {
     run(
@@ -61,7 +63,7 @@ pub fn set_body<S: Alter>(tx: &mut Transaction<'_, S>, no: u32, body: &[u8]) -> 
 
 /// Gives the heading another version.
 pub fn set_version<S: Alter>(tx: &mut Transaction<'_, S>, version: u32) -> Result<(), Stop>
-    ensures { Changes S.Store tx.old.conn tx.new.conn result HasHeading
+    ensures { Changes S.Store tx.old.conn tx.new.conn result HasHeading LetsVersion
         (with_change ATable.Meta 1 (reversion version)) }
 {
     run(
@@ -83,6 +85,7 @@ pub fn correct_entry<S: Alter>(
 ) -> Result<(), Stop>
     requires second { second < 2 ^ 63 }
     ensures { Changes S.Store tx.old.conn tx.new.conn result (HasEntry no)
+        (LetsCorrected cause crew.now)
         (with_change ATable.Entry no (correct revision act second cause crew.now)) }
 {
     run(
@@ -106,7 +109,7 @@ pub fn withdraw_entry<S: Alter>(
     revision: u32,
 ) -> Result<(), Stop>
     ensures { Changes S.Store tx.old.conn tx.new.conn result (HasEntry no)
-        (with_change ATable.Entry no (withdraw revision)) }
+        (LetsWithdrawn no) (with_change ATable.Entry no (withdraw revision)) }
 {
     run(
         tx,
@@ -117,7 +120,7 @@ pub fn withdraw_entry<S: Alter>(
 
 /// Takes the mark off a day.
 pub fn drop_mark<S: Alter>(tx: &mut Transaction<'_, S>, day: u32) -> Result<(), Stop>
-    ensures { Changes S.Store tx.old.conn tx.new.conn result (HasMark day)
+    ensures { Changes S.Store tx.old.conn tx.new.conn result (HasMark day) Always
         (without_key ATable.Mark day) }
 {
     run(tx, "DELETE FROM mark WHERE day = ?1", &[int(day)])
@@ -132,7 +135,7 @@ pub fn set_posting<S: Alter>(
 ) -> Result<(), Stop>
     requires small { amount < 2 ^ 63 }
     ensures { Changes S.Store tx.old.conn tx.new.conn result
-        (HasPosting dim key) (with_posting dim key amount) }
+        (HasPosting dim key) (HasRoom ATable.Posting) (with_posting dim key amount) }
 {
     run(
         tx,

@@ -1,7 +1,7 @@
 //! The statements that make the tables.
 ghost use Rattle.std.specs.Prelude.{◌≡◌, ◌<◌, ◌+◌};
-ghost use Rattle.ob_tables.specs.Creation.{before, create_text, MakesUpTo, MakesBook, Creates};
-ghost use Rattle.ob_tables.specs.Versions.{MakesLife};
+ghost use Rattle.ob_tables.specs.Creation.{before, create_text, LetsBook, LetsTable, MakesUpTo, MakesBook, Creates};
+ghost use Rattle.ob_tables.specs.Versions.{LetsLives, MakesLife};
 
 use crate::run::run;
 use crate::table::Table;
@@ -10,7 +10,7 @@ use sqlite::{Alter, Transaction};
 
 /// Makes the eleven tables, without rows. It fails where one of them stands already.
 pub fn create_tables<S: Alter>(tx: &mut Transaction<'_, S>) -> Result<(), Stop>
-    ensures { Creates S.Store tx.old.conn tx.new.conn result MakesBook }
+    ensures { Creates S.Store tx.old.conn tx.new.conn result LetsBook MakesBook }
 {
     'tables: for at in 0..11 {
         create_table(tx, table_after(at))?;
@@ -20,7 +20,7 @@ pub fn create_tables<S: Alter>(tx: &mut Transaction<'_, S>) -> Result<(), Stop>
 
 /// Makes the table of lives over the tables of version 1, without rows. It fails where a table of that name stands already.
 pub fn create_life<S: Alter>(tx: &mut Transaction<'_, S>) -> Result<(), Stop>
-    ensures { Creates S.Store tx.old.conn tx.new.conn result MakesLife }
+    ensures { Creates S.Store tx.old.conn tx.new.conn result LetsLives MakesLife }
 {
     run(tx, text_of(Table::Life), &[])
 }
@@ -48,7 +48,7 @@ fn table_after(count: usize) -> Table
 /// Makes a table after those before it.
 fn create_table<S: Alter>(tx: &mut Transaction<'_, S>, table: Table) -> Result<(), Stop>
     ensures { Creates S.Store tx.old.conn tx.new.conn result
-        (MakesUpTo (before table) (before table + 1)) }
+        (LetsTable (before table)) (MakesUpTo (before table) (before table + 1)) }
 {
     run(tx, text_of(table), &[])
 }

@@ -2,6 +2,7 @@
 ghost use Rattle.std.specs.Prelude.{◌≡◌, ◌<◌, ◌^◌, true, IfSome};
 ghost use Rattle.ob_tables.specs.Steps.{Changes};
 ghost use Rattle.ob_tables.specs.Rows.{Always, with_row, meta_row, cause_row, node_row, device_row, life_row, customer_row, entry_row, mark_row, command_row, moved_row, posting_row};
+ghost use Rattle.ob_tables.specs.Rules.{LetsMeta, LetsCause, LetsNode, LetsDevice, LetsCustomer, LetsLife, LetsEntry, LetsMark, LetsCommand, LetsMoved, LetsPosting};
 ghost use Rattle.ob_tables.specs.declared.table.Table.{Table as ATable};
 
 use crate::run::{int, large, large_or_null, position, run, signed_value};
@@ -17,6 +18,7 @@ pub fn add_meta<'t, S: Alter>(
     zone: &'t [u8],
 ) -> Result<(), Stop>
     ensures { Changes S.Store tx.old.conn tx.new.conn result Always
+        (LetsMeta first_day.now zone.now)
         (with_row ATable.Meta (meta_row 2 first_day.now days zone.now)) }
 {
     run(
@@ -29,6 +31,7 @@ pub fn add_meta<'t, S: Alter>(
 /// Adds a cause. It fails where its code or its name stands already.
 pub fn add_cause<S: Alter>(tx: &mut Transaction<'_, S>, code: u32, name: &[u8]) -> Result<(), Stop>
     ensures { Changes S.Store tx.old.conn tx.new.conn result Always
+        (LetsCause code name.now)
         (with_row ATable.Cause (cause_row code name.now)) }
 {
     run(
@@ -48,6 +51,7 @@ pub fn add_node<S: Alter>(
     feeder: u32,
 ) -> Result<(), Stop>
     ensures { Changes S.Store tx.old.conn tx.new.conn result Always
+        (LetsNode no name.now)
         (with_row ATable.Node (node_row no name.now kind feeder)) }
 {
     run(
@@ -68,6 +72,7 @@ pub fn add_device<S: Alter>(
     normal: Pos,
 ) -> Result<(), Stop>
     ensures { Changes S.Store tx.old.conn tx.new.conn result Always
+        (LetsDevice no name.now a b)
         (with_row ATable.Device (device_row no name.now a b normal)) }
 {
     run(
@@ -95,6 +100,7 @@ pub fn add_customer<S: Alter>(
     requires since { since < 2 ^ 63 }
     requires until { IfSome until (λ end. end < 2 ^ 63) }
     ensures { Changes S.Store tx.old.conn tx.new.conn result Always
+        (LetsCustomer no section)
         (with_row ATable.Customer (customer_row no section since until)) }
 {
     run(
@@ -114,6 +120,7 @@ pub fn add_life<S: Alter>(
     requires since { since < 2 ^ 63 }
     requires until { IfSome until (λ end. end < 2 ^ 63) }
     ensures { Changes S.Store tx.old.conn tx.new.conn result Always
+        (LetsLife device)
         (with_row ATable.Life (life_row device since until)) }
 {
     run(
@@ -136,6 +143,7 @@ pub fn add_entry<S: Alter>(
 ) -> Result<(), Stop>
     requires second { second < 2 ^ 63 }
     ensures { Changes S.Store tx.old.conn tx.new.conn result Always
+        (LetsEntry no device cause crew.now)
         (with_row ATable.Entry (entry_row no 1 device act second cause crew.now true)) }
 {
     run(
@@ -159,6 +167,7 @@ pub fn add_mark<S: Alter>(
     engineer: &[u8],
 ) -> Result<(), Stop>
     ensures { Changes S.Store tx.old.conn tx.new.conn result Always
+        (LetsMark day engineer.now)
         (with_row ATable.Mark (mark_row day engineer.now)) }
 {
     run(
@@ -176,6 +185,7 @@ pub fn add_command<'t, S: Alter>(
     body: &'t [u8],
 ) -> Result<(), Stop>
     ensures { Changes S.Store tx.old.conn tx.new.conn result Always
+        (LetsCommand no reference.now body.now)
         (with_row ATable.Command (command_row no reference.now body.now)) }
 {
     run(
@@ -195,6 +205,7 @@ pub fn add_moved<S: Alter>(
     delta: i64,
 ) -> Result<(), Stop>
     ensures { Changes S.Store tx.old.conn tx.new.conn result Always
+        (LetsMoved no dim key delta)
         (with_row ATable.Moved (moved_row no dim key delta)) }
 {
     run(
@@ -207,6 +218,7 @@ pub fn add_moved<S: Alter>(
 /// Adds the row of a dimension and a key, with the amount 0. It fails where the row stands already.
 pub fn add_posting<S: Alter>(tx: &mut Transaction<'_, S>, dim: u32, key: u32) -> Result<(), Stop>
     ensures { Changes S.Store tx.old.conn tx.new.conn result Always
+        (LetsPosting dim key)
         (with_row ATable.Posting (posting_row dim key 0)) }
 {
     run(

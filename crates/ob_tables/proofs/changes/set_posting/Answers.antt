@@ -1,7 +1,10 @@
 use Rattle.ob_tables.proofs.Running.{changes}
 use Rattle.ob_tables.proofs.Posting.{sets_posting}
+use Rattle.ob_tables.proofs.Hiding.{lets_amount}
 use Rattle.ob_tables.proofs.changes.set_posting.Goals as goal
 
 pub returns : goal.returns
 returns g c =
-    changes g.S.Store _ _ _ _ _ c.run.ensures (λ ran. sets_posting _ _ c.args.dim c.args.key c.args.amount (rw (c.int.ensures, c.int-2.ensures, c.large.ensures) at ran))
+    changes g.S.Store _ _ _ _ _ c.run.ensures
+    (λ ran. sets_posting _ _ c.args.dim c.args.key c.args.amount (rw (c.int.ensures, c.int-2.ensures, c.large.ensures) at ran))
+    (λ failed lets. lets_amount _ _ c.args.dim c.args.key c.args.amount (rw (c.int.ensures, c.int-2.ensures, c.large.ensures) at failed) lets)

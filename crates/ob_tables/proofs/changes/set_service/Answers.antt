@@ -1,9 +1,13 @@
+use Rattle.std.proofs.Common.{◌<◌, ◌^◌, rules}
 use Rattle.ob_tables.proofs.Casts.{bound_optional}
 use Rattle.ob_tables.proofs.Running.{changes}
 use Rattle.ob_tables.proofs.Keyed.{sets_service}
+use Rattle.ob_tables.proofs.Altering.{lets_service}
 use Rattle.ob_tables.proofs.changes.set_service.Goals as goal
 
 pub returns : goal.returns
 returns g c =
-    changes g.S.Store _ _ _ _ _ c.run.ensures (λ ran. sets_service _ _ c.args.no c.args.since c.args.until
-    (rw (c.int.ensures, c.large.ensures, c.large_or_null.ensures, bound_optional c.args.until) at ran))
+    let small : c.args.no < 2 ^ 32 = search rules in
+    changes g.S.Store _ _ _ _ _ c.run.ensures
+    (λ ran. sets_service _ _ c.args.no c.args.since c.args.until (rw (c.int.ensures, c.large.ensures, c.large_or_null.ensures, bound_optional c.args.until) at ran))
+    (λ failed lets. lets_service _ _ c.args.no c.args.since c.args.until small (rw (c.int.ensures, c.large.ensures, c.large_or_null.ensures, bound_optional c.args.until) at failed) lets)

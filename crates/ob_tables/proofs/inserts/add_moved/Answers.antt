@@ -1,9 +1,11 @@
 use Rattle.std.proofs.Common.{to_z-of_z}
 use Rattle.ob_tables.proofs.Running.{changes}
 use Rattle.ob_tables.proofs.Adding.{adds_moved}
+use Rattle.ob_tables.proofs.Hiding.{lets_moved}
 use Rattle.ob_tables.proofs.inserts.add_moved.Goals as goal
 
 pub returns : goal.returns
 returns g c =
-    changes g.S.Store _ _ _ _ _ c.run.ensures (λ ran. adds_moved _ _ c.args.no c.args.dim c.args.key c.args.delta
-    (rw (c.int.ensures, c.int-2.ensures, c.int-3.ensures, c.signed_value.ensures, to_z-of_z c.ranges.delta) at ran))
+    changes g.S.Store _ _ _ _ _ c.run.ensures
+    (λ ran. adds_moved _ _ c.args.no c.args.dim c.args.key c.args.delta (rw (c.int.ensures, c.int-2.ensures, c.int-3.ensures, c.signed_value.ensures, to_z-of_z c.ranges.delta) at ran))
+    (λ failed lets. lets_moved _ _ c.args.no c.args.dim c.args.key c.args.delta (rw (c.int.ensures, c.int-2.ensures, c.int-3.ensures, c.signed_value.ensures, to_z-of_z c.ranges.delta) at failed) lets)

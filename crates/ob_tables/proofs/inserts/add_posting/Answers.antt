@@ -1,8 +1,10 @@
 use Rattle.ob_tables.proofs.Running.{changes}
 use Rattle.ob_tables.proofs.Adding.{adds_posting}
+use Rattle.ob_tables.proofs.Hiding.{lets_posting}
 use Rattle.ob_tables.proofs.inserts.add_posting.Goals as goal
 
 pub returns : goal.returns
 returns g c =
-    changes g.S.Store _ _ _ _ _ c.run.ensures (λ ran. adds_posting _ _ c.args.dim c.args.key
-    (rw (c.int.ensures, c.int-2.ensures) at ran))
+    changes g.S.Store _ _ _ _ _ c.run.ensures
+    (λ ran. adds_posting _ _ c.args.dim c.args.key (rw (c.int.ensures, c.int-2.ensures) at ran))
+    (λ failed lets. lets_posting _ _ c.args.dim c.args.key (rw (c.int.ensures, c.int-2.ensures) at failed) lets)

@@ -1,4 +1,4 @@
-use Rattle.std.proofs.Common.{rules, inl, inr, refl, sym, subst}
+use Rattle.std.proofs.Common.{rules, inl, inr, refl, sym, subst, ◌∙◌}
 use Rattle.std.proofs.lemmas.Bool.{cases_Bool}
 use Rattle.sqlite.specs.State.{KeepsCommit}
 use Rattle.sqlite.specs.Held.{state}
@@ -22,6 +22,12 @@ returns-in-Err g c =
       };
       faults = c.stop_of.ensures.faults;
       ran = λ clean. tt;
+      -- memory that was refused is told as such
+      fails = λ clean store inside. (
+        c.in-Err.error,
+        λ memory. absurd (let it = sym (c.stop_of.ensures.memory memory) ∙ store in cc),
+        (rw c.in-Err.is at c.execute.ensures.runs) clean inside,
+      );
     }
 
 pub returns-in-Ok : goal.returns-in-Ok
