@@ -1,18 +1,24 @@
 -- What a commit and a failed commit make of a database in which a new book was to begin.
-use Rattle.std.proofs.Common.{◌≡◌, inl, inr, sym, ap, subst, ◌∙◌, arith, IsTrue, true, true≢false}
+use Rattle.std.proofs.Common.{◌≡◌, inl, inr, sym, ap, subst, ◌∙◌, arith, ℕ, List, IsTrue, true, true≢false}
 use Rattle.std.specs.Prelude.{false}
+use Rattle.std.proofs.lemmas.Bool.{cases_Bool}
+use Rattle.sqlite_trees.specs.declared.store.Store.{Ghosts}
+use Rattle.sqlite.specs.Held.{Held, state}
 use Rattle.sqlite.specs.Tree.{Trees}
 use Rattle.sqlite.specs.Effect.{Database}
 use Rattle.sqlite.specs.declared.error.Error.{Error}
 use Rattle.sqlite_catalog.specs.Listing.{IsSound}
-use Rattle.sqlite.specs.State.{State, HasCleanDisk, Survives, Shows, IsRolledBack}
+use Rattle.sqlite.specs.State.{State, HasCleanDisk, IsLive, Survives, Shows, IsRolledBack}
 use Rattle.sqlite.specs.Steps.{FailsToCommit}
 use Rattle.sqlite.proofs.StateLemmas.{survives_then}
 use Rattle.ob_tables.specs.Schema.{no_schema, book_schema}
 use Rattle.ob_tables.specs.Rows.{Tables, Holds}
-use Rattle.ob_tables.specs.Steps.{Silent}
-use Rattle.ob_commit.specs.Keeps.{Leaves, Keeps}
-use Rattle.ob_commit.specs.NewBook.{MakesNew}
+use Rattle.ob_tables.specs.Rules.{AreNumbered, IsShort}
+use Rattle.ob_tables.specs.Steps.{HasFailed, Silent}
+use Rattle.ob_tables.proofs.Failing.{failed_before}
+use Rattle.ob_commit.specs.Keeps.{HasCommitCause, Leaves, Keeps, KeepsNumbers}
+use Rattle.ob_commit.specs.NewBook.{LetsNew, MakesNew}
+use Rattle.ob_commit.proofs.Commits.{fails_to_commit}
 use Rattle.ob_commit.specs.Begins.{Begins, StaysOrBegins}
 
 -- a commit that fails inside a transaction is a rollback
@@ -71,3 +77,25 @@ module _ (old last end : State) (t : Tables) (none : old.now.schema ≡ no_schem
         };
     left = survives_new.crash;
   }
+
+  -- the hidden row numbers are those of a new book
+  pub numbered_new : (HasCleanDisk end → Shows last end last.now last.now false) → (IsTrue end.is_open → (trees : Trees) → end.may_leave trees → trees ≡ end.committed.trees) → KeepsNumbers end
+  numbered_new shows law clean trees may =
+      let it = shows clean in
+      subst AreNumbered (sym (law it.is_open trees may ∙ ap (λ (d : Database). d.trees) it.committed_is)) ((made clean).numbered none)
+
+-- why a new book isn't committed
+pub new_cause : {S : Type 0} (g : Ghosts S) (old : State) (last : Held S) (end : State) (t : Tables) → old.now.schema ≡ no_schema → Silent old (state g last) → (HasCleanDisk (state g last) → MakesNew t (record old { in_transaction = true }) (state g last))
+    → Survives (state g last) end (λ db. db ≡ (state g last).now.trees) → (e : Error) → HasCleanDisk end → FailsToCommit (state g last) end e → HasCommitCause g old end t
+new_cause g old last end t none quiet makes ends e clean fails =
+    let late : HasCleanDisk (state g last) = omega (arith, ends.clean, clean) in
+    let it = makes late in
+    fails_to_commit g old last end t e quiet late ends (it.holds none) it.inside fails
+
+-- a step failed, and the transaction is dropped
+pub dropped_new : (old last end : State) (P : Trees → Type 0) (first zone : List ℕ) → IsLive old → old.now.schema ≡ no_schema → IsShort first → IsShort zone
+    → (LetsNew first zone (record old { in_transaction = true }) → HasFailed (record old { in_transaction = true }) last) → Survives last end P → HasFailed old end
+dropped_new old last end P first zone whole none first_short zone_short told drops = elim (cases_Bool old.is_open) [
+  | inl live ↦ failed_before old last end P (told (record { book = (none, (whole live).0); first_fits = first_short; zone_fits = zone_short })) drops
+  | inr shut ↦ inr (inl shut)
+]

@@ -1,9 +1,9 @@
 -- The tables of a new book: the eleven without rows, then the rows that they begin with.
 use Rattle.std.proofs.Common.{◌≡◌, ℕ, List, refl}
 use Rattle.sqlite.specs.State.{State}
-use Rattle.ob_tables.specs.Rows.{Always}
-use Rattle.ob_tables.specs.Steps.{Makes}
-use Rattle.ob_tables.specs.Creation.{MakesBook, no_rows}
+use Rattle.ob_tables.specs.Rows.{Always, Tables}
+use Rattle.ob_tables.specs.Steps.{LetsIn, Makes}
+use Rattle.ob_tables.specs.Creation.{LetsBook, MakesBook, no_rows}
 use Rattle.ob_tables.specs.declared.table.Table.{Table}
 use Rattle.ob_tables.specs.declared.table.Table.TheVariants.{Meta, Cause, Node, Device, Life, Customer, Entry, Mark, Command, Moved, Posting}
 use Rattle.ob_commit.specs.Amounts.{all_keys}
@@ -37,4 +37,12 @@ makes_new a b c d first days zone made heading zeros = record {
       let headed = with_heading first days zone no_rows in
       holds_as d.now.trees (with_zeros (all_keys days) headed) (new_tables first days zone) (new_rows first days zone)
       (zeros.holds (heading.schema book) headed (heading.holds book no_rows (made.holds none) tt) tt);
+  numbered = λ none.
+      let book = made.schema none in
+      zeros.numbered (heading.schema book) (with_heading first days zone no_rows) (heading.holds book no_rows (made.holds none) tt) tt (heading.numbered book no_rows (made.holds none) tt (made.numbered none));
 }
+
+-- over the tables that were just made, what is let in over no rows is let in
+pub lets_no_rows : (a b : State) (lets : Tables → Type 0) → MakesBook a b → LetsBook a → lets no_rows → LetsIn b Always lets
+lets_no_rows a b lets made book allowed =
+    record { schema = made.schema book.0; sound = made.sound book.0; numbered = made.numbered book.0; tables = no_rows; holds = made.holds book.0; needed = tt; allowed = allowed }

@@ -1,6 +1,6 @@
 -- Step after step inside a transaction.
 use Rattle.std.proofs.Common.{◌≡◌, ℕ, ◌<◌, ◌+◌, zero, suc, List, [], ◌∷◌, length, take, get_or, fold, refl, sym, subst, arith}
-use Rattle.std.specs.Prelude.{Result, Ok, Err, OnOk}
+use Rattle.std.specs.Prelude.{Result, Ok, Err, OnOk, IsTrue}
 use Rattle.sqlite.specs.State.{State}
 use Rattle.ob_post.specs.Keys.{dim_number}
 use Rattle.ob_post.specs.Postings.{PostedAmounts}
@@ -21,6 +21,19 @@ makes_then a b c m n l f h enough one two = record {
   schema = λ has. two.schema (one.schema has);
   sound = λ has whole. two.sound (one.schema has) (one.sound has whole);
   holds = λ has t held needs. two.holds (one.schema has) (f t) (one.holds has t held (enough t needs).0) (enough t needs).1;
+  numbered = λ has t held needs are. two.numbered (one.schema has) (f t) (one.holds has t held (enough t needs).0) (enough t needs).1 (one.numbered has t held (enough t needs).0 are);
+}
+
+-- no step yet
+pub makes_none : (a : State) (needs : Tables → Type 0) → IsTrue a.is_open → IsTrue a.in_transaction → Makes a a needs (λ t. t)
+makes_none a needs live inside = record {
+  live = live;
+  stays = live;
+  inside = inside;
+  schema = λ has. has;
+  sound = λ has whole. whole;
+  holds = λ has t held need. held;
+  numbered = λ has t held need are. are;
 }
 
 -- two changes that make the same of any tables
@@ -32,6 +45,7 @@ makes_as a b needs f h same it = record {
   schema = it.schema;
   sound = it.sound;
   holds = λ has t held need. subst (Holds b.now.trees) (same t) (it.holds has t held need);
+  numbered = it.numbered;
 }
 
 -- one more element
@@ -61,4 +75,7 @@ next_move old mid new id p moves at d low was step =
       holds = λ has t held needs.
           let both = rows_suc id p moves at d t low needs in
           subst (Holds new.now.trees) (sym (more (λ (t : Tables) (m : Moved). with_move id p m t) t moves at d low)) (step.holds (was.schema has) (with_moves id p (take at moves) t) (was.holds has t held both.0) both.1);
+      numbered = λ has t held needs are.
+          let both = rows_suc id p moves at d t low needs in
+          step.numbered (was.schema has) (with_moves id p (take at moves) t) (was.holds has t held both.0) both.1 (was.numbered has t held both.0 are);
     })

@@ -1,11 +1,12 @@
 -- Step after step over the tables of version 1.
-use Rattle.std.proofs.Common.{◌≡◌, sym, subst, arith, ℕ, zero, suc, ◌+◌, ◌<◌, List, [], ◌∷◌, length, take, get_or, None}
+use Rattle.std.proofs.Common.{◌≡◌, refl, sym, subst, arith, ℕ, zero, suc, ◌+◌, ◌<◌, List, [], ◌∷◌, length, take, get_or, None}
 use Rattle.sqlite.specs.State.{State}
-use Rattle.ob_tables.specs.Rows.{Tables, Always, HasCommand, life_row, with_row}
-use Rattle.ob_tables.specs.Steps.{Makes}
+use Rattle.ob_tables.specs.Rows.{Tables, Always, HasCommand, HasHeading, life_row, with_row}
+use Rattle.ob_tables.specs.Steps.{LetsIn, Makes}
+use Rattle.ob_tables.specs.Rules.{HasShort}
 use Rattle.ob_tables.specs.Versions.{MakesLife, without_lives}
-use Rattle.ob_tables.specs.declared.table.Table.TheVariants.{Life}
-use Rattle.ob_commit.specs.Upgrade.{with_body, with_bodies, with_lives, HasBodies, Upgrades}
+use Rattle.ob_tables.specs.declared.table.Table.TheVariants.{Life, Meta}
+use Rattle.ob_commit.specs.Upgrade.{CanUpgrade, LetsBodies, LetsLivesOf, LetsUpgrade, LetsUpgradeIn, with_body, with_bodies, with_lives, with_rows, HasBodies, Upgrades}
 use Rattle.ob_commit.specs.declared.upgrade.NewBody.{NewBody}
 use Rattle.ob_commit.proofs.Steps.{makes_as, makes_then, more}
 
@@ -19,6 +20,25 @@ then_rows a b c needs change made rows = record {
   schema = λ has. rows.schema (made.schema has);
   sound = λ has whole. rows.sound (made.schema has) (made.sound has whole);
   holds = λ has t held need. rows.holds (made.schema has) (without_lives t) (made.holds has t held) need;
+  numbered = λ has t held need are. rows.numbered (made.schema has) (without_lives t) (made.holds has t held) need (made.numbered has are);
+}
+
+-- what the rows ask of the tables once that of lives is there
+abbrev pub NeedsRest : List NewBody → ℕ → Tables → Type 0
+NeedsRest bodies devices t = HasBodies bodies t × HasHeading (with_rows bodies devices t)
+
+abbrev pub LetsRest : List NewBody → ℕ → Tables → Type 0
+LetsRest bodies devices t = LetsBodies bodies t × LetsLivesOf devices t × HasShort Meta 1 t
+
+pub lets_over : (a b : State) (bodies : List NewBody) (devices : ℕ) → MakesLife a b → LetsUpgradeIn a (CanUpgrade bodies devices) (LetsUpgrade bodies devices) → LetsIn b (NeedsRest bodies devices) (LetsRest bodies devices)
+lets_over a b bodies devices made it = record {
+  schema = made.schema it.schema;
+  sound = made.sound it.schema it.sound;
+  numbered = made.numbered it.schema it.numbered;
+  tables = without_lives it.tables;
+  holds = made.holds it.schema it.tables it.holds;
+  needed = it.needed;
+  allowed = (it.allowed.texts, (refl, it.allowed.living), it.allowed.heading);
 }
 
 bodies_suc : (bs : List NewBody) (n : ℕ) (d : NewBody) (t : Tables) → n < length bs → HasBodies (take (suc n) bs) t

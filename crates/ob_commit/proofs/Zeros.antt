@@ -15,7 +15,7 @@ use Rattle.ob_tables.specs.Steps.{Makes}
 use Rattle.ob_tables.specs.declared.table.Table.{Table}
 use Rattle.ob_tables.specs.declared.table.Table.TheVariants.{Posting}
 use Rattle.ob_commit.specs.Amounts.{amount_row, all_keys}
-use Rattle.ob_commit.proofs.Steps.{makes_then}
+use Rattle.ob_commit.proofs.Steps.{makes_none, makes_then}
 use Rattle.ob_commit.specs.NewBook.{no_amount, with_zeros, keys_of}
 
 -- tables that are the same, table by table
@@ -30,6 +30,7 @@ makes_as a b f h same it = record {
   schema = it.schema;
   sound = it.sound;
   holds = λ has t held needs. holds_as b.now.trees (f t) (h t) (same t) (it.holds has t held needs);
+  numbered = it.numbered;
 }
 
 -- the rows of some keys and then of others are those of all
@@ -52,7 +53,7 @@ none false rows = refl
 pub zeros_none : (a : State) (dim : Dim) (first : ℕ) → IsTrue a.is_open → IsTrue a.in_transaction → Makes a a Always (with_zeros (keys_of dim (range_with_len first 0)))
 zeros_none a dim first live inside =
     makes_as a a (λ t. t) (with_zeros []) (λ t table. none (tree_of Posting == tree_of table) (t table))
-    (record { live = live; stays = live; inside = inside; schema = λ has. has; sound = λ has whole. whole; holds = λ has t held needs. held })
+    (makes_none a Always live inside)
 
 -- one key more
 pub next_key : (a b c : State) (dim : Dim) (first at : ℕ) → Makes a b Always (with_zeros (keys_of dim (range_with_len first at)))

@@ -2,10 +2,11 @@
 use Rattle.std.specs.List.{All}
 use Rattle.ob_post.specs.Postings.{PostedAmounts}
 use Rattle.ob_tables.specs.Rows.{Tables, with_row, command_row}
+use Rattle.ob_tables.specs.Rules.{LetsCommand}
 use Rattle.ob_tables.specs.declared.table.Table.TheVariants.{Command}
 use Rattle.ob_commit.specs.declared.act.Act.{Act}
-use Rattle.ob_commit.specs.Changing.{HasSmallSeconds, NeedsRow, changed_by}
-use Rattle.ob_commit.specs.Moves.{CanMove, HasRows, with_moves}
+use Rattle.ob_commit.specs.Changing.{HasSmallSeconds, NeedsRow, LetsRow, changed_by}
+use Rattle.ob_commit.specs.Moves.{CanMove, HasRows, LetsMoves, with_moves}
 
 -- its seconds and the amounts that it leaves are small enough for a column
 pub record CanWrite (p : PostedAmounts) (act : Act) : Type 0 where
@@ -25,3 +26,9 @@ with_act p act tables = with_moves act.no p act.moves.now (with_command act tabl
 pub record NeedsRows (p : PostedAmounts) (act : Act) (tables : Tables) : Type 0 where
   pub change : NeedsRow act.change tables
   pub amounts : HasRows act.no p act.moves.now (with_command act tables)
+
+-- the rules of the tables let its rows in
+pub record LetsAct (act : Act) (tables : Tables) : Type 0 where
+  pub change : LetsRow act.change tables
+  pub command : LetsCommand act.no act.reference.now act.body.now tables
+  pub moves : LetsMoves act.no act.moves.now tables

@@ -4,6 +4,7 @@ use Rattle.ob_base.specs.declared.Pos.{Pos}
 use Rattle.ob_tables.specs.Rows.{Tables, Always, HasLife, HasCustomer, HasEntry, HasMark, with_row, with_change, without_key}
 use Rattle.ob_tables.specs.Rows.{cause_row, node_row, device_row, life_row, customer_row, entry_row, mark_row}
 use Rattle.ob_tables.specs.Rows.{relive, serve, correct, withdraw}
+use Rattle.ob_tables.specs.Rules.{LacksKey, LetsCause, LetsNode, LetsDevice, LetsCustomer, LetsEntry, LetsCorrected, LetsWithdrawn, LetsMark}
 use Rattle.ob_tables.specs.declared.table.Table.TheVariants.{Cause, Node, Device, Life, Customer, Entry, Mark}
 use Rattle.ob_commit.specs.declared.change.RowChange.{RowChange}
 use Rattle.ob_commit.specs.declared.change.RowChange.TheVariants.{AddCause, AddNode, AddDevice, SetLife, AddCustomer, SetService}
@@ -37,6 +38,20 @@ NeedsRow (CorrectEntry id revision act second cause crew) = HasEntry id
 NeedsRow (WithdrawEntry id revision) = HasEntry id
 NeedsRow (AddMark day engineer) = Always
 NeedsRow (DropMark day) = HasMark day
+
+-- the rules of the tables let it in, where the rows that it needs are there
+abbrev pub LetsRow : RowChange → Tables → Type 0
+LetsRow (AddCause code name) t = LetsCause code name.now t
+LetsRow (AddNode id name kind feeder) t = LetsNode id name.now t
+LetsRow (AddDevice id name a b normal since until) t = LetsDevice id name.now a b t × LacksKey Life id t
+LetsRow (SetLife device since until) t = ⊤
+LetsRow (AddCustomer id section since until) t = LetsCustomer id section t
+LetsRow (SetService id since until) t = ⊤
+LetsRow (AddEntry id device act second cause crew) t = LetsEntry id device cause crew.now t
+LetsRow (CorrectEntry id revision act second cause crew) t = LetsCorrected cause crew.now t
+LetsRow (WithdrawEntry id revision) t = LetsWithdrawn id t
+LetsRow (AddMark day engineer) t = LetsMark day engineer.now t
+LetsRow (DropMark day) t = ⊤
 
 -- the tables with a device more, and with its life
 abbrev pub with_device_and_life : ℕ → List ℕ → ℕ → ℕ → Pos → ℕ → Option ℕ → Tables → Tables

@@ -6,14 +6,17 @@ use Rattle.sqlite.specs.Tree.{Trees}
 use Rattle.sqlite_catalog.specs.Listing.{IsSound}
 use Rattle.sqlite.specs.Effect.{IsDatabase}
 use Rattle.sqlite.specs.Held.{Held, state}
-use Rattle.sqlite.specs.State.{State, HasCleanDisk}
+use Rattle.sqlite.specs.State.{State, HasCleanDisk, IsRolledBack}
 use Rattle.ob_base.specs.declared.stop.Stop.{Stop}
+use Rattle.ob_base.specs.declared.stop.Stop.TheVariants.{Fault}
+use Rattle.ob_base.specs.declared.stop.Fault.TheVariants.{Store}
 use Rattle.ob_tables.specs.Rows.{Holds, Tables}
+use Rattle.ob_tables.specs.Rules.{AreNumbered}
 use Rattle.ob_tables.specs.Schema.{book_schema}
 use Rattle.ob_tables.specs.Versions.{HoldsIn, schema_of}
 use Rattle.ob_tables.specs.declared.version.Version.{Version}
 use Rattle.ob_tables.specs.declared.version.Version.TheVariants.{Two}
-use Rattle.ob_tables.specs.Steps.{Silent, Makes, IsStoreFault}
+use Rattle.ob_tables.specs.Steps.{Silent, Makes, IsStoreFault, HasFailed, LetsIn}
 
 -- a whole database of a version: its catalog lists the version's tables, whose rules its rows obey, and these are the rows
 pub record LeavesIn (version : Version) (t : Tables) (trees : Trees) : Type 0 where
@@ -69,14 +72,31 @@ pub record MakesOf (version : Version) (old new : State) (needs : Tables → Typ
   pub sound : old.now.schema ≡ schema_of version → IsDatabase old.now → IsDatabase new.now
   pub holds : old.now.schema ≡ schema_of version → (tables : Tables) → HoldsIn version old.now.trees tables → needs tables
       → Holds new.now.trees (change tables)
+  pub numbered : old.now.schema ≡ schema_of version → (tables : Tables) → HoldsIn version old.now.trees tables
+      → needs tables → AreNumbered old.now.trees → AreNumbered new.now.trees
+
+-- whatever a crash leaves has hidden row numbers 1, 2, 3 and so on, and so has what the store keeps while it is open
+abbrev pub KeepsNumbers : State → Type 0
+KeepsNumbers s = HasCleanDisk s → (trees : Trees) → s.may_leave trees → AreNumbered trees
 
 module _ {S : Type 0} (g : Ghosts S) where
+  -- a transaction that showed these tables was undone
+  abbrev pub WasUndone : State → Tables → Type 0
+  WasUndone s t = (last : Held S) × Holds (state g last).now.trees t × IsRolledBack (state g last) s
+
+  -- why the store fails to commit these tables: it has failed, or their transaction was undone, as for want of memory
+  abbrev pub HasCommitCause : State → State → Tables → Type 0
+  HasCommitCause old new t = HasFailed old new ⊎ WasUndone new t
+
   -- statements inside a transaction of an open store changed the tables so, where they were as is needed, or one
-  -- failed; nothing was committed
-  pub record ChangesOpen {X : Type 0} (old new : MutBor (Held S)) (result : Result X Stop) (needs : Tables → Type 0)
+  -- failed, which it does only with a cause where the rules of the tables let the change in; nothing was committed
+  pub record ChangesOpen {X : Type 0} (old new : MutBor (Held S)) (result : Result X Stop) (needs lets : Tables → Type 0)
       (change : Tables → Tables) : Type 0 where
     pub same_reference : new.ghost_name ≡ old.ghost_name
     pub silent : Silent (state g old.now) (state g new.now)
     pub faults : IfErr result IsStoreFault
     pub makes : HasCleanDisk (state g new.now) → OnOk result (IsTrue (state g old.now).is_open
         → IsTrue (state g old.now).in_transaction → Makes (state g old.now) (state g new.now) needs change)
+    pub cause : HasCleanDisk (state g new.now) → IfErr result (λ stop. stop ≡ Fault Store
+        → IsTrue (state g old.now).in_transaction → LetsIn (state g old.now) needs lets
+        → HasFailed (state g old.now) (state g new.now))

@@ -1,15 +1,21 @@
 -- What is left of the tables of version 1 once they were to be made those of version 2.
-use Rattle.std.specs.Prelude.{◌≡◌, ℕ, zero, suc, List, [], ◌∷◌, None, ⊤, fold, IsTrue, Result, IfErr, OnOk}
+use Rattle.std.specs.List.{All}
+use Rattle.std.specs.Prelude.{◌≡◌, ◌<◌, ℕ, zero, suc, List, [], ◌∷◌, None, ⊤, fold, IsTrue, Result, IfErr, OnOk}
 use Rattle.std.specs.Borrow.{MutBor}
 use Rattle.sqlite_trees.specs.declared.store.Store.{Ghosts}
+use Rattle.sqlite.specs.Effect.{IsDatabase}
 use Rattle.sqlite.specs.Held.{Held, state}
 use Rattle.sqlite.specs.State.{State, HasCleanDisk}
 use Rattle.sqlite.specs.Tree.{Trees}
 use Rattle.ob_base.specs.declared.stop.Stop.{Stop}
+use Rattle.ob_base.specs.declared.stop.Stop.TheVariants.{Fault}
+use Rattle.ob_base.specs.declared.stop.Fault.TheVariants.{Store}
+use Rattle.ob_tables.specs.Creation.{old_schema}
 use Rattle.ob_tables.specs.Rows.{HasCommand, HasHeading, Tables, life_row, rebody, reversion, with_change, with_row}
-use Rattle.ob_tables.specs.Steps.{IsStoreFault, Silent}
-use Rattle.ob_tables.specs.Versions.{without_lives}
-use Rattle.ob_tables.specs.declared.table.Table.TheVariants.{Command, Life, Meta}
+use Rattle.ob_tables.specs.Rules.{AreNumbered, HasKey, HasShort, IsShort}
+use Rattle.ob_tables.specs.Steps.{HasFailed, IsStoreFault, Silent}
+use Rattle.ob_tables.specs.Versions.{HoldsOld, without_lives}
+use Rattle.ob_tables.specs.declared.table.Table.TheVariants.{Command, Device, Life, Meta}
 use Rattle.ob_tables.specs.declared.version.Version.TheVariants.{One}
 use Rattle.ob_commit.specs.Keeps.{KeepsEitherIn, LeavesChangedIn, MakesOf}
 use Rattle.ob_commit.specs.declared.upgrade.NewBody.{NewBody}
@@ -56,12 +62,41 @@ CanUpgrade bodies devices t = HasBodies bodies (without_lives t) × HasHeading (
 abbrev pub with_upgrade : List NewBody → ℕ → Tables → Tables
 with_upgrade bodies devices t = with_change Meta 1 (reversion 2) (with_rows bodies devices (without_lives t))
 
+-- the rules of the tables let these bodies in: they are short, and so is what else their commands' rows have
+abbrev pub LetsBodies : List NewBody → Tables → Type 0
+LetsBodies bodies t = All (λ b. IsShort b.body.items × HasShort Command b.no t) bodies
+
+-- and the lives of so many devices, each of which is there and has none
+abbrev pub LetsLivesOf : ℕ → Tables → Type 0
+LetsLivesOf devices t = (t Life ≡ []) × ((n : ℕ) → n < devices → HasKey Device n t)
+
+-- the rules of the tables let the rows of the upgrade in: the texts of the commands and of the heading fit, and each device
+-- is there
+pub record LetsUpgrade (bodies : List NewBody) (devices : ℕ) (t : Tables) : Type 0 where
+  pub texts : LetsBodies bodies t
+  pub living : (n : ℕ) → n < devices → HasKey Device n t
+  pub heading : HasShort Meta 1 t
+
+-- a whole database of version 1, whose hidden row numbers rise by one, has these rows; they are as is needed and let in
+pub record LetsUpgradeIn (s : State) (needs lets : Tables → Type 0) : Type 0 where
+  pub schema : s.now.schema ≡ old_schema
+  pub sound : IsDatabase s.now
+  pub numbered : AreNumbered s.now.trees
+  pub tables : Tables
+  pub holds : HoldsOld s.now.trees tables
+  pub needed : needs tables
+  pub allowed : lets tables
+
 module _ {S : Type 0} (g : Ghosts S) where
-  -- statements inside a transaction made of the tables of version 1 those of version 2, or one failed; nothing was committed
-  pub record UpgradesOpen {X : Type 0} (old new : MutBor (Held S)) (result : Result X Stop) (needs : Tables → Type 0)
+  -- statements inside a transaction made of the tables of version 1 those of version 2, or one failed, which it does only
+  -- with a cause where the rules of the tables let them in; nothing was committed
+  pub record UpgradesOpen {X : Type 0} (old new : MutBor (Held S)) (result : Result X Stop) (needs lets : Tables → Type 0)
       (change : Tables → Tables) : Type 0 where
     pub same_reference : new.ghost_name ≡ old.ghost_name
     pub silent : Silent (state g old.now) (state g new.now)
     pub faults : IfErr result IsStoreFault
     pub makes : HasCleanDisk (state g new.now) → OnOk result (IsTrue (state g old.now).in_transaction
         → Upgrades (state g old.now) (state g new.now) needs change)
+    pub cause : HasCleanDisk (state g new.now) → IfErr result (λ stop. stop ≡ Fault Store
+        → IsTrue (state g old.now).in_transaction → LetsUpgradeIn (state g old.now) needs lets
+        → HasFailed (state g old.now) (state g new.now))

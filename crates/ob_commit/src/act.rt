@@ -1,12 +1,12 @@
 //! The rows of a command, committed together.
 ghost use Rattle.std.specs.Prelude.{◌≡◌, false, OnOk, IfErr};
 ghost use Rattle.sqlite.specs.Held.{state};
-ghost use Rattle.sqlite.specs.State.{Survives};
+ghost use Rattle.sqlite.specs.State.{HasCleanDisk, Survives};
 ghost use Rattle.ob_base.specs.Stop.{out_of_memory};
 ghost use Rattle.ob_tables.specs.Steps.{Changes, IsStoreFault};
 ghost use Rattle.ob_tables.specs.Rows.{Tables};
-ghost use Rattle.ob_commit.specs.Acts.{CanWrite, NeedsRows, with_act};
-ghost use Rattle.ob_commit.specs.Keeps.{Keeps, KeepsEither, LeavesChanged};
+ghost use Rattle.ob_commit.specs.Acts.{CanWrite, LetsAct, NeedsRows, with_act};
+ghost use Rattle.ob_commit.specs.Keeps.{HasCommitCause, Keeps, KeepsEither, KeepsNumbers, LeavesChanged};
 
 use crate::change::{RowChange, write_change};
 use crate::moves::write_moves;
@@ -38,7 +38,8 @@ pub(crate) fn write_act<S: Alter>(
 ) -> Result<(), Stop>
     requires can { CanWrite postings.now act.now }
     ensures { Changes S.Store tx.old.conn tx.new.conn result
-        (NeedsRows postings.now act.now) (with_act postings.now act.now) }
+        (NeedsRows postings.now act.now) (LetsAct act.now)
+        (with_act postings.now act.now) }
 {
     write_change(tx, &act.change)?;
     add_command(tx, act.no, act.reference, act.body)?;
@@ -63,6 +64,15 @@ pub fn commit_act<S: Alter>(
     ensures either { IfErr result (λ stop. (t : Tables) → Keeps (state S.Store conn.old) t
         → NeedsRows postings.now act.now t
         → KeepsEither (state S.Store conn.new) t (with_act postings.now act.now t)) }
+    // where the rules let the rows in, the store fails only with a cause
+    ensures cause { IfErr result (λ stop. stop ≡ Stop.Fault Fault.Store → HasCleanDisk (state S.Store conn.new)
+        → (t : Tables) → Keeps (state S.Store conn.old) t → KeepsNumbers (state S.Store conn.old)
+        → NeedsRows postings.now act.now t → LetsAct act.now t
+        → HasCommitCause S.Store (state S.Store conn.old) (state S.Store conn.new)
+        (with_act postings.now act.now t)) }
+    // the hidden row numbers go on by one
+    ensures numbered { (t : Tables) → Keeps (state S.Store conn.old) t → NeedsRows postings.now act.now t
+        → KeepsNumbers (state S.Store conn.old) → KeepsNumbers (state S.Store conn.new) }
     // a crash leaves no more than before, but for the rows of the command
     ensures survives { Survives (state S.Store conn.old) (state S.Store conn.new)
         (LeavesChanged (state S.Store conn.old) (NeedsRows postings.now act.now)

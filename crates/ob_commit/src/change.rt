@@ -1,8 +1,10 @@
 //! The rows that a command changes beside its own and those of its amounts.
 ghost use Rattle.std.specs.Prelude.{◌≡◌, ◌<◌, ◌^◌, IfSome};
 ghost use Rattle.ob_tables.specs.Rows.{Always};
+ghost use Rattle.ob_tables.specs.Rules.{LacksKey, LetsDevice};
+ghost use Rattle.ob_tables.specs.declared.table.Table.TheVariants.{Life};
 ghost use Rattle.ob_tables.specs.Steps.{Changes};
-ghost use Rattle.ob_commit.specs.Changing.{HasSmallSeconds, NeedsRow, changed_by, with_device_and_life};
+ghost use Rattle.ob_commit.specs.Changing.{HasSmallSeconds, NeedsRow, LetsRow, changed_by, with_device_and_life};
 
 use ob_base::{Pos, Stop};
 use ob_tables::{
@@ -97,7 +99,7 @@ pub(crate) fn write_change<S: Alter>(
 ) -> Result<(), Stop>
     requires small { HasSmallSeconds change.now }
     ensures { Changes S.Store tx.old.conn tx.new.conn result
-        (NeedsRow change.now) (changed_by change.now) }
+        (NeedsRow change.now) (LetsRow change.now) (changed_by change.now) }
 {
     match *change {
         RowChange::AddCause { code, name } => add_cause(tx, code, name),
@@ -164,6 +166,7 @@ fn add_device_and_life<S: Alter>(
     requires since { since < 2 ^ 63 }
     requires until { IfSome until (λ end. end < 2 ^ 63) }
     ensures { Changes S.Store tx.old.conn tx.new.conn result Always
+        (λ t. LetsDevice no name.now a b t × LacksKey Life no t)
         (with_device_and_life no name.now a b normal since until) }
 {
     add_device(tx, no, name, a, b, normal)?;

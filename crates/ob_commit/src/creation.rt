@@ -1,11 +1,12 @@
 //! The tables of a new book, committed together.
 ghost use Rattle.std.specs.Prelude.{◌≡◌, ◌≢◌, ◌↔◌, ◌⊎◌, Err, false, IsTrue, OnOk, IfErr};
 ghost use Rattle.sqlite.specs.Held.{state};
-ghost use Rattle.sqlite.specs.State.{HasCleanDisk, Survives};
+ghost use Rattle.sqlite.specs.State.{HasCleanDisk, IsLive, Survives};
 ghost use Rattle.ob_tables.specs.Schema.{no_schema};
 ghost use Rattle.ob_tables.specs.Rows.{Tables};
+ghost use Rattle.ob_tables.specs.Rules.{IsShort};
 ghost use Rattle.ob_tables.specs.Steps.{IsStoreFault};
-ghost use Rattle.ob_commit.specs.Keeps.{Keeps};
+ghost use Rattle.ob_commit.specs.Keeps.{HasCommitCause, Keeps, KeepsNumbers};
 ghost use Rattle.ob_commit.specs.NewBook.{new_tables};
 ghost use Rattle.ob_commit.specs.Begins.{Stays, StaysOrBegins, Begins};
 
@@ -39,6 +40,12 @@ pub fn commit_new<S: Alter>(
         → (t : Tables) → Keeps (state S.Store conn.old) t → Keeps (state S.Store conn.new) t) }
     ensures either { IfErr result (λ stop. StaysOrBegins (state S.Store conn.old)
         (state S.Store conn.new) (new_tables first_day.now days zone.now)) }
+    // where the texts fit, the store fails only with a cause
+    ensures cause { IfErr result (λ stop. stop ≡ Stop.Fault Fault.Store → HasCleanDisk (state S.Store conn.new)
+        → IsShort first_day.now → IsShort zone.now
+        → HasCommitCause S.Store (state S.Store conn.old) (state S.Store conn.new)
+        (new_tables first_day.now days zone.now)) }
+    ensures numbered { OnOk result (KeepsNumbers (state S.Store conn.new)) }
     // a crash leaves no more than before, but for the tables of a new book where nothing was
     ensures survives { Survives (state S.Store conn.old) (state S.Store conn.new)
         (Begins (state S.Store conn.old) (new_tables first_day.now days zone.now)) }
@@ -58,7 +65,9 @@ pub fn commit_new<S: Alter>(
 
 /// Whether the database holds no table, no index and no view.
 fn is_empty<S: Alter>(conn: &Connection<S>) -> bool
-    ensures { IsTrue result ↔ ((state S.Store conn.now).now.schema ≡ no_schema) }
+    ensures empty { IsTrue result ↔ ((state S.Store conn.now).now.schema ≡ no_schema) }
+    // what is open is a whole database
+    ensures live { IsLive (state S.Store conn.now) }
 {
     let schema = conn.schema();
     schema.tables.is_empty() && schema.indexes.is_empty() && schema.views.is_empty()

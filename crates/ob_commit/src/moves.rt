@@ -5,7 +5,9 @@ ghost use Rattle.std.specs.List.{All};
 ghost use Rattle.ob_post.specs.Keys.{dim_number};
 ghost use Rattle.ob_tables.specs.Steps.{Changes};
 ghost use Rattle.ob_tables.specs.Rows.{HasPosting};
-ghost use Rattle.ob_commit.specs.Moves.{CanMove, with_move, with_moves, HasRows, moved_to};
+ghost use Rattle.ob_tables.specs.Rules.{HasKey, HasRoom, LetsMoved};
+ghost use Rattle.ob_tables.specs.declared.table.Table.TheVariants.{Command, Posting};
+ghost use Rattle.ob_commit.specs.Moves.{CanMove, LetsMoves, with_move, with_moves, HasRows, moved_to};
 ghost use Rattle.ob_commit.specs.Keeps.{ChangesOpen};
 
 use ob_base::Stop;
@@ -32,7 +34,9 @@ pub(crate) fn write_move<S: Alter>(
 ) -> Result<(), Stop>
     requires can { CanMove postings.now it.now }
     ensures { Changes S.Store tx.old.conn tx.new.conn result
-        (HasPosting (dim_number it.now.dim) it.now.key) (with_move no postings.now it.now) }
+        (HasPosting (dim_number it.now.dim) it.now.key)
+        (λ t. LetsMoved no (dim_number it.now.dim) it.now.key it.now.delta t × HasRoom Posting t)
+        (with_move no postings.now it.now) }
 {
     let Moved { dim, key, delta } = *it;
     let amount = amount_after(postings, it);
@@ -49,7 +53,8 @@ pub(crate) fn write_moves<S: Alter>(
 ) -> Result<(), Stop>
     requires can { All (CanMove postings.now) moves.now }
     ensures { ChangesOpen S.Store tx.old.conn tx.new.conn result
-        (HasRows no postings.now moves.now) (with_moves no postings.now moves.now) }
+        (HasRows no postings.now moves.now) (λ t. HasKey Command no t × LetsMoves no moves.now t)
+        (with_moves no postings.now moves.now) }
 {
     'moves: for at in 0..moves.len() {
         write_move(tx, no, postings, &moves[at])?;

@@ -1,13 +1,13 @@
 //! The tables of version 1 made those of version 2, committed together.
 ghost use Rattle.std.specs.Prelude.{◌≡◌, false, OnOk, IfErr};
 ghost use Rattle.sqlite.specs.Held.{state};
-ghost use Rattle.sqlite.specs.State.{Survives};
+ghost use Rattle.sqlite.specs.State.{HasCleanDisk, Survives};
 ghost use Rattle.ob_base.specs.Stop.{out_of_memory};
 ghost use Rattle.ob_tables.specs.Steps.{IsStoreFault};
 ghost use Rattle.ob_tables.specs.Rows.{Always, Tables};
 ghost use Rattle.ob_tables.specs.declared.version.Version.{Version as AVersion};
-ghost use Rattle.ob_commit.specs.Keeps.{ChangesOpen, Keeps, KeepsIn};
-ghost use Rattle.ob_commit.specs.Upgrade.{CanUpgrade, HasBodies, KeepsOldOr, LeavesUpgraded, UpgradesOpen, with_bodies, with_lives, with_upgrade};
+ghost use Rattle.ob_commit.specs.Keeps.{ChangesOpen, HasCommitCause, Keeps, KeepsIn, KeepsNumbers};
+ghost use Rattle.ob_commit.specs.Upgrade.{CanUpgrade, HasBodies, KeepsOldOr, LeavesUpgraded, LetsBodies, LetsLivesOf, LetsUpgrade, UpgradesOpen, with_bodies, with_lives, with_upgrade};
 
 use ob_base::{Fault, Stop};
 use ob_tables::{add_life, create_life, set_body, set_version};
@@ -25,7 +25,7 @@ pub struct NewBody {
 /// Gives commands other body texts.
 fn write_bodies<S: Alter>(tx: &mut Transaction<'_, S>, bodies: &[NewBody]) -> Result<(), Stop>
     ensures { ChangesOpen S.Store tx.old.conn tx.new.conn result (HasBodies bodies.now)
-        (with_bodies bodies.now) }
+        (LetsBodies bodies.now) (with_bodies bodies.now) }
 {
     'bodies: for at in 0..bodies.len() {
         let it = &bodies[at];
@@ -36,7 +36,8 @@ fn write_bodies<S: Alter>(tx: &mut Transaction<'_, S>, bodies: &[NewBody]) -> Re
 
 /// Gives so many devices, from number 0 on, a life without end from the first second on.
 fn write_lives<S: Alter>(tx: &mut Transaction<'_, S>, devices: u32) -> Result<(), Stop>
-    ensures { ChangesOpen S.Store tx.old.conn tx.new.conn result Always (with_lives devices) }
+    ensures { ChangesOpen S.Store tx.old.conn tx.new.conn result Always
+        (LetsLivesOf devices) (with_lives devices) }
 {
     'lives: for at in 0..devices {
         add_life(tx, at, 0, None)?;
@@ -52,7 +53,7 @@ fn write_upgrade<S: Alter>(
     devices: u32,
 ) -> Result<(), Stop>
     ensures { UpgradesOpen S.Store tx.old.conn tx.new.conn result (CanUpgrade bodies.now devices)
-        (with_upgrade bodies.now devices) }
+        (LetsUpgrade bodies.now devices) (with_upgrade bodies.now devices) }
 {
     create_life(tx)?;
     write_bodies(tx, bodies)?;
@@ -79,6 +80,17 @@ pub fn commit_upgrade<S: Alter>(
     ensures either { IfErr result (λ stop. (t : Tables)
         → KeepsIn AVersion.One (state S.Store conn.old) t → CanUpgrade bodies.now devices t
         → KeepsOldOr (state S.Store conn.new) t (with_upgrade bodies.now devices t)) }
+    // where the rules let the rows in, the store fails only with a cause
+    ensures cause { IfErr result (λ stop. stop ≡ Stop.Fault Fault.Store → HasCleanDisk (state S.Store conn.new)
+        → (t : Tables) → KeepsIn AVersion.One (state S.Store conn.old) t
+        → KeepsNumbers (state S.Store conn.old) → CanUpgrade bodies.now devices t
+        → LetsUpgrade bodies.now devices t
+        → HasCommitCause S.Store (state S.Store conn.old) (state S.Store conn.new)
+        (with_upgrade bodies.now devices t)) }
+    // the hidden row numbers stay
+    ensures numbered { (t : Tables) → KeepsIn AVersion.One (state S.Store conn.old) t
+        → CanUpgrade bodies.now devices t → KeepsNumbers (state S.Store conn.old)
+        → KeepsNumbers (state S.Store conn.new) }
     ensures survives { Survives (state S.Store conn.old) (state S.Store conn.new)
         (LeavesUpgraded (state S.Store conn.old) (CanUpgrade bodies.now devices)
         (with_upgrade bodies.now devices)) }

@@ -5,7 +5,7 @@ ghost use Rattle.ob_tables.specs.Creation.{Creates};
 ghost use Rattle.ob_tables.specs.Rows.{Always};
 ghost use Rattle.ob_commit.specs.Amounts.{all_keys};
 ghost use Rattle.ob_commit.specs.Keeps.{ChangesOpen};
-ghost use Rattle.ob_commit.specs.NewBook.{new_tables, with_heading, with_zeros, keys_of, MakesNew};
+ghost use Rattle.ob_commit.specs.NewBook.{LetsHeading, LetsNew, LetsZeros, new_tables, with_heading, with_zeros, keys_of, MakesNew};
 
 use ob_base::Stop;
 use ob_post::Dim;
@@ -26,7 +26,7 @@ pub(crate) fn write_new<S: Alter>(
     zone: &[u8],
 ) -> Result<(), Stop>
     ensures { Creates S.Store tx.old.conn tx.new.conn result
-        (MakesNew (new_tables first_day.now days zone.now)) }
+        (LetsNew first_day.now zone.now) (MakesNew (new_tables first_day.now days zone.now)) }
 {
     create_tables(tx)?;
     write_heading(tx, first_day, days, zone)?;
@@ -41,7 +41,7 @@ fn write_heading<S: Alter>(
     zone: &[u8],
 ) -> Result<(), Stop>
     ensures { Changes S.Store tx.old.conn tx.new.conn result Always
-        (with_heading first_day.now days zone.now) }
+        (LetsHeading first_day.now zone.now) (with_heading first_day.now days zone.now) }
 {
     add_meta(tx, first_day, u32::from(days), zone)?;
     add_cause(tx, 0, b"UNASSIGNED")?;
@@ -51,7 +51,7 @@ fn write_heading<S: Alter>(
 /// Adds the row of each amount, which is 0.
 fn write_amounts<S: Alter>(tx: &mut Transaction<'_, S>, days: u16) -> Result<(), Stop>
     ensures { ChangesOpen S.Store tx.old.conn tx.new.conn result Always
-        (with_zeros (all_keys days)) }
+        (LetsZeros (all_keys days)) (with_zeros (all_keys days)) }
 {
     write_keys(tx, Dim::Cause, 0, CAUSES)?;
     write_keys(tx, Dim::Feeder, 1, FEEDERS)?;
@@ -66,6 +66,7 @@ fn write_keys<S: Alter>(
     count: u16,
 ) -> Result<(), Stop>
     ensures { ChangesOpen S.Store tx.old.conn tx.new.conn result Always
+        (LetsZeros (keys_of dim (range_with_len first count)))
         (with_zeros (keys_of dim (range_with_len first count))) }
 {
     let dim_no = u32::from(dim.number());

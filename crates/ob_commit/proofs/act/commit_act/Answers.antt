@@ -1,10 +1,14 @@
-use Rattle.std.proofs.Common.{◌≡◌, refl, subst, rules, true}
+use Rattle.std.proofs.Common.{◌≡◌, inl, refl, sym, subst, arith, rules, true}
 use Rattle.sqlite.specs.State.{HasCleanDisk, Survives}
 use Rattle.sqlite.specs.Held.{state}
+use Rattle.ob_base.specs.declared.stop.Stop.TheVariants.{Fault}
+use Rattle.ob_base.specs.declared.stop.Fault.TheVariants.{Store}
+use Rattle.ob_tables.specs.Rows.{Tables}
 use Rattle.ob_tables.specs.Steps.{Silent, Makes}
-use Rattle.ob_commit.specs.Acts.{NeedsRows, with_act}
-use Rattle.ob_commit.specs.Keeps.{Keeps, KeepsEither, LeavesChanged}
-use Rattle.ob_commit.proofs.Commits.{silent_begin, of_two, committed, failed, survives_commit}
+use Rattle.ob_commit.specs.Acts.{LetsAct, NeedsRows, with_act}
+use Rattle.ob_commit.specs.Keeps.{HasCommitCause, Keeps, KeepsEither, KeepsNumbers, LeavesChanged}
+use Rattle.ob_commit.proofs.Causes.{handed}
+use Rattle.ob_commit.proofs.Commits.{silent_begin, of_two, committed, dropped_cause, failed, failed_cause, numbered_commit, numbers_survive, survives_commit}
 use Rattle.ob_commit.proofs.act.commit_act.Goals as goal
 
 pub returns-in-Ok-clause-done : goal.returns-in-Ok-clause-done
@@ -59,3 +63,77 @@ returns-in-Err-clause-survives g c =
     let quiet : Silent old last = silent_begin g.S.Store h last (rw c.transaction-tx.ensures.begun at c.write_act.ensures.silent) in
     let makes : HasCleanDisk last → Makes (record old { in_transaction = true }) last needs change = λ late. (rw c.transaction-tx.ensures.begun at (c.in_ok-write_act.ensures.makes late)) refl in
     subst (λ x. Survives old (state g.S.Store x) (LeavesChanged old needs change)) same (survives_commit old last (state g.S.Store end) needs change c.schema-schema.ensures.live quiet (λ late. of_two (makes late)) c.commit.ensures.survives)
+
+pub returns-in-Ok-clause-numbered : goal.returns-in-Ok-clause-numbered
+returns-in-Ok-clause-numbered g c t keeps needed numbers =
+    let h = c.args.conn.now in
+    let old = state g.S.Store h in
+    let last = state g.S.Store c.write_act.new.tx.conn.now in
+    let end = c.commit.new.self.0 in
+    let needs = NeedsRows c.args.postings.now c.args.act.now in
+    let change = with_act c.args.postings.now c.args.act.now in
+    let same : end ≡ c.conn-2-1.given.0 = search rules in
+    let quiet : Silent old last = silent_begin g.S.Store h last (rw c.transaction-tx.ensures.begun at c.write_act.ensures.silent) in
+    let makes : HasCleanDisk last → Makes (record old { in_transaction = true }) last needs change = λ late. (rw c.transaction-tx.ensures.begun at (c.in_ok-write_act.ensures.makes late)) refl in
+    subst (λ x. KeepsNumbers (state g.S.Store x)) same
+    (numbered_commit old last (state g.S.Store end) t keeps numbers (λ live. g.met.S.Store.stays h.store live) quiet needs change needed (λ late. of_two (makes late)) c.commit.ensures.survives)
+
+pub returns-in-Err-clause-numbered : goal.returns-in-Err-clause-numbered
+returns-in-Err-clause-numbered g c t keeps needed numbers =
+    let h = c.args.conn.now in
+    let old = state g.S.Store h in
+    let last = state g.S.Store c.write_act.new.tx.conn.now in
+    let end = c.commit.new.self.0 in
+    let needs = NeedsRows c.args.postings.now c.args.act.now in
+    let change = with_act c.args.postings.now c.args.act.now in
+    let same : end ≡ c.conn-2-1.given.0 = search rules in
+    let quiet : Silent old last = silent_begin g.S.Store h last (rw c.transaction-tx.ensures.begun at c.write_act.ensures.silent) in
+    let makes : HasCleanDisk last → Makes (record old { in_transaction = true }) last needs change = λ late. (rw c.transaction-tx.ensures.begun at (c.in_ok-write_act.ensures.makes late)) refl in
+    subst (λ x. KeepsNumbers (state g.S.Store x)) same
+    (numbered_commit old last (state g.S.Store end) t keeps numbers (λ live. g.met.S.Store.stays h.store live) quiet needs change needed (λ late. of_two (makes late)) c.commit.ensures.survives)
+
+pub returns-in-Err-clause-cause : goal.returns-in-Err-clause-cause
+returns-in-Err-clause-cause g c store clean t keeps numbers needed allowed =
+    let h = c.args.conn.now in
+    let old = state g.S.Store h in
+    let last = state g.S.Store c.write_act.new.tx.conn.now in
+    let end = c.commit.new.self.0 in
+    let needs = NeedsRows c.args.postings.now c.args.act.now in
+    let change = with_act c.args.postings.now c.args.act.now in
+    let same : end ≡ c.conn-2-1.given.0 = search rules in
+    let quiet : Silent old last = silent_begin g.S.Store h last (rw c.transaction-tx.ensures.begun at c.write_act.ensures.silent) in
+    let makes : HasCleanDisk last → Makes (record old { in_transaction = true }) last needs change = λ late. (rw c.transaction-tx.ensures.begun at (c.in_ok-write_act.ensures.makes late)) refl in
+    let done : HasCleanDisk (state g.S.Store end) = subst (λ x. HasCleanDisk (state g.S.Store x)) (sym same) clean in
+    subst (λ x. HasCommitCause g.S.Store old (state g.S.Store x) (change t)) same
+    (failed_cause g.S.Store old c.write_act.new.tx.conn.now (state g.S.Store end) t needs change keeps needed quiet (λ late. of_two (makes late)) c.commit.ensures.survives _ done (c.in-Err.ensures.err done))
+
+pub returns-in_err-write_act-clause-cause : goal.returns-in_err-write_act-clause-cause
+returns-in_err-write_act-clause-cause g c =
+    let h = c.args.conn.now in
+    let old = state g.S.Store h in
+    let last = state g.S.Store c.write_act.new.tx.conn.now in
+    let end = c.drop-tx.new.self.0 in
+    let needs = NeedsRows c.args.postings.now c.args.act.now in
+    let change = with_act c.args.postings.now c.args.act.now in
+    let same : end ≡ c.conn-1.given.0 = search rules in
+    let quiet : Silent old last = silent_begin g.S.Store h last (rw c.transaction-tx.ensures.begun at c.write_act.ensures.silent) in
+    handed c.from_residual.result _ (λ stop. stop ≡ Fault Store → HasCleanDisk (state g.S.Store c.conn-1.given.0) → (t : Tables) → Keeps old t → KeepsNumbers old → needs t → LetsAct c.args.act.now t
+    → HasCommitCause g.S.Store old (state g.S.Store c.conn-1.given.0) (change t)) c.from_residual.ensures.1
+    (λ store clean t keeps numbers needed allowed.
+    let done : HasCleanDisk (state g.S.Store end) = subst (λ x. HasCleanDisk (state g.S.Store x)) (sym same) clean in
+    let late : HasCleanDisk last = omega (arith, c.drop-tx.ensures.survives.clean, done) in
+    let first : HasCleanDisk old = omega (arith, quiet.survives.clean, late) in
+    subst (λ x. HasCommitCause g.S.Store old (state g.S.Store x) (change t)) same
+    (inl (dropped_cause old last (state g.S.Store end) _ t needs (LetsAct c.args.act.now) first c.schema-schema.ensures.live keeps numbers (λ live. g.met.S.Store.stays h.store live) needed allowed
+    ((rw c.transaction-tx.ensures.begun at (c.in_err-write_act.ensures.cause late)) store refl) c.drop-tx.ensures.survives)))
+
+pub returns-in_err-write_act-clause-numbered : goal.returns-in_err-write_act-clause-numbered
+returns-in_err-write_act-clause-numbered g c t keeps needed numbers =
+    let h = c.args.conn.now in
+    let old = state g.S.Store h in
+    let last = state g.S.Store c.write_act.new.tx.conn.now in
+    let end = c.drop-tx.new.self.0 in
+    let same : end ≡ c.conn-1.given.0 = search rules in
+    let quiet : Silent old last = silent_begin g.S.Store h last (rw c.transaction-tx.ensures.begun at c.write_act.ensures.silent) in
+    subst (λ x. KeepsNumbers (state g.S.Store x)) same
+    (numbers_survive last (state g.S.Store end) c.drop-tx.ensures.survives (numbers_survive old last quiet.survives numbers))

@@ -1,10 +1,13 @@
 use Rattle.std.proofs.Common.{◌∙◌, arith}
 use Rattle.sqlite.specs.State.{HasCleanDisk}
 use Rattle.sqlite.specs.Held.{state}
-use Rattle.ob_tables.specs.Rows.{Always, with_row, device_row, life_row}
+use Rattle.ob_tables.specs.Rows.{Always, Tables, is_key, with_row, device_row, life_row}
+use Rattle.ob_tables.specs.Rules.{LacksKey, LetsDevice, LetsLife}
 use Rattle.ob_tables.specs.declared.table.Table.TheVariants.{Device, Life}
 use Rattle.ob_tables.proofs.Silence.{silent_then}
+use Rattle.ob_commit.proofs.Causes.{change_stopped, last_cause, lets_then, lets_weaker, of_change, stopped_first}
 use Rattle.ob_commit.proofs.Steps.{on_ok, makes_then}
+use Rattle.ob_commit.proofs.Tests.{keyed, last_passes}
 use Rattle.ob_commit.proofs.change.add_device_and_life.Goals as goal
 
 pub returns : goal.returns
@@ -13,6 +16,7 @@ returns g c =
     let one = state g.S.Store c.add_device.new.tx.conn.now in
     let new = state g.S.Store c.add_life.new.tx.conn.now in
     let device = with_row Device (device_row c.args.no c.args.name.now c.args.a c.args.b c.args.normal) in
+    let lets : Tables → Type 0 = λ t. LetsDevice c.args.no c.args.name.now c.args.a c.args.b t × LacksKey Life c.args.no t in
     let life = with_row Life (life_row c.args.no c.args.since c.args.until) in
     let last = c.add_life.ensures in
     record {
@@ -24,4 +28,14 @@ returns g c =
           on_ok c.add_life.result (last.makes clean) (λ second inside.
           let first = c.in_ok-add_device.ensures.makes early inside in
           makes_then old one new Always Always Always device life (λ t has. (tt, tt)) first (second first.inside));
+      cause = λ clean. last_cause old one new c.add_life.result c.add_device.ensures.silent last.silent clean (last.cause clean)
+          (λ early live inside allowed.
+          let went = c.in_ok-add_device.ensures.makes early inside in
+          (went.inside, lets_then old one Always Always lets Always (LetsLife c.args.no) device (λ t any it. (tt, tt, (it.1, last_passes (is_key c.args.no) (t Device) _ (keyed c.args.no)))) went allowed));
     }
+
+pub returns-in_err-add_device : goal.returns-in_err-add_device
+returns-in_err-add_device g c =
+    let lets : Tables → Type 0 = λ t. LetsDevice c.args.no c.args.name.now c.args.a c.args.b t × LacksKey Life c.args.no t in
+    change_stopped g.S.Store c.args.tx.now.conn c.add_device.new.tx.conn c.from_residual.result _ c.from_residual.ensures.1
+    (stopped_first g.S.Store _ _ _ (lets_weaker _ Always lets Always _ (λ t any it. (tt, it.0))) (of_change g.S.Store _ _ _ c.in_err-add_device.ensures))

@@ -4,10 +4,12 @@ use Rattle.sqlite.specs.State.{HasCleanDisk}
 use Rattle.sqlite.specs.Held.{state}
 use Rattle.ob_post.specs.Keys.{dim_number}
 use Rattle.ob_tables.specs.Steps.{Makes}
-use Rattle.ob_tables.specs.Rows.{Always, HasPosting, with_row, moved_row, with_posting}
-use Rattle.ob_tables.specs.declared.table.Table.TheVariants.{Moved}
+use Rattle.ob_tables.specs.Rows.{Always, HasPosting, Tables, with_row, moved_row, with_posting}
+use Rattle.ob_tables.specs.declared.table.Table.TheVariants.{Moved, Posting}
+use Rattle.ob_tables.specs.Rules.{HasRoom, LetsMoved}
 use Rattle.ob_tables.proofs.Silence.{silent_then}
 use Rattle.ob_commit.specs.Moves.{moved_to}
+use Rattle.ob_commit.proofs.Causes.{change_stopped, last_cause, lets_then, lets_weaker, of_change, stopped_first}
 use Rattle.ob_commit.proofs.Steps.{on_ok, makes_then}
 use Rattle.ob_commit.proofs.moves.write_move.Goals as goal
 
@@ -21,6 +23,7 @@ returns g c =
     let add = with_row Moved (moved_row c.args.no (dim_number it.dim) it.key it.delta) in
     let set = with_posting (dim_number it.dim) it.key amount in
     let needs = HasPosting (dim_number it.dim) it.key in
+    let lets : Tables → Type 0 = λ t. LetsMoved c.args.no (dim_number it.dim) it.key it.delta t × HasRoom Posting t in
     let fits : FitsSigned w64 it.delta = search rules in
     record {
       same_reference = c.set_posting.ensures.same_reference ∙ c.add_moved.ensures.same_reference;
@@ -37,4 +40,18 @@ returns g c =
           rw (c.from-3.ensures, c.from-4.ensures, c.number-2.ensures, c.amount_after-amount.ensures.value) at
           (second first.inside) in
           makes_then old mid new Always needs needs add set (λ t has. (tt, has)) first then);
+      cause = λ clean. last_cause old mid new c.set_posting.result c.add_moved.ensures.silent c.set_posting.ensures.silent clean
+          (rw (c.from-3.ensures, c.from-4.ensures, c.number-2.ensures) at (c.set_posting.ensures.cause clean))
+          (λ early live inside allowed.
+          let went : Makes old mid Always add = rw (c.from.ensures, c.from-2.ensures, c.number.ensures, to_z-of_z fits) at (c.in_ok-add_moved.ensures.makes early inside) in
+          (went.inside, lets_then old mid Always needs lets needs (HasRoom Posting) add (λ t has it. (tt, has, it.1)) went allowed));
     }
+
+pub returns-in_err-add_moved : goal.returns-in_err-add_moved
+returns-in_err-add_moved g c =
+    let it = c.args.it.now in
+    let lets : Tables → Type 0 = λ t. LetsMoved c.args.no (dim_number it.dim) it.key it.delta t × HasRoom Posting t in
+    let fits : FitsSigned w64 it.delta = search rules in
+    change_stopped g.S.Store c.args.tx.now.conn c.add_moved.new.tx.conn c.from_residual.result _ c.from_residual.ensures.1
+    (stopped_first g.S.Store _ _ _ (lets_weaker _ (HasPosting (dim_number it.dim) it.key) lets Always (LetsMoved c.args.no (dim_number it.dim) it.key it.delta) (λ t has l. (tt, l.0)))
+    (of_change g.S.Store _ _ _ (rw (c.from.ensures, c.from-2.ensures, c.number.ensures, to_z-of_z fits) at c.in_err-add_moved.ensures)))

@@ -6,6 +6,10 @@ use Rattle.ob_tables.specs.Steps.{Makes}
 use Rattle.ob_tables.specs.Rows.{Always, with_row, meta_row, cause_row, node_row}
 use Rattle.ob_tables.specs.declared.table.Table.TheVariants.{Meta, Cause, Node}
 use Rattle.ob_tables.proofs.Silence.{silent_then}
+use Rattle.ob_tables.specs.Rules.{LetsCause, LetsMeta, LetsNode}
+use Rattle.ob_commit.specs.NewBook.{LetsHeading}
+use Rattle.ob_commit.proofs.Causes.{change_stopped, last_cause, lets_then, lets_weaker, of_change, stopped_after, stopped_first}
+use Rattle.ob_commit.proofs.Letting.{lets_grid, lets_meta, lets_unassigned}
 use Rattle.ob_commit.proofs.Steps.{on_ok, makes_then}
 use Rattle.ob_commit.proofs.writing.write_heading.Goals as goal
 
@@ -17,6 +21,9 @@ returns g c =
     let new = state g.S.Store c.add_node.new.tx.conn.now in
     let period = with_row Meta (meta_row 2 c.args.first_day.now c.args.days c.args.zone.now) in
     let cause = with_row Cause (cause_row 0 (codes "UNASSIGNED")) in
+    let first_day = c.args.first_day.now in
+    let zone = c.args.zone.now in
+    let lets = LetsHeading first_day zone in
     let grid = with_row Node (node_row 0 (codes "GRID") 0 0) in
     let last = c.add_node.ensures in
     let quiet = silent_then one two new c.add_cause.ensures.silent last.silent in
@@ -32,4 +39,31 @@ returns g c =
           let second : Makes one two Always cause = c.in_ok-add_cause.ensures.makes late first.inside in
           let both : Makes old two Always (λ t. cause (period t)) = makes_then old one two Always Always Always period cause (λ t has. (tt, tt)) first second in
           makes_then old two new Always Always Always (λ t. cause (period t)) grid (λ t has. (tt, tt)) both (third second.inside));
+      cause = λ clean. last_cause old two new c.add_node.result (silent_then old one two c.add_meta.ensures.silent c.add_cause.ensures.silent) last.silent clean (last.cause clean)
+          (λ late live inside allowed.
+          let early : HasCleanDisk one = omega (arith, c.add_cause.ensures.silent.survives.clean, late) in
+          let first : Makes old one Always period = rw c.from.ensures at (c.in_ok-add_meta.ensures.makes early inside) in
+          let second : Makes one two Always cause = c.in_ok-add_cause.ensures.makes late first.inside in
+          let both : Makes old two Always (λ t. cause (period t)) = makes_then old one two Always Always Always period cause (λ t has. (tt, tt)) first second in
+          (second.inside, lets_then old two Always Always lets Always (LetsNode 0 (codes "GRID")) (λ t. cause (period t)) (λ t any it. (tt, tt, lets_grid first_day zone t it)) both allowed));
     }
+
+pub returns-in_err-add_meta : goal.returns-in_err-add_meta
+returns-in_err-add_meta g c =
+    let first_day = c.args.first_day.now in
+    let zone = c.args.zone.now in
+    change_stopped g.S.Store c.args.tx.now.conn c.add_meta.new.tx.conn c.from_residual.result _ c.from_residual.ensures.1
+    (stopped_first g.S.Store _ _ _ (lets_weaker _ Always (LetsHeading first_day zone) Always (LetsMeta first_day zone) (λ t any it. (tt, lets_meta first_day zone t it))) (of_change g.S.Store _ _ _ c.in_err-add_meta.ensures))
+
+pub returns-in_err-add_cause : goal.returns-in_err-add_cause
+returns-in_err-add_cause g c =
+    let first_day = c.args.first_day.now in
+    let zone = c.args.zone.now in
+    let old = state g.S.Store c.args.tx.now.conn.now in
+    let one = state g.S.Store c.add_meta.new.tx.conn.now in
+    let period = with_row Meta (meta_row 2 first_day c.args.days zone) in
+    change_stopped g.S.Store c.args.tx.now.conn c.add_cause.new.tx.conn c.from_residual-in_err-add_cause.result _ c.from_residual-in_err-add_cause.ensures.1
+    (stopped_after g.S.Store c.args.tx.now.conn c.add_meta.new.tx.conn c.add_cause.new.tx.conn _ c.add_meta.ensures.same_reference c.add_meta.ensures.silent (of_change g.S.Store _ _ _ c.in_err-add_cause.ensures)
+    (λ early live inside allowed.
+    let first : Makes old one Always period = rw c.from.ensures at (c.in_ok-add_meta.ensures.makes early inside) in
+    (first.inside, lets_then old one Always Always (LetsHeading first_day zone) Always (LetsCause 0 (codes "UNASSIGNED")) period (λ t any it. (tt, tt, lets_unassigned first_day zone t it)) first allowed)))
