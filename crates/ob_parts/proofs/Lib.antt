@@ -3,6 +3,7 @@ mod Versions
 mod Numbered
 mod Network
 mod Keyed
+mod Letting
 mod Changed
 mod Examples
 mod Renewed

@@ -11,8 +11,9 @@ use Rattle.ob_upgrade.specs.Laws.{LiveAlways}
 use Rattle.ob_upgrade.specs.Old.{is_old}
 use Rattle.ob_tables.specs.declared.table.Table.{Table}
 use Rattle.ob_tables.specs.declared.table.Table.TheVariants.{Meta, Life, Command}
-use Rattle.ob_commit.specs.Upgrade.{CanUpgrade, with_upgrade}
+use Rattle.ob_commit.specs.Upgrade.{CanUpgrade, LetsUpgrade, with_upgrade}
 use Rattle.ob_commit.specs.declared.upgrade.NewBody.{NewBody}
+use Rattle.ob_record.specs.Naming.{IsReferenced}
 use Rattle.ob_record.specs.Reached.{IsReached}
 use Rattle.ob_record.specs.Tables.{tables_of}
 use Rattle.ob_parts.specs.OldTables.{HasOldBook, IsOldReached, new_texts, old_tables_of, texts_of}
@@ -46,6 +47,12 @@ Upgraded =
     → CanUpgrade bodies (length b.book.network.devices) (old_tables_of b)
     × ((table : Table)
     → IsPermutation (with_upgrade bodies (length b.book.network.devices) (old_tables_of b) table) (tables_of b table))
+
+-- and the rules of today's tables let the rows of that in, where its references and commands are what their types keep
+abbrev pub LetsUpgraded : Type 0
+LetsUpgraded =
+    (b : ActState) (bodies : List NewBody) → IsOldReached b → AllByRecursion IsReferenced b.accepted
+    → texts_of bodies ≡ new_texts 1 b.accepted → LetsUpgrade bodies (length b.book.network.devices) (old_tables_of b)
 
 -- the texts of the book's period name it alone
 abbrev pub NamesOnePeriod : ActState → Type 0

@@ -1,15 +1,22 @@
 -- What is known of a state that accepts a command, as the rows need it.
-use Rattle.std.proofs.Common.{◌≡◌, ℕ, ◌==◌, ◌||◌, Bool, true, false, cond, is_some, List, Option, Some, None, refl, sym, ap, ap₂, ◌∙◌, inl, inr}
+use Rattle.std.proofs.Common.{◌≡◌, ℕ, ◌==◌, ◌||◌, Bool, true, false, not, cond, is_some, is_none, List, [], ◌∷◌, Option, Some, None, refl, sym, ap, ap₂, ◌∙◌, inl, inr}
 use Rattle.std.specs.Option.{option_and_then}
 use Rattle.std.proofs.lemmas.Bool.{cases_Bool, eqb-true}
+use Rattle.ob_base.specs.declared.Pos.{Pos}
 use Rattle.ob_base.specs.declared.stop.Refusal.{Refusal}
-use Rattle.ob_net.specs.Network.{Network, home_feeder, node_of, section_of}
+use Rattle.ob_base.specs.declared.stop.Refusal.TheVariants.{UnknownName, UnknownCause}
+use Rattle.ob_command.specs.Ranges.{EndNames}
+use Rattle.ob_command.specs.declared.command.Command.TheVariants as commands
+use Rattle.ob_cust.specs.Roll.{has_number}
+use Rattle.ob_net.specs.Network.{Network, device_of, home_feeder, node_of, node_refusal, section_of}
 use Rattle.ob_sheet.specs.declared.Entry.{Entry}
 use Rattle.ob_sheet.specs.Order.{entry_of}
 use Rattle.ob_sheet.specs.Revisions.{revision_refusal, entry_refusal}
 use Rattle.ob_index.specs.Marks.{engineer_of, mark_refusal, unmark_refusal}
-use Rattle.ob_state.specs.State.{cause_name_of, has_cause}
-use Rattle.ob_state.specs.Refusals.{refuse_if}
+use Rattle.ob_state.specs.State.{BookState, cause_name_of, has_cause, has_cause_name}
+use Rattle.ob_state.specs.Refusals.{if_full, if_full_sheet, if_outside, if_unknown_cause, if_unknown_device, refusal, refuse_if}
+use Rattle.ob_state.proofs.Accepted.{connect_accepted}
+use Rattle.ob_state.proofs.Firsts.{no_head, no_tail}
 
 none_if : {X : Type 0} (o : Option X) → is_some o ≡ false → o ≡ None
 none_if None is_not = refl
@@ -23,9 +30,67 @@ either_fails : (t u : Bool) (r : Refusal) → refuse_if (t || u) r ≡ None → 
 either_fails true u r h = cc
 either_fails false u r h = refl
 
+second_fails : (t u : Bool) (r : Refusal) → refuse_if (t || u) r ≡ None → u ≡ false
+second_fails true u r h = cc
+second_fails false true r h = cc
+second_fails false false r h = refl
+
+known_if : (t : Bool) (r : Refusal) → refuse_if (not t) r ≡ None → t ≡ true
+known_if true r h = refl
+known_if false r h = cc
+
+first_fails : {X : Type 0} (t : Bool) (x : X) (o : Option X) → cond t (Some x) o ≡ None → (t ≡ false) × (o ≡ None)
+first_fails true x o h = cc
+first_fails false x o h = (refl, h)
+
 -- a code that is accepted for a new cause is free
 pub code_is_free : (causes : List (Option (List ℕ))) (code : ℕ) (taken : Bool) (r : Refusal) → refuse_if (has_cause causes code || taken) r ≡ None → cause_name_of causes code ≡ None
 code_is_free causes code taken r h = none_if (cause_name_of causes code) (either_fails (has_cause causes code) taken r h)
+
+-- and so is its name
+pub name_is_free : (causes : List (Option (List ℕ))) (code : ℕ) (name : List ℕ) (r : Refusal) → refuse_if (has_cause causes code || has_cause_name causes name) r ≡ None → has_cause_name causes name ≡ false
+name_is_free causes code name r h = second_fails (has_cause causes code) (has_cause_name causes name) r h
+
+-- the cause of an entry is there
+cause_there : (causes : List (Option (List ℕ))) (code : ℕ) → if_unknown_cause causes code ≡ None → (name : List ℕ) × (cause_name_of causes code ≡ Some name)
+cause_there causes code h = some_if (cause_name_of causes code) (known_if (has_cause causes code) UnknownCause h)
+
+pub cause_of_switch : (b : BookState) (device : List ℕ) (act : Pos) (second cause : ℕ) (crew : List ℕ) → refusal b (commands.Switch device act second cause crew) ≡ None
+    → (name : List ℕ) × (cause_name_of b.causes cause ≡ Some name)
+cause_of_switch b device act second cause crew h =
+    let unknown = if_unknown_device b.network device in
+    let outside = if_outside b.period second in
+    let unknown_cause = if_unknown_cause b.causes cause in
+    let rest : List (Option Refusal) = if_full_sheet b.entries ∷ if_full b ∷ [] in
+    cause_there b.causes cause (no_head unknown_cause rest (no_tail outside (unknown_cause ∷ rest) (no_tail unknown (outside ∷ unknown_cause ∷ rest) h)))
+
+pub cause_of_correction : (b : BookState) (entry revision : ℕ) (act : Pos) (second cause : ℕ) (crew : List ℕ) → refusal b (commands.Correct entry revision act second cause crew) ≡ None
+    → (name : List ℕ) × (cause_name_of b.causes cause ≡ Some name)
+cause_of_correction b entry revision act second cause crew h =
+    let revision_of = revision_refusal b.entries entry revision in
+    let outside = if_outside b.period second in
+    let unknown_cause = if_unknown_cause b.causes cause in
+    let rest : List (Option Refusal) = if_full b ∷ [] in
+    cause_there b.causes cause (no_head unknown_cause rest (no_tail outside (unknown_cause ∷ rest) (no_tail revision_of (outside ∷ unknown_cause ∷ rest) h)))
+
+-- no node has the name of a new one, no device that of a new device, and no customer the number of a new one
+node_is_new : (net : Network) (name : List ℕ) → node_refusal net name ≡ None → is_some (node_of net name) ≡ false
+node_is_new net name h = (first_fails (is_some (node_of net name)) _ _ h).0
+
+pub bus_is_new : (b : BookState) (name : List ℕ) → refusal b (commands.Bus name) ≡ None → is_some (node_of b.network name) ≡ false
+bus_is_new b name h = node_is_new b.network name (no_head _ _ h)
+
+pub section_is_new : (b : BookState) (name : List ℕ) (feeder : ℕ) → refusal b (commands.Section name feeder) ≡ None → is_some (node_of b.network name) ≡ false
+section_is_new b name feeder h = node_is_new b.network name (no_head _ _ h)
+
+pub device_is_new : (b : BookState) (name : List ℕ) (ends : EndNames) (normal : Pos) (since : ℕ) (until : Option ℕ) → refusal b (commands.Device name ends normal since until) ≡ None
+    → is_some (device_of b.network name) ≡ false
+device_is_new b name ends normal since until h =
+    let known = first_fails (is_none (node_of b.network ends.a) || is_none (node_of b.network ends.b)) UnknownName _ (no_head _ _ h) in
+    (first_fails (is_some (device_of b.network name)) _ _ known.1).0
+
+pub customer_is_new : (b : BookState) (number : ℕ) (section : List ℕ) (since : ℕ) (until : Option ℕ) → refusal b (commands.Connect number section since until) ≡ None → has_number b.customers number ≡ false
+customer_is_new b number section since until h = (first_fails (has_number b.customers number) _ _ (connect_accepted b number section since until h).2).0
 
 marked_fails : (t : Bool) (r : Refusal) → cond t (Some r) None ≡ None → t ≡ false
 marked_fails true r h = cc
@@ -75,3 +140,6 @@ entry_seen entries number rev h = seen rev (entry_of entries number) h
 pub found_in : {P Q : Type 0} (look : P → Q → Option ℕ) (part : P) (key : Q) (there : P) (given : Q) (answer : Option ℕ) (x id : ℕ) → there ≡ part → given ≡ key → answer ≡ look there given → answer ≡ Some x → id ≡ x
     → look part key ≡ Some id
 found_in look part key there given answer x id same named is found at = sym (ap₂ look same named) ∙ sym is ∙ found ∙ ap Some (sym at)
+
+pub entry_found : (given kept : List Entry) (n m : ℕ) (answer : Option Entry) (e : Entry) → given ≡ kept → n ≡ m → answer ≡ entry_of given n → answer ≡ Some e → entry_of kept m ≡ Some e
+entry_found given kept n m answer e same number is found = sym (ap₂ entry_of same number) ∙ sym is ∙ found

@@ -1,5 +1,5 @@
 -- The rows of an accepted command make of the tables of a book those of the book with the command.
-use Rattle.std.proofs.Common.{◌≡◌, ℕ, ◌+◌, ◌==◌, ◌<◌, ◌^◌, ◌≤ℤ◌, ◌<ℤ◌, pos, ℤ, ◌+ℤ◌, ◌-ℤ◌, List, [], ◌∷◌, ◌++◌, length, refl, sym, ap, ap₂, subst, ◌∙◌, arith, false}
+use Rattle.std.proofs.Common.{◌≡◌, ℕ, ◌+◌, ◌==◌, ◌<◌, ◌^◌, ◌≤ℤ◌, ◌<ℤ◌, pos, ℤ, ◌+ℤ◌, ◌-ℤ◌, ◌*◌, ◌≤◌, None, List, [], ◌∷◌, ◌++◌, length, refl, sym, ap, ap₂, subst, ◌∙◌, arith, false}
 use Rattle.std.specs.List.{AllByRecursion}
 use Rattle.std.specs.List.Sorted.{IsPermutation}
 use Rattle.std.specs.Int.RustNames.{unsigned_abs}
@@ -10,7 +10,8 @@ use Rattle.std.proofs.lemmas.List.Sorted.{IsPermutation-refl}
 use Rattle.sqlite_trees.proofs.ListLemmas.{all_weaker}
 use Rattle.ob_time.specs.Calendar.{day_count}
 use Rattle.ob_post.specs.Keys.{dim_number, IsKey}
-use Rattle.ob_post.specs.MoveLaws.{AreSmall, MovesAreOfChange, MovesHaveKeys, change_from}
+use Rattle.ob_post.specs.MoveLaws.{AreSmall, MovesAreInOrder, MovesAreOfChange, MovesHaveKeys, change_from}
+use Rattle.ob_post.specs.Moved.{AreInOrder, HaveNoZero}
 use Rattle.ob_post.specs.Postings.{PostedAmounts}
 use Rattle.ob_post.specs.declared.Dim.{Dim}
 use Rattle.ob_post.specs.declared.Moved.{Moved}
@@ -18,22 +19,27 @@ use Rattle.ob_command.specs.Commands.{body_text}
 use Rattle.ob_state.specs.State.{BookState, empty_book}
 use Rattle.ob_state.specs.Next.{next}
 use Rattle.ob_state.specs.Amounts.{amount, moves}
-use Rattle.ob_book.specs.Acts.{ActState, PeriodStays, Referenced, StateIsOfCommands, take_on}
+use Rattle.ob_book.specs.Acts.{ActState, PeriodStays, Referenced, StateIsOfCommands, number_of, take_on}
 use Rattle.ob_book.specs.Books.{ArePosted}
 use Rattle.ob_tables.specs.Rows.{Columns, Tables, command_row, moved_row, tree_of}
+use Rattle.ob_tables.specs.Rules.{IsShort, LacksName, LetsCommand}
 use Rattle.ob_tables.specs.declared.table.Table.{Table}
 use Rattle.ob_tables.specs.declared.table.Table.TheVariants as tables
 use Rattle.ob_commit.specs.declared.act.Act.{Act}
 use Rattle.ob_commit.specs.declared.change.RowChange.{RowChange}
 use Rattle.ob_commit.specs.declared.change.RowChange.TheVariants.{AddCause, AddNode, AddDevice, SetLife, AddCustomer, SetService}
 use Rattle.ob_commit.specs.declared.change.RowChange.TheVariants.{AddEntry, CorrectEntry, WithdrawEntry, AddMark, DropMark}
-use Rattle.ob_commit.specs.Acts.{CanWrite, NeedsRows, with_act, with_command}
+use Rattle.ob_commit.specs.Acts.{CanWrite, LetsAct, NeedsRows, with_act, with_command}
 use Rattle.ob_commit.specs.Amounts.{all_keys, amount_rows}
 use Rattle.ob_commit.specs.Changing.{changed_by}
-use Rattle.ob_commit.specs.Moves.{CanMove, moved_to, with_move, with_moves}
+use Rattle.ob_commit.specs.Moves.{CanMove, LetsMoves, moved_to, with_move, with_moves}
 use Rattle.ob_record.specs.Tables.{moved_rows, numbered, row_of_command, rows_of_moves, tables_of}
 use Rattle.ob_record.specs.Reached.{IsReached}
 use Rattle.ob_record.specs.Leading.{HaveParts, LeadsParts, Records}
+use Rattle.ob_record.specs.Naming.{IsReferenced}
+use Rattle.ob_record.proofs.Fresh.{amounts_count, few_moved, few_moves_of, moves_are_free, no_zero, number_is_free, reference_is_free}
+use Rattle.ob_record.proofs.Named.{reached_are_few}
+use Rattle.ob_record.proofs.Short.{short_body, short_reference}
 use Rattle.ob_record.proofs.Starting.{reached_book, reached_count, state_after}
 use Rattle.ob_record.proofs.Posted.{IsOnce, all_from_both, ends_new, keys_are, moved_or_same, moves_are, once, put_all, rows_after, rows_there, same_rows}
 
@@ -195,7 +201,7 @@ module _ (keyed : MovesHaveKeys) (s : BookState) (a : Referenced) (p : PostedAmo
 same_is : {X : Type 0} (xs ys : List X) → xs ≡ ys → IsPermutation xs ys
 same_is xs ys e = subst (IsPermutation xs) e (IsPermutation-refl xs)
 
-module _ (keyed : MovesHaveKeys) (of_change : MovesAreOfChange) (stays : PeriodStays) (law : StateIsOfCommands)
+module _ (keyed : MovesHaveKeys) (of_change : MovesAreOfChange) (order : MovesAreInOrder) (stays : PeriodStays) (law : StateIsOfCommands)
     (b : ActState) (a : Referenced) (p : PostedAmounts) (act : Act) (reached : IsReached b) (rows : AreRowsOf b.book a p act) where
   abbrev before : Tables
   before = tables_of b
@@ -224,6 +230,39 @@ module _ (keyed : MovesHaveKeys) (of_change : MovesAreOfChange) (stays : PeriodS
         rows_there act.no p (all_keys (day_count b.book.period)) act.moves.now (amount b.book) (with_command act before)
         (stand_once keyed b.book a p act rows) amounts_are;
   }
+
+  -- ---- the rules let the rows in
+  days_few : day_count b.book.period ≤ 366
+  days_few = let days = reached.period.period.days_in in omega (arith, days)
+
+  lets_command : number_of b a.reference ≡ None → IsReferenced a → LetsCommand act.no act.reference.now act.body.now before
+  lets_command fresh named = (
+    number_is_free act.no b.accepted number_is,
+    subst (λ r. LacksName tables.Command r before) (sym rows.reference) (reference_is_free b a.reference fresh),
+    subst IsShort (sym rows.reference) (short_reference a.reference named.0),
+    subst IsShort (sym rows.body) (short_body a.command named.1),
+  )
+
+  lets_moves : LetsMoves act.no act.moves.now before
+  lets_moves =
+      let change = change_from (amount b.book) (amount (next b.book a.command)) in
+      let days = day_count b.book.period in
+      let past : 1 + length b.accepted ≤ act.no = omega (arith, number_is) in
+      let own : length (moves b.book (next b.book a.command)) ≤ 685 = few_moves_of b.book (next b.book a.command) days_few in
+      let same : length act.moves.now ≡ length (moves b.book (next b.book a.command)) = ap length rows.moves in
+      let others : length moved ≤ 685 * length b.accepted = few_moved stays (empty_book b.book.period) 1 b.accepted days_few in
+      let few : length b.accepted ≤ 1_000_000 = reached_are_few law b reached in
+      let standing : length (before tables.Posting) ≡ 319 + days = amounts_count days (amount b.book) in
+      record {
+        fresh = moves_are_free act.no 1 (empty_book b.book.period) b.accepted past;
+        in_order = subst AreInOrder (sym rows.moves) (order change days);
+        moving = subst HaveNoZero (sym rows.moves) (no_zero change days);
+        room = omega (arith, own, same, others, few);
+        amounts = omega (arith, standing, days_few);
+      }
+
+  lets_act : number_of b a.reference ≡ None → IsReferenced a → LetsAct act before
+  lets_act fresh named = record { change = rows.change.lets before (own_parts b); command = lets_command fresh named; moves = lets_moves }
 
   commands_after : after tables.Command ≡ tables_of (take_on b a) tables.Command
   commands_after =
@@ -273,4 +312,4 @@ module _ (keyed : MovesHaveKeys) (of_change : MovesAreOfChange) (stays : PeriodS
   leads_on tables.Posting = same_is (after tables.Posting) (tables_of (take_on b a) tables.Posting) amounts_after
 
   pub records : Records b a p act
-  records = record { can = can_write keyed b.book a p act rows; needs = needs_rows; tables = leads_on }
+  records = record { can = can_write keyed b.book a p act rows; needs = needs_rows; lets = lets_act; tables = leads_on }

@@ -1,5 +1,7 @@
 mod Accepts
 mod Acted
+pub mod Free
+mod Fresh
 pub mod Keyed
 mod Leads
 mod Listed
@@ -7,4 +9,5 @@ mod Lives
 mod Named
 mod Parts
 mod Posted
+pub mod Short
 pub mod Starting

@@ -135,10 +135,11 @@ one_customer (c ∷ cs) n rising has = elim (cases_Bool (c.«no» == n)) [
       (found.0, found.1, rw other found.2)
 ]
 
-abbrev AreNumberedFrom : ℕ → List Entry → Type 0
+-- the entries are numbered from this number on
+abbrev pub AreNumberedFrom : ℕ → List Entry → Type 0
 AreNumberedFrom k entries = (i : ℕ) (d : Entry) → i < length entries → (slice_index_or entries i d).«no» ≡ k + i
 
-numbered_rest : (k : ℕ) (e : Entry) (es : List Entry) → AreNumberedFrom k (e ∷ es) → AreNumberedFrom (k + 1) es
+pub numbered_rest : (k : ℕ) (e : Entry) (es : List Entry) → AreNumberedFrom k (e ∷ es) → AreNumberedFrom (k + 1) es
 numbered_rest k e es numbered i d low = let next = numbered (suc i) d (omega (arith, low)) in omega (arith, next)
 
 none_before : (k n : ℕ) (entries : List Entry) → AreNumberedFrom k entries → n < k → filter (λ e. e.«no» == n) entries ≡ []

@@ -1,16 +1,17 @@
 -- What a change of rows, and the rows of a command, make of the tables of a book.
-use Rattle.std.specs.Prelude.{[]}
+use Rattle.std.specs.Prelude.{◌≡◌, [], None}
 use Rattle.std.specs.List.Sorted.{IsPermutation}
 use Rattle.ob_tables.specs.Rows.{Tables}
 use Rattle.ob_tables.specs.declared.table.Table.{Table}
 use Rattle.ob_tables.specs.declared.table.Table.TheVariants.{Meta, Cause, Node, Device, Life, Customer, Entry, Mark}
 use Rattle.ob_post.specs.Postings.{PostedAmounts}
 use Rattle.ob_state.specs.State.{BookState}
-use Rattle.ob_book.specs.Acts.{ActState, Referenced, take_on}
+use Rattle.ob_book.specs.Acts.{ActState, Referenced, number_of, take_on}
 use Rattle.ob_commit.specs.declared.change.RowChange.{RowChange}
 use Rattle.ob_commit.specs.declared.act.Act.{Act}
-use Rattle.ob_commit.specs.Changing.{HasSmallSeconds, NeedsRow, changed_by}
-use Rattle.ob_commit.specs.Acts.{CanWrite, NeedsRows, with_act}
+use Rattle.ob_commit.specs.Changing.{HasSmallSeconds, LetsRow, NeedsRow, changed_by}
+use Rattle.ob_commit.specs.Acts.{CanWrite, LetsAct, NeedsRows, with_act}
+use Rattle.ob_record.specs.Naming.{IsReferenced}
 use Rattle.ob_record.specs.Tables.{tables_of}
 
 -- a book without its commands
@@ -28,15 +29,17 @@ pub record HaveParts (b : BookState) (t : Tables) : Type 0 where
   pub entries : IsPermutation (t Entry) (tables_of (bare b) Entry)
   pub marks : IsPermutation (t Mark) (tables_of (bare b) Mark)
 
--- the change of rows makes of the rows of one book's parts those of another's
+-- the change of rows makes of the rows of one book's parts those of another's, and the rules of the tables let it in
 pub record LeadsParts (b c : BookState) (change : RowChange) : Type 0 where
   pub small : HasSmallSeconds change
   pub needs : (t : Tables) → HaveParts b t → NeedsRow change t
+  pub lets : (t : Tables) → HaveParts b t → LetsRow change t
   pub parts : (t : Tables) → HaveParts b t → HaveParts c (changed_by change t)
 
 -- the rows of a command under a reference can be written, and make of the tables of a book those of the book with the
--- command
+-- command; under a new reference the rules of the tables let them in
 pub record Records (b : ActState) (a : Referenced) (p : PostedAmounts) (act : Act) : Type 0 where
   pub can : CanWrite p act
   pub needs : NeedsRows p act (tables_of b)
+  pub lets : number_of b a.reference ≡ None → IsReferenced a → LetsAct act (tables_of b)
   pub tables : (table : Table) → IsPermutation (with_act p act (tables_of b) table) (tables_of (take_on b a) table)

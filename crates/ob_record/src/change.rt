@@ -86,6 +86,7 @@ fn cause_added<'t, T: Timeline>(book: &Book<T>, code: CauseCode, name: &'t Name)
 }
 
 fn bus_added<'t, T: Timeline>(book: &Book<T>, name: &'t Name) -> RowChange<'t>
+    requires accepted { refusal book.now.state (Bus name.now) ≡ None }
     ensures { LeadsParts book.now.state (next book.now.state (Bus name.now)) result }
 {
     // Nodes are numbered by place, and a bus has no home feeder.
@@ -102,6 +103,7 @@ fn section_added<'t, T: Timeline>(
     name: &'t Name,
     feeder: FeederNumber,
 ) -> RowChange<'t>
+    requires accepted { refusal book.now.state (Section name.now feeder) ≡ None }
     ensures { LeadsParts book.now.state (next book.now.state (Section name.now feeder)) result }
 {
     RowChange::AddNode {
@@ -229,6 +231,8 @@ fn entry_added<'t, T: Timeline>(
     ensures { LeadsParts book.now.state (next book.now.state
         (Switch device.now act second cause crew.now)) result }
 {
+    // The entries are numbered from 1, by a clause of this call.
+    let _ = book.accepted();
     // A device has the name, since the command was accepted.
     let Some(device) = book.net().device_of(device) else {
         unreachable!();
@@ -286,6 +290,11 @@ fn entry_withdrawn<'t, T: Timeline>(
 {
     // One entry has the number, by a clause of this call.
     let _ = book.accepted();
+    // It is there, since the command was accepted, and the name of its crew is short, by a clause of its bytes.
+    let Some(seen) = book.sheet().entry(entry.get()) else {
+        unreachable!();
+    };
+    let _ = seen.crew.bytes();
     RowChange::WithdrawEntry {
         no: entry.get(),
         revision: revision_after(revision),

@@ -1,3 +1,4 @@
+use Rattle.ob_parts.proofs.Letting.{lets_upgraded}
 use Rattle.ob_parts.proofs.Renewed.{holds_one_old_book}
 use Rattle.ob_parts.proofs.Same.{old_is_reached, tables_are_alike}
 use Rattle.ob_parts.proofs.Upgrades.{upgraded}
@@ -18,6 +19,11 @@ returns-clause-upgraded c =
     let law = c.version_law.ensures in
     let reached = old_is_reached law.reached law.accepted law.step in
     upgraded law.bodies reached (tables_are_alike law.reached law.accepted law.step law.figures)
+
+pub returns-clause-lets : goal.returns-clause-lets
+returns-clause-lets c =
+    let law = c.version_law.ensures in
+    lets_upgraded law.bodies (old_is_reached law.reached law.accepted law.step)
 
 pub returns-clause-one : goal.returns-clause-one
 returns-clause-one c =

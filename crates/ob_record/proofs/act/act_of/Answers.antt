@@ -38,5 +38,5 @@ returns-clause-can g c p posted =
 
 pub returns-clause-records : goal.returns-clause-records
 returns-clause-records g c b reached same p posted =
-    records c.move_laws.ensures.keys c.move_laws.ensures.change c.next_law.ensures.period c.acts_law.ensures.state b (command g c) p (act g c) reached
+    records c.move_laws.ensures.keys c.move_laws.ensures.change c.move_laws.ensures.order c.next_law.ensures.period c.acts_law.ensures.state b (command g c) p (act g c) reached
     (subst (λ s. AreRowsOf s (command g c) p (act g c)) (sym same) (are_rows g c p posted))

@@ -7,4 +7,4 @@ pub returns : goal.returns
 returns g c =
     let kept : IsNetwork c.args.book.now.state.network = subst IsNetwork c.net.ensures.network c.nodes.ensures.kept in
     let last : c.from.result ≡ length c.args.book.now.state.network.nodes = c.from.ensures ∙ c.nodes.ensures.count ∙ ap (λ (n : Network). length n.nodes) c.net.ensures.network in
-    rw (← c.bytes.ensures.value) (lead_bus c.args.book.now.state c.bytes.result c.from.result kept last)
+    rw (← c.bytes.ensures.value) (lead_bus c.args.book.now.state c.bytes.result c.from.result kept last (rw c.bytes.ensures.value c.bytes.ensures.identifier) (rw c.bytes.ensures.value c.requires.accepted))

@@ -14,4 +14,5 @@ returns g c =
     let second : node_of net ends.b ≡ Some c.from-3.result =
     found_in node_of net ends.b _ _ _ _ _ here c.b.ensures.value c.node_of-2.ensures.node c.in-Some-node_of.is c.from-3.ensures in
     rw (← c.bytes.ensures.value, c.second.ensures.value, c.end_of.ensures.value)
-    (lead_device c.args.book.now.state c.bytes.result ends c.args.normal c.args.since c.args.until c.from.result c.from-2.result c.from-3.result c.second.ensures.range c.end_of.ensures.range last first second)
+    (lead_device c.args.book.now.state c.bytes.result ends c.args.normal c.args.since c.args.until c.from.result c.from-2.result c.from-3.result c.second.ensures.range c.end_of.ensures.range last first second
+    (rw c.bytes.ensures.value c.bytes.ensures.identifier) (rw c.bytes.ensures.value c.requires.accepted))

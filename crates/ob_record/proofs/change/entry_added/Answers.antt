@@ -11,4 +11,5 @@ returns g c =
     let last : c.len.result + 1 ≡ length b.entries + 1 = ap (λ n. n + 1) (c.len.ensures.len ∙ ap length c.sheet.ensures) in
     let at : device_of b.network device ≡ Some c.from.result = found_in device_of b.network device _ device _ _ _ c.net.ensures.network refl c.device_of.ensures.device c.in-Some.is c.from.ensures in
     rw (c.second.ensures.value, c.from-2.ensures, c.get.ensures.value, ← c.bytes.ensures.value)
-    (lead_entry b device c.args.act c.args.second c.args.cause c.bytes.result (c.len.result + 1) c.from.result c.second.ensures.range last at)
+    (lead_entry b device c.args.act c.args.second c.args.cause c.bytes.result (c.len.result + 1) c.from.result c.second.ensures.range last at c.accepted.ensures.sound
+    (rw c.bytes.ensures.value c.bytes.ensures.identifier) c.requires.accepted)

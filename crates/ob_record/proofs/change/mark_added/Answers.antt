@@ -12,4 +12,5 @@ returns g c =
     let on : day_on b.period (epoch_day c.args.date) ≡ Some c.from.result =
     found_in (λ (p : Calendar) (d : Date). day_on p (epoch_day d)) b.period c.args.date _ _ _ _ _ c.period.ensures c.date.ensures.value c.day_index.ensures.index c.in-Some.is c.from.ensures in
     let within : c.from.result < day_count b.period = omega (arith, c.in-Some.ensures.found, c.from.ensures, ap day_count c.period.ensures) in
-    rw (← c.bytes.ensures.value) (lead_mark b c.args.date c.bytes.result c.from.result c.accepted.ensures.sound on within c.requires.accepted)
+    rw (← c.bytes.ensures.value) (lead_mark b c.args.date c.bytes.result c.from.result c.accepted.ensures.sound on within
+    (rw c.bytes.ensures.value c.bytes.ensures.identifier) c.requires.accepted)
