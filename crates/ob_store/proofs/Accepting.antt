@@ -1,5 +1,6 @@
 -- What stands once a command under a new reference was decided on, and once its rows were committed or not.
-use Rattle.std.proofs.Common.{◌≡◌, inl, inr, ◌+◌, List, [], ◌∷◌, ◌++◌, length, Some, None, Ok, Err, true, refl, sym, ap, subst}
+use Rattle.std.proofs.Common.{◌≡◌, ◌⊎◌, inl, inr, ◌+◌, List, [], ◌∷◌, ◌++◌, length, Some, None, Ok, Err, true, refl, sym, ap, subst}
+use Rattle.std.specs.Prelude.{⊤}
 use Rattle.std.specs.List.{AllByRecursion}
 use Rattle.std.specs.List.Sorted.{IsPermutation}
 use Rattle.std.proofs.lemmas.List.Sorted.{IsPermutation-trans}
@@ -12,7 +13,7 @@ use Rattle.ob_base.specs.declared.stop.Stop.{Stop}
 use Rattle.ob_base.specs.declared.stop.Stop.TheVariants.{Refused, Fault}
 use Rattle.ob_base.specs.declared.stop.Refusal.{Refusal}
 use Rattle.ob_base.specs.declared.stop.Fault.{Fault as AFault}
-use Rattle.ob_base.specs.declared.stop.Fault.TheVariants.{OutOfMemory}
+use Rattle.ob_base.specs.declared.stop.Fault.TheVariants.{OutOfMemory, Store}
 use Rattle.ob_post.specs.Postings.{PostedAmounts}
 use Rattle.ob_state.specs.State.{BookState}
 use Rattle.ob_state.specs.Refusals.{refusal}
@@ -20,20 +21,20 @@ use Rattle.ob_state.specs.Next.{next}
 use Rattle.ob_state.specs.Amounts.{moves}
 use Rattle.ob_book.specs.Acts.{ActState, Referenced, act, answer, is_accepted, number_of, take_on}
 use Rattle.ob_tables.specs.Rows.{Tables, Holds}
-use Rattle.ob_tables.specs.Steps.{IsStoreFault}
+use Rattle.ob_tables.specs.Steps.{HasFailed, IsStoreFault}
 use Rattle.ob_tables.specs.declared.table.Table.{Table}
 use Rattle.ob_commit.specs.declared.act.Act.{Act}
-use Rattle.ob_commit.specs.Acts.{NeedsRows, with_act}
-use Rattle.ob_commit.specs.Keeps.{Keeps, KeepsEither, IsSettled, Leaves}
+use Rattle.ob_commit.specs.Acts.{LetsAct, NeedsRows, with_act}
+use Rattle.ob_commit.specs.Keeps.{HasCommitCause, Keeps, KeepsEither, KeepsNumbers, IsSettled, Leaves, WasUndone}
 use Rattle.ob_record.specs.Leading.{Records}
 use Rattle.ob_record.specs.Naming.{IsReferenced}
 use Rattle.ob_record.specs.Reached.{AcceptedIsReached}
 use Rattle.ob_record.specs.Tables.{tables_of}
 use Rattle.ob_store.specs.Keeping.{KeepsBook, KeepsEitherBook}
-use Rattle.ob_store.specs.Acting.{Acts}
+use Rattle.ob_store.specs.Acting.{Acts, HasActCause}
 
 module _ (t u : Tables) (same : (table : Table) → IsPermutation (t table) (u table)) where
-  holds_as : (trees : Trees) → Holds trees t → Holds trees u
+  pub holds_as : (trees : Trees) → Holds trees t → Holds trees u
   holds_as trees holds = record {
     rows = λ table. IsPermutation-trans _ (t table) (u table) (holds.rows table) (same table);
     apart = holds.apart;
@@ -63,6 +64,10 @@ pub decided : {S : Type 0} (g : Ghosts S) (conn : Held S) (was is : BookState) (
     → ((r : Refusal) → stop ≡ Refused r → refusal b.book a.command ≡ Some r) → ((f : AFault) → stop ≡ Fault f → f ≡ OutOfMemory) → Acts g conn was is b a (Err stop)
 decided g conn was is b a same keeps fresh (Refused r) refused fault = let e = refused r refl in (rw (fresh, e), keeps, same)
 decided g conn was is b a same keeps fresh (Fault f) refused fault = subst (λ x. Acts g conn was is b a (Err (Fault x))) (sym (fault f refl)) (keeps, same)
+
+-- before anything was written no fault of the store is told
+pub none_told : {P : Type 0} (stop : Stop) → ((f : AFault) → stop ≡ Fault f → f ≡ OutOfMemory) → stop ≡ Fault Store → P
+none_told stop fault is = absurd (let e = fault Store is in cc)
 
 -- one more reference and command of their types
 pub valid_more : (list : List Referenced) (a : Referenced) → AllByRecursion IsReferenced list → IsReferenced a → AllByRecursion IsReferenced (list ++ a ∷ [])
@@ -100,6 +105,20 @@ module _ {S : Type 0} (g : Ghosts S) (old new : Held S) (b : ActState) (a : Refe
 
   pub book_is : next b.book a.command ≡ (act b a).book
   book_is = ap (λ s. s.book) taken
+
+  -- the rows that were undone are those of the tables with the command
+  undone_as : HasCommitCause g (state g old) (state g new) (with_act p written (tables_of b))
+      → HasFailed (state g old) (state g new) ⊎ ((is_accepted b a ≡ true) × WasUndone g (state g new) (tables_of (act b a)))
+  undone_as (inl failed) = inl failed
+  undone_as (inr it) =
+      let trees = (state g it.0).now.trees in
+      let holds : Holds trees (tables_of (take_on b a)) = holds_as (with_act p written (tables_of b)) (tables_of (take_on b a)) records.tables trees it.1 in
+      inr (accepted, (it.0, subst (λ (s : ActState). Holds trees (tables_of s)) taken holds, it.2))
+
+  -- the commit, or a statement before it, failed only with a cause
+  pub caused : (stop : Stop) → KeepsNumbers (state g old) → (stop ≡ Fault Store → (t : Tables) → Keeps (state g old) t → KeepsNumbers (state g old) → NeedsRows p written t → LetsAct written t
+      → HasCommitCause g (state g old) (state g new) (with_act p written t)) → HasActCause g {X = ⊤} old new b a (Err stop)
+  caused stop numbers told = λ store. undone_as (told store (tables_of b) keeps.kept numbers records.needs (records.lets fresh named))
 
   -- a commit failed, or a statement before it
   pub failed : (was is : BookState) → is ≡ was → (stop : Stop) → IsStoreFault stop → (stop ≡ out_of_memory → (t : Tables) → Keeps (state g old) t → Keeps (state g new) t)

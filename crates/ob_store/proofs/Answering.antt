@@ -1,5 +1,5 @@
 -- What is answered under a known reference, and after a fault of the store.
-use Rattle.std.proofs.Common.{◌≡◌, ◌≢◌, inl, inr, ℕ, ◌-◌, true, List, Some, Result, Ok, Err, refl, sym, ap, subst, ◌∙◌}
+use Rattle.std.proofs.Common.{◌≡◌, ◌≢◌, ◌≤◌, inl, inr, ℕ, ◌-◌, true, List, Some, Result, Ok, Err, refl, sym, ap, subst, ◌∙◌}
 use Rattle.std.specs.Prelude.{slice_get, IfOk, IfErr}
 use Rattle.std.specs.List.{AllByRecursion}
 use Rattle.std.specs.Str.{bytes_eq}
@@ -7,21 +7,22 @@ use Rattle.std.proofs.lemmas.Bool.{cases_Bool}
 use Rattle.std.proofs.lemmas.Slice.Eq.{bytes_eq-Decides}
 use Rattle.sqlite_trees.specs.declared.store.Store.{Ghosts}
 use Rattle.sqlite.specs.Held.{Held, state}
-use Rattle.sqlite.specs.State.{State}
+use Rattle.sqlite.specs.State.{State, HasCleanDisk, Survives}
 use Rattle.ob_base.specs.declared.stop.Stop.{Stop}
 use Rattle.ob_base.specs.declared.stop.Refusal.TheVariants.{RefConflict}
 use Rattle.ob_command.specs.Commands.{body_text}
 use Rattle.ob_command.specs.declared.command.Command.{Command}
 use Rattle.ob_state.specs.State.{BookState}
 use Rattle.ob_book.specs.Acts.{ActState, Referenced, act, answer, is_accepted, number_of, reply_of, take_on}
-use Rattle.ob_tables.specs.Steps.{IsStoreFault}
+use Rattle.ob_tables.specs.Steps.{HasFaultCause, IsStoreFault}
 use Rattle.ob_commit.proofs.Commits.{first_of_either}
 use Rattle.ob_record.specs.Tables.{tables_of}
 use Rattle.ob_record.specs.Naming.{IsReferenced}
 use Rattle.ob_record.specs.Reached.{AcceptedIsReached, IsReached}
 use Rattle.ob_store.proofs.Accepting.{valid_more}
+use Rattle.ob_store.proofs.Failing.{failed_since}
 use Rattle.ob_store.specs.Keeping.{KeepsBook, KeepsEitherBook}
-use Rattle.ob_store.specs.Acting.{Acts, reply_as, under}
+use Rattle.ob_store.specs.Acting.{Acts, HasActCause, reply_as, under}
 use Rattle.ob_store.specs.declared.reply.Reply.{Reply as GivenReply}
 
 -- a command leads from what is reached to what is reached
@@ -80,3 +81,18 @@ module _ {S : Type 0} (g : Ghosts S) (new : Held S) (was : BookState) (b : ActSt
 pub each_ok : {X E : Type 0} {P Q : X → Type 0} (r : Result X E) → IfOk r P → ((x : X) → P x → Q x) → IfOk r Q
 each_ok (Ok x) p f = f x p
 each_ok (Err e) p f = p
+
+-- ---- why the store fails
+-- a reading that fails, fails with a cause
+pub read_cause : {X : Type 0} {S : Type 0} (g : Ghosts S) (old new : Held S) (b : ActState) (a : Referenced) (r : Result X Stop) → HasFaultCause (state g old) (state g new) r → HasActCause g old new b a r
+read_cause g old new b a (Ok x) cause = tt
+read_cause g old new b a (Err stop) cause = λ store. inl (cause store)
+
+-- and so does what fails after a reading
+pub cause_since : {X : Type 0} {S : Type 0} (g : Ghosts S) (old mid new : Held S) (b : ActState) (a : Referenced) (r : Result X Stop) → Survives (state g old) (state g mid) (λ _. ⊥)
+    → HasCleanDisk (state g mid) → (state g mid).faults ≤ (state g new).faults → HasActCause g mid new b a r → HasActCause g old new b a r
+cause_since g old mid new b a (Ok x) one clean up cause = tt
+cause_since g old mid new b a (Err stop) one clean up cause = λ store. elim (cause store) [
+  | inl failed ↦ inl (failed_since (state g old) (state g mid) (state g new) one clean up failed)
+  | inr undone ↦ inr undone
+]

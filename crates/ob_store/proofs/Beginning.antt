@@ -1,5 +1,6 @@
 -- A new book: why there is none, and its tables.
-use Rattle.std.proofs.Common.{◌≡◌, ◌≢◌, ◌⊎◌, inl, inr, ℕ, List, Err, refl, sym, ap, ap₂, subst, ◌∙◌, arith}
+use Rattle.std.proofs.Common.{◌≡◌, ◌≢◌, ◌⊎◌, inl, inr, ℕ, ℤ, length, List, Err, refl, sym, ap, ap₂, subst, ◌∙◌, arith}
+use Rattle.std.specs.Prelude.{⊤}
 use Rattle.std.specs.List.Sorted.{IsPermutation}
 use Rattle.std.proofs.lemmas.List.Sorted.{IsPermutation-refl}
 use Rattle.sqlite_trees.specs.declared.store.Store.{Ghosts}
@@ -15,18 +16,30 @@ use Rattle.ob_time.specs.Dates.{day_text}
 use Rattle.ob_time.specs.Period.{IsPeriodText}
 use Rattle.ob_book.specs.Acts.{start}
 use Rattle.ob_tables.specs.Schema.{no_schema}
-use Rattle.ob_tables.specs.Steps.{IsStoreFault}
+use Rattle.ob_tables.specs.Rows.{Holds}
+use Rattle.ob_tables.specs.Rules.{IsShort}
+use Rattle.ob_tables.specs.Steps.{HasFailed, IsStoreFault}
 use Rattle.ob_tables.specs.declared.table.Table.{Table}
 use Rattle.ob_tables.specs.declared.table.Table.TheVariants.{Meta, Cause, Node, Device, Life, Customer, Entry, Mark, Command, Moved, Posting}
-use Rattle.ob_commit.specs.Keeps.{Keeps}
+use Rattle.ob_commit.specs.Keeps.{HasCommitCause, Keeps, WasUndone}
 use Rattle.ob_commit.specs.NewBook.{new_tables}
 use Rattle.ob_commit.specs.Begins.{Stays, StaysOrBegins}
 use Rattle.ob_record.specs.Reached.{IsReached, StartHasFirstRows, StartIsReached, first_rows}
 use Rattle.ob_record.specs.Tables.{tables_of}
 use Rattle.ob_store.specs.Keeping.{KeepsBook, KeepsOn}
-use Rattle.ob_store.specs.Creating.{Creates, HasNoPeriodText, LeavesAll, MayBegin}
-use Rattle.ob_store.proofs.Accepting.{keeps_as, leaves_as}
+use Rattle.ob_store.specs.Creating.{Creates, HasCreateCause, HasNoPeriodText, LeavesAll, MayBegin}
+use Rattle.ob_store.proofs.Accepting.{holds_as, keeps_as, leaves_as}
 use Rattle.ob_store.proofs.Staying.{keeps_on, keeps_same}
+
+-- the text of a date is short, and so is that of a zone
+date_length : (day : ℤ) → length (day_text day) ≡ 10
+unfolding day_text
+date_length day = refl
+
+-- where a period couldn't be told or memory was refused no fault of the store is told
+pub none_refused : {P : Type 0} (stop : Stop) → IsRefusedOrNoMemory BadPeriod stop → stop ≡ Fault Store → P
+none_refused (Refused r) is told = absurd (cc)
+none_refused (Fault f) is told = absurd (let e : Fault f ≡ out_of_memory = ap Fault is in cc)
 
 survives_same : (s : State) → Survives s s (λ _. ⊥)
 survives_same s = record {
@@ -84,7 +97,26 @@ module _ (p : Calendar) (first text : List ℕ) (days : ℕ) (zone : List ℕ) (
       ap (λ f. new_tables f days zone table) text_is ∙ ap₂ (λ n z. new_tables (day_text p.first_day) n z table) days_is (sym of_text.zone_is) in
       subst (IsPermutation (new_tables text days zone table)) (parts ∙ first_table table ∙ sym (law p table)) (IsPermutation-refl (new_tables text days zone table))
 
+  pub first_short : IsShort text
+  first_short = let long : length text ≡ 10 = ap length text_is ∙ date_length p.first_day in omega (arith, long)
+
+  pub zone_short : IsShort zone
+  zone_short = let long = of_text.rule_is.len in omega (arith, long)
+
   module _ {S : Type 0} (g : Ghosts S) (old new : Held S) (firsts : StartHasFirstRows) where
+    -- the rows that were undone are those of a new book
+    undone_as : HasCommitCause g (state g old) (state g new) (new_tables text days zone)
+        → HasFailed (state g old) (state g new) ⊎ ((q : Calendar) × IsPeriodText first days zone q × WasUndone g (state g new) (tables_of (start q)))
+    undone_as (inl failed) = inl failed
+    undone_as (inr it) =
+        let trees = (state g it.0).now.trees in
+        let holds : Holds trees (tables_of (start p)) = holds_as (new_tables text days zone) (tables_of (start p)) (tables_are firsts) trees it.1 in
+        inr (p, of_text, (it.0, holds, it.2))
+
+    pub caused : (stop : Stop) → (stop ≡ Fault Store → IsShort text → IsShort zone → HasCommitCause g (state g old) (state g new) (new_tables text days zone))
+        → HasCreateCause g {X = ⊤} old new first days zone (Err stop)
+    caused stop told = λ store. undone_as (told store first_short zone_short)
+
     pub kept : StartIsReached → Keeps (state g new) (new_tables text days zone) → KeepsBook (state g new) (start p)
     kept law keeps = record { kept = keeps_as (new_tables text days zone) (tables_of (start p)) (tables_are firsts) (state g new) keeps; reached = reached law; valid = tt }
 

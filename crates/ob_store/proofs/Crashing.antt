@@ -1,5 +1,5 @@
 -- What is loaded from what a crash left.
-use Rattle.std.proofs.Common.{◌≡◌, ◌⊎◌, inl, inr, ℕ, List, [], ◌∷◌, None, Result, Ok, Err, IsTrue, refl, ap, subst, ◌∙◌, arith}
+use Rattle.std.proofs.Common.{◌≡◌, ◌⊎◌, inl, inr, ℕ, List, [], ◌∷◌, None, Result, Ok, Err, IsTrue, refl, sym, ap, subst, ◌∙◌, arith}
 use Rattle.std.specs.Prelude.{⊤}
 use Rattle.std.specs.List.{AllByRecursion}
 use Rattle.std.proofs.lemmas.Bool.{cases_Bool}
@@ -14,6 +14,7 @@ use Rattle.ob_time.specs.Dates.{day_text}
 use Rattle.ob_tables.specs.Rows.{Columns, meta_row, number}
 use Rattle.ob_compare.specs.Version.{HasVersion}
 use Rattle.ob_store.proofs.Counting.{rows_counted}
+use Rattle.sqlite.specs.Effect.{Database}
 use Rattle.sqlite.specs.Held.{Held, state}
 use Rattle.sqlite.specs.State.{State, HasCleanDisk, IsLive, Opens}
 use Rattle.sqlite_catalog.specs.Listing.{IsSound}
@@ -28,7 +29,8 @@ use Rattle.ob_tables.specs.declared.table.Table.TheVariants.{Meta, Command}
 use Rattle.ob_tables.specs.Steps.{HasFaultCause}
 use Rattle.ob_tables.specs.declared.version.Version.{Version}
 use Rattle.ob_tables.specs.declared.version.Version.TheVariants.{One, Two}
-use Rattle.ob_commit.specs.Keeps.{Leaves}
+use Rattle.ob_tables.specs.Rules.{AreNumbered}
+use Rattle.ob_commit.specs.Keeps.{KeepsNumbers, Leaves}
 use Rattle.ob_record.specs.Naming.{IsReferenced}
 use Rattle.ob_record.specs.Reached.{IsReached, ReachedAreFew}
 use Rattle.ob_record.specs.Tables.{tables_of}
@@ -127,8 +129,18 @@ module _ {S R : Type 0} (g : Ghosts S) (h : Ghosts R) (few : ReachedAreFew) (was
     | inr other ↦ restored h few keeper opens.opens opens.live (λ x. (x ≡ b) ⊎ (x ≡ c)) c (inr refl) keeps.other_reached keeps.other_valid other
   ]
 
-pub crash_law : {S R : Type 0} (g : Ghosts S) (h : Ghosts R) → ReachedAreFew → CrashLaw g h
-crash_law g h few was keeper opens = (kept g h few was keeper opens, either g h few was keeper opens)
+  -- what was just opened shows what a crash leaves of it
+  numbers : (IsTrue (state h keeper.conn).is_open → (trees : Trees) → (state h keeper.conn).may_leave trees → trees ≡ (state h keeper.conn).committed.trees) → KeepsNumbers (state g was) → KeepsNumbers (state h keeper.conn)
+  numbers settled left clean trees may =
+      let is : trees ≡ trees_in h keeper.conn = settled opens.opens.is_open trees may ∙ ap (λ (d : Database). d.trees) (sym opens.opens.clean) in
+      subst AreNumbered (sym is) (left opens.clean (trees_in h keeper.conn) opens.left)
+
+-- what a crash leaves of an open connection is what was committed
+abbrev pub IsSettledLaw : {R : Type 0} → Ghosts R → Type 0
+IsSettledLaw {R} h = (conn : Held R) → IsTrue (state h conn).is_open → (trees : Trees) → (state h conn).may_leave trees → trees ≡ (state h conn).committed.trees
+
+pub crash_law : {S R : Type 0} (g : Ghosts S) (h : Ghosts R) → ReachedAreFew → IsSettledLaw h → CrashLaw g h
+crash_law g h few settled was keeper opens = (kept g h few was keeper opens, either g h few was keeper opens, numbers g h few was keeper opens (settled keeper.conn))
 
 -- a load on the keeper itself
 module _ {S : Type 0} (g : Ghosts S) (few : ReachedAreFew) (old new : KeeperValue S) (clean : HasCleanDisk (state g new.conn)) (b c : ActState) (keeps : KeepsEitherBook (state g old.conn) b c) where

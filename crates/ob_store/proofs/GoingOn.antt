@@ -17,7 +17,7 @@ use Rattle.ob_compare.specs.Reading.{IsReadFault}
 use Rattle.ob_parts.specs.OldTables.{old_tables_of}
 use Rattle.ob_store.specs.Finding.{Finds}
 use Rattle.ob_store.specs.Keeping.{KeepsBook, KeepsEitherBook, KeepsEitherVersion, KeepsOldBook}
-use Rattle.ob_store.specs.Migrating.{HasUpgradeCause, MigratesKept, MigratesOn}
+use Rattle.ob_store.specs.Migrating.{HasUpgradeCause, KeepsOnNumbers, MigratesKept, MigratesOn, ShowsVersion}
 use Rattle.ob_store.specs.Shapes.{IsShapeOf}
 use Rattle.ob_store.specs.Upgrading.{IsTold, IsUntold, Migrates}
 use Rattle.ob_store.specs.Versions.{Asks}
@@ -26,10 +26,11 @@ use Rattle.ob_store.proofs.Upgrading.{as_either}
 module _ {S : Type 0} (g : Ghosts S) where
   -- the store was asked alone
   module _ (old new : Held S) where
-    pub on_ok : (told : Bool) → Asks g {X = Bool} old new (Ok told) → MigratesOn g old new (Ok false)
-    on_ok told it = record {
+    pub on_ok : (is : Bool) → Asks g {X = Bool} old new (Ok is) → (HasCleanDisk (state g new) → ShowsVersion 2 (state g old) (state g new)) → KeepsOnNumbers g old new → MigratesOn g old new (Ok false)
+    on_ok is it told numbered = record {
       live = λ clean answer. it.live clean tt;
       shape = λ clean so. absurd (true≢false (sym so));
+      told = λ clean no. told clean;
       book = λ b k. record { kept = it.kept Two (tables_of b) k.kept; reached = k.reached; valid = k.valid };
       either = λ b c k. record {
         kept = it.either Two (tables_of b) (tables_of c) k.kept;
@@ -41,12 +42,14 @@ module _ {S : Type 0} (g : Ghosts S) where
       version = λ clean. tt;
       empty = λ clean none. absurd (it.empty clean none);
       cause = λ clean v schema. tt;
+      numbered = numbered;
     }
 
-    pub on_err : (stop : Stop) → Asks g {X = Bool} old new (Err stop) → (HasCleanDisk (state g new) → (v : Version) → old.schema ≡ schema_of v → HasUpgradeCause g old new (Err stop)) → MigratesOn g old new (Err stop)
-    on_err stop it cause = record {
+    pub on_err : (stop : Stop) → Asks g {X = Bool} old new (Err stop) → (HasCleanDisk (state g new) → (v : Version) → old.schema ≡ schema_of v → HasUpgradeCause g old new (Err stop)) → KeepsOnNumbers g old new → MigratesOn g old new (Err stop)
+    on_err stop it cause numbered = record {
       live = it.live;
       shape = λ clean. tt;
+      told = λ clean. tt;
       book = λ b k. record { kept = it.kept Two (tables_of b) k.kept; reached = k.reached; valid = k.valid };
       either = λ b c k. record {
         kept = it.either Two (tables_of b) (tables_of c) k.kept;
@@ -58,6 +61,7 @@ module _ {S : Type 0} (g : Ghosts S) where
       version = λ clean b k. record { kept = it.either One (old_tables_of b) (tables_of b) k.kept; reached = k.reached; valid = k.valid };
       empty = it.empty;
       cause = cause;
+      numbered = numbered;
     }
 
   -- no tables of version 2 stood where the heading told another version
@@ -68,7 +72,8 @@ module _ {S : Type 0} (g : Ghosts S) where
   module _ (old new : Held S) (r : Result Bool Stop) (opened : HasCleanDisk (state g new) → IsTrue (state g old).is_open)
       (first : IsTrue (state g old).is_open → (v : Version) (t u : Tables) → KeepsEitherIn v (state g old) t u → KeepsIn v (state g old) t) (other : HasCleanDisk (state g new) → old.schema ≡ book_schema → ⊥)
       (filled : HasCleanDisk (state g new) → old.schema ≢ no_schema)
-      (shape : HasCleanDisk (state g new) → IfOk r (λ done. IsTrue done → IsShapeOf One old.schema)) (it : Migrates g old new r) where
+      (shape : HasCleanDisk (state g new) → IfOk r (λ done. IsTrue done → IsShapeOf One old.schema))
+      (told : HasCleanDisk (state g new) → IfOk r (λ done. done ≡ false → ShowsVersion 2 (state g old) (state g new))) (it : Migrates g old new r) where
     not_now : HasCleanDisk (state g new) → (b c : ActState) → KeepsEitherBook (state g old) b c → ⊥
     not_now clean b c k = other clean (k.kept.settled (it.clean clean) (opened clean)).schema
 
@@ -94,6 +99,7 @@ module _ {S : Type 0} (g : Ghosts S) where
     on_more = record {
       live = λ clean answer. opened clean;
       shape = shape;
+      told = told;
       book = λ b k. record {
         kept = record { settled = λ clean live. absurd (no_book clean b k); left = λ clean trees may. absurd (no_book clean b k) };
         reached = k.reached;
@@ -109,4 +115,5 @@ module _ {S : Type 0} (g : Ghosts S) where
       version = λ clean. versions r it.faults (λ b k. of_old b k clean);
       empty = λ clean none. absurd (filled clean none);
       cause = it.cause;
+      numbered = it.numbered;
     }

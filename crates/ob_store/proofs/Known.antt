@@ -1,12 +1,13 @@
 -- What the rows under a reference say of the accepted commands.
-use Rattle.std.proofs.Common.{◌≡◌, inl, inr, ℕ, ◌+◌, ◌-◌, ◌<◌, ◌≤◌, ◌&&◌, Bool, true, false, List, [], ◌∷◌, length, filter, Some, None, refl, sym, ap, ◌∙◌, arith, suc, true≢false, Ordering, Less, Equal, Greater, nat_lt}
-use Rattle.std.specs.Prelude.{nat_eq, slice_get}
+use Rattle.std.proofs.Common.{◌≡◌, ◌≢◌, inl, inr, ℕ, ◌+◌, ◌-◌, ◌^◌, ◌<◌, ◌≤◌, ◌&&◌, Bool, true, false, List, [], ◌∷◌, length, filter, Some, None, refl, sym, ap, ap₂, ◌∙◌, arith, suc, true≢false, Ordering, Less, Equal, Greater, nat_lt}
+use Rattle.std.specs.Prelude.{nat_eq, slice_get, slice_index_or}
 use Rattle.std.specs.Ordering.{is_eq, nat_cmp, ordering_then}
 use Rattle.std.specs.Cmp.Lexicographic.{slice_cmp}
 use Rattle.std.specs.List.{position_or_len}
 use Rattle.std.specs.Str.{bytes_eq}
 use Rattle.std.proofs.lemmas.Bool.{cases_Bool}
 use Rattle.std.proofs.lemmas.Bool.Decides.{nat_tests}
+use Rattle.std.proofs.lemmas.Slice.Eq.{bytes_eq-Decides}
 use Rattle.sqlite_value.proofs.OrderLemmas.{value_cmp-Text}
 use Rattle.sqlite_sql.specs.Ops.{binary, is_true, from_truth}
 use Rattle.sqlite_schema.specs.Rules.{equal}
@@ -14,8 +15,12 @@ use Rattle.sqlite.specs.declared.types.Value.TheVariants.{Text}
 use Rattle.sqlite.specs.Collation.TheVariants.{Binary}
 use Rattle.ob_command.specs.Commands.{body_text}
 use Rattle.ob_book.specs.Acts.{ActState, Referenced, number_of}
-use Rattle.ob_tables.specs.Rows.{command_row, is_reference}
-use Rattle.ob_record.specs.Tables.{numbered, row_of_command}
+use Rattle.ob_tables.specs.Rows.{Columns, command_row, is_reference}
+use Rattle.ob_tables.specs.declared.table.Table.TheVariants.{Command as Commands}
+use Rattle.ob_commit.specs.Known.{AreOfOne}
+use Rattle.ob_compare.specs.Distinct.{ActsAreAccepted, AreDistinct}
+use Rattle.ob_record.specs.Reached.{IsReached, ReachedAreFew}
+use Rattle.ob_record.specs.Tables.{numbered, row_of_command, tables_of}
 
 truth_is : (b : Bool) → is_true (from_truth (Some b)) ≡ b
 truth_is true = refl
@@ -130,3 +135,29 @@ module _ (r : List ℕ) where
         least = omega (arith, it.number);
         most = omega (arith, it.low, it.number);
       }
+
+  -- ---- no reference stands twice
+  -- none of the list is under the reference
+  none_under : (n : ℕ) (list : List Referenced) → ((k : ℕ) (d : Referenced) → k < length list → (slice_index_or list k d).reference ≢ r) → filter (is_reference r) (numbered row_of_command n list) ≡ []
+  none_under n [] free = refl
+  none_under n (a ∷ list) free = elim (cases_Bool (bytes_eq a.reference r)) [
+    | inl same ↦ absurd (free 0 a (omega arith) ((bytes_eq-Decides a.reference r).0 same))
+    | inr other ↦ rw (test_is r n a, other) (none_under (n + 1) list (λ k d low. free (suc k) d (omega (arith, low))))
+  ]
+
+  one_under : (n : ℕ) (list : List Referenced) → AreDistinct list → n + length list < 2 ^ 32 → AreOfOne (filter (is_reference r) (numbered row_of_command n list)) r
+  one_under n [] apart low = inl refl
+  one_under n (a ∷ list) apart low = elim (cases_Bool (bytes_eq a.reference r)) [
+    | inl same ↦
+        let is : a.reference ≡ r = (bytes_eq-Decides a.reference r).0 same in
+        let more : filter (is_reference r) (numbered row_of_command (n + 1) list) ≡ [] = none_under (n + 1) list (λ k d l e. apart 0 (suc k) d (omega arith) (omega (arith, l)) (is ∙ sym e)) in
+        let own : filter (is_reference r) (numbered row_of_command n (a ∷ list)) ≡ row_of_command n a ∷ filter (is_reference r) (numbered row_of_command (n + 1) list) = rw (test_is r n a, same) refl in
+        inr (n, omega (arith, low), body_text a.command, own ∙ ap₂ (λ (x : List ℕ) (l : List Columns). command_row n x (body_text a.command) ∷ l) is more)
+    | inr other ↦ rw (test_is r n a, other) (one_under (n + 1) list (λ i j d l m. apart (suc i) (suc j) d (omega (arith, l)) (omega (arith, m))) (omega (arith, low)))
+  ]
+
+  -- in a reached book a reference stands in one row, or in none
+  pub of_one : ActsAreAccepted → ReachedAreFew → (b : ActState) → IsReached b → AreOfOne (filter (is_reference r) (tables_of b Commands)) r
+  of_one law most b reached =
+      let few = most b reached in
+      one_under 1 b.accepted (law b.book.period b.accepted (ap (λ (s : ActState). s.accepted) reached.in_turn)).0 (omega (arith, few))

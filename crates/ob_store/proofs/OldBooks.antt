@@ -16,7 +16,7 @@ use Rattle.ob_tables.specs.Versions.{Has}
 use Rattle.ob_tables.specs.declared.table.Table.{Table}
 use Rattle.ob_tables.specs.declared.table.Table.TheVariants.{Meta, Cause, Node, Device, Life, Customer, Entry, Mark, Command, Moved, Posting}
 use Rattle.ob_tables.specs.declared.version.Version.TheVariants.{One}
-use Rattle.ob_commit.specs.Upgrade.{CanUpgrade, with_upgrade}
+use Rattle.ob_commit.specs.Upgrade.{CanUpgrade, LetsUpgrade, with_upgrade}
 use Rattle.ob_record.specs.Naming.{IsReferenced}
 use Rattle.ob_record.specs.Tables.{Shows, moved_rows, tables_of}
 use Rattle.ob_compare.specs.Distinct.{AreDistinct}
@@ -24,7 +24,7 @@ use Rattle.ob_compare.specs.Listing.{filed_of}
 use Rattle.ob_compare.specs.Reading.{bad_book, command_rows}
 use Rattle.ob_compare.specs.Version.{HasVersion}
 use Rattle.ob_compare.specs.Versioned.{IsReferencedIn}
-use Rattle.ob_parts.specs.Laws.{IsOldCommand, OldIsReached, TablesAreAlike, Upgraded as UpgradedLaw}
+use Rattle.ob_parts.specs.Laws.{IsOldCommand, LetsUpgraded as LetsLaw, OldIsReached, TablesAreAlike, Upgraded as UpgradedLaw}
 use Rattle.ob_parts.specs.OldTables.{HasOldBook, IsOldReached, new_texts, old_tables_of, texts_of}
 use Rattle.ob_parts.specs.Parts.{parts_in}
 use Rattle.ob_store.specs.declared.migrating.Upgrade.{Upgrade}
@@ -200,13 +200,16 @@ module _ {S : Type 0} (g : Ghosts S) (laws : Laws One) (old_law : OldIsReached) 
           had Posting part = tt
 
       -- each table is the book's, and this makes it one of version 2
-      pub upgradable : UpgradedLaw → HasOldParts trees s → (up : Upgrade) → texts_of up.bodies.items ≡ new_texts 1 (filed_of it.commands.items) → up.devices ≡ length s.network.devices → Upgradable trees up
-      upgradable law parts up texts devices =
+      pub upgradable : UpgradedLaw → LetsLaw → HasOldParts trees s → (up : Upgrade) → texts_of up.bodies.items ≡ new_texts 1 (filed_of it.commands.items) → up.devices ≡ length s.network.devices → Upgradable trees up
+      upgradable law allows parts up texts devices =
           let same : b.accepted ≡ filed_of it.commands.items = commands_are One laws trees it led.0 b led.1.is_book in
           let count : length b.book.network.devices ≡ up.devices = ap (λ (x : BookState). length x.network.devices) (sym led.1.state) ∙ sym devices in
-          let becomes = law b up.bodies.items led.1.is_book.reached (texts ∙ ap (new_texts 1) (sym same)) in
+          let new : texts_of up.bodies.items ≡ new_texts 1 b.accepted = texts ∙ ap (new_texts 1) (sym same) in
+          let becomes = law b up.bodies.items led.1.is_book.reached new in
+          let allowed = allows b up.bodies.items led.1.is_book.reached (valid_now b.accepted led.1.is_book.valid) new in
           let makes : IsUpgradeOf b up = record {
             can = subst (λ (n : ℕ). CanUpgrade up.bodies.items n (old_tables_of b)) count becomes.0;
+            lets = subst (λ (n : ℕ). LetsUpgrade up.bodies.items n (old_tables_of b)) count allowed;
             rows = λ table. subst (λ (n : ℕ). IsPermutation (with_upgrade up.bodies.items n (old_tables_of b) table) (tables_of b table)) count (becomes.1 table);
           } in
           (b, (has_book parts.0, only_one), parts.1, makes)
@@ -239,12 +242,12 @@ module _ {S : Type 0} (g : Ghosts S) (laws : Laws One) (old_law : OldIsReached) 
       bodies_fail : Finds g One Parts Off mid new (Ok tt) → (stop : Stop) → stop ≡ out_of_memory → Finds g One Upgradable HoldsNoOldBook old new (Err stop)
       bodies_fail second stop memory = then_fault g One LedParts LedOff Upgradable HoldsNoOldBook old new tt (checked (Ok tt) second) stop (read_fault stop (inr memory)) (memory_alone stop memory) (no_store stop (inr memory))
 
-      found_old : UpgradedLaw → Finds g One Parts Off mid new (Ok tt) → (up : Upgrade) → texts_of up.bodies.items ≡ new_texts 1 (filed_of it.commands.items) → up.devices ≡ length s.network.devices
+      found_old : UpgradedLaw → LetsLaw → Finds g One Parts Off mid new (Ok tt) → (up : Upgrade) → texts_of up.bodies.items ≡ new_texts 1 (filed_of it.commands.items) → up.devices ≡ length s.network.devices
           → Finds g One Upgradable HoldsNoOldBook old new (Ok up)
-      found_old law second up texts devices =
-          then_good g One LedParts LedOff Upgradable HoldsNoOldBook old new tt (checked (Ok tt) second) up (λ trees so. upgradable trees (as_led trees so.0) law so.1 up texts devices)
+      found_old law allows second up texts devices =
+          then_good g One LedParts LedOff Upgradable HoldsNoOldBook old new tt (checked (Ok tt) second) up (λ trees so. upgradable trees (as_led trees so.0) law allows so.1 up texts devices)
 
-      pub found_or : UpgradedLaw → Finds g One Parts Off mid new (Ok tt) → (r : Result Upgrade Stop) → IfOk r (λ up. texts_of up.bodies.items ≡ new_texts 1 (filed_of it.commands.items)) → IfOk r (λ up. up.devices ≡ length s.network.devices)
+      pub found_or : UpgradedLaw → LetsLaw → Finds g One Parts Off mid new (Ok tt) → (r : Result Upgrade Stop) → IfOk r (λ up. texts_of up.bodies.items ≡ new_texts 1 (filed_of it.commands.items)) → IfOk r (λ up. up.devices ≡ length s.network.devices)
           → IfErr r (λ stop. stop ≡ out_of_memory) → Finds g One Upgradable HoldsNoOldBook old new r
-      found_or law second (Ok up) texts devices fault = found_old law second up texts devices
-      found_or law second (Err stop) texts devices fault = bodies_fail second stop fault
+      found_or law allows second (Ok up) texts devices fault = found_old law allows second up texts devices
+      found_or law allows second (Err stop) texts devices fault = bodies_fail second stop fault

@@ -1,32 +1,37 @@
 -- What the heading tells where the tables of version 1 are to be made those of version 2.
-use Rattle.std.proofs.Common.{◌≡◌, inl, inr, ℕ, length, Bool, true, false, true≢false, IsTrue, Result, Ok, Err, refl, sym, ap, subst, ◌∙◌, arith}
-use Rattle.std.specs.Prelude.{◌↔◌, ⊤}
+use Rattle.std.proofs.Common.{◌≡◌, inl, inr, ℕ, length, List, [], Bool, true, false, true≢false, IsTrue, Result, Ok, Err, refl, sym, ap, subst, ◌∙◌, arith}
+use Rattle.std.specs.Prelude.{◌↔◌, ⊤, IfOk}
 use Rattle.sqlite_trees.specs.declared.store.Store.{Ghosts}
 use Rattle.sqlite.specs.Tree.{Trees}
 use Rattle.sqlite.specs.Schema.{Schema}
 use Rattle.sqlite.specs.Effect.{Database}
 use Rattle.sqlite.specs.Held.{Held, state}
-use Rattle.sqlite.specs.State.{HasCleanDisk, IsUnchanged, Survives}
+use Rattle.sqlite.specs.State.{State, HasCleanDisk, IsUnchanged, Shown, Survives}
 use Rattle.ob_base.specs.declared.stop.Stop.{Stop}
 use Rattle.ob_tables.specs.Creation.{old_schema}
 use Rattle.ob_tables.specs.Schema.{book_schema}
 use Rattle.sqlite_tied.specs.Compute.{everything}
-use Rattle.ob_tables.specs.Rows.{Tables}
+use Rattle.ob_tables.specs.Rows.{Columns, Tables}
 use Rattle.ob_tables.specs.Steps.{HasFaultCause}
 use Rattle.ob_tables.specs.Versions.{schema_of}
+use Rattle.ob_tables.specs.declared.table.Table.TheVariants.{Meta}
 use Rattle.ob_tables.specs.declared.version.Version.{Version}
 use Rattle.ob_tables.specs.declared.version.Version.TheVariants.{One, Two}
 use Rattle.ob_commit.specs.Keeps.{KeepsIn}
+use Rattle.ob_compare.specs.Parts.{select_of}
 use Rattle.ob_compare.specs.Reading.{IsReadFault, bad_book}
-use Rattle.ob_compare.specs.Version.{HasVersion, IsOfBook}
+use Rattle.ob_compare.specs.Version.{HasVersion, IsOfBook, IsVersionRow}
+use Rattle.ob_compare.proofs.Asking.{shown_before}
+use Rattle.ob_compare.proofs.Selects.{writes_nothing}
 use Rattle.ob_store.specs.Differing.{NoneSo}
 use Rattle.ob_store.specs.Finding.{Finds}
+use Rattle.ob_store.specs.Migrating.{ShowsVersion}
 use Rattle.ob_store.specs.Shapes.{IsShapeOf}
 use Rattle.ob_store.specs.Upgrading.{IsTold, IsUntold}
 use Rattle.ob_store.specs.Versions.{Looks}
 use Rattle.ob_store.proofs.Asking.{looked_kept}
 use Rattle.ob_store.proofs.Failing.{no_store}
-use Rattle.ob_store.proofs.Reading.{fails, find_as, read_err, read_ok, then_bad, then_more}
+use Rattle.ob_store.proofs.Reading.{fails, find_as, if_ok, read_err, read_ok, then_bad, then_more}
 
 pub of_book : (v : Version) (schema : Schema) → schema ≡ schema_of v → IsOfBook schema
 of_book One schema is = inr is
@@ -57,6 +62,14 @@ untold_there Two schema is other trees two = two
 told_old : (v : Version) (schema : Schema) → schema ≡ schema_of v → IsShapeOf One schema → (trees : Trees) → ¬ (HasVersion 2 trees) → IsTold v trees false
 told_old One schema is shape trees two = two
 told_old Two schema is shape trees two = absurd (shape_now (subst (IsShapeOf One) is shape))
+
+-- ---- the heading showed a version
+pub shown_so : (n : ℕ) (old new : State) (is : Bool) → is ≡ true → (rows : List Columns) × Shown (select_of Meta) [] old new rows × (IsTrue is ↔ IsVersionRow n rows) → ShowsVersion n old new
+shown_so n old new is so it = (it.0, it.1, it.2.0 so)
+
+-- and so it does after a step that changed nothing
+pub shown_since : (n : ℕ) (old mid new : State) → IsUnchanged old mid → ShowsVersion n mid new → ShowsVersion n old new
+shown_since n old mid new same it = (it.0, shown_before old mid new (select_of Meta) (select_of Meta) it.0 (writes_nothing Meta) (refl, same) it.1, it.2)
 
 module _ {S : Type 0} (g : Ghosts S) where
   -- ---- one version was looked for
@@ -151,6 +164,10 @@ module _ {S : Type 0} (g : Ghosts S) where
       let first : Finds g v (λ trees (done : ⊤). ⊤) NoneSo old mid (Ok tt) = read_ok g v (λ trees (done : ⊤). ⊤) NoneSo old mid tt look.mode look.survives look.clean (looked_kept g old mid (Ok tt) look v) (λ c schema. look.same c tt) (λ c schema. tt) in
       find_as g v (λ trees z. ⊤ × IsTold v trees z) (IsTold v) (λ trees. ⊤ × IsUntold v trees) (IsUntold v) old new r (λ trees x found. found.1) (λ trees none. none.1)
       (then_more g v (λ trees (done : ⊤). ⊤) NoneSo (IsTold v) (IsUntold v) old mid new tt r first it)
+
+  pub looked_told : (old mid new : Held S) (r : Result Bool Stop) → Looks g old mid (Ok tt) → HasCleanDisk (state g mid) → IfOk r (λ is. IsTrue is → ShowsVersion 2 (state g mid) (state g new))
+      → IfOk r (λ is. IsTrue is → ShowsVersion 2 (state g old) (state g new))
+  looked_told old mid new r look clean told = if_ok r told (λ is so told. shown_since 2 (state g old) (state g mid) (state g new) (look.same clean tt) (so told))
 
   pub looked_shape : (v : Version) (old mid : Held S) → Looks g old mid (Ok tt) → HasCleanDisk (state g mid) → IsShapeOf v mid.schema → IsShapeOf v old.schema
   looked_shape v old mid look clean shape = subst (IsShapeOf v) (ap (λ (d : Database). d.schema) (look.same clean tt).0.now_is) shape

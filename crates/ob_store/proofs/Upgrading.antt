@@ -17,26 +17,28 @@ use Rattle.ob_base.specs.declared.stop.Stop.TheVariants.{Fault}
 use Rattle.ob_base.specs.declared.stop.Fault.TheVariants.{Store}
 use Rattle.ob_book.specs.Acts.{ActState}
 use Rattle.ob_tables.specs.Creation.{old_schema}
-use Rattle.ob_tables.specs.Rows.{AreApart, Columns, Tables, number}
+use Rattle.ob_tables.specs.Rows.{AreApart, Columns, Holds, Tables, number}
 use Rattle.ob_tables.specs.Schema.{book_schema}
 use Rattle.ob_tables.specs.Steps.{IsStoreFault}
+use Rattle.ob_tables.proofs.Failing.{failed_after}
 use Rattle.ob_tables.specs.Versions.{HoldsOld, schema_of}
 use Rattle.ob_tables.specs.declared.version.Version.{Version}
 use Rattle.ob_tables.specs.declared.version.Version.TheVariants.{One, Two}
-use Rattle.ob_commit.specs.Keeps.{Keeps, KeepsIn, Leaves, LeavesIn}
-use Rattle.ob_commit.specs.Upgrade.{CanUpgrade, KeepsOldOr, LeavesUpgraded, with_upgrade}
+use Rattle.ob_commit.specs.Keeps.{HasCommitCause, Keeps, KeepsIn, KeepsNumbers, Leaves, LeavesIn}
+use Rattle.ob_commit.specs.Upgrade.{CanUpgrade, KeepsOldOr, LeavesUpgraded, LetsUpgrade, with_upgrade}
+use Rattle.ob_commit.proofs.Commits.{numbers_survive}
 use Rattle.ob_record.specs.Tables.{tables_of}
 use Rattle.ob_compare.specs.Reading.{IsReadFault}
-use Rattle.ob_compare.specs.Version.{HasVersion}
+use Rattle.ob_compare.specs.Version.{HasVersion, IsOfBook}
 use Rattle.ob_parts.specs.Laws.{OldIsReached}
 use Rattle.ob_parts.specs.OldTables.{HasOldBook, old_tables_of}
 use Rattle.ob_store.specs.declared.migrating.Upgrade.{Upgrade}
 use Rattle.ob_store.specs.Finding.{Finds, OnlyReads}
 use Rattle.ob_store.specs.Keeping.{HasStoreCause, KeepsBook}
-use Rattle.ob_store.specs.Migrating.{HasUpgradeCause, HoldsNoOldBook, KeepsEitherVersion, KeepsOldBook, LeavesKept, LeftAsItWas, Migrated, MigratesKept, OnlyReadsOld, StaysOrUpgrades}
+use Rattle.ob_store.specs.Migrating.{HasUpgradeCause, HoldsNoOldBook, KeepsEitherVersion, KeepsOldBook, KeepsOnNumbers, LeavesKept, LeftAsItWas, Migrated, MigratesKept, OnlyReadsOld, StaysOrUpgrades}
 use Rattle.ob_store.specs.Shapes.{IsShapeOf}
-use Rattle.ob_store.specs.Upgrading.{IsTold, IsUntold, IsUpgradeOf, LeavesWritten, Migrates, Upgradable, Upgraded}
-use Rattle.ob_store.proofs.Accepting.{keeps_as, leaves_as}
+use Rattle.ob_store.specs.Upgrading.{HasWriteCause, IsTold, IsUntold, IsUpgradeOf, LeavesWritten, Migrates, OfUpgraded, Upgradable, Upgraded}
+use Rattle.ob_store.proofs.Accepting.{holds_as, keeps_as, leaves_as}
 use Rattle.ob_store.proofs.Crashing.{one_schema}
 use Rattle.ob_store.proofs.OldBooks.{has_one}
 use Rattle.ob_store.proofs.Reading.{fails, no_more, then_more}
@@ -141,6 +143,20 @@ module _ {S : Type 0} (g : Ghosts S) (old_law : OldIsReached) (old new : Held S)
   upgraded_or clean (Ok done) fault made_so undone either = upgraded made_so
   upgraded_or clean (Err stop) fault made_so undone either = not_upgraded clean stop fault undone either
 
+  -- why it wasn't: the rows that were undone are those of version 2
+  undone_as : HasCommitCause g (state g old) (state g new) made → HasCommitCause g (state g old) (state g new) (tables_of b)
+  undone_as (inl failed) = inl failed
+  undone_as (inr it) =
+      let trees = (state g it.0).now.trees in
+      let holds : Holds trees (tables_of b) = holds_as made (tables_of b) makes.rows trees it.1 in
+      inr (it.0, holds, it.2)
+
+  pub not_caused : HasCleanDisk (state g new) → KeepsNumbers (state g old) → (r : Result ⊤ Stop)
+      → IfErr r (λ stop. stop ≡ Fault Store → HasCleanDisk (state g new) → (t : Tables) → KeepsIn One (state g old) t → KeepsNumbers (state g old) → CanUpgrade it.bodies.items it.devices t
+      → LetsUpgrade it.bodies.items it.devices t → HasCommitCause g (state g old) (state g new) (with_upgrade it.bodies.items it.devices t)) → HasWriteCause g old new (tables_of b) r
+  not_caused clean numbers (Ok done) told = tt
+  not_caused clean numbers (Err stop) told = λ store. undone_as (told store clean (old_tables_of b) keeps numbers makes.can makes.lets)
+
 -- ---- the whole of it
 module _ {S : Type 0} (g : Ghosts S) where
   still : (old new : Held S) → Survives (state g old) (state g new) (λ _. ⊥) → Survives (state g old) (state g new) (LeavesKept (state g old))
@@ -203,6 +219,7 @@ module _ {S : Type 0} (g : Ghosts S) where
         kept = λ clean opened b keeps.
             let has = kept_has old ((at One).clean clean) opened b keeps in
             two_not_one (state g old).now.trees ((at One).good clean has.0) b has.1;
+        numbered = λ of. numbers_survive (state g old) (state g new) (at One).survives;
       }
 
     -- ---- the reading stopped
@@ -241,6 +258,7 @@ module _ {S : Type 0} (g : Ghosts S) where
         migrated = λ clean schema. not_migrated clean schema it.faults;
         current = current;
         kept = λ clean opened b keeps. not_kept clean opened b keeps it.faults;
+        numbered = λ of. numbers_survive (state g old) (state g new) it.survives;
       }
 
     -- ---- at the heading
@@ -290,11 +308,14 @@ module _ {S : Type 0} (g : Ghosts S) where
         same = read.same (clean_then clean) schema
 
         -- what was found is so of the store that was read
-        upgraded_so : Upgraded g end new found.0 r
-        upgraded_so =
+        of_found : (P : ActState → Type 0) → OfUpgraded g end up P → P found.0
+        of_found P so =
             let now : (state g end).now ≡ (state g old).now = same.0.now_is in
-            upgrades clean same.0.is_open (ap (λ (d : Database). d.schema) now ∙ schema) found.0
+            so same.0.is_open (ap (λ (d : Database). d.schema) now ∙ schema) found.0
             (subst (λ (d : Database). HasOldBook d.trees found.0) (sym now) found.1.0) (subst (λ (d : Database). AreApart (d.trees 14)) (sym now) found.2) found.3
+
+        upgraded_so : Upgraded g end new found.0 r
+        upgraded_so = of_found (λ b. Upgraded g end new b r) (upgrades clean)
 
         -- a book that the store kept is the one that was found
         it_is : (b : ActState) → KeepsOldBook (state g old) b → b ≡ found.0
@@ -302,6 +323,17 @@ module _ {S : Type 0} (g : Ghosts S) where
 
         no_more_read : (trees : Trees) → (state g end).may_leave trees → (state g old).may_leave trees
         no_more_read = no_more (state g old) (state g end) read.survives (clean_then clean)
+
+      -- the row numbers that a crash left stay
+      numbers_stay : (HasCleanDisk (state g mid) → IsTrue (state g old).is_open) → (KeepsNumbers (state g end) → OfUpgraded g end up (λ b. KeepsNumbers (state g new))) → KeepsOnNumbers g old new
+      numbers_stay opened numbered of numbers clean trees may =
+          let early = second.clean (clean_then clean) in
+          elim (of (read.clean (clean_then clean)) (opened early)) [
+            | inl now ↦ absurd (not_now early now)
+            | inr schema ↦
+                let still : KeepsNumbers (state g end) = numbers_survive (state g old) (state g end) read.survives numbers in
+                of_found clean schema (λ b. KeepsNumbers (state g new)) (numbered still) clean trees may
+          ]
 
       -- a crash leaves the tables of version 2 of no book but the one that was found
       kept_leaves : (HasCleanDisk (state g mid) → IsTrue (state g old).is_open) → (HasCleanDisk (state g mid) → IsShapeOf One old.schema) → HasCleanDisk (state g new) → (trees : Trees) → LeavesWritten g end up trees → LeavesKept (state g old) trees
@@ -338,8 +370,11 @@ module _ {S : Type 0} (g : Ghosts S) where
     abbrev UpgradesTo : Result ⊤ Stop → Type 0
     UpgradesTo r = HasCleanDisk (state g new) → IsTrue (state g end).is_open → end.schema ≡ old_schema → (b : ActState) → HasOldBook (state g end).now.trees b → AreApart ((state g end).now.trees 14) → IsUpgradeOf b up → Upgraded g end new b r
 
-    pub was_old : UpgradesTo (Ok tt) → Migrates g old new (Ok true)
-    was_old upgrades = record {
+    abbrev NumbersTo : Type 0
+    NumbersTo = KeepsNumbers (state g end) → OfUpgraded g end up (λ b. KeepsNumbers (state g new))
+
+    pub was_old : UpgradesTo (Ok tt) → NumbersTo → Migrates g old new (Ok true)
+    was_old upgrades numbered = record {
       clean = λ clean. (read old mid is other told end up second new clean_then survives (Ok tt) upgrades).clean (clean_then clean);
       survives = all_survives old mid is other told end up second new clean_then survives (Ok tt) upgrades opened shape;
       faults = tt;
@@ -349,6 +384,7 @@ module _ {S : Type 0} (g : Ghosts S) where
           (it.0, it.1, upgraded_so old mid is other told end up second new clean_then survives (Ok tt) upgrades clean schema);
       current = λ clean schema. not_current old mid is other told end up second new clean_then survives (Ok tt) upgrades clean schema;
       kept = λ clean opened b keeps. of_kept old mid is other told end up second new clean_then survives (Ok tt) upgrades clean opened b keeps;
+      numbered = numbers_stay old mid is other told end up second new clean_then survives (Ok tt) upgrades opened numbered;
     }
 
     module _ (stop : Stop) (upgrades : UpgradesTo (Err stop)) where
@@ -389,20 +425,35 @@ module _ {S : Type 0} (g : Ghosts S) where
           let at : Upgraded g end new b (Err (Fault Store)) = subst (λ s. Upgraded g end new b (Err s)) store so in
           subst (λ s. MigratesKept g new b (Err s)) (sym store) at.0
 
-      -- the tables were being made those of version 2
-      failed_cause : HasCleanDisk (state g new) → (v : Version) → old.schema ≡ schema_of v → HasUpgradeCause g old new (Err stop)
-      failed_cause clean One schema store =
-          let it = found old mid is other told end up second new clean_then survives (Err stop) upgrades clean schema in
-          inr (schema, it.0, it.1)
-      failed_cause clean Two schema store = absurd (not_current old mid is other told end up second new clean_then survives (Err stop) upgrades clean schema)
+      -- what fails after the tables were read has failed in the whole
+      since : (t : Tables) → HasCleanDisk (state g new) → HasCommitCause g (state g end) (state g new) t → HasCommitCause g (state g old) (state g new) t
+      since t clean (inl fails) =
+          let one = (read old mid is other told end up second new clean_then survives (Err stop) upgrades).survives in
+          inl (failed_after (state g old) (state g end) (state g new) _ _ one (clean_then clean) survives fails)
+      since t clean (inr undone) = inr undone
 
-      pub failed : IsStoreFault stop → Migrates g old new (Err stop)
-      failed fault = record {
+      abbrev Causes : Type 0
+      Causes = HasCleanDisk (state g new) → KeepsNumbers (state g end) → OfUpgraded g end up (λ b. HasWriteCause g end new (tables_of b) (Err stop))
+
+      -- the tables were being made those of version 2
+      failed_cause : Causes → HasCleanDisk (state g new) → (v : Version) → old.schema ≡ schema_of v → HasUpgradeCause g old new (Err stop)
+      failed_cause causes clean One schema store =
+          let it = found old mid is other told end up second new clean_then survives (Err stop) upgrades clean schema in
+          let one = (read old mid is other told end up second new clean_then survives (Err stop) upgrades).survives in
+          let cause : KeepsNumbers (state g old) → HasCommitCause g (state g old) (state g new) (tables_of it.0) = λ numbers.
+          since (tables_of it.0) clean (of_found old mid is other told end up second new clean_then survives (Err stop) upgrades clean schema (λ b. HasWriteCause g end new (tables_of b) (Err stop))
+          (causes clean (numbers_survive (state g old) (state g end) one numbers)) store) in
+          inr (schema, it.0, it.1, cause)
+      failed_cause causes clean Two schema store = absurd (not_current old mid is other told end up second new clean_then survives (Err stop) upgrades clean schema)
+
+      pub failed : IsStoreFault stop → Causes → NumbersTo → Migrates g old new (Err stop)
+      failed fault causes numbered = record {
         clean = λ clean. (read old mid is other told end up second new clean_then survives (Err stop) upgrades).clean (clean_then clean);
         survives = all_survives old mid is other told end up second new clean_then survives (Err stop) upgrades opened shape;
         faults = inl fault;
-        cause = failed_cause;
+        cause = failed_cause causes;
         migrated = λ clean schema. failed_so clean schema fault;
         current = λ clean schema. absurd (not_current old mid is other told end up second new clean_then survives (Err stop) upgrades clean schema);
         kept = λ clean opened b keeps. failed_kept fault b (of_kept old mid is other told end up second new clean_then survives (Err stop) upgrades clean opened b keeps);
+        numbered = numbers_stay old mid is other told end up second new clean_then survives (Err stop) upgrades opened numbered;
       }

@@ -1,5 +1,5 @@
 -- What a command under a reference makes of a keeper.
-use Rattle.std.specs.Prelude.{◌≡◌, ⊤, ℕ, List, Result, Ok, Err, None, IsSome}
+use Rattle.std.specs.Prelude.{◌≡◌, ◌⊎◌, ⊤, ℕ, List, Result, Ok, Err, None, IsSome, IsTrue, IfErr}
 use Rattle.sqlite_trees.specs.declared.store.Store.{Ghosts}
 use Rattle.sqlite.specs.Held.{Held, state}
 use Rattle.ob_base.specs.declared.stop.Stop.{Stop}
@@ -7,7 +7,10 @@ use Rattle.ob_base.specs.declared.stop.Stop.TheVariants.{Refused, Fault}
 use Rattle.ob_base.specs.declared.stop.Fault.TheVariants.{OutOfMemory, Store}
 use Rattle.ob_command.specs.declared.command.Command.{Command}
 use Rattle.ob_state.specs.State.{BookState}
-use Rattle.ob_book.specs.Acts.{ActState, Referenced, Reply, act, answer}
+use Rattle.ob_book.specs.Acts.{ActState, Referenced, Reply, act, answer, is_accepted}
+use Rattle.ob_tables.specs.Steps.{HasFailed}
+use Rattle.ob_commit.specs.Keeps.{WasUndone}
+use Rattle.ob_record.specs.Tables.{tables_of}
 use Rattle.ob_store.specs.Keeping.{KeeperValue, KeepsBook, KeepsEitherBook, Ties}
 use Rattle.ob_store.specs.declared.reply.Reply.{Reply as GivenReply}
 
@@ -46,3 +49,10 @@ module _ {S : Type 0} (g : Ghosts S) where
   Acted old new b a (Err (Fault OutOfMemory)) = Ties g new b × (new.book ≡ old.book)
   Acted old new b a (Err (Fault Store)) = KeepsEitherBook (state g new.conn) b (act b a) × (new.book ≡ None)
   Acted old new b a (Err (Fault fault)) = ⊥
+
+  -- where the store is told to have failed, it has; or the command was accepted, and the transaction that showed the tables
+  -- with it was undone, as for want of memory
+  abbrev pub HasActCause : {X : Type 0} → Held S → Held S → ActState → Referenced → Result X Stop → Type 0
+  HasActCause old new b a result =
+      IfErr result (λ stop. stop ≡ Fault Store → HasFailed (state g old) (state g new)
+      ⊎ (IsTrue (is_accepted b a) × WasUndone g (state g new) (tables_of (act b a))))

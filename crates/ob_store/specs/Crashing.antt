@@ -11,7 +11,7 @@ use Rattle.ob_tables.specs.Creation.{old_schema}
 use Rattle.ob_tables.specs.Schema.{book_schema}
 use Rattle.ob_tables.specs.Steps.{HasFaultCause}
 use Rattle.ob_tables.specs.declared.version.Version.{Version}
-use Rattle.ob_commit.specs.Keeps.{Leaves}
+use Rattle.ob_commit.specs.Keeps.{KeepsNumbers, Leaves}
 use Rattle.ob_record.specs.Naming.{IsReferenced}
 use Rattle.ob_record.specs.Tables.{tables_of}
 use Rattle.ob_store.specs.Books.{IsReachedIn}
@@ -48,12 +48,14 @@ module _ {S R : Type 0} (g : Ghosts S) (h : Ghosts R) where
     pub opens : Opens (state h conn)
     pub live : IsLive (state h conn)
 
-  -- a keeper over what a crash left loads the book that the store kept, and where the store kept either of two, one of these
+  -- a keeper over what a crash left loads the book that the store kept, and where the store kept either of two, one of these;
+  -- and the hidden row numbers that a crash leaves are left by the next one as well
   abbrev pub CrashLaw : Type 0
   CrashLaw =
       (was : Held S) (keeper : KeeperValue R) → OpensAfterCrash was keeper.conn
       → ((b : ActState) → KeepsBook (state g was) b → Restores h keeper (λ x. x ≡ b))
       × ((b c : ActState) → KeepsEitherBook (state g was) b c → Restores h keeper (λ x. (x ≡ b) ⊎ (x ≡ c)))
+      × (KeepsNumbers (state g was) → KeepsNumbers (state h keeper.conn))
 
 module _ {S : Type 0} (g : Ghosts S) where
   -- the tables were read: a book was found in them, or it is told why not, and nothing was written

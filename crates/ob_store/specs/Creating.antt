@@ -1,5 +1,5 @@
 -- What the making of a new book leaves.
-use Rattle.std.specs.Prelude.{◌≡◌, ◌≢◌, ⊤, ℕ, List, Some, None, Result, Ok, Err, IsTrue}
+use Rattle.std.specs.Prelude.{◌≡◌, ◌≢◌, ◌⊎◌, ⊤, ℕ, List, Some, None, Result, Ok, Err, IsTrue, IfErr}
 use Rattle.sqlite_trees.specs.declared.store.Store.{Ghosts}
 use Rattle.sqlite.specs.Held.{Held, state}
 use Rattle.sqlite.specs.State.{State, HasCleanDisk}
@@ -13,7 +13,9 @@ use Rattle.ob_state.specs.State.{empty_book}
 use Rattle.ob_state.specs.States.{BookValue}
 use Rattle.ob_book.specs.Acts.{start}
 use Rattle.ob_tables.specs.Schema.{no_schema}
+use Rattle.ob_tables.specs.Steps.{HasFailed}
 use Rattle.ob_commit.specs.Begins.{Stays, StaysOrBegins}
+use Rattle.ob_commit.specs.Keeps.{WasUndone}
 use Rattle.ob_record.specs.Reached.{IsReached}
 use Rattle.ob_record.specs.Tables.{tables_of}
 use Rattle.ob_store.specs.Keeping.{KeeperValue, KeepsBook, KeepsOn, Ties}
@@ -68,3 +70,10 @@ module _ {S : Type 0} (g : Ghosts S) where
   Created old new first days zone (Err (Fault Store)) =
       MayBegin old.conn new.conn first days zone × (new.book ≡ None)
   Created old new first days zone (Err (Fault fault)) = ⊥
+
+  -- where the store is told to have failed, it has; or the transaction that showed the tables of a new book of the period was
+  -- undone, as for want of memory
+  abbrev pub HasCreateCause : {X : Type 0} → Held S → Held S → List ℕ → ℕ → List ℕ → Result X Stop → Type 0
+  HasCreateCause old new first days zone result =
+      IfErr result (λ stop. stop ≡ Fault Store → HasFailed (state g old) (state g new)
+      ⊎ ((p : Calendar) × IsPeriodText first days zone p × WasUndone g (state g new) (tables_of (start p))))

@@ -1,24 +1,27 @@
 -- What becomes of a store whose tables of version 1 are to be made those of version 2.
-use Rattle.std.specs.Prelude.{◌≡◌, ◌⊎◌, Bool, true, false, Result, Ok, Err, IfOk, IfErr, IsTrue}
+use Rattle.std.specs.Prelude.{◌≡◌, ◌⊎◌, ℕ, List, [], Bool, true, false, Result, Ok, Err, IfOk, IfErr, IsTrue}
 use Rattle.sqlite_trees.specs.declared.store.Store.{Ghosts}
 use Rattle.sqlite.specs.Tree.{Trees}
 use Rattle.sqlite.specs.Held.{Held, state}
-use Rattle.sqlite.specs.State.{State, HasCleanDisk}
+use Rattle.sqlite.specs.State.{State, HasCleanDisk, Shown}
 use Rattle.ob_base.specs.declared.stop.Stop.{Stop}
 use Rattle.ob_base.specs.declared.stop.Stop.TheVariants.{Refused, Fault}
 use Rattle.ob_base.specs.declared.stop.Refusal.TheVariants.{BadBook}
 use Rattle.ob_base.specs.declared.stop.Fault.TheVariants.{OutOfMemory, Store}
 use Rattle.ob_book.specs.Acts.{ActState}
 use Rattle.ob_tables.specs.Creation.{old_schema}
+use Rattle.ob_tables.specs.Rows.{Columns}
 use Rattle.ob_tables.specs.Schema.{no_schema}
 use Rattle.ob_tables.specs.Steps.{HasFailed}
 use Rattle.ob_tables.specs.Versions.{schema_of}
+use Rattle.ob_tables.specs.declared.table.Table.TheVariants.{Meta}
 use Rattle.ob_tables.specs.declared.version.Version.{Version}
 use Rattle.ob_tables.specs.declared.version.Version.TheVariants.{One}
-use Rattle.ob_commit.specs.Keeps.{Leaves}
+use Rattle.ob_commit.specs.Keeps.{HasCommitCause, KeepsNumbers, Leaves}
 use Rattle.ob_record.specs.Tables.{tables_of}
+use Rattle.ob_compare.specs.Parts.{select_of}
 use Rattle.ob_compare.specs.Reading.{IsMissed}
-use Rattle.ob_compare.specs.Version.{HasVersion}
+use Rattle.ob_compare.specs.Version.{HasVersion, IsOfBook, IsVersionRow}
 use Rattle.ob_parts.specs.OldTables.{HasOldBook}
 use Rattle.ob_store.specs.Finding.{OnlyReads, ShowsTheSame}
 use Rattle.ob_store.specs.Keeping.{IsAnswer, IsBroken, KeepsBook, KeepsEitherBook}
@@ -43,6 +46,10 @@ LeavesUpgradeOf was trees = (b : ActState) × HoldsOldBook was b × Leaves (tabl
 abbrev pub LeavesKept : State → Trees → Type 0
 LeavesKept s trees =
     IsTrue s.is_open × IsShapeOf One s.now.schema × (s.now.schema ≡ old_schema → LeavesUpgradeOf s.now.trees trees)
+
+-- a reading of the heading showed one row, with this version
+abbrev pub ShowsVersion : ℕ → State → State → Type 0
+ShowsVersion version old new = (rows : List Columns) × Shown (select_of Meta) [] old new rows × IsVersionRow version rows
 
 module _ {S : Type 0} (g : Ghosts S) where
   -- nothing was written: a book of version 1 that the store keeps it keeps on, and a crash leaves no more than before
@@ -94,21 +101,33 @@ module _ {S : Type 0} (g : Ghosts S) where
   MigratesKept new b (Err (Fault fault)) = ⊥
 
   -- where the store is told to have failed, it has, or the file is broken; or the tables of version 1 of one book were being made
-  -- those of version 2
+  -- those of version 2: where a crash left hidden row numbers 1, 2, 3 and so on, the store has failed then too, or the transaction
+  -- that showed the tables of version 2 was undone, as for want of memory
   abbrev pub HasUpgradeCause : Held S → Held S → Result Bool Stop → Type 0
   HasUpgradeCause old new result = IfErr result (λ stop. stop ≡ Fault Store
       → (HasFailed (state g old) (state g new) ⊎ IsBroken (trees_in g old))
-      ⊎ ((old.schema ≡ old_schema) × (b : ActState) × HoldsOldBook (trees_in g old) b))
+      ⊎ ((old.schema ≡ old_schema) × (b : ActState) × HoldsOldBook (trees_in g old) b
+      × (KeepsNumbers (state g old) → HasCommitCause g (state g old) (state g new) (tables_of b))))
 
-  -- an answer or a refusal comes of an open store alone, and true over tables that have the names of those of version 1. A book of version 2 that the store kept it keeps on, and so it does either
-  -- of two; and where there is no answer, a book in the tables of either version. An empty database is told as that of no book,
-  -- unless other trouble came before; and over the tables of a version a failure of the store has a cause
+  -- such row numbers stay, where an open store shows the tables of a version
+  abbrev pub KeepsOnNumbers : Held S → Held S → Type 0
+  KeepsOnNumbers old new =
+      (HasCleanDisk (state g old) → IsTrue (state g old).is_open → IsOfBook old.schema) → KeepsNumbers (state g old)
+      → KeepsNumbers (state g new)
+
+  -- an answer or a refusal comes of an open store alone, true over tables that have the names of those of version 1, and false
+  -- where the heading showed version 2. A book of version 2 that the store kept it keeps on, and so it does either of two; and
+  -- where there is no answer, a book in the tables of either version. An empty database is told as that of no book, unless other
+  -- trouble came before; and over the tables of a version a failure of the store has a cause, and the hidden row numbers stay
   pub record MigratesOn (old new : Held S) (result : Result Bool Stop) : Type 0 where
     pub live : HasCleanDisk (state g new) → IsAnswer result → IsTrue (state g old).is_open
     pub shape : HasCleanDisk (state g new) → IfOk result (λ done. IsTrue done → IsShapeOf One old.schema)
+    pub told : HasCleanDisk (state g new)
+        → IfOk result (λ done. done ≡ false → ShowsVersion 2 (state g old) (state g new))
     pub book : (b : ActState) → KeepsBook (state g old) b → KeepsBook (state g new) b
     pub either : (b c : ActState) → KeepsEitherBook (state g old) b c → KeepsEitherBook (state g new) b c
     pub version : HasCleanDisk (state g new) → IfErr result (λ stop. (b : ActState) → KeepsEitherVersion (state g old) b
         → KeepsEitherVersion (state g new) b)
     pub empty : HasCleanDisk (state g new) → old.schema ≡ no_schema → IsMissed (state g old) (state g new) result
     pub cause : HasCleanDisk (state g new) → (v : Version) → old.schema ≡ schema_of v → HasUpgradeCause old new result
+    pub numbered : KeepsOnNumbers old new

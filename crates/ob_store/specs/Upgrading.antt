@@ -11,15 +11,15 @@ use Rattle.ob_base.specs.declared.stop.Fault.TheVariants.{OutOfMemory, Store}
 use Rattle.ob_state.specs.State.{BookState}
 use Rattle.ob_book.specs.Acts.{ActState}
 use Rattle.ob_tables.specs.Creation.{old_schema}
-use Rattle.ob_tables.specs.Rows.{AreApart}
+use Rattle.ob_tables.specs.Rows.{AreApart, Tables}
 use Rattle.ob_tables.specs.Schema.{book_schema}
 use Rattle.ob_tables.specs.declared.table.Table.{Table}
 use Rattle.ob_tables.specs.declared.table.Table.TheVariants.{Life, Command, Moved}
 use Rattle.ob_tables.specs.Versions.{schema_of}
 use Rattle.ob_tables.specs.declared.version.Version.{Version}
 use Rattle.ob_tables.specs.declared.version.Version.TheVariants.{One, Two}
-use Rattle.ob_commit.specs.Keeps.{Leaves}
-use Rattle.ob_commit.specs.Upgrade.{CanUpgrade, with_upgrade}
+use Rattle.ob_commit.specs.Keeps.{HasCommitCause, Leaves}
+use Rattle.ob_commit.specs.Upgrade.{CanUpgrade, LetsUpgrade, with_upgrade}
 use Rattle.ob_record.specs.Tables.{Shows, tables_of}
 use Rattle.ob_compare.specs.Reading.{IsReadFault}
 use Rattle.ob_compare.specs.Version.{HasVersion}
@@ -27,7 +27,7 @@ use Rattle.ob_parts.specs.OldTables.{HasOldBook, old_tables_of}
 use Rattle.ob_parts.specs.Parts.{parts_in}
 use Rattle.ob_store.specs.declared.migrating.Upgrade.{Upgrade}
 use Rattle.ob_store.specs.Keeping.{KeepsBook}
-use Rattle.ob_store.specs.Migrating.{HasUpgradeCause, HoldsOldBook, KeepsEitherVersion, KeepsOldBook, LeavesKept, LeftAsItWas, Migrated, MigratesKept}
+use Rattle.ob_store.specs.Migrating.{HasUpgradeCause, HoldsOldBook, KeepsEitherVersion, KeepsOldBook, KeepsOnNumbers, LeavesKept, LeftAsItWas, Migrated, MigratesKept}
 
 -- what the heading tells: version 2, or another one; the tables of version 2 are told to be no other's
 abbrev pub IsTold : Version → Trees → Bool → Type 0
@@ -59,9 +59,10 @@ HasOldRows trees s = (table : Table) → IsOldPart table → Shows trees table (
 abbrev pub HasOldParts : Trees → BookState → Type 0
 HasOldParts trees s = HasOldRows trees s × AreApart (trees 14)
 
--- it makes the tables of version 1 of the book those of version 2, in some order of their rows
+-- it makes the tables of version 1 of the book those of version 2, in some order of their rows, which the rules of the tables let in
 pub record IsUpgradeOf (b : ActState) (it : Upgrade) : Type 0 where
   pub can : CanUpgrade it.bodies.items it.devices (old_tables_of b)
+  pub lets : LetsUpgrade it.bodies.items it.devices (old_tables_of b)
   pub rows : (table : Table) → IsPermutation (with_upgrade it.bodies.items it.devices (old_tables_of b) table) (tables_of b table)
 
 -- the tables are those of one book of version 1, and this makes them those of version 2
@@ -69,11 +70,19 @@ abbrev pub Upgradable : Trees → Upgrade → Type 0
 Upgradable trees it = (b : ActState) × HoldsOldBook trees b × AreApart (trees 14) × IsUpgradeOf b it
 
 module _ {S : Type 0} (g : Ghosts S) where
-  -- the tables of version 2, of the book of version 1 that the store showed while it was open and whose upgrade this is
-  abbrev pub LeavesWritten : Held S → Upgrade → Trees → Type 0
-  LeavesWritten old it trees =
+  -- it is so of the book of version 1 that the store showed while it was open and whose upgrade this is
+  abbrev pub OfUpgraded : Held S → Upgrade → (ActState → Type 0) → Type 0
+  OfUpgraded old it P =
       IsTrue (state g old).is_open → old.schema ≡ old_schema → (b : ActState) → HasOldBook (state g old).now.trees b
-      → AreApart ((state g old).now.trees 14) → IsUpgradeOf b it → Leaves (tables_of b) trees
+      → AreApart ((state g old).now.trees 14) → IsUpgradeOf b it → P b
+
+  -- the tables of version 2 of that book
+  abbrev pub LeavesWritten : Held S → Upgrade → Trees → Type 0
+  LeavesWritten old it trees = OfUpgraded old it (λ b. Leaves (tables_of b) trees)
+
+  -- why the store failed to make these tables
+  abbrev pub HasWriteCause : Held S → Held S → Tables → Result ⊤ Stop → Type 0
+  HasWriteCause old new t result = IfErr result (λ stop. stop ≡ Fault Store → HasCommitCause g (state g old) (state g new) t)
 
   -- what an upgrade leaves of the book of version 1 that the store showed: the tables of version 2; or, where memory was refused,
   -- what there was; or, after a fault of the store, what there was while it is open, and a crash leaves that or the tables of
@@ -98,3 +107,4 @@ module _ {S : Type 0} (g : Ghosts S) where
     pub current : HasCleanDisk (state g new) → old.schema ≡ book_schema → LeftAsItWas g old new result
     pub kept : HasCleanDisk (state g new) → IsTrue (state g old).is_open → (b : ActState) → KeepsOldBook (state g old) b
         → MigratesKept g new b result
+    pub numbered : KeepsOnNumbers g old new

@@ -1,18 +1,20 @@
 //! A command under a reference: what the book answers, and what then stands in the store and in memory.
-ghost use Rattle.std.specs.Prelude.{◌≡◌, ◌≢◌, false, None, IfErr, OnErr};
+ghost use Rattle.std.specs.Prelude.{◌≡◌, ◌≢◌, ◌≤◌, false, None, IfErr, OnErr};
 ghost use Rattle.sqlite.specs.Held.{state};
 ghost use Rattle.sqlite.specs.State.{HasCleanDisk, Survives};
 ghost use Rattle.ob_book.specs.Acts.{ActState, number_of};
 ghost use Rattle.ob_command.specs.Commands.{IsCommand, body_text as body_text_of};
 ghost use Rattle.ob_store.specs.Keeping.{KeepsBook};
-ghost use Rattle.ob_store.specs.Acting.{Acts, IsActStop, under};
+ghost use Rattle.ob_commit.specs.Keeps.{KeepsNumbers};
+ghost use Rattle.ob_store.specs.Acting.{Acts, HasActCause, IsActStop, under};
 
 use crate::reply::{Moves, Reply};
 use crate::stored::stored_reply;
 use ob_base::{Fault, Ref, Refusal, Stop};
 use ob_book::{Book, Command, body_text};
 use ob_commit::{Known, commit_act, look_up};
-use ob_record::{act_of, change_of, reached_law};
+use ob_compare::reaching_law;
+use ob_record::{act_of, change_of, naming_law, reached_law};
 use ob_sweep::Timeline;
 use sqlite::{Alter, Connection};
 use std::alloc::Global;
@@ -35,8 +37,18 @@ pub(crate) fn act_on<S: Alter, T: Timeline>(
         → KeepsBook (state S.Store conn.old) b → book.old.state ≡ b.book
         → Acts S.Store conn.new book.old.state book.new.state b (under reference.now command.now)
         result }
+    // the store is told to have failed only where it has, or where the rows of the command were undone
+    ensures cause { HasCleanDisk (state S.Store conn.new) → (b : ActState)
+        → KeepsBook (state S.Store conn.old) b → KeepsNumbers (state S.Store conn.old)
+        → book.old.state ≡ b.book → HasActCause S.Store conn.old conn.new b
+        (under reference.now command.now) result }
+    ensures numbered { (b : ActState) → KeepsBook (state S.Store conn.old) b
+        → book.old.state ≡ b.book → KeepsNumbers (state S.Store conn.old)
+        → KeepsNumbers (state S.Store conn.new) }
 {
     reached_law();
+    naming_law();
+    reaching_law();
     let body = match body_text(alloc, command) {
         Ok(body) => body,
         Err(stop) => return Err(stop),
@@ -70,6 +82,14 @@ fn accept<S: Alter, T: Timeline>(
         → KeepsBook (state S.Store conn.old) b → book.old.state ≡ b.book
         → number_of b reference.now ≡ None → Acts S.Store conn.new book.old.state book.new.state b
         (under reference.now command.now) result }
+    ensures counts { (state S.Store conn.old).faults ≤ (state S.Store conn.new).faults }
+    ensures cause { HasCleanDisk (state S.Store conn.new) → (b : ActState)
+        → KeepsBook (state S.Store conn.old) b → KeepsNumbers (state S.Store conn.old)
+        → book.old.state ≡ b.book → number_of b reference.now ≡ None
+        → HasActCause S.Store conn.old conn.new b (under reference.now command.now) result }
+    ensures numbered { (b : ActState) → KeepsBook (state S.Store conn.old) b
+        → book.old.state ≡ b.book → KeepsNumbers (state S.Store conn.old)
+        → KeepsNumbers (state S.Store conn.new) }
 {
     reached_law();
     let plan = match book.decide(command) {

@@ -1,8 +1,9 @@
 //! A new book, in an empty database and in memory.
-ghost use Rattle.std.specs.Prelude.{◌≡◌, false};
+ghost use Rattle.std.specs.Prelude.{◌≡◌, false, OnOk};
 ghost use Rattle.sqlite.specs.Held.{state};
 ghost use Rattle.sqlite.specs.State.{HasCleanDisk};
-ghost use Rattle.ob_store.specs.Creating.{Creates};
+ghost use Rattle.ob_commit.specs.Keeps.{KeepsNumbers};
+ghost use Rattle.ob_store.specs.Creating.{Creates, HasCreateCause};
 
 use ob_base::{Fault, Stop};
 use ob_book::Book;
@@ -26,6 +27,10 @@ pub(crate) fn create_on<S: Alter, T: Timeline>(
     ensures clean { HasCleanDisk (state S.Store conn.new) → HasCleanDisk (state S.Store conn.old) }
     ensures limit { conn.new.step_limit ≡ conn.old.step_limit }
     ensures creates { Creates S.Store conn.old conn.new first.now days zone.now result }
+    // the store is told to have failed only where it has, or where the rows of the book were undone
+    ensures cause { HasCleanDisk (state S.Store conn.new)
+        → HasCreateCause S.Store conn.old conn.new first.now days zone.now result }
+    ensures numbered { OnOk result (KeepsNumbers (state S.Store conn.new)) }
 {
     reached_law();
     let period = match Period::from_text(alloc, first, days, zone) {

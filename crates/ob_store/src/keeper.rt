@@ -61,9 +61,10 @@ impl<S: Alter, T: Timeline> Keeper<S, T> {
     ghost use Rattle.ob_book.specs.Acts.{ActState};
     ghost use Rattle.ob_store.specs.Keeping.{Answers, IsBookAfter, Ties};
     ghost use Rattle.ob_store.specs.Crashing.{Loads};
-    ghost use Rattle.ob_store.specs.Acting.{Acted, IsActStop, under};
+    ghost use Rattle.ob_commit.specs.Keeps.{KeepsNumbers};
+    ghost use Rattle.ob_store.specs.Acting.{Acted, HasActCause, IsActStop, under};
     ghost use Rattle.ob_store.specs.Replying.{Replied};
-    ghost use Rattle.ob_store.specs.Creating.{Created};
+    ghost use Rattle.ob_store.specs.Creating.{Created, HasCreateCause};
     ghost use Rattle.ob_store.specs.Loading.{Audited, Loaded};
     ghost use Rattle.ob_store.specs.Migrating.{KeepsOldBook, LeavesKept, LeftAsItWas, Migrated, MigratesKept, MigratesOn};
     ghost use Rattle.ob_store.specs.OldCrashing.{OldCrashLaw};
@@ -98,6 +99,11 @@ impl<S: Alter, T: Timeline> Keeper<S, T> {
             → HasCleanDisk (state S.Store self.old.conn) }
         ensures limit { self.new.conn.step_limit ≡ self.old.conn.step_limit }
         ensures created { Created S.Store self.old self.new first.now days zone.now result }
+        // the store is told to have failed only where it has, or where the rows of the book were undone
+        ensures cause { HasCleanDisk (state S.Store self.new.conn) → HasCreateCause S.Store
+            self.old.conn self.new.conn first.now days zone.now result }
+        // whatever a crash leaves then has hidden row numbers 1, 2, 3 and so on
+        ensures numbered { OnOk result (KeepsNumbers (state S.Store self.new.conn)) }
     {
         match create_on(self.alloc, &mut self.conn, first, days, zone) {
             Ok(book) => {
@@ -126,6 +132,16 @@ impl<S: Alter, T: Timeline> Keeper<S, T> {
         ensures acted { HasCleanDisk (state S.Store self.new.conn) → (b : ActState)
             → Ties S.Store self.old b → IsSome self.old.book
             → Acted S.Store self.old self.new b (under reference command) result }
+        // where a crash leaves hidden row numbers 1, 2, 3 and so on, the store is told to have failed only where it has, or
+        // where the rows of the command were undone
+        ensures cause { HasCleanDisk (state S.Store self.new.conn) → (b : ActState)
+            → Ties S.Store self.old b → KeepsNumbers (state S.Store self.old.conn)
+            → IsSome self.old.book → HasActCause S.Store self.old.conn self.new.conn b
+            (under reference command) result }
+        // and they go on so
+        ensures numbered { (b : ActState) → Ties S.Store self.old b
+            → KeepsNumbers (state S.Store self.old.conn)
+            → KeepsNumbers (state S.Store self.new.conn) }
     {
         let Some(book) = &mut self.book else {
             return Err(Stop::Fault(Fault::Reopen));

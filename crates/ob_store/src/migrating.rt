@@ -4,21 +4,20 @@ ghost use Rattle.ob_base.specs.Stop.{out_of_memory};
 ghost use Rattle.ob_compare.specs.Listing.{filed_of};
 ghost use Rattle.sqlite.specs.Held.{state};
 ghost use Rattle.sqlite.specs.State.{HasCleanDisk, Survives};
-ghost use Rattle.ob_book.specs.Acts.{ActState};
 ghost use Rattle.ob_compare.specs.Moves.{ends_of};
-ghost use Rattle.ob_parts.specs.OldTables.{HasOldBook, new_texts, texts_of};
-ghost use Rattle.ob_tables.specs.Creation.{old_schema};
-ghost use Rattle.ob_commit.specs.Keeps.{KeepsEitherIn, KeepsIn};
-ghost use Rattle.ob_tables.specs.Rows.{AreApart, Tables};
+ghost use Rattle.ob_parts.specs.OldTables.{new_texts, texts_of};
+ghost use Rattle.ob_record.specs.Tables.{tables_of};
+ghost use Rattle.ob_commit.specs.Keeps.{KeepsEitherIn, KeepsIn, KeepsNumbers};
+ghost use Rattle.ob_tables.specs.Rows.{Tables};
 ghost use Rattle.ob_tables.specs.Steps.{IsStoreFault};
 ghost use Rattle.ob_tables.specs.declared.version.Version.{Version as AVersion};
 ghost use Rattle.ob_store.specs.Differing.{NoneSo};
 ghost use Rattle.ob_store.specs.Finding.{Finds, IsNamed};
 ghost use Rattle.ob_store.specs.Laws.{Laws};
 ghost use Rattle.ob_store.specs.Leading.{HasParts, IsLedIn};
-ghost use Rattle.ob_store.specs.Migrating.{HoldsNoOldBook, MigratesOn};
+ghost use Rattle.ob_store.specs.Migrating.{HoldsNoOldBook, MigratesOn, ShowsVersion};
 ghost use Rattle.ob_store.specs.Shapes.{IsShapeOf};
-ghost use Rattle.ob_store.specs.Upgrading.{HasOldParts, HasOldRows, IsTold, IsUntold, IsUpgradeOf, LeavesWritten, Migrates, Upgradable, Upgraded};
+ghost use Rattle.ob_store.specs.Upgrading.{HasOldParts, HasOldRows, HasWriteCause, IsTold, IsUntold, LeavesWritten, Migrates, OfUpgraded, Upgradable, Upgraded};
 ghost use Rattle.ob_store.specs.Versions.{Asks};
 
 use crate::led::{Led, follow};
@@ -75,6 +74,9 @@ fn tell_heading<S: Alter>(conn: &mut Connection<S>, is_old: bool) -> Result<bool
     ensures finds { (v : AVersion) → Finds S.Store v (IsTold v) (IsUntold v) conn.old conn.new
         result }
     ensures shape { IfOk result (λ is. is ≡ false → IsTrue is_old) }
+    ensures told { HasCleanDisk (state S.Store conn.new)
+        → IfOk result (λ is. IsTrue is → ShowsVersion 2 (state S.Store conn.old)
+        (state S.Store conn.new)) }
 {
     match has_version(conn, NEW) {
         Ok(true) => return Ok(true),
@@ -98,6 +100,9 @@ fn tells_new<S: Alter>(conn: &mut Connection<S>) -> Result<bool, Stop>
         → KeepsEitherIn v (state S.Store conn.old) t u → KeepsIn v (state S.Store conn.old) t }
     ensures shape { HasCleanDisk (state S.Store conn.new)
         → IfOk result (λ is. is ≡ false → IsShapeOf AVersion.One conn.old.schema) }
+    ensures told { HasCleanDisk (state S.Store conn.new)
+        → IfOk result (λ is. IsTrue is → ShowsVersion 2 (state S.Store conn.old)
+        (state S.Store conn.new)) }
 {
     match look_at(conn) {
         Ok(()) => {}
@@ -218,10 +223,13 @@ fn write_upgrade<S: Alter>(conn: &mut Connection<S>, it: &Upgrade) -> Result<(),
     ensures survives { Survives (state S.Store conn.old) (state S.Store conn.new)
         (LeavesWritten S.Store conn.old it.now) }
     ensures upgraded { HasCleanDisk (state S.Store conn.new)
-        → IsTrue (state S.Store conn.old).is_open → conn.old.schema ≡ old_schema → (b : ActState)
-        → HasOldBook (state S.Store conn.old).now.trees b
-        → AreApart ((state S.Store conn.old).now.trees 14) → IsUpgradeOf b it.now
-        → Upgraded S.Store conn.old conn.new b result }
+        → OfUpgraded S.Store conn.old it.now (λ b. Upgraded S.Store conn.old conn.new b result) }
+    // the store is told to have failed only where it has, or where the rows of version 2 were undone
+    ensures cause { HasCleanDisk (state S.Store conn.new) → KeepsNumbers (state S.Store conn.old)
+        → OfUpgraded S.Store conn.old it.now
+        (λ b. HasWriteCause S.Store conn.old conn.new (tables_of b) result) }
+    ensures numbered { KeepsNumbers (state S.Store conn.old) → OfUpgraded S.Store conn.old it.now
+        (λ b. KeepsNumbers (state S.Store conn.new)) }
 {
     upgrade_law();
     // outside a transaction what a connection shows is what was committed, and what is open is a whole database

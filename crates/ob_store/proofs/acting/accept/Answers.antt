@@ -6,7 +6,8 @@ use Rattle.ob_state.specs.Refusals.{refusal}
 use Rattle.ob_record.specs.Leading.{Records}
 use Rattle.ob_record.specs.Naming.{IsReferenced}
 use Rattle.ob_store.specs.Acting.{under}
-use Rattle.ob_store.proofs.Accepting.{answered, book_is, decided, done, failed}
+use Rattle.ob_record.specs.Tables.{tables_of}
+use Rattle.ob_store.proofs.Accepting.{answered, book_is, caused, decided, done, failed, none_told}
 use Rattle.ob_store.proofs.acting.accept.Goals as goal
 
 pub returns-in-Err-clause-acts : goal.returns-in-Err-clause-acts
@@ -59,3 +60,35 @@ returns-in-Err-commit_act-clause-acts g c clean b keeps same fresh =
     let records : Records b a p c.act_of-act.result = rw (c.bytes.ensures.value, plan_is) at (c.act_of-act.ensures.records b keeps.reached (sym at) p c.postings.ensures.posted) in
     failed g.S.Store c.args.conn.now c.commit_act.new.conn b a p c.act_of-act.result c.reached_law.ensures.goes_on keeps records fresh free (c.bytes.ensures.identifier, c.requires.valid)
     c.args.book.now.state c.decide.new.self.state c.decide.ensures.state c.in-Err-commit_act.stop c.in-Err-commit_act.ensures.faults c.in-Err-commit_act.ensures.undone c.in-Err-commit_act.ensures.either
+
+pub returns-in-Err-clause-cause : goal.returns-in-Err-clause-cause
+returns-in-Err-clause-cause g c clean b keeps numbers same fresh = none_told c.in-Err.stop (λ f e. c.in-Err.ensures.err f (ap Err e))
+
+pub returns-in-Err-commit_act-clause-cause : goal.returns-in-Err-commit_act-clause-cause
+returns-in-Err-commit_act-clause-cause g c clean b keeps numbers same fresh =
+    let r = c.args.reference.now in
+    let command = c.args.command.now in
+    let a = under r command in
+    let p = c.postings.result.now in
+    let at : c.decide.new.self.state ≡ b.book = c.decide.ensures.state ∙ same in
+    let plan_is : c.in-Ok.plan.command ≡ command = c.in-Ok.ensures.command in
+    let free : refusal b.book command ≡ None = sym (ap₂ refusal at plan_is) ∙ c.in-Ok.ensures.plan.accepted in
+    let records : Records b a p c.act_of-act.result = rw (c.bytes.ensures.value, plan_is) at (c.act_of-act.ensures.records b keeps.reached (sym at) p c.postings.ensures.posted) in
+    caused g.S.Store c.args.conn.now c.commit_act.new.conn b a p c.act_of-act.result c.reached_law.ensures.goes_on keeps records fresh free (c.bytes.ensures.identifier, c.requires.valid)
+    c.in-Err-commit_act.stop numbers (λ store. c.in-Err-commit_act.ensures.cause store clean)
+
+pub returns-in-Ok-commit_act-clause-numbered : goal.returns-in-Ok-commit_act-clause-numbered
+returns-in-Ok-commit_act-clause-numbered g c b keeps same numbers =
+    let a = under c.args.reference.now c.args.command.now in
+    let p = c.postings.result.now in
+    let at : c.decide.new.self.state ≡ b.book = c.decide.ensures.state ∙ same in
+    let records : Records b a p c.act_of-act.result = rw (c.bytes.ensures.value, c.in-Ok.ensures.command) at (c.act_of-act.ensures.records b keeps.reached (sym at) p c.postings.ensures.posted) in
+    c.commit_act.ensures.numbered (tables_of b) keeps.kept records.needs numbers
+
+pub returns-in-Err-commit_act-clause-numbered : goal.returns-in-Err-commit_act-clause-numbered
+returns-in-Err-commit_act-clause-numbered g c b keeps same numbers =
+    let a = under c.args.reference.now c.args.command.now in
+    let p = c.postings.result.now in
+    let at : c.decide.new.self.state ≡ b.book = c.decide.ensures.state ∙ same in
+    let records : Records b a p c.act_of-act.result = rw (c.bytes.ensures.value, c.in-Ok.ensures.command) at (c.act_of-act.ensures.records b keeps.reached (sym at) p c.postings.ensures.posted) in
+    c.commit_act.ensures.numbered (tables_of b) keeps.kept records.needs numbers

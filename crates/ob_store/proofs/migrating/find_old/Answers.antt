@@ -37,4 +37,4 @@ returns-in-Ok-check_old g c =
     let old = c.args.conn.now in
     let first = find_as g.S.Store One (IsNamed One) (IsNamed One) (HasNoBookIn One) HoldsNoOldBook old c.read_named.new.conn (Ok it) (λ trees x named. named) (λ trees none. names_none c.old_books_law.ensures c.upgrade_law.ensures.reached trees none) c.in-Ok.ensures.finds in
     found_or g.S.Store c.old_books_law.ensures c.upgrade_law.ensures.reached it c.upgrade_law.ensures.alike l.book.state (λ (x : Led g.row.T.Denot). x.book.state) l refl old c.lead_old.new.conn c.check_old.new.conn
-    (c.in-Ok-lead_old.ensures.finds old first) c.upgrade_law.ensures.upgraded c.in-Ok-check_old.ensures c.upgrade_of.result c.upgrade_of.ensures.texts c.upgrade_of.ensures.devices c.upgrade_of.ensures.faults
+    (c.in-Ok-lead_old.ensures.finds old first) c.upgrade_law.ensures.upgraded c.upgrade_law.ensures.lets c.in-Ok-check_old.ensures c.upgrade_of.result c.upgrade_of.ensures.texts c.upgrade_of.ensures.devices c.upgrade_of.ensures.faults

@@ -1,5 +1,11 @@
-use Rattle.ob_store.proofs.OldTelling.{looked, told_fault, told_lives, told_new, told_none, told_one, told_other, unread}
+use Rattle.sqlite.specs.Held.{state}
+use Rattle.ob_store.proofs.OldTelling.{looked, shown_so, told_fault, told_lives, told_new, told_none, told_one, told_other, unread}
 use Rattle.ob_store.proofs.migrating.tell_heading.Goals as goal
+
+pub returns-in-Ok-true-clause-told : goal.returns-in-Ok-true-clause-told
+returns-in-Ok-true-clause-told g c clean so =
+    let it = c.in-Ok-true in
+    shown_so 2 (state g.S.Store c.args.conn.now) (state g.S.Store c.has_version.new.conn) it.field-0 it.field-0-test (it.ensures.shown clean)
 
 pub returns-in-Ok-true-clause-finds : goal.returns-in-Ok-true-clause-finds
 returns-in-Ok-true-clause-finds g c v =

@@ -1,7 +1,7 @@
 use Rattle.std.proofs.Common.{Ok, Err}
 use Rattle.ob_tables.specs.declared.version.Version.TheVariants.{One}
 use Rattle.ob_store.proofs.Asking.{asked_err, asked_more, open_keeps}
-use Rattle.ob_store.proofs.OldTelling.{looked_err, looked_shape, looked_then}
+use Rattle.ob_store.proofs.OldTelling.{looked_err, looked_shape, looked_then, looked_told}
 use Rattle.ob_store.proofs.Reading.{if_ok}
 use Rattle.ob_store.proofs.migrating.tells_new.Goals as goal
 
@@ -28,3 +28,8 @@ pub returns-clause-shape : goal.returns-clause-shape
 returns-clause-shape g c clean =
     if_ok c.tell_heading.result c.tell_heading.ensures.shape
     (λ is so no. looked_shape g.S.Store One c.args.conn.now c.look_at.new.conn c.in-Ok.ensures ((c.tell_heading.ensures.finds One).clean clean) (c.has_shape-is_old.ensures.0 (so no)))
+
+pub returns-clause-told : goal.returns-clause-told
+returns-clause-told g c clean =
+    let late = (c.tell_heading.ensures.finds One).clean clean in
+    looked_told g.S.Store c.args.conn.now c.look_at.new.conn c.tell_heading.new.conn c.tell_heading.result c.in-Ok.ensures late (c.tell_heading.ensures.told clean)

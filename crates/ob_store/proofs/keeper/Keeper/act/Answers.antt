@@ -1,0 +1,49 @@
+use Rattle.std.proofs.Common.{◌≡◌, Option, Some, Err, sym, ap, subst, ◌∙◌}
+use Rattle.std.specs.Prelude.{⊤, IfSome}
+use Rattle.std.specs.Option.{option_map}
+use Rattle.sqlite.specs.Held.{Held, state}
+use Rattle.ob_state.specs.State.{BookState}
+use Rattle.ob_state.specs.States.{BookValue}
+use Rattle.ob_book.specs.Acts.{ActState}
+use Rattle.ob_commit.specs.Keeps.{KeepsNumbers}
+use Rattle.ob_store.specs.Acting.{HasActCause, under}
+use Rattle.ob_store.specs.Keeping.{KeeperValue, KeepsBook, Ties}
+use Rattle.ob_store.proofs.keeper.Keeper.act.Given as given
+use Rattle.ob_store.proofs.keeper.Keeper.act.Goals as goal
+
+module _ (g : given.Over) (k : KeeperValue g.row.S.Denot) (conn : Held g.row.S.Denot) (conn_is : conn ≡ k.conn) (b : ActState) where
+  keeps_in : Ties g.S.Store k b → KeepsBook (state g.S.Store conn) b
+  keeps_in ties = subst (λ (h : Held g.row.S.Denot). KeepsBook (state g.S.Store h) b) (sym conn_is) ties.kept
+
+  numbers_in : KeepsNumbers (state g.S.Store k.conn) → KeepsNumbers (state g.S.Store conn)
+  numbers_in numbers = subst (λ (h : Held g.row.S.Denot). KeepsNumbers (state g.S.Store h)) (sym conn_is) numbers
+
+  -- the book that there is has the state of the tables' book
+  same_in : (book : Option BookValue) (it : BookValue) → option_map (λ (x : BookValue). x.state) book ≡ k.book → book ≡ Some it → Ties g.S.Store k b → it.state ≡ b.book
+  same_in book it book_is some ties =
+      subst (λ (o : Option BookState). IfSome o (λ s. s ≡ b.book)) (sym book_is ∙ ap (option_map (λ (x : BookValue). x.state)) some) ties.book
+
+pub returns-in-Ok-clause-numbered : goal.returns-in-Ok-clause-numbered
+returns-in-Ok-clause-numbered g c b ties numbers =
+    let k = c.args.self.now in
+    let conn = c.self.inside.conn in
+    let conn_is : conn ≡ k.conn = ap (λ (x : KeeperValue g.row.S.Denot). x.conn) c.self.view_is in
+    let book_is : option_map (λ (x : BookValue). x.state) c.self.inside.book ≡ k.book = ap (λ (x : KeeperValue g.row.S.Denot). x.book) c.self.view_is in
+    c.act_on.ensures.numbered b (keeps_in g k conn conn_is b ties) (same_in g k conn conn_is b c.self.inside.book c.in-Some.book book_is c.in-Some.is ties) (numbers_in g k conn conn_is b numbers)
+
+pub returns-in-Err-clause-numbered : goal.returns-in-Err-clause-numbered
+returns-in-Err-clause-numbered g c b ties numbers =
+    let k = c.args.self.now in
+    let conn = c.self.inside.conn in
+    let conn_is : conn ≡ k.conn = ap (λ (x : KeeperValue g.row.S.Denot). x.conn) c.self.view_is in
+    let book_is : option_map (λ (x : BookValue). x.state) c.self.inside.book ≡ k.book = ap (λ (x : KeeperValue g.row.S.Denot). x.book) c.self.view_is in
+    c.act_on.ensures.numbered b (keeps_in g k conn conn_is b ties) (same_in g k conn conn_is b c.self.inside.book c.in-Some.book book_is c.in-Some.is ties) (numbers_in g k conn conn_is b numbers)
+
+pub returns-in-Err-clause-cause : goal.returns-in-Err-clause-cause
+returns-in-Err-clause-cause g c clean b ties numbers some store =
+    let k = c.args.self.now in
+    let conn = c.self.inside.conn in
+    let conn_is : conn ≡ k.conn = ap (λ (x : KeeperValue g.row.S.Denot). x.conn) c.self.view_is in
+    let book_is : option_map (λ (x : BookValue). x.state) c.self.inside.book ≡ k.book = ap (λ (x : KeeperValue g.row.S.Denot). x.book) c.self.view_is in
+    let cause = c.in-Err.ensures.cause clean b (keeps_in g k conn conn_is b ties) (numbers_in g k conn conn_is b numbers) (same_in g k conn conn_is b c.self.inside.book c.in-Some.book book_is c.in-Some.is ties) in
+    subst (λ (h : Held g.row.S.Denot). HasActCause g.S.Store {X = ⊤} h c.act_on.new.conn b (under c.args.reference c.args.command) (Err c.in-Err.stop)) conn_is cause store

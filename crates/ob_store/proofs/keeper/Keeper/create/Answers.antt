@@ -1,0 +1,12 @@
+use Rattle.std.proofs.Common.{◌≡◌, Err, ap, subst}
+use Rattle.std.specs.Prelude.{⊤}
+use Rattle.sqlite.specs.Held.{Held}
+use Rattle.ob_store.specs.Creating.{HasCreateCause}
+use Rattle.ob_store.specs.Keeping.{KeeperValue}
+use Rattle.ob_store.proofs.keeper.Keeper.create.Goals as goal
+
+pub returns-in-Err-clause-cause : goal.returns-in-Err-clause-cause
+returns-in-Err-clause-cause g c clean store =
+    let conn_is : c.self.inside.conn ≡ c.args.self.now.conn = ap (λ (k : KeeperValue g.row.S.Denot). k.conn) c.self.view_is in
+    subst (λ (h : Held g.row.S.Denot). HasCreateCause g.S.Store {X = ⊤} h c.create_on.new.conn c.args.first.now c.args.days c.args.zone.now (Err c.in-Err.stop)) conn_is
+    (c.in-Err.ensures.cause clean) store
