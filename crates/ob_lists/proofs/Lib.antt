@@ -5,3 +5,4 @@ pub mod Telling
 pub mod Breaking
 pub mod Serving
 pub mod Beginning
+pub mod Numbering

@@ -12,8 +12,10 @@ use Rattle.ob_time.specs.Calendar.{Calendar}
 use Rattle.ob_time.specs.Period.{IsPeriodText}
 use Rattle.ob_csv.specs.Rows.{Fields}
 use Rattle.ob_book.specs.Acts.{ActState, Referenced, is_same, start}
+use Rattle.ob_commit.specs.Keeps.{KeepsNumbers}
 use Rattle.ob_import.specs.Imports.{Says}
 use Rattle.ob_import.specs.Reports.{AreRows}
+use Rattle.ob_store.specs.Acting.{HasActCause}
 use Rattle.ob_store.specs.Crashing.{OpensAfterCrash}
 use Rattle.ob_store.specs.Keeping.{KeeperValue, Ties}
 use Rattle.ob_lists.specs.Importing.{Ended, body_of, counted}
@@ -70,6 +72,16 @@ module _ {S : Type 0} (g : Ghosts S) where
   Begun first days zone (Err (Fault Store)) new result =
       (p : Calendar) × IsPeriodText first days zone p × (Finds (λ x. x ≡ start p) new result ⊎ IsErr result)
   Begun first days zone (Err (Fault fault)) new result = IsErr result
+
+  -- where the store is told to have failed on a command, that has its cause, over one of these books
+  abbrev pub ActsForCause : {X : Type 0} → (ActState → Type 0) → KeeperValue S → KeeperValue S → Referenced → Result X Stop → Type 0
+  ActsForCause Is old new a result = (x : ActState) × Is x × HasActCause g old.conn new.conn x a result
+
+  -- a new book of the period that the texts name stands, with what was told since; and whatever a crash leaves has hidden row numbers
+  -- 1, 2, 3 and so on
+  abbrev pub BegunNumbered : List ℕ → ℕ → List ℕ → List Told → KeeperValue S → Type 0
+  BegunNumbered first days zone told new =
+      (p : Calendar) × IsPeriodText first days zone p × Stands g (MayBe (start p) told) new × KeepsNumbers (state g new.conn)
 
 -- an accepted command of the book has the reference and the body text
 abbrev pub Holds : ActState → Referenced → Type 0

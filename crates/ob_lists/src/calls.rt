@@ -5,9 +5,10 @@ ghost use Rattle.sqlite.specs.Held.{state};
 ghost use Rattle.ob_stream.specs.Watching.{watched_bytes};
 ghost use Rattle.ob_csv.specs.Rows.{rows_of};
 ghost use Rattle.ob_book.specs.Acts.{ActState};
+ghost use Rattle.ob_commit.specs.Keeps.{KeepsNumbers};
 ghost use Rattle.ob_store.specs.Acting.{under};
 ghost use Rattle.ob_lists.specs.Standing.{MayBe, Stands, Told, served, told_by, told_by_import, told_by_stream};
-ghost use Rattle.ob_lists.specs.Going.{Goes, LoadsOne};
+ghost use Rattle.ob_lists.specs.Going.{ActsForCause, Goes, LoadsOne};
 
 use ob_base::{Fault, Ref, Stop};
 use ob_command::Command;
@@ -22,23 +23,35 @@ use sqlite::Alter;
 use std::alloc::Global;
 use std::io::{Read, Write};
 
-/// Sends a command: its reply acknowledges it, and a fault of the store leaves it in doubt.
+/// Sends a command: its reply acknowledges it, and a fault of the store leaves it in doubt. Where whatever a crash leaves has hidden
+/// row numbers 1, 2, 3 and so on, such a fault has a cause; and they go on so.
 pub fn act<S: Alter, T: Timeline>(
     keeper: &mut Keeper<S, T>,
     reference: Ref,
     command: Command,
 ) -> Result<Reply, Stop>
-    ensures { Goes S.Store S.Store (told_by (under reference command) result) keeper.old keeper.new }
+    ensures goes { Goes S.Store S.Store (told_by (under reference command) result) keeper.old
+        keeper.new }
+    ensures cause { HasCleanDisk (state S.Store keeper.new.conn) → (b : ActState)
+        (told : List Told) → Stands S.Store (MayBe b told) keeper.old
+        → KeepsNumbers (state S.Store keeper.old.conn)
+        → ActsForCause S.Store (MayBe b told) keeper.old keeper.new (under reference command)
+        result }
+    ensures numbered { (b : ActState) (told : List Told) → Stands S.Store (MayBe b told) keeper.old
+        → KeepsNumbers (state S.Store keeper.old.conn)
+        → KeepsNumbers (state S.Store keeper.new.conn) }
 {
     keeper.act(reference, command)
 }
 
-/// Loads the book: it is one that there may be.
+/// Loads the book: it is one that there may be. Hidden row numbers that a crash leaves go on as they were.
 pub fn load<S: Alter, T: Timeline>(keeper: &mut Keeper<S, T>) -> Result<(), Stop>
     ensures goes { Goes S.Store S.Store [] keeper.old keeper.new }
     ensures loads { HasCleanDisk (state S.Store keeper.new.conn) → (b : ActState)
         (told : List Told) → Stands S.Store (MayBe b told) keeper.old
         → LoadsOne S.Store (MayBe b told) keeper.old keeper.new result }
+    ensures numbered { KeepsNumbers (state S.Store keeper.old.conn)
+        → KeepsNumbers (state S.Store keeper.new.conn) }
 {
     load_law::<S>();
     keeper.load()

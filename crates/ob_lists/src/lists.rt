@@ -1,19 +1,19 @@
-//! Some lists of calls, each with what its last call answers.
-ghost use Rattle.std.specs.Prelude.{◌++◌, List, Some, IsErr};
+//! Some lists of calls, each with what its last call answers or leaves.
+ghost use Rattle.std.specs.Prelude.{◌++◌, List, Some, IsErr, OnOk};
 ghost use Rattle.sqlite.specs.State.{HasCleanDisk};
 ghost use Rattle.sqlite.specs.Held.{state};
 ghost use Rattle.ob_csv.specs.Rows.{rows_of};
 ghost use Rattle.ob_book.specs.Acts.{ActState};
 ghost use Rattle.ob_store.specs.Acting.{under};
 ghost use Rattle.ob_lists.specs.Standing.{HoldsNothing, MayBe, Stands, Told, told_by, told_by_import};
-ghost use Rattle.ob_lists.specs.Going.{Begun, Finds};
+ghost use Rattle.ob_lists.specs.Going.{Begun, BegunNumbered, Finds};
 
 use crate::calls::{act, audit, create_again, import_text, load, migrate};
 use crate::laws::restart_law;
 use ob_base::{Ref, Stop};
 use ob_command::Command;
 use ob_import::{ImportFault, ImportReport};
-use ob_store::{Keeper, Reply, load_law};
+use ob_store::{Keeper, Reply, crash_law, load_law};
 use ob_sweep::Timeline;
 use ob_tables::Table;
 use sqlite::Alter;
@@ -79,6 +79,31 @@ pub fn create_restart_load<S: Alter, R: Alter, T: Timeline, C: Restart<S, R, T>>
     let mut next = crash.restart(keeper);
     let found = next.load();
     (made, next, found)
+}
+
+/// A new book, a command, a crash and a load: where the book was made it stands, with the command if that was acknowledged, and
+/// whatever a crash leaves has hidden row numbers 1, 2, 3 and so on. So where the next command is told as a fault of the store, that
+/// has a cause, as `act` says.
+pub fn create_act_restart_load<S: Alter, R: Alter, T: Timeline, C: Restart<S, R, T>>(
+    mut keeper: Keeper<S, T>,
+    crash: &mut C,
+    first: &[u8],
+    days: u16,
+    zone: &[u8],
+    reference: Ref,
+    command: Command,
+) -> (Result<(), Stop>, Result<Reply, Stop>, Keeper<R, T>)
+    ensures { HasCleanDisk (state R.Store result.2.conn) → OnOk result.0
+        (BegunNumbered R.Store first.now days zone.now
+        (told_by (under reference command) result.1) result.2) }
+{
+    restart_law::<S, R>();
+    crash_law::<S, R>();
+    let made = keeper.create(first, days, zone);
+    let sent = act(&mut keeper, reference, command);
+    let mut next = crash.restart(keeper);
+    let _ = load(&mut next);
+    (made, sent, next)
 }
 
 /// A migration that a crash ends, a migration after it, and a load: it finds the book, in the tables of either version.

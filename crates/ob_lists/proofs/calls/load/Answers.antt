@@ -1,3 +1,5 @@
+use Rattle.sqlite.specs.Held.{state}
+use Rattle.ob_commit.proofs.Commits.{numbers_survive}
 use Rattle.ob_lists.specs.Standing.{MayBe}
 use Rattle.ob_lists.proofs.Standings.{load_stands, loads_one}
 use Rattle.ob_lists.proofs.calls.load.Goals as goal
@@ -11,3 +13,6 @@ returns-clause-goes g c = record {
   clean = c.load.ensures.clean;
   stands = λ clean b before stands. load_stands g.S.Store c.args.keeper.now c.load.new.self (MayBe b before) c.load_law.ensures c.load.result c.load.ensures clean stands;
 }
+
+pub returns-clause-numbered : goal.returns-clause-numbered
+returns-clause-numbered g c = numbers_survive (state g.S.Store c.args.keeper.now.conn) (state g.S.Store c.load.new.self.conn) c.load.ensures.survives

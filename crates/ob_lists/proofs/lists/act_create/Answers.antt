@@ -7,5 +7,5 @@ pub returns : goal.returns
 returns g c =
     λ clean b told stands.
     let all = told_by (under c.args.reference c.args.command) c.act-sent.result ++ told in
-    let was = c.act-sent.ensures.stands (c.create_again.ensures.goes.clean clean) b told stands in
+    let was = c.act-sent.ensures.goes.stands (c.create_again.ensures.goes.clean clean) b told stands in
     (c.create_again.ensures.refused clean b all was, c.create_again.ensures.goes.stands clean b all was)

@@ -10,5 +10,5 @@ returns g c =
     let all = told_by (under c.args.reference c.args.command) c.act-sent.result ++ told in
     let loaded = c.load-2.ensures.goes.clean clean in
     let sent = c.load.ensures.goes.clean loaded in
-    let was = c.load.ensures.goes.stands loaded b all (c.act-sent.ensures.stands sent b told stands) in
+    let was = c.load.ensures.goes.stands loaded b all (c.act-sent.ensures.goes.stands sent b told stands) in
     finds g.S.Store (MayBe b all) c.load.new.keeper c.load-2.new.keeper c.load-2.result (c.load-2.ensures.loads clean b all was)
