@@ -8,7 +8,7 @@ import sys
 import tempfile
 import threading
 import time
-from collections.abc import Mapping, Sequence
+from collections.abc import Callable, Mapping, Sequence
 from dataclasses import dataclass
 from pathlib import Path
 
@@ -21,6 +21,9 @@ class Ran:
     said: str
     clock: float
     processor: float
+
+
+NOTHING = Ran(0, "", 0.0, 0.0)
 
 
 @dataclass(frozen=True)
@@ -50,8 +53,19 @@ def say(text: str) -> None:
         print(text, flush=True)
 
 
-def run(words: Sequence[str | Path], folder: Path, more: Mapping[str, str] | None = None, shows: bool = False) -> Ran:
-    """Runs a command with no input. It is told while it runs where `shows`; else the caller has what it said.
+def unheard(_line: str) -> None:
+    """Hears nothing."""
+
+
+def run(
+    words: Sequence[str | Path],
+    folder: Path,
+    more: Mapping[str, str] | None = None,
+    shows: bool = False,
+    heard: Callable[[str], None] = unheard,
+) -> Ran:
+    """Runs a command with no input. It is told while it runs where `shows`, and each line then heard by `heard`; else the caller
+    has what it said.
 
     Where it isn't told it writes to a file: a program that it leaves at work may keep that open, and nobody waits for it.
     """
@@ -73,6 +87,7 @@ def run(words: Sequence[str | Path], folder: Path, more: Mapping[str, str] | Non
                     kept.write(line)
                     sys.stdout.write(line)
                     sys.stdout.flush()
+                    heard(line)
         _, status, used = os.wait4(child.pid, 0)
         child.returncode = os.waitstatus_to_exitcode(status)
         kept.seek(0)

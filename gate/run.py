@@ -19,10 +19,10 @@ from concurrent.futures import ThreadPoolExecutor
 from dataclasses import dataclass, field
 from pathlib import Path
 
-from crates import Crate, read_crates
+from ahead import prove_ahead
 from edits import Planned, Why, kit_of, plan, turn_of, write_seen
 from packages import FOR_ALL, Missing, install_with, provided
-from parts import Part, Ran, run, say
+from parts import NOTHING, Part, run, say
 from rt_output import counts_of, tried_edits, unrefused
 from suites import before_proofs, run_suite, screen, with_program
 from sums import edit_sums
@@ -31,7 +31,6 @@ from tree import copy_tree
 ROOT = Path(__file__).resolve().parent.parent
 PROGRAM = Path("crates/outagebook/out/outagebook")
 KILOBYTES_A_LANE = 4_500_000
-DATABASE = "sqlite"
 COUNTED_BY_RT = ("NOT REFUSED", "NOT TRIED")
 
 
@@ -97,29 +96,13 @@ def judge(planned: list[Planned], said: str, report: Report) -> dict[str, list[s
     return unseen
 
 
-def first_of(crates: dict[str, Crate]) -> list[str]:
-    """The crates of the first run: those that others stand on, and those without the database, whose tests fill the lanes beside
-    the chain of crates over it. What tests a crate over the database is left: rt takes it to want so much memory that, without
-    RT_JOBS, two at once are all."""
-    used = {below for crate in crates.values() for below in crate.uses}
-    return [name for name, crate in crates.items() if name in used or DATABASE not in crate.line]
-
-
-def prove_first(place: Path) -> Ran:
-    """Proves the crates of the first run without RT_JOBS, so that rt gives a proof that others wait for the processors that are idle.
-    What passes is kept, and what fails is told by the run of the whole."""
-    return run(["rt", "ci", *first_of(read_crates(place))], place, shows=True)
-
-
 def prove(place: Path, planned: list[Planned], report: Report, records: bool) -> dict[str, list[str]]:
     """`rt ci` over a tree; answers what of the planned edits it hasn't refused."""
-    first = prove_first(place) if not lanes_said() and lanes() > 2 else None
+    ahead = prove_ahead(place, lanes()) if not lanes_said() and lanes() > 2 else NOTHING
     ran = run(["rt", "ci"], place, {"RT_JOBS": str(lanes())}, shows=True)
     passed, failed = counts_of(ran.said) or (0, 1)
     why = f"status {ran.status}" if ran.status else ""
-    clock, processor = (
-        (ran.clock + first.clock, ran.processor + first.processor) if first else (ran.clock, ran.processor)
-    )
+    clock, processor = ran.clock + ahead.clock, ran.processor + ahead.processor
     report.parts.append(Part("rt ci", passed, max(failed, 1 if ran.status else 0), clock, processor, why))
     report.notes.append(of_plan(planned))
     unseen = judge(planned, ran.said, report)

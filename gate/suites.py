@@ -19,6 +19,7 @@ OVER_ORACLE = (  # programs over the oracle's modules
 )
 WAREHOUSE_PAGE = "docs/WAREHOUSE.md"  # its blocks want a PostgreSQL server
 TYPED = ("oracle", "benches", "gate", "tools", "screen")
+SHARES = ("[a-d]", "[e-n]", "o", "[p-z]")  # of the tools' tests, by the first letter of their subject: side by side
 RAN = re.compile(r"^Ran ([0-9]+) tests? in ", re.MULTILINE)
 ENDED = re.compile(r"^(?:OK|FAILED)(?: \((.*)\))?$", re.MULTILINE)
 SKIPPED = re.compile(r"^(.*) \.\.\. skipped (.*)$", re.MULTILINE)
@@ -62,8 +63,9 @@ def by_commands(ran: Ran) -> Counts:
     return sum(count for count, _ in counted) - wrong, wrong, ""
 
 
-def tests_in(folder: str, top: str) -> tuple[str | Path, ...]:
-    return (sys.executable, "-m", "unittest", "discover", "-v", "-s", folder, "-t", top)
+def tests_in(folder: str, top: str, share: str = "") -> tuple[str | Path, ...]:
+    """The tests of a folder, or those whose subject begins so."""
+    return (sys.executable, "-m", "unittest", "discover", "-v", "-s", folder, "-t", top, "-p", f"test_{share}*.py")
 
 
 def typed(root: Path) -> list[Suite]:
@@ -90,8 +92,9 @@ def with_program(root: Path) -> list[Suite]:
     pages = ["README.md", *sorted(page.relative_to(root).as_posix() for page in root.glob("docs/*.md"))]
     with_server = [page for page in pages if page == WAREHOUSE_PAGE]
     paste = (sys.executable, "benches/paste_pages.py")
+    shares = [share for share in SHARES if any(root.glob(f"tools/tests/test_{share}*.py"))]
     found = [
-        Suite("tools' tests", tests_in("tools/tests", "tools"), by_tests),
+        *(Suite(f"tools' tests {share}", tests_in("tools/tests", "tools", share), by_tests) for share in shares),
         Suite("program and oracle", (sys.executable, "oracle/compare.py"), as_one),
         Suite("pages", (*paste, *(page for page in pages if page not in with_server)), by_commands),
     ]

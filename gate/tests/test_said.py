@@ -7,12 +7,13 @@ import io
 import os
 import signal
 import unittest
+from collections import Counter
 from pathlib import Path
 
 import made_repository  # noqa: F401, the modules of gate/
 from parts import Ran, run
 from rt_output import counts_of, tried_edits, unrefused
-from suites import by_commands, by_tests
+from suites import by_commands, by_tests, with_program
 
 RT = """\
 rt: ob_base: 1 of its 4 must-fail edits were tried by an earlier run on this machine, and nothing that they stand on has changed
@@ -74,6 +75,12 @@ class Tests(unittest.TestCase):
         self.assertEqual(by_tests(ended("Ran 0 tests in 0.0s\n\nOK\n"))[:2], (0, 1))
         self.assertEqual(by_tests(ended("Segmentation fault\n", -11))[:2], (0, 1))
         self.assertEqual(by_tests(ended("Ran 3 tests in 0.1s\n\nOK\n", 1))[:2], (0, 1))
+
+    def test_each_of_the_tools_is_of_one_share(self) -> None:
+        tests = Path(__file__).resolve().parents[2] / "tools/tests"
+        patterns = [str(suite.words[-1]) for suite in with_program(tests.parents[1]) if "tools/tests" in suite.words]
+        found = Counter(file.name for pattern in patterns for file in tests.glob(pattern))
+        self.assertEqual(found, Counter(file.name for file in tests.glob("test_*.py")))
 
     def test_pages(self) -> None:
         said = "docs/A.md: 3 commands pasted, 0 print something else\ndocs/B.md: 2 commands pasted, 1 print something else\n"

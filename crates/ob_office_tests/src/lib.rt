@@ -1,7 +1,6 @@
 //! Tests of imports into a book, of exports from one and of the program's jobs, over a store in memory: what is added, what is
 //! there already, which row stops, and what readers, writers and sinks that fail leave behind; what each job tells, the status
-//! that it ends with, and when an input is opened; and files of version 1, which are made files of version 2 first. And over two
-//! files that stop, or where memory is refused.
+//! that it ends with, and when an input is opened; and files of version 1, which are made files of version 2 first.
 //!
 //! It holds tests alone. The reports, rows, lines and amounts are worked out by hand from the definitions; annual tables, and
 //! the moves of the sample fortnight, are those of the plain model in `benches/`. The files of version 1 were made by the
@@ -36,8 +35,6 @@ mod script;
 mod sinks;
 #[cfg(test)]
 mod sources;
-#[cfg(test)]
-mod stopped;
 #[cfg(test)]
 mod stories;
 #[cfg(test)]

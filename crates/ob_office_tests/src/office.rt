@@ -5,15 +5,12 @@ use crate::jobs::calls::{
 };
 use crate::sinks::{Shelf, Sink};
 use crate::sources::Source;
-use ob_command::{Command, read_body};
-use ob_desk::serve_stream;
 use ob_import::{
     ImportFault, ImportReport, Progress, Work, import, import_text, import_with_progress,
 };
-use ob_index::{Indices, Which};
 use ob_jobs::export_moves;
-use ob_net::{Ref, Refusal, Stop, Watched};
-use ob_post::{Dim, Postings};
+use ob_net::{Stop, Watched};
+use ob_post::Dim;
 use ob_store::Keeper;
 use ob_sweep::{Timeline, Windowed};
 use sqlite::{Alter, Connection};
@@ -57,17 +54,6 @@ impl Progress for Heard {
     }
 }
 
-/// What a book shows without asking for memory: its commands, its customer-seconds in all and by cause and feeder, and the
-/// indices.
-#[derive(Clone, Copy, PartialEq)]
-pub struct Views {
-    accepted: u32,
-    totals: [u64; 3],
-    causes: [u64; 5],
-    feeders: [u64; 3],
-    indices: Indices,
-}
-
 /// A book, or none, and the calls of its keeper without their clauses: with these each function that makes some is long to
 /// prove.
 pub trait Office {
@@ -82,9 +68,6 @@ pub trait Office {
 
     /// Whether no table differs from what the commands in the tables give.
     fn audits(&mut self) -> Result<bool, Stop>;
-
-    /// The number under which the command of a line, a reference and a body text, is accepted or was so before.
-    fn acts(&mut self, line: &str) -> Result<u32, Stop>;
 
     /// Puts what a command moved, by its stored reply, on a shelf. Answers whether there is such a reply.
     fn tells(&mut self, no: u32, shelf: &mut Shelf) -> Result<bool, Stop>;
@@ -104,14 +87,8 @@ pub trait Office {
     /// What an export to a writer is answered.
     fn writes(&mut self, alloc: Global, sink: Sink) -> Written;
 
-    /// Serves a stream of these bytes. Answers what is written, and the fault that ended it.
-    fn serves(&mut self, alloc: Global, bytes: &[u8]) -> (Vec<u8>, Option<Stop>);
-
     /// How many commands the book has accepted, and its customer-seconds; None where there is no book.
     fn shows(&self) -> Option<(u32, u64)>;
-
-    /// All that the book shows; None where there is no book.
-    fn views(&self) -> Option<Views>;
 
     /// Whether the book has these totals.
     fn has_totals(&self, text: &[u8]) -> bool;
@@ -126,46 +103,9 @@ pub trait Office {
     fn lacks_book(&mut self, alloc: Global) -> bool;
 }
 
-// A reference and the command of a body text.
-fn asked(line: &str) -> Option<(Ref, Command)> {
-    let (reference, body) = line.split_once(" ")?;
-    let reference = Ref::read(reference.as_bytes())?;
-    let command = read_body(body.as_bytes())?;
-    Some((reference, command))
-}
-
 // Whether a text was printed, and is this.
 fn is_text(printed: Result<Vec<u8>, Stop>, text: &[u8]) -> bool {
     matches!(printed, Ok(found) if found.as_slice() == text)
-}
-
-// The customer-seconds by each dimension.
-fn totals_of(postings: &Postings) -> [u64; 3] {
-    [
-        postings.total(Dim::Cause),
-        postings.total(Dim::Feeder),
-        postings.total(Dim::Day),
-    ]
-}
-
-// Those of the first causes.
-fn causes_of(postings: &Postings) -> [u64; 5] {
-    [
-        postings.amount(Dim::Cause, 0),
-        postings.amount(Dim::Cause, 1),
-        postings.amount(Dim::Cause, 2),
-        postings.amount(Dim::Cause, 3),
-        postings.amount(Dim::Cause, 4),
-    ]
-}
-
-// Those of the first feeders.
-fn feeders_of(postings: &Postings) -> [u64; 3] {
-    [
-        postings.amount(Dim::Feeder, 1),
-        postings.amount(Dim::Feeder, 2),
-        postings.amount(Dim::Feeder, 3),
-    ]
 }
 
 impl<S: Alter, T: Timeline> Office for Keeper<S, T> {
@@ -185,16 +125,6 @@ impl<S: Alter, T: Timeline> Office for Keeper<S, T> {
     fn audits(&mut self) -> Result<bool, Stop> {
         match self.audit() {
             Ok(found) => Ok(found.is_none()),
-            Err(stop) => Err(stop),
-        }
-    }
-
-    fn acts(&mut self, line: &str) -> Result<u32, Stop> {
-        let Some((reference, command)) = asked(line) else {
-            return Err(Stop::Refused(Refusal::BadField(0)));
-        };
-        match self.act(reference, command) {
-            Ok(reply) => Ok(reply.no),
             Err(stop) => Err(stop),
         }
     }
@@ -242,32 +172,9 @@ impl<S: Alter, T: Timeline> Office for Keeper<S, T> {
         }
     }
 
-    fn serves(&mut self, alloc: Global, bytes: &[u8]) -> (Vec<u8>, Option<Stop>) {
-        let mut reader = Watched::new(bytes);
-        let mut writer = Watched::new(Vec::new(alloc));
-        let stop = match serve_stream(alloc, &mut reader, &mut writer, self) {
-            Ok(_) => None,
-            Err(fault) => Some(Stop::Fault(fault)),
-        };
-        (writer.into_parts().0, stop)
-    }
-
     fn shows(&self) -> Option<(u32, u64)> {
         match self.book() {
             Some(book) => Some((book.accepted(), book.postings().total(Dim::Cause))),
-            None => None,
-        }
-    }
-
-    fn views(&self) -> Option<Views> {
-        match self.book() {
-            Some(book) => Some(Views {
-                accepted: book.accepted(),
-                totals: totals_of(book.postings()),
-                causes: causes_of(book.postings()),
-                feeders: feeders_of(book.postings()),
-                indices: book.index_view(Which::All),
-            }),
             None => None,
         }
     }

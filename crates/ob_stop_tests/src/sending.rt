@@ -1,9 +1,7 @@
 //! A command that is sent to a book whose store may stop, and the book that is then kept.
-use crate::office::Office;
-use crate::script::A_DAY;
-use crate::sinks::Shelf;
-use crate::stopped::scripts::{Last, OUTAGE};
-use crate::stopped::tasks::Kept;
+use crate::office::{A_DAY, Office};
+use crate::scripts::{Last, OUTAGE};
+use crate::tasks::Kept;
 use ob_net::{Fault, Stop};
 use std::alloc::Global;
 use std::process::Abort;
@@ -42,31 +40,24 @@ pub fn is_made<O: Office>(office: &mut O) -> bool {
 }
 
 /// Whether there is no book, and each call that needs one asks for it to be loaded first.
-pub fn is_without_book<O: Office>(alloc: Global, office: &mut O) -> bool {
-    let mut shelf = Shelf::new(alloc, 0);
+pub fn is_without_book<O: Office>(office: &mut O) -> bool {
     office.acts("N1 cause 3 STORM") == Err(REOPEN)
-        && office.tells(1, &mut shelf) == Err(REOPEN)
-        && office.hands(&mut shelf) == Err(REOPEN)
+        && office.replies(1) == Err(REOPEN)
+        && office.hands_on() == Err(REOPEN)
         && office.shows() == None
 }
 
 /// The store failed, the keeper has no book, and this is kept.
-pub fn failed<O: Office>(
-    rt: &impl Abort,
-    alloc: Global,
-    office: &mut O,
-    stop: Stop,
-    kept: Kept,
-) -> Kept {
+pub fn failed<O: Office>(rt: &impl Abort, office: &mut O, stop: Stop, kept: Kept) -> Kept {
     assert!(rt; stop == STORE);
-    assert!(rt; is_without_book(alloc, office));
+    assert!(rt; is_without_book(office));
     kept
 }
 
 /// Loads the book and sends it this command.
-pub fn send<O: Office>(rt: &impl Abort, alloc: Global, office: &mut O, last: Last) -> Kept {
+pub fn send<O: Office>(rt: &impl Abort, office: &mut O, last: Last) -> Kept {
     if let Err(stop) = office.loads() {
-        return failed(rt, alloc, office, stop, Kept::all(BEFORE));
+        return failed(rt, office, stop, Kept::all(BEFORE));
     }
     match office.acts(last.line) {
         Ok(no) => {
@@ -75,7 +66,6 @@ pub fn send<O: Office>(rt: &impl Abort, alloc: Global, office: &mut O, last: Las
         }
         Err(stop) => failed(
             rt,
-            alloc,
             office,
             stop,
             Kept {

@@ -1,7 +1,7 @@
 //! An import into a book whose store may stop, and the rows that are then kept.
 use crate::office::Office;
-use crate::stopped::sending::{BEFORE, failed, take_rows};
-use crate::stopped::tasks::Kept;
+use crate::sending::{BEFORE, failed, take_rows};
+use crate::tasks::Kept;
 use std::alloc::Global;
 use std::process::Abort;
 
@@ -28,7 +28,7 @@ fn total_of(accepted: u32) -> u64 {
 /// Loads the book and imports the rows. Where the store fails, those that were acknowledged are kept, and perhaps one more.
 pub fn import<O: Office>(rt: &impl Abort, alloc: Global, office: &mut O) -> Kept {
     if let Err(stop) = office.loads() {
-        return failed(rt, alloc, office, stop, Kept::all(BEFORE));
+        return failed(rt, office, stop, Kept::all(BEFORE));
     }
     let found = take_rows(alloc, office, ROWS);
     let rows = found.rows;
@@ -40,7 +40,6 @@ pub fn import<O: Office>(rt: &impl Abort, alloc: Global, office: &mut O) -> Kept
         }
         Some(stop) => failed(
             rt,
-            alloc,
             office,
             stop,
             Kept {

@@ -1,9 +1,9 @@
 //! A task that is stopped at each call of either file, and what is left.
-use crate::stopped::disks::{Pair, Which, blank, copies, crash, have_stopped};
-use crate::stopped::importing::IMPORTED;
-use crate::stopped::scripts::{CORRECTION, JOINING, LEAVING};
-use crate::stopped::sending::{AFTER, BEFORE};
-use crate::stopped::tasks::{Kept, Task, run};
+use crate::disks::{Pair, Which, blank, copies, crash, have_stopped};
+use crate::importing::IMPORTED;
+use crate::scripts::{CORRECTION, JOINING, LEAVING};
+use crate::sending::{AFTER, BEFORE};
+use crate::tasks::{Kept, Task, run};
 use std::alloc::Global;
 use std::process::Abort;
 

@@ -1,17 +1,15 @@
 //! A new book that is made over files that may stop, and what is then kept.
-use crate::office::Office;
-use crate::script::A_DAY;
-use crate::stopped::sending::failed;
-use crate::stopped::tasks::Kept;
+use crate::office::{A_DAY, Office};
+use crate::sending::failed;
+use crate::tasks::Kept;
 use ob_net::{Refusal, Stop};
-use std::alloc::Global;
 use std::process::Abort;
 
 /// Makes a new book: one may be there where the store failed, and one is where it was answered.
-pub fn make<O: Office>(rt: &impl Abort, alloc: Global, office: &mut O) -> Kept {
+pub fn make<O: Office>(rt: &impl Abort, office: &mut O) -> Kept {
     match office.makes(&A_DAY) {
         Ok(()) => Kept::all(1),
-        Err(stop) => failed(rt, alloc, office, stop, Kept { least: 0, most: 1 }),
+        Err(stop) => failed(rt, office, stop, Kept { least: 0, most: 1 }),
     }
 }
 

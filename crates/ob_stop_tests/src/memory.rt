@@ -1,10 +1,9 @@
 //! What stands where memory was refused to a call.
 use crate::office::{Office, Views};
-use crate::stopped::scripts::total_of;
-use crate::stopped::sending::{STORE, is_without_book};
-use crate::stopped::tasks::Kept;
+use crate::scripts::total_of;
+use crate::sending::{STORE, is_without_book};
+use crate::tasks::Kept;
 use ob_net::{Fault, Stop};
-use std::alloc::Global;
 use std::process::Abort;
 
 /// Memory was refused.
@@ -38,11 +37,11 @@ fn is_as_before<O: Office>(rt: &impl Abort, office: &mut O, before: Option<Views
 }
 
 // There is no book until it is loaded, and then it has what is kept. False where it can't be read over these files.
-fn is_loaded_again<O: Office>(rt: &impl Abort, alloc: Global, office: &mut O, kept: Kept) -> bool {
-    assert!(rt; is_without_book(alloc, office));
+fn is_loaded_again<O: Office>(rt: &impl Abort, office: &mut O, kept: Kept) -> bool {
+    assert!(rt; is_without_book(office));
     let found = office.loads();
     if found == Err(STORE) {
-        assert!(rt; is_without_book(alloc, office));
+        assert!(rt; is_without_book(office));
         return false;
     }
     assert!(rt; found == Ok(()));
@@ -52,15 +51,9 @@ fn is_loaded_again<O: Office>(rt: &impl Abort, alloc: Global, office: &mut O, ke
 
 /// After a call that memory was refused to the book has the least that is kept; where the store failed for it, the book is to
 /// be loaded, and has what is kept. False where it can't be read over these files.
-pub fn goes_on<O: Office>(
-    rt: &impl Abort,
-    alloc: Global,
-    office: &mut O,
-    stop: Stop,
-    kept: Kept,
-) -> bool {
+pub fn goes_on<O: Office>(rt: &impl Abort, office: &mut O, stop: Stop, kept: Kept) -> bool {
     if stop == STORE {
-        return is_loaded_again(rt, alloc, office, kept);
+        return is_loaded_again(rt, office, kept);
     }
     assert!(rt; stop == NO_MEMORY);
     assert!(rt; holds(office, Kept::all(kept.least)));

@@ -1,7 +1,7 @@
 //! A command that comes by a stream to a book whose store may stop.
 use crate::office::Office;
-use crate::stopped::sending::{AFTER, BEFORE, failed};
-use crate::stopped::tasks::Kept;
+use crate::sending::{AFTER, BEFORE, failed};
+use crate::tasks::Kept;
 use std::alloc::Global;
 use std::process::Abort;
 
@@ -17,7 +17,7 @@ const UNAVAILABLE: &'static [u8] =
 /// Loads the book and serves it the request. Where the store fails, nobody is told that the command is accepted.
 pub fn serve<O: Office>(rt: &impl Abort, alloc: Global, office: &mut O) -> Kept {
     if let Err(stop) = office.loads() {
-        return failed(rt, alloc, office, stop, Kept::all(BEFORE));
+        return failed(rt, office, stop, Kept::all(BEFORE));
     }
     let (written, stop) = office.serves(alloc, REQUEST);
     match stop {
@@ -29,7 +29,6 @@ pub fn serve<O: Office>(rt: &impl Abort, alloc: Global, office: &mut O) -> Kept 
             assert!(rt; written.as_slice() == UNAVAILABLE);
             failed(
                 rt,
-                alloc,
                 office,
                 stop,
                 Kept {

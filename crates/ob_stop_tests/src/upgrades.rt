@@ -1,13 +1,23 @@
 //! The tables of version 1 of the outage that are made those of version 2, over files that may stop and where memory may be refused
 //! to one call, and the book that is then kept: none yet, or one of version 2.
+use crate::memory::{NO_MEMORY, load};
 use crate::office::Office;
-use crate::stopped::memory::{NO_MEMORY, load};
-use crate::stopped::scripts::CORRECTION;
-use crate::stopped::sending::{AFTER, BEFORE, STORE, TOTAL, failed};
-use crate::stopped::tasks::Kept;
+use crate::scripts::CORRECTION;
+use crate::sending::{AFTER, BEFORE, STORE, TOTAL, failed};
+use crate::tasks::Kept;
 use ob_net::{Refusal, Stop};
-use std::alloc::Global;
 use std::process::Abort;
+
+/// What makes of the tables of the outage those that version 1 had: no lives, and none in the bodies of the devices.
+pub const TO_VERSION_1: &'static str = "\
+DROP TABLE life;
+UPDATE cmd SET body = 'device I1 GRID BUS-A closed' WHERE id = 7;
+UPDATE cmd SET body = 'device B1 BUS-A S1 closed' WHERE id = 8;
+UPDATE cmd SET body = 'device W1 S1 S2 closed' WHERE id = 9;
+UPDATE cmd SET body = 'device B2 BUS-A S3 closed' WHERE id = 10;
+UPDATE cmd SET body = 'device T1 S2 S3 open' WHERE id = 11;
+UPDATE meta SET version = 1;
+";
 
 // The tables are those of a book of version 1.
 const OLD: Stop = Stop::Refused(Refusal::OldVersion(1));
@@ -17,7 +27,7 @@ const OUTAGE: Option<(u32, u64)> = Some((BEFORE, TOTAL));
 
 /// Makes the tables those of version 2. Where memory is refused to that they are those of version 1 as before, and the same
 /// call again makes them.
-pub fn migrate<O: Office>(rt: &impl Abort, alloc: Global, office: &mut O) -> Kept {
+pub fn migrate<O: Office>(rt: &impl Abort, office: &mut O) -> Kept {
     let mut found = office.migrates();
     if found == Err(NO_MEMORY) {
         assert!(rt; office.loads() == Err(OLD));
@@ -28,7 +38,7 @@ pub fn migrate<O: Office>(rt: &impl Abort, alloc: Global, office: &mut O) -> Kep
             assert!(rt; is_made);
             Kept::all(1)
         }
-        Err(stop) => failed(rt, alloc, office, stop, Kept { least: 0, most: 1 }),
+        Err(stop) => failed(rt, office, stop, Kept { least: 0, most: 1 }),
     }
 }
 
@@ -59,12 +69,12 @@ fn found<O: Office>(rt: &impl Abort, office: &mut O) -> u32 {
 }
 
 /// Loads the book of version 2 where that is kept, or makes it of that of version 1 first. Answers what is kept then.
-pub fn upgrade<O: Office>(rt: &impl Abort, alloc: Global, office: &mut O, kept: Kept) -> Kept {
+pub fn upgrade<O: Office>(rt: &impl Abort, office: &mut O, kept: Kept) -> Kept {
     let mut kept = kept;
     let mut found = load(rt, office);
     if found == Err(OLD) {
         assert!(rt; kept.least == 0);
-        kept = migrate(rt, alloc, office);
+        kept = migrate(rt, office);
         if kept.least == 0 {
             return kept;
         }

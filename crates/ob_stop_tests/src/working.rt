@@ -1,10 +1,9 @@
 //! The outage and what comes afterwards, on a book, where memory may be refused to one call: command by command, or by an import.
-use crate::office::Office;
-use crate::script::A_DAY;
-use crate::stopped::memory::{NO_MEMORY, goes_on, holds, load};
-use crate::stopped::scripts::{AFTERWARDS, COMMANDS, OUTAGE, ROWS};
-use crate::stopped::sending::{BEFORE, STORE, take_rows};
-use crate::stopped::tasks::Kept;
+use crate::memory::{NO_MEMORY, goes_on, holds, load};
+use crate::office::{A_DAY, Office};
+use crate::scripts::{AFTERWARDS, COMMANDS, OUTAGE, ROWS};
+use crate::sending::{BEFORE, STORE, take_rows};
+use crate::tasks::Kept;
 use ob_net::{Refusal, Stop};
 use std::alloc::Global;
 use std::process::Abort;
@@ -58,13 +57,13 @@ fn or_one_more(least: u32) -> Kept {
 
 // Sends the command of this number, or sends it again. Where memory is refused to it, it is sent once more. False where the
 // store failed and can't be read over these files.
-fn sends<O: Office>(rt: &impl Abort, alloc: Global, office: &mut O, line: &str, no: u32) -> bool {
+fn sends<O: Office>(rt: &impl Abort, office: &mut O, line: &str, no: u32) -> bool {
     let before = office.views();
     let least = accepted(office);
     let mut found = office.acts(line);
     if let Err(stop) = found {
         assert!(rt; stop != NO_MEMORY || office.views() == before);
-        if !goes_on(rt, alloc, office, stop, Kept { least, most: no }) {
+        if !goes_on(rt, office, stop, Kept { least, most: no }) {
             return false;
         }
         found = office.acts(line);
@@ -76,18 +75,12 @@ fn sends<O: Office>(rt: &impl Abort, alloc: Global, office: &mut O, line: &str, 
 
 // Sends the lines of a script that follow so many commands, those that the book lacks and the last of all. Answers what is
 // kept, and that is less where the store failed.
-fn sends_all<O: Office>(
-    rt: &impl Abort,
-    alloc: Global,
-    office: &mut O,
-    script: &str,
-    first: u32,
-) -> Kept {
+fn sends_all<O: Office>(rt: &impl Abort, office: &mut O, script: &str, first: u32) -> Kept {
     let mut no = first;
     for line in script.lines() {
         no = no.saturating_add(1);
         let is_sent = accepted(office) < no || no == COMMANDS;
-        if is_sent && !sends(rt, alloc, office, line, no) {
+        if is_sent && !sends(rt, office, line, no) {
             return or_one_more(no.saturating_sub(1));
         }
     }
@@ -95,15 +88,15 @@ fn sends_all<O: Office>(
 }
 
 /// Sends the commands that the book lacks, one by one, and the last of them again.
-pub fn act<O: Office>(rt: &impl Abort, alloc: Global, office: &mut O, kept: Kept) -> Kept {
+pub fn act<O: Office>(rt: &impl Abort, office: &mut O, kept: Kept) -> Kept {
     if !begins(rt, office, kept) {
         return kept;
     }
-    let found = sends_all(rt, alloc, office, OUTAGE, 0);
+    let found = sends_all(rt, office, OUTAGE, 0);
     if found.least < BEFORE {
         return found;
     }
-    sends_all(rt, alloc, office, AFTERWARDS, BEFORE)
+    sends_all(rt, office, AFTERWARDS, BEFORE)
 }
 
 // Imports all rows, of which so many were in the book.
@@ -127,7 +120,7 @@ pub fn read<O: Office>(rt: &impl Abort, alloc: Global, office: &mut O, kept: Kep
     match found.stop {
         None => assert!(rt; found.rows == COMMANDS),
         Some(stop) => {
-            if !goes_on(rt, alloc, office, stop, kept) {
+            if !goes_on(rt, office, stop, kept) {
                 return kept;
             }
             let before = accepted(office);

@@ -1,7 +1,7 @@
 //! Tests that hold whichever one allocation of their run is refused: a book over two files, from their opening to their closing.
-use crate::stopped::disks::{Pair, blank, restart};
-use crate::stopped::scripts::COMMANDS;
-use crate::stopped::tasks::{Kept, Task, run};
+use crate::disks::{Pair, blank, restart};
+use crate::scripts::COMMANDS;
+use crate::tasks::{Kept, Task, run};
 use std::alloc::Global;
 use std::process::Abort;
 

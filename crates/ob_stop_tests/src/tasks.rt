@@ -1,13 +1,12 @@
 //! What a keeper is to do over files that may stop, from their opening to their closing.
+use crate::creations::{holds_new, make};
+use crate::importing::{holds_rows, import};
 use crate::office::{Office, Trial, over};
-use crate::stopped::creations::{holds_new, make};
-use crate::stopped::importing::{holds_rows, import};
-use crate::stopped::scripts::Last;
-use crate::stopped::sending::{BEFORE, holds, is_made, send};
-use crate::stopped::serving::serve;
-use crate::stopped::upgrades::{holds_upgraded, migrate, upgrade};
-use crate::stopped::working::{act, read};
-use crate::texts::TO_VERSION_1;
+use crate::scripts::Last;
+use crate::sending::{BEFORE, holds, is_made, send};
+use crate::serving::serve;
+use crate::upgrades::{TO_VERSION_1, holds_upgraded, migrate, upgrade};
+use crate::working::{act, read};
 use sqlite::{Alter, Connection, FileStore, Files, Options};
 use sqlite_disk::Disk;
 use std::alloc::Global;
@@ -130,18 +129,18 @@ fn done<O: Office>(rt: &impl Abort, alloc: Global, office: &mut O, task: Task) -
             assert!(rt; is_made(office));
             Kept::all(BEFORE)
         }
-        Task::Send(last) => send(rt, alloc, office, last),
+        Task::Send(last) => send(rt, office, last),
         Task::Hold(kept, last) => holds(rt, office, kept, last),
         Task::Serve => serve(rt, alloc, office),
         Task::Import => import(rt, alloc, office),
         Task::HoldRows(kept) => holds_rows(rt, alloc, office, kept),
-        Task::Make => make(rt, alloc, office),
+        Task::Make => make(rt, office),
         Task::HoldNew(kept) => holds_new(rt, office, kept),
         Task::Old => Kept::all(u32::from(is_made(office))),
-        Task::Migrate => migrate(rt, alloc, office),
+        Task::Migrate => migrate(rt, office),
         Task::HoldUpgraded(kept) => holds_upgraded(rt, office, kept),
-        Task::Upgrade(kept) => upgrade(rt, alloc, office, kept),
-        Task::Act(kept) => act(rt, alloc, office, kept),
+        Task::Upgrade(kept) => upgrade(rt, office, kept),
+        Task::Act(kept) => act(rt, office, kept),
         Task::Read(kept) => read(rt, alloc, office, kept),
     }
 }

@@ -1,0 +1,214 @@
+//! What a keeper over files that may stop is tried by.
+use ob_command::{Command, read_body};
+use ob_desk::serve_stream;
+use ob_import::{ImportFault, ImportReport, import_text};
+use ob_index::{Indices, Which};
+use ob_net::{Fault, Ref, Refusal, Stop, Watched};
+use ob_post::{Dim, Moved, Postings};
+use ob_store::{Keeper, MoveSink};
+use ob_sweep::{Timeline, Windowed};
+use sqlite::{Alter, Connection};
+use std::alloc::Global;
+use std::process::Abort;
+
+/// What an import answers.
+pub type Report = Result<ImportReport, ImportFault>;
+
+/// The first day of a book, how many days it has, and its zone.
+pub type Period = (&'static str, u16, &'static str);
+
+/// 2024-01-01 in UTC.
+pub const A_DAY: Period = ("2024-01-01", 1, "UTC0");
+
+/// What a book shows without asking for memory: its commands, its customer-seconds in all and by cause and feeder, and the
+/// indices.
+#[derive(Clone, Copy, PartialEq)]
+pub struct Views {
+    accepted: u32,
+    totals: [u64; 3],
+    causes: [u64; 5],
+    feeders: [u64; 3],
+    indices: Indices,
+}
+
+/// Takes no moved amount.
+struct NoRoom;
+
+impl MoveSink for NoRoom {
+    ghost use Rattle.std.specs.Prelude.{⊤};
+
+    ghost takes = { λ _ _ _ _ _. ⊤ };
+
+    fn take(&mut self, _cmd: u32, _m: &Moved) -> Result<(), Fault> {
+        Err(Fault::Output)
+    }
+}
+
+/// A book, or none, and the calls of its keeper without their clauses: with these each function that makes some is long to
+/// prove.
+pub trait Office {
+    /// Makes a new book of a period.
+    fn makes(&mut self, period: &Period) -> Result<(), Stop>;
+
+    /// Reads the book that the tables hold.
+    fn loads(&mut self) -> Result<(), Stop>;
+
+    /// Makes the tables of version 1 those of version 2. Answers whether they were of version 1.
+    fn migrates(&mut self) -> Result<bool, Stop>;
+
+    /// Whether no table differs from what the commands in the tables give.
+    fn audits(&mut self) -> Result<bool, Stop>;
+
+    /// The number under which the command of a line, a reference and a body text, is accepted or was so before.
+    fn acts(&mut self, line: &str) -> Result<u32, Stop>;
+
+    /// Whether there is a stored reply of a number.
+    fn replies(&mut self, no: u32) -> Result<bool, Stop>;
+
+    /// What a sink without room makes of the moved amounts.
+    fn hands_on(&mut self) -> Result<u64, Stop>;
+
+    /// What the import of a text is answered.
+    fn takes(&mut self, alloc: Global, text: &[u8]) -> Report;
+
+    /// Serves a stream of these bytes. Answers what is written, and the fault that ended it.
+    fn serves(&mut self, alloc: Global, bytes: &[u8]) -> (Vec<u8>, Option<Stop>);
+
+    /// How many commands the book has accepted, and its customer-seconds; None where there is no book.
+    fn shows(&self) -> Option<(u32, u64)>;
+
+    /// All that the book shows; None where there is no book.
+    fn views(&self) -> Option<Views>;
+}
+
+// A reference and the command of a body text.
+fn asked(line: &str) -> Option<(Ref, Command)> {
+    let (reference, body) = line.split_once(" ")?;
+    let reference = Ref::read(reference.as_bytes())?;
+    let command = read_body(body.as_bytes())?;
+    Some((reference, command))
+}
+
+// The customer-seconds by each dimension.
+fn totals_of(postings: &Postings) -> [u64; 3] {
+    [
+        postings.total(Dim::Cause),
+        postings.total(Dim::Feeder),
+        postings.total(Dim::Day),
+    ]
+}
+
+// Those of the first causes.
+fn causes_of(postings: &Postings) -> [u64; 5] {
+    [
+        postings.amount(Dim::Cause, 0),
+        postings.amount(Dim::Cause, 1),
+        postings.amount(Dim::Cause, 2),
+        postings.amount(Dim::Cause, 3),
+        postings.amount(Dim::Cause, 4),
+    ]
+}
+
+// Those of the first feeders.
+fn feeders_of(postings: &Postings) -> [u64; 3] {
+    [
+        postings.amount(Dim::Feeder, 1),
+        postings.amount(Dim::Feeder, 2),
+        postings.amount(Dim::Feeder, 3),
+    ]
+}
+
+impl<S: Alter, T: Timeline> Office for Keeper<S, T> {
+    fn makes(&mut self, period: &Period) -> Result<(), Stop> {
+        let (first, days, zone) = *period;
+        self.create(first.as_bytes(), days, zone.as_bytes())
+    }
+
+    fn loads(&mut self) -> Result<(), Stop> {
+        self.load()
+    }
+
+    fn migrates(&mut self) -> Result<bool, Stop> {
+        self.migrate()
+    }
+
+    fn audits(&mut self) -> Result<bool, Stop> {
+        match self.audit() {
+            Ok(found) => Ok(found.is_none()),
+            Err(stop) => Err(stop),
+        }
+    }
+
+    fn acts(&mut self, line: &str) -> Result<u32, Stop> {
+        let Some((reference, command)) = asked(line) else {
+            return Err(Stop::Refused(Refusal::BadField(0)));
+        };
+        match self.act(reference, command) {
+            Ok(reply) => Ok(reply.no),
+            Err(stop) => Err(stop),
+        }
+    }
+
+    fn replies(&mut self, no: u32) -> Result<bool, Stop> {
+        match self.reply_of(no) {
+            Ok(reply) => Ok(reply.is_some()),
+            Err(stop) => Err(stop),
+        }
+    }
+
+    fn hands_on(&mut self) -> Result<u64, Stop> {
+        self.moves_out(&mut NoRoom)
+    }
+
+    fn takes(&mut self, alloc: Global, text: &[u8]) -> Report {
+        import_text(alloc, text, self)
+    }
+
+    fn serves(&mut self, alloc: Global, bytes: &[u8]) -> (Vec<u8>, Option<Stop>) {
+        let mut reader = Watched::new(bytes);
+        let mut writer = Watched::new(Vec::new(alloc));
+        let stop = match serve_stream(alloc, &mut reader, &mut writer, self) {
+            Ok(_) => None,
+            Err(fault) => Some(Stop::Fault(fault)),
+        };
+        (writer.into_parts().0, stop)
+    }
+
+    fn shows(&self) -> Option<(u32, u64)> {
+        match self.book() {
+            Some(book) => Some((book.accepted(), book.postings().total(Dim::Cause))),
+            None => None,
+        }
+    }
+
+    fn views(&self) -> Option<Views> {
+        match self.book() {
+            Some(book) => Some(Views {
+                accepted: book.accepted(),
+                totals: totals_of(book.postings()),
+                causes: causes_of(book.postings()),
+                feeders: feeders_of(book.postings()),
+                indices: book.index_view(Which::All),
+            }),
+            None => None,
+        }
+    }
+}
+
+/// What a keeper is tried by.
+pub trait Trial {
+    fn run<A: Abort, O: Office>(&mut self, rt: &A, alloc: Global, office: &mut O);
+}
+
+/// A keeper without a book over a database is tried. Answers the database that it leaves.
+pub fn over<S: Alter + Drop, C: Trial>(
+    rt: &impl Abort,
+    alloc: Global,
+    conn: Connection<S>,
+    trial: &mut C,
+) -> Connection<S> {
+    assert!(rt; conn.is_autocommit());
+    let mut keeper: Keeper<S, Windowed> = Keeper::adopt_connection(alloc, conn);
+    trial.run(rt, alloc, &mut keeper);
+    keeper.into_connection()
+}
