@@ -21,10 +21,10 @@ on_it n k f c e = rw (same (c.section % n) k e) refl
 pub off_it : (n k : ℕ) (f : Customer → ℕ) (c : Customer) → c.section % n ≢ k → on_shelf n k f c ≡ 0
 off_it n k f c ne = rw (apart (c.section % n) k ne) refl
 
-abbrev by_service : (ℕ → ℕ → Option ℕ → ℕ) → Customer → ℕ
+abbrev pub by_service : (ℕ → ℕ → Option ℕ → ℕ) → Customer → ℕ
 by_service f c = f c.section c.since c.until
 
-abbrev by_end : (ℕ → ℕ → Option ℕ → ℕ) → Customer → ℕ
+abbrev pub by_end : (ℕ → ℕ → Option ℕ → ℕ) → Customer → ℕ
 by_end f c = at_end f c.section c.until
 
 abbrev pub one : ℕ → ℕ → Option ℕ → ℕ
@@ -56,6 +56,11 @@ few_customers n k room cs s h = omega (arith, h.counted, h.services one, few_her
 
 pub few_ends : (n k room : ℕ) (cs : List Customer) (s : Shelf) → IsShelfOf n k room cs s → customers_of s.ends.blocks ≤ s.customers
 few_ends n k room cs s h = omega (arith, h.counted, h.services one, h.ends one, fewer_ends n k cs)
+
+-- what a customer counts is counted on its shelf
+pub counted_here : (n k at : ℕ) (f : Customer → ℕ) (c : Customer) (cs : List Customer) → at < length cs → c ≡ get_or cs at c → c.section % n ≡ k → f c ≤ sum_by (on_shelf n k f) cs
+counted_here n k at f c cs l is e =
+    omega (arith, sum_by-remove (on_shelf n k f) cs at c l, sym (ap (on_shelf n k f) is) ∙ on_it n k f c e)
 
 -- an end that a customer gives up leaves room for another
 pub ends_fit : (n k room at : ℕ) (c : Customer) (cs : List Customer) (s : Shelf) → at < length cs → c ≡ get_or cs at c → c.section % n ≡ k → IsShelfOf n k room cs s → customers_of s.ends.blocks < s.customers + at_end one c.section c.until

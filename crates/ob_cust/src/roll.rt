@@ -1,11 +1,11 @@
 //! The roll: the customers by number.
-ghost use Rattle.std.specs.Prelude.{◌≡◌, ◌<◌, ◌≤◌, ◌==◌, ◌%◌, ℕ, List, IfOk, IfErr, OnOk, length, map, nat_lt, slice_get, slice_index_or};
+ghost use Rattle.std.specs.Prelude.{◌≡◌, ◌<◌, ◌≤◌, ◌==◌, ◌%◌, ℕ, List, IfOk, IfErr, OnOk, false, true, length, map, nat_lt, slice_get, slice_index_or};
 ghost use Rattle.std.specs.List.{All, AllPairs, count_by, find};
 ghost use Rattle.std.specs.Result.{is_ok};
 ghost use Rattle.ob_cust.specs.Roll.{has_number};
 ghost use Rattle.ob_cust.specs.Shelves.{AreShelves, HasRoom, IsEmpty, IsRoomier};
 
-use crate::service::is_bad_service;
+use crate::service::ends_too_early;
 use crate::shelf::Shelf;
 use crate::{Block, Customer, MOST_CUSTOMERS, SectionBlock};
 use ob_base::{Refusal, Second, Stop};
@@ -44,13 +44,13 @@ impl Model for Roll {
 }
 
 impl Roll {
-    ghost use Rattle.std.specs.Prelude.{◌≡◌, ◌≢◌, ◌<◌, ◌≤◌, ◌+◌, ◌==◌, ℕ, Option, false, [], ◌∷◌, length, map, IfSome, IfOk, OnOk, OnErr, IfErr};
+    ghost use Rattle.std.specs.Prelude.{◌≡◌, ◌≢◌, ◌<◌, ◌≤◌, ◌+◌, ◌==◌, ℕ, Option, None, Some, false, [], ◌∷◌, length, map, IfSome, IfOk, OnOk, OnErr, IfErr};
     ghost use Rattle.std.specs.List.{All, AllPairs, Any, count_by, find, sum_by};
     ghost use Rattle.std.specs.declared.cmp.Ordering.TheVariants.{Less};
     ghost use Rattle.std.specs.Result.{result_err};
     ghost use Rattle.ob_base.specs.Stop.{out_of_memory};
     ghost use Rattle.ob_cust.specs.Blocks.{has_service, service_cmp, service_of, sum_over_blocks, sum_over_customers};
-    ghost use Rattle.ob_cust.specs.Roll.{connect_refusal, is_bad_service, revise_refusal, with_customer, with_service};
+    ghost use Rattle.ob_cust.specs.Roll.{connect_refusal, ends_too_early, is_bad_service, revise_refusal, revised, with_customer, with_service};
     ghost use Rattle.ob_cust.specs.Service.{served_seconds as served};
 
     /// A roll of no customer.
@@ -78,10 +78,8 @@ impl Roll {
             room: 0,
         };
         roll.reserve_one()?;
-        match roll.connect(customer) {
-            Ok(()) => Ok(roll),
-            Err(_) => unreachable!(),
-        }
+        roll.add(customer);
+        Ok(roll)
     }
 
     /// Makes room for one more customer.
@@ -113,21 +111,43 @@ impl Roll {
         ensures room { self.old.room ≤ self.new.room + 1 }
         ensures no_more_room { self.new.room ≤ self.old.room }
     {
-        let Err(place) = place_of(&self.customers, customer.no) else {
-            return Err(Refusal::NameTaken);
-        };
-        if is_bad_service(&customer) {
-            return Err(Refusal::BadService);
+        if let Some(refusal) = self.connect_refusal(&customer) {
+            return Err(refusal);
+        }
+        self.add(customer);
+        Ok(())
+    }
+
+    /// Why a customer can't be connected; None where it can.
+    pub fn connect_refusal(&self, customer: &Customer) -> Option<Refusal>
+        ensures { result ≡ connect_refusal self.now.customers customer.now }
+    {
+        if place_of(&self.customers, customer.no).is_ok() {
+            return Some(Refusal::NameTaken);
+        }
+        if ends_too_early(customer.since, customer.until) {
+            return Some(Refusal::BadService);
         }
         if self.customers.len() == MOST_CUSTOMERS {
-            return Err(Refusal::Full(MOST_CUSTOMERS as u32));
+            return Some(Refusal::Full(MOST_CUSTOMERS as u32));
         }
+        None
+    }
+
+    /// Adds a customer that isn't refused.
+    pub fn add(&mut self, customer: Customer)
+        requires room { 0 < self.old.room }
+        requires free { connect_refusal self.old.customers customer ≡ None }
+        ensures customers { self.new.customers ≡ with_customer customer self.old.customers }
+        ensures room { self.old.room ≤ self.new.room + 1 }
+        ensures no_more_room { self.new.room ≤ self.old.room }
+    {
+        let place = place_in(&self.customers, customer.no);
         let shelf = shelf_of(customer.section, self.shelves.len());
         self.shelves[shelf].add(&customer);
         self.room -= 1;
-        match self.customers.insert(place, customer) {
-            Ok(()) => Ok(()),
-            Err(_) => unreachable!(),
+        if self.customers.insert(place, customer).is_err() {
+            unreachable!();
         }
     }
 
@@ -140,22 +160,52 @@ impl Roll {
         ensures err { OnErr result (self.new ≡ self.old) }
         ensures room { self.new.room ≡ self.old.room }
     {
-        let Ok(place) = place_of(&self.customers, no) else {
-            return Err(Refusal::UnknownCustomer);
-        };
-        let customer = self.customers[place];
+        let customer = self.customer_for(no, since, until)?;
         let revised = Customer {
             since,
             until,
             ..customer
         };
-        if is_bad_service(&revised) {
+        self.serve(customer, revised);
+        Ok(())
+    }
+
+    /// The customer with a number as it is, or why it can't have this service.
+    #[tactic(auto, using(crate::proofs::Searched::has_found))]
+    pub fn customer_for(
+        &self,
+        no: u32,
+        since: Second,
+        until: Option<Second>,
+    ) -> Result<Customer, Refusal>
+        ensures refused { result_err result
+            ≡ revise_refusal self.now.customers «no» since until }
+        ensures found { IfOk result (λ c. find (λ d. d.«no» == «no») self.now.customers
+            ≡ Some c) }
+        ensures service { IfOk result (λ c. ends_too_early since until ≡ false) }
+    {
+        let Some(customer) = self.customer(no) else {
+            return Err(Refusal::UnknownCustomer);
+        };
+        if ends_too_early(since, until) {
             return Err(Refusal::BadService);
         }
-        let shelf = shelf_of(customer.section, self.shelves.len());
-        self.shelves[shelf].revise(&customer, &revised);
-        self.customers[place] = revised;
-        Ok(())
+        Ok(customer)
+    }
+
+    /// Puts a customer with another service in its place.
+    pub fn serve(&mut self, old: Customer, new: Customer)
+        requires on { find (λ c. c.«no» == old.«no») self.old.customers ≡ Some old }
+        requires new { new ≡ revised new.since new.until old }
+        requires service { is_bad_service new ≡ false }
+        ensures customers { self.new.customers
+            ≡ with_service old.«no» new.since new.until self.old.customers }
+        ensures room { self.new.room ≡ self.old.room }
+    {
+        let place = place_in(&self.customers, old.no);
+        let shelf = shelf_of(old.section, self.shelves.len());
+        self.shelves[shelf].revise(&old, &new);
+        self.customers[place] = new;
     }
 
     /// The customers, by rising number.
@@ -313,4 +363,19 @@ fn place_of(customers: &[Customer], no: u32) -> Result<usize, usize>
     ensures bound { IfErr result (λ place. place ≤ length customers.now) }
 {
     customers.binary_search_by_key(&no, |customer| customer.no)
+}
+
+// Where the customer with a number stands, or where it would.
+fn place_in(customers: &[Customer], no: u32) -> usize
+    requires { AllPairs (λ c d. c.«no» < d.«no») customers.now }
+    ensures known { has_number customers.now «no» ≡ true → slice_get customers.now result
+        ≡ find (λ c. c.«no» == «no») customers.now }
+    ensures within { has_number customers.now «no» ≡ true → result < length customers.now }
+    ensures new { has_number customers.now «no» ≡ false → result
+        ≡ count_by (λ c. nat_lt c.«no» «no») customers.now }
+    ensures bound { result ≤ length customers.now }
+{
+    match place_of(customers, no) {
+        Ok(place) | Err(place) => place,
+    }
 }
