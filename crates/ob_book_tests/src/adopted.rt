@@ -6,6 +6,7 @@ use crate::lives::{BREAKER_GONE, JOINS_IN_OUTAGE, OPENED_IN_ITS_LAST_SECOND, TIE
 use crate::runs::{OPENED_BEFORE, RELABELLED};
 use ob_book::Book;
 use ob_command::read_body;
+use ob_state::Resolved;
 use ob_time::Period;
 use std::alloc::Global;
 use std::process::Abort;
@@ -121,4 +122,51 @@ fn a_tie_joins_after_an_outage_began(rt: HostRuntime) -> Result<(), Fail> {
 #[test]
 fn opened_in_the_last_second_of_its_life(rt: HostRuntime) -> Result<(), Fail> {
     adopts_by(&rt, rt.alloc(), BREAKER_GONE, OPENED_IN_ITS_LAST_SECOND, 4)
+}
+
+// The number of what a command speaks of: the code of a cause, the number of a node, of a device, of a customer, of an entry or
+// of a day.
+fn number_of(resolved: &Resolved) -> u32 {
+    match *resolved {
+        Resolved::Cause { code, .. } => u32::from(code.get()),
+        Resolved::Node { number, .. } | Resolved::Device { number, .. } => u32::from(number),
+        Resolved::Life { device, .. } => u32::from(device),
+        Resolved::Customer(customer) => customer.no,
+        Resolved::Service { old, .. } => old.no,
+        Resolved::Entered(entry) => entry.no,
+        Resolved::Corrected { old, .. } | Resolved::Withdrawn { old, .. } => old.no,
+        Resolved::Marked { day, .. } | Resolved::Unmarked { day } => u32::from(day),
+    }
+}
+
+// After the outage: commands, and the number of what each speaks of.
+const NUMBERS: &'static [(&'static str, u32)] = &[
+    ("cause 9 HAIL", 9),
+    ("bus BUS-B", 5),
+    ("section S9 9", 5),
+    ("device X1 BUS-A S1 closed 0 -", 5),
+    ("life T1 0 1704073200", 4),
+    ("connect 11 S1 1704067200 -", 11),
+    ("revise 3 1704067200 1704073200", 3),
+    ("switch B2 open 1704070800 4 K1", 5),
+    ("correct 4 1 close 1704073800 3 K1", 4),
+    ("withdraw 3 1", 3),
+    ("mark 2024-01-01 E1", 0),
+];
+
+fn speak_of(rt: &impl Abort, book: &mut Book<Counting>, rows: &[(&str, u32)]) -> Result<(), Fail> {
+    for (body, number) in rows {
+        let command = read_body(body.as_bytes()).ok_or("a command")?;
+        let plan = book.decide(&command)?;
+        assert!(rt; number_of(plan.resolved()) == *number);
+    }
+    Ok(())
+}
+
+#[test]
+fn commands_speak_of_numbers(rt: HostRuntime) -> Result<(), Fail> {
+    let mut book = counting_book(rt.alloc())?;
+    take_all(&rt, rt.alloc(), &mut book, TWO_FEEDERS)?;
+    take_all(&rt, rt.alloc(), &mut book, OUTAGE)?;
+    speak_of(&rt, &mut book, NUMBERS)
 }

@@ -16,19 +16,22 @@ use Rattle.ob_base.specs.declared.Pos.TheVariants.{Opened, Closed}
 use Rattle.ob_base.specs.declared.TheConstants.{LAST_SECOND}
 use Rattle.ob_base.specs.declared.stop.Refusal.{Refusal}
 use Rattle.ob_base.specs.declared.stop.Refusal.TheVariants.{BadField}
-use Rattle.ob_base.specs.Fields.{act_in, normal_in, cause_in, serial_in}
+use Rattle.ob_base.specs.Fields.{normal_in, cause_in}
 use Rattle.ob_base.specs.Identifier.{is_identifier, is_identifier_byte}
 use Rattle.ob_time.specs.Moment.{IsDateText}
 use Rattle.ob_command.specs.Ranges.{EndNames, end_names, IsCauseCode, IsFeederNumber, IsSerial, IsMoment, IsCivilDate}
-use Rattle.ob_command.specs.Commands.{BodiesDiffer, act_text, normal_text, until_text, words, body_text, AreEndsOfDevice, IsName, IsCrew, IsEnd, IsCommand}
+use Rattle.ob_command.specs.Commands.{BodiesDiffer, act_text, normal_text, operation_of, service_between, until_text, words, body_text, AreEndsOfDevice, IsName, IsCrew, IsEnd, IsOperation, IsService, IsCommand}
 use Rattle.ob_command.specs.Spellings.{crew_in, end_as, ends_from, ends_in, name_in, number_as, Gives}
-use Rattle.ob_command.specs.Fields.{cause_of, section_of, device_of, life_of, connect_of, revise_of, switch_of, correct_of, withdraw_of, mark_of, unmark_of, kind_in, with_field, with_unused, AreFieldsOf, IsOfKind}
+use Rattle.ob_command.specs.Fields.{cause_of, section_of, device_of, life_of, connect_of, revise_of, switch_of, correct_of, withdraw_of, mark_of, unmark_of, kind_in, operation_in, service_in, with_field, with_read, with_unused, AreFieldsOf, IsOfKind}
 use Rattle.ob_command.specs.Splits.{seven_texts, words_in}
 use Rattle.ob_command.specs.declared.command.Command.{Command}
 use Rattle.ob_command.specs.declared.command.Command.TheVariants.{Cause, Bus, Section, Device, Life, Connect, Revise, Switch, Correct, Withdraw, Mark, Unmark}
+use Rattle.ob_command.specs.declared.device.NewDevice.{NewDevice}
 use Rattle.ob_command.specs.declared.fields.Fields.{Fields}
 use Rattle.ob_command.specs.declared.kind.Kind.{Kind}
 use Rattle.ob_command.specs.declared.kind.Kind.TheVariants as kinds
+use Rattle.ob_command.specs.declared.operation.Operation.{Operation}
+use Rattle.ob_command.specs.declared.service.Service.{Service}
 use Rattle.ob_command.specs.declared.spelling.Spelling.TheVariants.{Body}
 use Rattle.ob_command.proofs.Cuts.{date-lacks, identifier-lacks, same-some}
 use Rattle.ob_command.proofs.Readings.{IsReading, second_in, chained, if-cases, code-reading, feeder-reading, serial-reading, moment-reading, until-reading, identifier-reading, act-reading, normal-reading, number-lacks, same-bytes}
@@ -95,18 +98,18 @@ words-are : (c : Command) → IsCommand c → AreWords (words c) × (length (wor
 words-are (Cause code name) h = (((omega arith, refl), (code-word code h.0, (name-word name h.1, tt))), omega arith)
 words-are (Bus name) h = (((omega arith, refl), (name-word name h, tt)), omega arith)
 words-are (Section name feeder) h = (((omega arith, refl), (name-word name h.0, (feeder-word feeder h.1, tt))), omega arith)
-words-are (Device name ends normal since until) h =
-    (((omega arith, refl), (name-word name h.0, (name-word ends.a h.1.0, (name-word ends.b h.1.1, (normal-word normal, (moment-word since h.2, (until-word until h.3, tt))))))), omega arith)
-words-are (Life device since until) h =
-    (((omega arith, refl), (name-word device h.0, (moment-word since h.1, (until-word until h.2, tt)))), omega arith)
-words-are (Connect customer section since until) h =
-    (((omega arith, refl), (serial-word customer h.0, (name-word section h.1, (moment-word since h.2, (until-word until h.3, tt))))), omega arith)
-words-are (Revise customer since until) h =
-    (((omega arith, refl), (serial-word customer h.0, (moment-word since h.1, (until-word until h.2, tt)))), omega arith)
-words-are (Switch device act second cause crew) h =
-    (((omega arith, refl), (name-word device h.0, (act-word act, (moment-word second h.1, (code-word cause h.2, (crew-word crew h.3, tt)))))), omega arith)
-words-are (Correct entry revision act second cause crew) h =
-    (((omega arith, refl), (serial-word entry h.0, (serial-word revision h.1, (act-word act, (moment-word second h.2, (code-word cause h.3, (crew-word crew h.4, tt))))))), omega arith)
+words-are (Device d) h =
+    (((omega arith, refl), (name-word d.name h.0, (name-word d.ends.a h.1.0, (name-word d.ends.b h.1.1, (normal-word d.normal, (moment-word d.life.since h.2.0, (until-word d.life.until h.2.1, tt))))))), omega arith)
+words-are (Life device life) h =
+    (((omega arith, refl), (name-word device h.0, (moment-word life.since h.1.0, (until-word life.until h.1.1, tt)))), omega arith)
+words-are (Connect customer section service) h =
+    (((omega arith, refl), (serial-word customer h.0, (name-word section h.1, (moment-word service.since h.2.0, (until-word service.until h.2.1, tt))))), omega arith)
+words-are (Revise customer service) h =
+    (((omega arith, refl), (serial-word customer h.0, (moment-word service.since h.1.0, (until-word service.until h.1.1, tt)))), omega arith)
+words-are (Switch device o) h =
+    (((omega arith, refl), (name-word device h.0, (act-word o.act, (moment-word o.second h.1.0, (code-word o.cause h.1.1, (crew-word o.crew h.1.2, tt)))))), omega arith)
+words-are (Correct entry revision o) h =
+    (((omega arith, refl), (serial-word entry h.0, (serial-word revision h.1, (act-word o.act, (moment-word o.second h.2.0, (code-word o.cause h.2.1, (crew-word o.crew h.2.2, tt))))))), omega arith)
 words-are (Withdraw entry revision) h = (((omega arith, refl), (serial-word entry h.0, (serial-word revision h.1, tt))), omega arith)
 words-are (Mark date engineer) h = (((omega arith, refl), (date-word date h.0, (crew-word engineer h.1, tt))), omega arith)
 words-are (Unmark date engineer) h = (((omega arith, refl), (date-word date h.0, (crew-word engineer h.1, tt))), omega arith)
@@ -115,12 +118,12 @@ joined : (c : Command) → left (words c) ≡ Some (body_text c)
 joined (Cause code name) = refl
 joined (Bus name) = refl
 joined (Section name feeder) = refl
-joined (Device name ends normal since until) = refl
-joined (Life device since until) = refl
-joined (Connect customer section since until) = refl
-joined (Revise customer since until) = refl
-joined (Switch device act second cause crew) = refl
-joined (Correct entry revision act second cause crew) = refl
+joined (Device d) = refl
+joined (Life device life) = refl
+joined (Connect customer section service) = refl
+joined (Revise customer service) = refl
+joined (Switch device o) = refl
+joined (Correct entry revision o) = refl
 joined (Withdraw entry revision) = refl
 joined (Mark date engineer) = refl
 joined (Unmark date engineer) = refl
@@ -149,35 +152,35 @@ date-gives d h = λ v. (
 )
 
 -- what the readings of valid fields give
-connect-value : (customer : ℕ) (section : List ℕ) (since : ℕ) (until : Option ℕ) → IsCommand (Connect customer section since until)
-    → connect_of Body (decimal customer) section (second_in (decimal since)) (end_as Body (until_text until) (second_in (until_text until))) ([] ∷ [] ∷ []) ≡ Ok (Connect customer section since until)
-connect-value customer section since until h =
-    rw (serial-reading.back customer h.0) (rw (name-reading.back section h.1) (rw (moment-reading.back since h.2)
-    (ap (λ o. with_field 6 o (λ to. Ok (Connect customer section since to))) (until-reading.back until h.3))))
+service-value : (column : ℕ) (s : Service) → IsService s → service_in column (second_in (decimal s.since)) (end_as Body (until_text s.until) (second_in (until_text s.until))) ≡ Ok s
+service-value column s h =
+    ap₂ (λ o p. with_field column o (λ from. with_field (column + 1) p (λ to. Ok (service_between from to)))) (moment-reading.back s.since h.0) (until-reading.back s.until h.1)
 
-revise-value : (customer since : ℕ) (until : Option ℕ) → IsCommand (Revise customer since until)
-    → revise_of Body (decimal customer) (second_in (decimal since)) (end_as Body (until_text until) (second_in (until_text until))) ([] ∷ [] ∷ [] ∷ []) ≡ Ok (Revise customer since until)
-revise-value customer since until h =
-    rw (serial-reading.back customer h.0) (rw (moment-reading.back since h.1)
-    (ap (λ o. with_field 5 o (λ to. Ok (Revise customer since to))) (until-reading.back until h.2)))
+operation-value : (column : ℕ) (o : Operation) → IsOperation o → operation_in Body column (act_text o.act) (second_in (decimal o.second)) (decimal o.cause) o.crew ≡ Ok o
+operation-value column o h =
+    ap₂ (λ p q. with_field column p (λ a. with_field (column + 1) q (λ s. with_field (column + 2) (number_as Body cause_in (decimal o.cause)) (λ k. with_field (column + 3) (crew_in o.crew) (λ by. Ok (operation_of a s k by))))))
+    (act-reading.back o.act tt) (moment-reading.back o.second h.0)
+    ∙ ap₂ (λ p q. with_field (column + 2) p (λ k. with_field (column + 3) q (λ by. Ok (operation_of o.act o.second k by)))) (code-reading.back o.cause h.1) (crew-reading.back o.crew h.2)
 
-switch-value : (device : List ℕ) (act : Pos) (second cause : ℕ) (crew : List ℕ) → IsCommand (Switch device act second cause crew)
-    → switch_of Body device (act_text act) (second_in (decimal second)) (decimal cause) crew ([] ∷ []) ≡ Ok (Switch device act second cause crew)
-switch-value device act second cause crew h =
-    rw (name-reading.back device h.0) (rw (act-reading.back act tt) (rw (moment-reading.back second h.1) (rw (code-reading.back cause h.2)
-    (ap (λ o. with_field 7 o (λ by. Ok (Switch device act second cause by))) (crew-reading.back crew h.3)))))
+connect-value : (customer : ℕ) (section : List ℕ) (s : Service) → IsCommand (Connect customer section s)
+    → connect_of Body (decimal customer) section (second_in (decimal s.since)) (end_as Body (until_text s.until) (second_in (until_text s.until))) ([] ∷ [] ∷ []) ≡ Ok (Connect customer section s)
+connect-value customer section s h =
+    rw (serial-reading.back customer h.0) (rw (name-reading.back section h.1) (ap (λ r. with_read r (λ v. Ok (Connect customer section v))) (service-value 5 s h.2)))
 
-correct-value : (entry revision : ℕ) (act : Pos) (second cause : ℕ) (crew : List ℕ) → IsCommand (Correct entry revision act second cause crew)
-    → correct_of Body (decimal entry) (decimal revision) (act_text act) (second_in (decimal second)) (decimal cause) crew ≡ Ok (Correct entry revision act second cause crew)
-correct-value entry revision act second cause crew h =
-    ap (λ o. with_field 3 o (λ e. with_field 4 (number_as Body serial_in (decimal revision)) (λ r. with_field 5 (act_in (act_text act)) (λ a.
-    with_field 6 (second_in (decimal second)) (λ s. with_field 7 (number_as Body cause_in (decimal cause)) (λ k. with_field 8 (crew_in crew) (λ by. Ok (Correct e r a s k by)))))))) (serial-reading.back entry h.0)
-    ∙ ap (λ o. with_field 4 o (λ r. with_field 5 (act_in (act_text act)) (λ a.
-    with_field 6 (second_in (decimal second)) (λ s. with_field 7 (number_as Body cause_in (decimal cause)) (λ k. with_field 8 (crew_in crew) (λ by. Ok (Correct entry r a s k by))))))) (serial-reading.back revision h.1)
-    ∙ ap (λ o. with_field 5 o (λ a.
-    with_field 6 (second_in (decimal second)) (λ s. with_field 7 (number_as Body cause_in (decimal cause)) (λ k. with_field 8 (crew_in crew) (λ by. Ok (Correct entry revision a s k by)))))) (act-reading.back act tt)
-    ∙ ap (λ o. with_field 6 o (λ s. with_field 7 (number_as Body cause_in (decimal cause)) (λ k. with_field 8 (crew_in crew) (λ by. Ok (Correct entry revision act s k by))))) (moment-reading.back second h.2)
-    ∙ ap₂ (λ o p. with_field 7 o (λ k. with_field 8 p (λ by. Ok (Correct entry revision act second k by)))) (code-reading.back cause h.3) (crew-reading.back crew h.4)
+revise-value : (customer : ℕ) (s : Service) → IsCommand (Revise customer s)
+    → revise_of Body (decimal customer) (second_in (decimal s.since)) (end_as Body (until_text s.until) (second_in (until_text s.until))) ([] ∷ [] ∷ [] ∷ []) ≡ Ok (Revise customer s)
+revise-value customer s h = rw (serial-reading.back customer h.0) (ap (λ r. with_read r (λ v. Ok (Revise customer v))) (service-value 4 s h.1))
+
+switch-value : (device : List ℕ) (o : Operation) → IsCommand (Switch device o)
+    → switch_of Body device (act_text o.act) (second_in (decimal o.second)) (decimal o.cause) o.crew ([] ∷ []) ≡ Ok (Switch device o)
+switch-value device o h = rw (name-reading.back device h.0) (ap (λ r. with_read r (λ v. Ok (Switch device v))) (operation-value 4 o h.1))
+
+correct-value : (entry revision : ℕ) (o : Operation) → IsCommand (Correct entry revision o)
+    → correct_of Body (decimal entry) (decimal revision) (act_text o.act) (second_in (decimal o.second)) (decimal o.cause) o.crew ≡ Ok (Correct entry revision o)
+correct-value entry revision o h =
+    ap₂ (λ p q. with_field 3 p (λ e. with_field 4 q (λ r. with_read (operation_in Body 5 (act_text o.act) (second_in (decimal o.second)) (decimal o.cause) o.crew) (λ v. Ok (Correct e r v)))))
+    (serial-reading.back entry h.0) (serial-reading.back revision h.1)
+    ∙ ap (λ r. with_read r (λ v. Ok (Correct entry revision v))) (operation-value 5 o h.2)
 
 cause-value : (code : ℕ) (name : List ℕ) → IsCommand (Cause code name) → cause_of Body (decimal code) name ([] ∷ [] ∷ [] ∷ [] ∷ []) ≡ Ok (Cause code name)
 cause-value code name h =
@@ -187,22 +190,22 @@ section-value : (name : List ℕ) (feeder : ℕ) → IsCommand (Section name fee
 section-value name feeder h =
     ap₂ (λ o p. with_field 3 o (λ x. with_field 4 p (λ y. Ok (Section x y)))) (name-reading.back name h.0) (feeder-reading.back feeder h.1)
 
-device-value : (name : List ℕ) (ends : EndNames) (normal : Pos) (since : ℕ) (until : Option ℕ) → IsCommand (Device name ends normal since until)
-    → device_of name ends.a ends.b (normal_text normal) (second_in (decimal since)) (end_as Body (until_text until) (second_in (until_text until))) ≡ Ok (Device name ends normal since until)
-device-value name ends normal since until h =
-    ap₂ (λ o p. with_field 3 o (λ x. with_field 4 p (λ a. with_field 5 (ends_from a ends.b) (λ y. with_field 6 (normal_in (normal_text normal)) (λ z.
-    with_field 7 (second_in (decimal since)) (λ s. with_field 8 (end_as Body (until_text until) (second_in (until_text until))) (λ u. Ok (Device x y z s u))))))))
-    (name-reading.back name h.0) (name-reading.back ends.a h.1.0)
+device-value : (d : NewDevice) → IsCommand (Device d)
+    → device_of d.name d.ends.a d.ends.b (normal_text d.normal) (second_in (decimal d.life.since)) (end_as Body (until_text d.life.until) (second_in (until_text d.life.until))) ≡ Ok (Device d)
+device-value d h =
+    ap₂ (λ o p. with_field 3 o (λ x. with_field 4 p (λ a. with_field 5 (ends_from a d.ends.b) (λ y. with_field 6 (normal_in (normal_text d.normal)) (λ z.
+    with_read (service_in 7 (second_in (decimal d.life.since)) (end_as Body (until_text d.life.until) (second_in (until_text d.life.until)))) (λ s.
+    Ok (Device (record { name = x; ends = y; normal = z; life = s }))))))))
+    (name-reading.back d.name h.0) (name-reading.back d.ends.a h.1.0)
     ∙ ap₂ (λ o p. with_field 5 o (λ y. with_field 6 p (λ z.
-    with_field 7 (second_in (decimal since)) (λ s. with_field 8 (end_as Body (until_text until) (second_in (until_text until))) (λ u. Ok (Device name y z s u))))))
-    (ends-back ends h.1) (normal-reading.back normal tt)
-    ∙ ap₂ (λ o p. with_field 7 o (λ s. with_field 8 p (λ u. Ok (Device name ends normal s u)))) (moment-reading.back since h.2) (until-reading.back until h.3)
+    with_read (service_in 7 (second_in (decimal d.life.since)) (end_as Body (until_text d.life.until) (second_in (until_text d.life.until)))) (λ s.
+    Ok (Device (record d { ends = y; normal = z; life = s }))))))
+    (ends-back d.ends h.1) (normal-reading.back d.normal tt)
+    ∙ ap (λ r. with_read r (λ s. Ok (Device (record d { life = s })))) (service-value 7 d.life h.2)
 
-life-value : (device : List ℕ) (since : ℕ) (until : Option ℕ) → IsCommand (Life device since until)
-    → life_of device (second_in (decimal since)) (end_as Body (until_text until) (second_in (until_text until))) ([] ∷ [] ∷ [] ∷ []) ≡ Ok (Life device since until)
-life-value device since until h =
-    rw (name-reading.back device h.0) (rw (moment-reading.back since h.1)
-    (ap (λ o. with_field 5 o (λ to. Ok (Life device since to))) (until-reading.back until h.2)))
+life-value : (device : List ℕ) (s : Service) → IsCommand (Life device s)
+    → life_of device (second_in (decimal s.since)) (end_as Body (until_text s.until) (second_in (until_text s.until))) ([] ∷ [] ∷ [] ∷ []) ≡ Ok (Life device s)
+life-value device s h = rw (name-reading.back device h.0) (ap (λ r. with_read r (λ v. Ok (Life device v))) (service-value 4 s h.1))
 
 withdraw-value : (entry revision : ℕ) → IsCommand (Withdraw entry revision) → withdraw_of Body (decimal entry) (decimal revision) ([] ∷ [] ∷ [] ∷ [] ∷ []) ≡ Ok (Withdraw entry revision)
 withdraw-value entry revision h =
@@ -221,15 +224,12 @@ made : (c : Command) → IsCommand c → IsSeven (padded 7 (words c)) (Ok c)
 made (Cause code name) h = sym (cause-value code name h)
 made (Bus name) h = sym (ap (λ o. with_field 3 o (λ x. Ok (Bus x))) (name-reading.back name h))
 made (Section name feeder) h = sym (section-value name feeder h)
-made (Device name ends normal since until) h =
-    (second_in (decimal since), second_in (until_text until), refl, refl, sym (device-value name ends normal since until h))
-made (Life device since until) h =
-    (second_in (decimal since), second_in (until_text until), refl, refl, sym (life-value device since until h))
-made (Connect customer section since until) h =
-    (second_in (decimal since), second_in (until_text until), refl, refl, sym (connect-value customer section since until h))
-made (Revise customer since until) h = (second_in (decimal since), second_in (until_text until), refl, refl, sym (revise-value customer since until h))
-made (Switch device act second cause crew) h = (second_in (decimal second), refl, sym (switch-value device act second cause crew h))
-made (Correct entry revision act second cause crew) h = (second_in (decimal second), refl, sym (correct-value entry revision act second cause crew h))
+made (Device d) h = (second_in (decimal d.life.since), second_in (until_text d.life.until), refl, refl, sym (device-value d h))
+made (Life device s) h = (second_in (decimal s.since), second_in (until_text s.until), refl, refl, sym (life-value device s h))
+made (Connect customer section s) h = (second_in (decimal s.since), second_in (until_text s.until), refl, refl, sym (connect-value customer section s h))
+made (Revise customer s) h = (second_in (decimal s.since), second_in (until_text s.until), refl, refl, sym (revise-value customer s h))
+made (Switch device o) h = (second_in (decimal o.second), refl, sym (switch-value device o h))
+made (Correct entry revision o) h = (second_in (decimal o.second), refl, sym (correct-value entry revision o h))
 made (Withdraw entry revision) h = sym (withdraw-value entry revision h)
 made (Mark date engineer) h = (Some date, date-gives date h.0, sym (mark-value (Some date) date engineer h refl))
 made (Unmark date engineer) h = (Some date, date-gives date h.0, sym (unmark-value (Some date) date engineer h refl))
@@ -239,30 +239,34 @@ back : (c : Command) (r : Result Command Refusal) → IsCommand c → IsSeven (p
 back (Cause code name) r h is = is ∙ cause-value code name h
 back (Bus name) r h is = is ∙ ap (λ o. with_field 3 o (λ x. Ok (Bus x))) (name-reading.back name h)
 back (Section name feeder) r h is = is ∙ section-value name feeder h
-back (Device name ends normal since until) r h is =
-    is.4 ∙ ap₂ (λ a b. device_of name ends.a ends.b (normal_text normal) a (end_as Body (until_text until) b)) is.2 is.3 ∙ device-value name ends normal since until h
-back (Life device since until) r h is =
-    is.4 ∙ ap₂ (λ a b. life_of device a (end_as Body (until_text until) b) ([] ∷ [] ∷ [] ∷ [])) is.2 is.3 ∙ life-value device since until h
-back (Connect customer section since until) r h is =
-    is.4 ∙ ap₂ (λ a b. connect_of Body (decimal customer) section a (end_as Body (until_text until) b) ([] ∷ [] ∷ [])) is.2 is.3 ∙ connect-value customer section since until h
-back (Revise customer since until) r h is =
-    is.4 ∙ ap₂ (λ a b. revise_of Body (decimal customer) a (end_as Body (until_text until) b) ([] ∷ [] ∷ [] ∷ [])) is.2 is.3 ∙ revise-value customer since until h
-back (Switch device act second cause crew) r h is =
-    is.2 ∙ ap (λ a. switch_of Body device (act_text act) a (decimal cause) crew ([] ∷ [])) is.1 ∙ switch-value device act second cause crew h
-back (Correct entry revision act second cause crew) r h is =
-    is.2 ∙ ap (λ a. correct_of Body (decimal entry) (decimal revision) (act_text act) a (decimal cause) crew) is.1 ∙ correct-value entry revision act second cause crew h
+back (Device d) r h is =
+    is.4 ∙ ap₂ (λ a b. device_of d.name d.ends.a d.ends.b (normal_text d.normal) a (end_as Body (until_text d.life.until) b)) is.2 is.3 ∙ device-value d h
+back (Life device s) r h is =
+    is.4 ∙ ap₂ (λ a b. life_of device a (end_as Body (until_text s.until) b) ([] ∷ [] ∷ [] ∷ [])) is.2 is.3 ∙ life-value device s h
+back (Connect customer section s) r h is =
+    is.4 ∙ ap₂ (λ a b. connect_of Body (decimal customer) section a (end_as Body (until_text s.until) b) ([] ∷ [] ∷ [])) is.2 is.3 ∙ connect-value customer section s h
+back (Revise customer s) r h is =
+    is.4 ∙ ap₂ (λ a b. revise_of Body (decimal customer) a (end_as Body (until_text s.until) b) ([] ∷ [] ∷ [] ∷ [])) is.2 is.3 ∙ revise-value customer s h
+back (Switch device o) r h is =
+    is.2 ∙ ap (λ a. switch_of Body device (act_text o.act) a (decimal o.cause) o.crew ([] ∷ [])) is.1 ∙ switch-value device o h
+back (Correct entry revision o) r h is =
+    is.2 ∙ ap (λ a. correct_of Body (decimal entry) (decimal revision) (act_text o.act) a (decimal o.cause) o.crew) is.1 ∙ correct-value entry revision o h
 back (Withdraw entry revision) r h is = is ∙ withdraw-value entry revision h
 back (Mark date engineer) r h is = is.2 ∙ mark-value is.0 date engineer h ((is.1 date).1 (h.0, refl))
 back (Unmark date engineer) r h is = is.2 ∙ unmark-value is.0 date engineer h ((is.1 date).1 (h.0, refl))
 
 -- what is read is a command of these texts
 
-same-ok : (a b : Command) → ◌≡◌ {A = Result Command Refusal} (Ok a) (Ok b) → a ≡ b
+same-ok : {A : Type 0} (a b : A) → ◌≡◌ {A = Result A Refusal} (Ok a) (Ok b) → a ≡ b
 same-ok a b e = cc
 
-with-Ok : {A : Type 0} (n : ℕ) (o : Option A) (rest : A → Result Command Refusal) (c : Command) → with_field n o rest ≡ Ok c → (v : A) × (o ≡ Some v) × (rest v ≡ Ok c)
-with-Ok n None rest c e = absurd (cc)
-with-Ok n (Some v) rest c e = (v, refl, e)
+with-Ok : {A B : Type 0} (n : ℕ) (o : Option A) (rest : A → Result B Refusal) (b : B) → with_field n o rest ≡ Ok b → (v : A) × (o ≡ Some v) × (rest v ≡ Ok b)
+with-Ok n None rest b e = absurd (cc)
+with-Ok n (Some v) rest b e = (v, refl, e)
+
+read-Ok : {A B : Type 0} (r : Result A Refusal) (rest : A → Result B Refusal) (b : B) → with_read r rest ≡ Ok b → (v : A) × (r ≡ Ok v) × (rest v ≡ Ok b)
+read-Ok (Err x) rest b e = absurd (cc)
+read-Ok (Ok v) rest b e = (v, refl, e)
 
 abbrev AreEmpty : List (List ℕ) → Type 0
 AreEmpty [] = ⊤
@@ -323,6 +327,28 @@ ends-found a text ends named e =
           (subst AreEndsOfDevice whole (named, name.0, apart), ap (λ w. w.a) whole, name.1 ∙ ap (λ w. w.b) whole)
     ]
 
+service-found : (column : ℕ) (f g : List ℕ) (s : Service) → service_in column (second_in f) (end_as Body g (second_in g)) ≡ Ok s → IsService s × (f ≡ decimal s.since) × (g ≡ until_text s.until)
+service-found column f g s e =
+    let a = with-Ok column _ _ s e in
+    let b = with-Ok (column + 1) _ _ s a.2 in
+    let x = moment-reading.found f a.0 a.1 in
+    let y = until-reading.found g b.0 b.1 in
+    subst (λ (t : Service). IsService t × (f ≡ decimal t.since) × (g ≡ until_text t.until)) (same-ok (service_between a.0 b.0) s b.2) ((x.0, y.0), x.1, y.1)
+
+operation-found : (column : ℕ) (f g k l : List ℕ) (o : Operation) → operation_in Body column f (second_in g) k l ≡ Ok o
+    → IsOperation o × (f ≡ act_text o.act) × (g ≡ decimal o.second) × (k ≡ decimal o.cause) × (l ≡ o.crew)
+operation-found column f g k l o e =
+    let a = with-Ok column _ _ o e in
+    let b = with-Ok (column + 1) _ _ o a.2 in
+    let c = with-Ok (column + 2) _ _ o b.2 in
+    let d = with-Ok (column + 3) _ _ o c.2 in
+    let x = act-reading.found f a.0 a.1 in
+    let y = moment-reading.found g b.0 b.1 in
+    let z = code-reading.found k c.0 c.1 in
+    let w = crew-reading.found l d.0 d.1 in
+    subst (λ (p : Operation). IsOperation p × (f ≡ act_text p.act) × (g ≡ decimal p.second) × (k ≡ decimal p.cause) × (l ≡ p.crew))
+    (same-ok (operation_of a.0 b.0 c.0 d.0) o d.2) ((y.0, z.0, w.0), x.1, y.1, z.1, w.1)
+
 found : (k : Kind) (f1 f2 f3 f4 f5 f6 : List ℕ) (c : Command) → AreFieldsOf Body k f1 f2 f3 f4 f5 f6 (Ok c) → IsOfTexts k f1 f2 f3 f4 f5 f6 c
 found kinds.Cause f1 f2 f3 f4 f5 f6 c is =
     let a = with-Ok 3 _ _ c (sym is) in
@@ -348,73 +374,53 @@ found kinds.Device f1 f2 f3 f4 f5 f6 c is =
     let b = with-Ok 4 _ _ c a.2 in
     let d = with-Ok 5 _ _ c b.2 in
     let g = with-Ok 6 _ _ c d.2 in
-    let m = with-Ok 7 _ _ c g.2 in
-    let n = with-Ok 8 _ _ c m.2 in
-    let u = same-ok (Device a.0 d.0 g.0 m.0 n.0) c n.2 in
+    let m = read-Ok _ _ c g.2 in
+    let u = same-ok (Device (record { name = a.0; ends = d.0; normal = g.0; life = m.0 })) c m.2 in
     let x = name-reading.found f1 a.0 a.1 in
     let y = name-reading.found f2 b.0 b.1 in
     let z = ends-found b.0 f3 d.0 y.0 d.1 in
     let w = normal-reading.found f4 g.0 g.1 in
-    let q = moment-reading.found f5 m.0 (sym is.2 ∙ m.1) in
-    let v = until-reading.found f6 n.0 (ap (λ o. end_as Body f6 o) (sym is.3) ∙ n.1) in
-    subst (IsOfTexts kinds.Device f1 f2 f3 f4 f5 f6) u ((x.0, z.0, q.0, v.0), texts _ f1 f2 f3 f4 f5 f6 _ _ _ _ _ _ x.1 (y.1 ∙ z.1) z.2 w.1 q.1 v.1)
+    let s = service-found 7 f5 f6 m.0 (ap₂ (λ m n. service_in 7 m (end_as Body f6 n)) (sym is.2) (sym is.3) ∙ m.1) in
+    subst (IsOfTexts kinds.Device f1 f2 f3 f4 f5 f6) u ((x.0, z.0, s.0), texts _ f1 f2 f3 f4 f5 f6 _ _ _ _ _ _ x.1 (y.1 ∙ z.1) z.2 w.1 s.1 s.2)
 found kinds.Life f1 f2 f3 f4 f5 f6 c is =
     let a = with-Ok 3 _ _ c (sym is.4) in
-    let d = with-Ok 4 _ _ c a.2 in
-    let g = with-Ok 5 _ _ c d.2 in
-    let u = unused-Ok 6 (f4 ∷ f5 ∷ f6 ∷ []) (Life a.0 d.0 g.0) c g.2 in
+    let m = read-Ok _ _ c a.2 in
+    let u = unused-Ok 6 (f4 ∷ f5 ∷ f6 ∷ []) (Life a.0 m.0) c m.2 in
     let x = name-reading.found f1 a.0 a.1 in
-    let z = moment-reading.found f2 d.0 (sym is.2 ∙ d.1) in
-    let w = until-reading.found f3 g.0 (ap (λ o. end_as Body f3 o) (sym is.3) ∙ g.1) in
-    subst (IsOfTexts kinds.Life f1 f2 f3 f4 f5 f6) u.1 ((x.0, z.0, w.0), texts _ f1 f2 f3 f4 f5 f6 _ _ _ _ _ _ x.1 z.1 w.1 u.0.0 u.0.1.0 u.0.1.1.0)
+    let s = service-found 4 f2 f3 m.0 (ap₂ (λ m n. service_in 4 m (end_as Body f3 n)) (sym is.2) (sym is.3) ∙ m.1) in
+    subst (IsOfTexts kinds.Life f1 f2 f3 f4 f5 f6) u.1 ((x.0, s.0), texts _ f1 f2 f3 f4 f5 f6 _ _ _ _ _ _ x.1 s.1 s.2 u.0.0 u.0.1.0 u.0.1.1.0)
 found kinds.Connect f1 f2 f3 f4 f5 f6 c is =
     let a = with-Ok 3 _ _ c (sym is.4) in
     let b = with-Ok 4 _ _ c a.2 in
-    let d = with-Ok 5 _ _ c b.2 in
-    let g = with-Ok 6 _ _ c d.2 in
-    let u = unused-Ok 7 (f5 ∷ f6 ∷ []) (Connect a.0 b.0 d.0 g.0) c g.2 in
+    let m = read-Ok _ _ c b.2 in
+    let u = unused-Ok 7 (f5 ∷ f6 ∷ []) (Connect a.0 b.0 m.0) c m.2 in
     let x = serial-reading.found f1 a.0 a.1 in
     let y = name-reading.found f2 b.0 b.1 in
-    let z = moment-reading.found f3 d.0 (sym is.2 ∙ d.1) in
-    let w = until-reading.found f4 g.0 (ap (λ o. end_as Body f4 o) (sym is.3) ∙ g.1) in
-    subst (IsOfTexts kinds.Connect f1 f2 f3 f4 f5 f6) u.1 ((x.0, y.0, z.0, w.0), texts _ f1 f2 f3 f4 f5 f6 _ _ _ _ _ _ x.1 y.1 z.1 w.1 u.0.0 u.0.1.0)
+    let s = service-found 5 f3 f4 m.0 (ap₂ (λ m n. service_in 5 m (end_as Body f4 n)) (sym is.2) (sym is.3) ∙ m.1) in
+    subst (IsOfTexts kinds.Connect f1 f2 f3 f4 f5 f6) u.1 ((x.0, y.0, s.0), texts _ f1 f2 f3 f4 f5 f6 _ _ _ _ _ _ x.1 y.1 s.1 s.2 u.0.0 u.0.1.0)
 found kinds.Revise f1 f2 f3 f4 f5 f6 c is =
     let a = with-Ok 3 _ _ c (sym is.4) in
-    let d = with-Ok 4 _ _ c a.2 in
-    let g = with-Ok 5 _ _ c d.2 in
-    let u = unused-Ok 6 (f4 ∷ f5 ∷ f6 ∷ []) (Revise a.0 d.0 g.0) c g.2 in
+    let m = read-Ok _ _ c a.2 in
+    let u = unused-Ok 6 (f4 ∷ f5 ∷ f6 ∷ []) (Revise a.0 m.0) c m.2 in
     let x = serial-reading.found f1 a.0 a.1 in
-    let z = moment-reading.found f2 d.0 (sym is.2 ∙ d.1) in
-    let w = until-reading.found f3 g.0 (ap (λ o. end_as Body f3 o) (sym is.3) ∙ g.1) in
-    subst (IsOfTexts kinds.Revise f1 f2 f3 f4 f5 f6) u.1 ((x.0, z.0, w.0), texts _ f1 f2 f3 f4 f5 f6 _ _ _ _ _ _ x.1 z.1 w.1 u.0.0 u.0.1.0 u.0.1.1.0)
+    let s = service-found 4 f2 f3 m.0 (ap₂ (λ m n. service_in 4 m (end_as Body f3 n)) (sym is.2) (sym is.3) ∙ m.1) in
+    subst (IsOfTexts kinds.Revise f1 f2 f3 f4 f5 f6) u.1 ((x.0, s.0), texts _ f1 f2 f3 f4 f5 f6 _ _ _ _ _ _ x.1 s.1 s.2 u.0.0 u.0.1.0 u.0.1.1.0)
 found kinds.Switch f1 f2 f3 f4 f5 f6 c is =
     let a = with-Ok 3 _ _ c (sym is.2) in
-    let b = with-Ok 4 _ _ c a.2 in
-    let d = with-Ok 5 _ _ c b.2 in
-    let g = with-Ok 6 _ _ c d.2 in
-    let l = with-Ok 7 _ _ c g.2 in
-    let u = unused-Ok 8 (f6 ∷ []) (Switch a.0 b.0 d.0 g.0 l.0) c l.2 in
+    let m = read-Ok _ _ c a.2 in
+    let u = unused-Ok 8 (f6 ∷ []) (Switch a.0 m.0) c m.2 in
     let x = name-reading.found f1 a.0 a.1 in
-    let y = act-reading.found f2 b.0 b.1 in
-    let z = moment-reading.found f3 d.0 (sym is.1 ∙ d.1) in
-    let w = code-reading.found f4 g.0 g.1 in
-    let v = crew-reading.found f5 l.0 l.1 in
-    subst (IsOfTexts kinds.Switch f1 f2 f3 f4 f5 f6) u.1 ((x.0, z.0, w.0, v.0), texts _ f1 f2 f3 f4 f5 f6 _ _ _ _ _ _ x.1 y.1 z.1 w.1 v.1 u.0.0)
+    let o = operation-found 4 f2 f3 f4 f5 m.0 (ap (λ t. operation_in Body 4 f2 t f4 f5) (sym is.1) ∙ m.1) in
+    subst (IsOfTexts kinds.Switch f1 f2 f3 f4 f5 f6) u.1 ((x.0, o.0), texts _ f1 f2 f3 f4 f5 f6 _ _ _ _ _ _ x.1 o.1 o.2 o.3 o.4 u.0.0)
 found kinds.Correct f1 f2 f3 f4 f5 f6 c is =
     let a = with-Ok 3 _ _ c (sym is.2) in
     let b = with-Ok 4 _ _ c a.2 in
-    let t = with-Ok 5 _ _ c b.2 in
-    let d = with-Ok 6 _ _ c t.2 in
-    let g = with-Ok 7 _ _ c d.2 in
-    let l = with-Ok 8 _ _ c g.2 in
-    let u = same-ok (Correct a.0 b.0 t.0 d.0 g.0 l.0) c l.2 in
+    let m = read-Ok _ _ c b.2 in
+    let u = same-ok (Correct a.0 b.0 m.0) c m.2 in
     let x = serial-reading.found f1 a.0 a.1 in
     let y = serial-reading.found f2 b.0 b.1 in
-    let s = act-reading.found f3 t.0 t.1 in
-    let z = moment-reading.found f4 d.0 (sym is.1 ∙ d.1) in
-    let w = code-reading.found f5 g.0 g.1 in
-    let v = crew-reading.found f6 l.0 l.1 in
-    subst (IsOfTexts kinds.Correct f1 f2 f3 f4 f5 f6) u ((x.0, y.0, z.0, w.0, v.0), texts _ f1 f2 f3 f4 f5 f6 _ _ _ _ _ _ x.1 y.1 s.1 z.1 w.1 v.1)
+    let o = operation-found 5 f3 f4 f5 f6 m.0 (ap (λ t. operation_in Body 5 f3 t f5 f6) (sym is.1) ∙ m.1) in
+    subst (IsOfTexts kinds.Correct f1 f2 f3 f4 f5 f6) u ((x.0, y.0, o.0), texts _ f1 f2 f3 f4 f5 f6 _ _ _ _ _ _ x.1 y.1 o.1 o.2 o.3 o.4)
 found kinds.Withdraw f1 f2 f3 f4 f5 f6 c is =
     let a = with-Ok 3 _ _ c (sym is) in
     let b = with-Ok 4 _ _ c a.2 in

@@ -3,6 +3,7 @@ use Rattle.std.proofs.Common.{refl, inl, inr, [], ◌∷◌, Some, Ok, Err, code
 use Rattle.ob_base.specs.declared.stop.Refusal.TheVariants.{BadField}
 use Rattle.ob_base.specs.declared.Pos.TheVariants.{Opened}
 use Rattle.ob_time.specs.Moment.{IsSecondText}
+use Rattle.ob_command.specs.Commands.{operation_of}
 use Rattle.ob_command.specs.Fields.{IsRow}
 use Rattle.ob_command.specs.Spellings.{Gives}
 use Rattle.ob_command.specs.declared.command.Command.TheVariants.{Cause, Switch}
@@ -52,5 +53,5 @@ the_second s = (
 an_unused_field : IsRow (codes "switch" ∷ codes "R1" ∷ codes "B1" ∷ codes "open" ∷ codes "3600" ∷ codes "3" ∷ codes "K1" ∷ codes "x" ∷ []) (Err (BadField 8))
 an_unused_field = (Err (BadField 8), (Some 3600, the_second, refl), refl)
 
-an_operation : IsRow (codes "switch" ∷ codes "R1" ∷ codes "B1" ∷ codes "open" ∷ codes "3600" ∷ codes "3" ∷ codes "K1" ∷ [] ∷ []) (Ok (codes "R1", Switch (codes "B1") Opened 3600 3 (codes "K1")))
-an_operation = (Ok (Switch (codes "B1") Opened 3600 3 (codes "K1")), (Some 3600, the_second, refl), refl)
+an_operation : IsRow (codes "switch" ∷ codes "R1" ∷ codes "B1" ∷ codes "open" ∷ codes "3600" ∷ codes "3" ∷ codes "K1" ∷ [] ∷ []) (Ok (codes "R1", Switch (codes "B1") (operation_of Opened 3600 3 (codes "K1"))))
+an_operation = (Ok (Switch (codes "B1") (operation_of Opened 3600 3 (codes "K1"))), (Some 3600, the_second, refl), refl)

@@ -7,11 +7,14 @@ use Rattle.ob_base.specs.Identifier.{identifier_in}
 use Rattle.ob_base.specs.declared.stop.Refusal.{Refusal}
 use Rattle.ob_base.specs.declared.stop.Refusal.TheVariants.{BadField}
 use Rattle.ob_time.specs.Moment.{IsDateText}
+use Rattle.ob_command.specs.Commands.{operation_of, service_between}
 use Rattle.ob_command.specs.Spellings.{crew_in, end_as, ends_from, name_in, number_as, start_as, Gives, IsMomentAs}
 use Rattle.ob_command.specs.declared.command.Command.{Command}
 use Rattle.ob_command.specs.declared.command.Command.TheVariants.{Cause, Bus, Section, Device, Life, Connect, Revise, Switch, Correct, Withdraw, Mark, Unmark}
 use Rattle.ob_command.specs.declared.kind.Kind.{Kind}
 use Rattle.ob_command.specs.declared.kind.Kind.TheVariants as kinds
+use Rattle.ob_command.specs.declared.operation.Operation.{Operation}
+use Rattle.ob_command.specs.declared.service.Service.{Service}
 use Rattle.ob_command.specs.declared.spelling.Spelling.{Spelling}
 use Rattle.ob_command.specs.declared.spelling.Spelling.TheVariants.{Free}
 
@@ -37,11 +40,28 @@ abbrev pub with_field : {A B : Type 0} → ℕ → Option A → (A → Result B 
 with_field column None rest = Err (BadField column)
 with_field column (Some value) rest = rest value
 
+-- what follows what was read, or its refusal
+abbrev pub with_read : {A B : Type 0} → Result A Refusal → (A → Result B Refusal) → Result B Refusal
+with_read (Err refusal) rest = Err refusal
+with_read (Ok value) rest = rest value
+
 -- what follows, where the fields from a column on are empty
 abbrev pub with_unused : {B : Type 0} → ℕ → List (List ℕ) → Result B Refusal → Result B Refusal
 with_unused column [] rest = rest
 with_unused column ([] ∷ fields) rest = with_unused (column + 1) fields rest
 with_unused column ((byte ∷ bytes) ∷ fields) rest = Err (BadField column)
+
+-- a service or a life: its beginning in a column, its end in the next one
+abbrev pub service_in : ℕ → Option ℕ → Option (Option ℕ) → Result Service Refusal
+service_in column since until = with_field column since (λ from. with_field (column + 1) until (λ to. Ok (service_between from to)))
+
+-- an operation: its act, second, cause and crew, in four columns from one on
+abbrev pub operation_in : Spelling → ℕ → List ℕ → Option ℕ → List ℕ → List ℕ → Result Operation Refusal
+operation_in s column f1 moment f3 f4 =
+    with_field column (act_in f1) (λ act.
+    with_field (column + 1) moment (λ second.
+    with_field (column + 2) (number_as s cause_in f3) (λ cause.
+    with_field (column + 3) (crew_in f4) (λ crew. Ok (operation_of act second cause crew)))))
 
 -- each kind: its columns from the left, then those that are empty
 
@@ -62,44 +82,34 @@ device_of f1 f2 f3 f4 since until =
     with_field 4 (name_in f2) (λ a.
     with_field 5 (ends_from a f3) (λ ends.
     with_field 6 (normal_in f4) (λ normal.
-    with_field 7 since (λ from.
-    with_field 8 until (λ to. Ok (Device name ends normal from to)))))))
+    with_read (service_in 7 since until) (λ life. Ok (Device (record { name = name; ends = ends; normal = normal; life = life })))))))
 
 abbrev pub life_of : List ℕ → Option ℕ → Option (Option ℕ) → List (List ℕ) → Result Command Refusal
 life_of f1 since until rest =
     with_field 3 (name_in f1) (λ device.
-    with_field 4 since (λ from.
-    with_field 5 until (λ to. with_unused 6 rest (Ok (Life device from to)))))
+    with_read (service_in 4 since until) (λ life. with_unused 6 rest (Ok (Life device life))))
 
 abbrev pub connect_of : Spelling → List ℕ → List ℕ → Option ℕ → Option (Option ℕ) → List (List ℕ) → Result Command Refusal
 connect_of s f1 f2 since until rest =
     with_field 3 (number_as s serial_in f1) (λ customer.
     with_field 4 (name_in f2) (λ section.
-    with_field 5 since (λ from.
-    with_field 6 until (λ to. with_unused 7 rest (Ok (Connect customer section from to))))))
+    with_read (service_in 5 since until) (λ service. with_unused 7 rest (Ok (Connect customer section service)))))
 
 abbrev pub revise_of : Spelling → List ℕ → Option ℕ → Option (Option ℕ) → List (List ℕ) → Result Command Refusal
 revise_of s f1 since until rest =
     with_field 3 (number_as s serial_in f1) (λ customer.
-    with_field 4 since (λ from.
-    with_field 5 until (λ to. with_unused 6 rest (Ok (Revise customer from to)))))
+    with_read (service_in 4 since until) (λ service. with_unused 6 rest (Ok (Revise customer service))))
 
 abbrev pub switch_of : Spelling → List ℕ → List ℕ → Option ℕ → List ℕ → List ℕ → List (List ℕ) → Result Command Refusal
 switch_of s f1 f2 moment f4 f5 rest =
     with_field 3 (name_in f1) (λ device.
-    with_field 4 (act_in f2) (λ act.
-    with_field 5 moment (λ second.
-    with_field 6 (number_as s cause_in f4) (λ cause.
-    with_field 7 (crew_in f5) (λ crew. with_unused 8 rest (Ok (Switch device act second cause crew)))))))
+    with_read (operation_in s 4 f2 moment f4 f5) (λ operation. with_unused 8 rest (Ok (Switch device operation))))
 
 abbrev pub correct_of : Spelling → List ℕ → List ℕ → List ℕ → Option ℕ → List ℕ → List ℕ → Result Command Refusal
 correct_of s f1 f2 f3 moment f5 f6 =
     with_field 3 (number_as s serial_in f1) (λ entry.
     with_field 4 (number_as s serial_in f2) (λ revision.
-    with_field 5 (act_in f3) (λ act.
-    with_field 6 moment (λ second.
-    with_field 7 (number_as s cause_in f5) (λ cause.
-    with_field 8 (crew_in f6) (λ crew. Ok (Correct entry revision act second cause crew)))))))
+    with_read (operation_in s 5 f3 moment f5 f6) (λ operation. Ok (Correct entry revision operation))))
 
 abbrev pub withdraw_of : Spelling → List ℕ → List ℕ → List (List ℕ) → Result Command Refusal
 withdraw_of s f1 f2 rest =

@@ -1,11 +1,11 @@
 //! Reading a command from its six fields, by its kind. The leftmost bad column is refused.
 ghost use Rattle.std.specs.Prelude.{◌≡◌, ◌<◌, ◌+◌, [], ◌∷◌, length, map, Ok};
-ghost use Rattle.ob_command.specs.Fields.{bus_of, cause_of, connect_of, correct_of, device_of, life_of, mark_of, revise_of, section_of, switch_of, unmark_of, with_unused, withdraw_of, AreFieldsOf};
+ghost use Rattle.ob_command.specs.Fields.{bus_of, cause_of, connect_of, correct_of, device_of, life_of, mark_of, operation_in, revise_of, section_of, service_in, switch_of, unmark_of, with_unused, withdraw_of, AreFieldsOf};
 ghost use Rattle.ob_command.specs.Spellings.{end_as, ends_from, start_as};
 
 use crate::kind::Kind;
 use crate::spelling::Spelling;
-use crate::{CivilDate, Command, Ends, Moment};
+use crate::{CivilDate, Command, Ends, Moment, NewDevice, Operation, Service};
 use ob_base::{Crew, Name, Refusal, read_act, read_normal};
 
 /// The six fields after the kind, columns 3 to 8; those that a kind doesn't name are empty.
@@ -123,19 +123,14 @@ fn device(
     let a = Name::read(fields.f2).ok_or(Refusal::BadField(4))?;
     let ends = read_ends(a, fields.f3).ok_or(Refusal::BadField(5))?;
     let normal = read_normal(fields.f4).ok_or(Refusal::BadField(6))?;
-    let since = spelling
-        .start_of(fields.f5, since)
-        .ok_or(Refusal::BadField(7))?;
-    let until = spelling
-        .end_of(fields.f6, until)
-        .ok_or(Refusal::BadField(8))?;
-    Ok(Command::Device {
+    let since = spelling.start_of(fields.f5, since);
+    let life = read_service(7, since, spelling.end_of(fields.f6, until))?;
+    Ok(Command::Device(NewDevice {
         name,
         ends,
         normal,
-        since,
-        until,
-    })
+        life,
+    }))
 }
 
 fn life(
@@ -149,18 +144,10 @@ fn life(
         ∷ fields.now.f6.now ∷ []) }
 {
     let device = Name::read(fields.f1).ok_or(Refusal::BadField(3))?;
-    let since = spelling
-        .start_of(fields.f2, since)
-        .ok_or(Refusal::BadField(4))?;
-    let until = spelling
-        .end_of(fields.f3, until)
-        .ok_or(Refusal::BadField(5))?;
+    let since = spelling.start_of(fields.f2, since);
+    let life = read_service(4, since, spelling.end_of(fields.f3, until))?;
     complete(
-        Command::Life {
-            device,
-            since,
-            until,
-        },
+        Command::Life { device, life },
         6,
         &[fields.f4, fields.f5, fields.f6],
     )
@@ -177,16 +164,12 @@ fn connect(
 {
     let customer = spelling.read_serial(fields.f1).ok_or(Refusal::BadField(3))?;
     let section = Name::read(fields.f2).ok_or(Refusal::BadField(4))?;
-    let since = since.ok_or(Refusal::BadField(5))?;
-    let until = spelling
-        .end_of(fields.f4, until)
-        .ok_or(Refusal::BadField(6))?;
+    let service = read_service(5, since, spelling.end_of(fields.f4, until))?;
     complete(
         Command::Connect {
             customer,
             section,
-            since,
-            until,
+            service,
         },
         7,
         &[fields.f5, fields.f6],
@@ -204,16 +187,9 @@ fn revise(
         ∷ fields.now.f6.now ∷ []) }
 {
     let customer = spelling.read_serial(fields.f1).ok_or(Refusal::BadField(3))?;
-    let since = since.ok_or(Refusal::BadField(4))?;
-    let until = spelling
-        .end_of(fields.f3, until)
-        .ok_or(Refusal::BadField(5))?;
+    let service = read_service(4, since, spelling.end_of(fields.f3, until))?;
     complete(
-        Command::Revise {
-            customer,
-            since,
-            until,
-        },
+        Command::Revise { customer, service },
         6,
         &[fields.f4, fields.f5, fields.f6],
     )
@@ -228,21 +204,8 @@ fn switch(
         fields.now.f4.now fields.now.f5.now (fields.now.f6.now ∷ []) }
 {
     let device = Name::read(fields.f1).ok_or(Refusal::BadField(3))?;
-    let act = read_act(fields.f2).ok_or(Refusal::BadField(4))?;
-    let second = second.ok_or(Refusal::BadField(5))?;
-    let cause = spelling.read_code(fields.f4).ok_or(Refusal::BadField(6))?;
-    let crew = Crew::read(fields.f5).ok_or(Refusal::BadField(7))?;
-    complete(
-        Command::Switch {
-            device,
-            act,
-            second,
-            cause,
-            crew,
-        },
-        8,
-        &[fields.f6],
-    )
+    let operation = read_operation(spelling, 4, fields.f2, second, fields.f4, fields.f5)?;
+    complete(Command::Switch { device, operation }, 8, &[fields.f6])
 }
 
 fn correct(
@@ -255,17 +218,11 @@ fn correct(
 {
     let entry = spelling.read_serial(fields.f1).ok_or(Refusal::BadField(3))?;
     let revision = spelling.read_serial(fields.f2).ok_or(Refusal::BadField(4))?;
-    let act = read_act(fields.f3).ok_or(Refusal::BadField(5))?;
-    let second = second.ok_or(Refusal::BadField(6))?;
-    let cause = spelling.read_code(fields.f5).ok_or(Refusal::BadField(7))?;
-    let crew = Crew::read(fields.f6).ok_or(Refusal::BadField(8))?;
+    let operation = read_operation(spelling, 5, fields.f3, second, fields.f5, fields.f6)?;
     Ok(Command::Correct {
         entry,
         revision,
-        act,
-        second,
-        cause,
-        crew,
+        operation,
     })
 }
 
@@ -313,6 +270,42 @@ fn read_ends(a: Name, text: &[u8]) -> Option<Ends>
     ensures { result ≡ ends_from a text.now }
 {
     Ends::new(a, Name::read(text)?)
+}
+
+// A service or a life, whose beginning stands in a column and its end in the next one.
+fn read_service(
+    column: u8,
+    since: Option<Moment>,
+    until: Option<Option<Moment>>,
+) -> Result<Service, Refusal>
+    requires { column < 255 }
+    ensures { result ≡ service_in column since until }
+{
+    let since = since.ok_or(Refusal::BadField(column))?;
+    let until = until.ok_or(Refusal::BadField(column + 1))?;
+    Ok(Service { since, until })
+}
+
+// An operation, whose act, second, cause and crew stand in four columns from one on.
+fn read_operation(
+    spelling: Spelling,
+    column: u8,
+    act: &[u8],
+    second: Option<Moment>,
+    cause: &[u8],
+    crew: &[u8],
+) -> Result<Operation, Refusal>
+    requires { column < 253 }
+    ensures { result ≡ operation_in spelling column act.now second cause.now crew.now }
+{
+    Ok(Operation {
+        act: read_act(act).ok_or(Refusal::BadField(column))?,
+        second: second.ok_or(Refusal::BadField(column + 1))?,
+        cause: spelling
+            .read_code(cause)
+            .ok_or(Refusal::BadField(column + 2))?,
+        crew: Crew::read(crew).ok_or(Refusal::BadField(column + 3))?,
+    })
 }
 
 // The command, where the fields from a column on are empty.

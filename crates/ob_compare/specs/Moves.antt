@@ -5,6 +5,8 @@ use Rattle.ob_net.specs.Network.{Network}
 use Rattle.ob_net.specs.declared.net.Device.{Device}
 use Rattle.ob_command.specs.declared.command.Command.{Command}
 use Rattle.ob_state.specs.State.{BookState}
+use Rattle.ob_state.specs.declared.resolved.Resolved.{Resolved}
+use Rattle.ob_state.specs.declared.resolved.Resolved.TheVariants as resolved
 use Rattle.ob_book.specs.Acts.{Referenced}
 use Rattle.ob_tables.specs.Rows.{Columns}
 use Rattle.ob_tables.specs.declared.table.Table.TheVariants.{Moved}
@@ -34,3 +36,8 @@ HasMoved version table b list =
 -- the numbers of the nodes that each device joins
 abbrev pub ends_of : Network → List EndNodes
 ends_of net = map (λ (d : Device). record { a = d.a; b = d.b }) net.devices
+
+-- the numbers of the nodes that the device of a command joins, where it adds one
+abbrev pub ends_by : Resolved → List EndNodes
+ends_by (resolved.Device number device) = record { a = device.a; b = device.b } ∷ []
+ends_by r = []

@@ -1,18 +1,31 @@
 //! A book is led along commands.
-ghost use Rattle.std.specs.Prelude.{◌≡◌, ◌<◌, ◌↔◌, true, IsTrue, IsSome, IfOk, IfErr, IfSome, Ok, Some, None};
+ghost use Rattle.std.specs.Prelude.{◌≡◌, ◌<◌, ◌↔◌, ◌++◌, true, IsTrue, IsSome, IfOk, IfErr, IfSome, OnOk, Ok, Some, None};
 ghost use Rattle.ob_base.specs.Stop.{out_of_memory};
 ghost use Rattle.ob_state.specs.Next.{next, next_all};
 ghost use Rattle.ob_state.specs.Refusals.{refusal as refusal_to};
 ghost use Rattle.ob_book.specs.Plans.{IsPlan};
 ghost use Rattle.ob_compare.specs.Listing.{filed_of};
-ghost use Rattle.ob_compare.specs.Moves.{commands_of, ends_of};
+ghost use Rattle.ob_compare.specs.Moves.{commands_of, ends_by, ends_of};
 
 use crate::ends::EndNodes;
 use crate::filed::Filed;
 use ob_base::Stop;
 use ob_book::{Book, Plan};
 use ob_command::Command;
+use ob_state::Resolved;
 use ob_sweep::Timeline;
+
+/// With the ends of devices so far, those of the device that a command adds.
+fn note_ends(noted: &mut Vec<EndNodes>, resolved: &Resolved) -> Result<(), Stop>
+    ensures ends { OnOk result (noted.new.items ≡ noted.old.items ++ ends_by resolved.now) }
+    ensures faults { IfErr result (λ stop. stop ≡ out_of_memory) }
+{
+    if let Resolved::Device { device, .. } = resolved {
+        let (a, b) = (device.a, device.b);
+        noted.push(EndNodes { a, b })?;
+    }
+    Ok(())
+}
 
 /// The plan of a command that is accepted, with the ends of the device that it adds noted; None where it is refused.
 pub(crate) fn decide_noting_ends<T: Timeline>(
@@ -35,18 +48,7 @@ pub(crate) fn decide_noting_ends<T: Timeline>(
         Err(Stop::Refused(_)) => return Ok(None),
         Err(fault) => return Err(fault),
     };
-    let Command::Device { ends, .. } = command else {
-        return Ok(Some(plan));
-    };
-    // Both ends are nodes, since the command is accepted.
-    let net = book.net();
-    let Some(a) = net.node_of(ends.a()) else {
-        unreachable!();
-    };
-    let Some(b) = net.node_of(ends.b()) else {
-        unreachable!();
-    };
-    noted.push(EndNodes { a, b })?;
+    note_ends(noted, plan.resolved())?;
     Ok(Some(plan))
 }
 

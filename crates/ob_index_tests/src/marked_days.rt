@@ -18,6 +18,8 @@ fn days_are_marked(rt: HostRuntime) -> Result<(), Fail> {
     assert!(rt; marks.mark(1, second) == Err(Refusal::MarkedAlready));
     assert!(rt; marks.engineer(1) == Some(first));
     assert!(rt; marks.engineer(2).is_none());
+    marks.put(2, Some(second));
+    assert!(rt; marks.engineer(2) == Some(second));
     Ok(())
 }
 

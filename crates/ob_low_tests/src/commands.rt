@@ -2,11 +2,11 @@
 //! of the fields.
 use jiff::civil::Date;
 use ob_command::{
-    CauseCode, CivilDate, Command, Ends, FeederNumber, Moment, Serial, bodies_law, body_text,
-    read_body, read_row, rows_law,
+    CauseCode, CivilDate, Command, Ends, FeederNumber, Moment, NewDevice, Serial, Service,
+    bodies_law, body_text, read_body, read_row, rows_law,
 };
 use ob_net::Pos::Closed;
-use ob_net::{LAST_SECOND, Name, Refusal, Second, Stop};
+use ob_net::{LAST_SECOND, Life, Name, Refusal, Second, Stop};
 use std::alloc::Global;
 use std::process::Abort;
 use std::test::Fail;
@@ -33,30 +33,38 @@ mark 2024-02-29 K1
 unmark 2024-02-29 K1
 mark 0000-02-29 K1";
 
-fn service() -> Option<Command> {
+// From one second until before another.
+fn service(since: Second, until: Second) -> Option<Service> {
+    Some(Service {
+        since: Moment::new(since)?,
+        until: Moment::new(until),
+    })
+}
+
+fn connection() -> Option<Command> {
     Some(Command::Connect {
         customer: Serial::new(11)?,
         section: Name::read(b"S3")?,
-        since: Moment::new(7)?,
-        until: Moment::new(9),
+        service: service(7, 9)?,
     })
 }
 
 fn device() -> Option<Command> {
-    Some(Command::Device {
+    Some(Command::Device(NewDevice {
         name: Name::read(b"X1")?,
         ends: ends(b"BUS-A", b"S1")?,
         normal: Closed,
-        since: Moment::new(1_704_072_200)?,
-        until: None,
-    })
+        life: Service {
+            since: Moment::new(1_704_072_200)?,
+            until: None,
+        },
+    }))
 }
 
 fn life() -> Option<Command> {
     Some(Command::Life {
         device: Name::read(b"T1")?,
-        since: Moment::new(0)?,
-        until: Moment::new(1_704_073_200),
+        life: service(0, 1_704_073_200)?,
     })
 }
 
@@ -312,7 +320,7 @@ fn no_bodies_of_lives(rt: HostRuntime) {
 
 #[test]
 fn commands_by_their_fields(rt: HostRuntime) -> Result<(), Fail> {
-    let command = service().ok_or("a command")?;
+    let command = connection().ok_or("a command")?;
     has_body(&rt, rt.alloc(), &command, b"connect 11 S3 7 9")?;
     let command = device().ok_or("a command")?;
     has_body(
@@ -323,6 +331,17 @@ fn commands_by_their_fields(rt: HostRuntime) -> Result<(), Fail> {
     )?;
     let command = life().ok_or("a command")?;
     has_body(&rt, rt.alloc(), &command, b"life T1 0 1704073200")?;
+    Ok(())
+}
+
+#[test]
+fn seconds_of_a_service(rt: HostRuntime) -> Result<(), Fail> {
+    let served = service(7, 9).ok_or("a service")?;
+    let life = Life {
+        since: 7,
+        until: Some(9),
+    };
+    assert!(rt; served.end() == Some(9) && served.life() == life);
     Ok(())
 }
 

@@ -249,7 +249,15 @@ fn a_life_is_set_anew(rt: HostRuntime) -> Result<(), Fail> {
             (1, LIVES[1], Ok(()), [late, LIVES[1], short]),
         ],
     );
+    give_life(&rt, &mut net, 1, short);
+    have_lives(&rt, &net, &[late, short, short]);
     Ok(())
+}
+
+fn give_life(rt: &impl Abort, net: &mut Net, device: u16, life: Life) {
+    assert!(rt; device < net.devices());
+    assert!(rt; life.ends_later());
+    net.give_life(device, life);
 }
 
 // A second, positions, and those after each device was opened that isn't alive then.

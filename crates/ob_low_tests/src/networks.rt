@@ -1,9 +1,9 @@
 //! The network: its parts by name and by number, which nodes are supplied, and its limits.
-ghost use Rattle.std.specs.Prelude.{◌≡◌, []};
+ghost use Rattle.std.specs.Prelude.{◌≡◌, ◌≤◌, []};
 
-use ob_command::{Command, Moment, read_body};
+use ob_command::{Command, NewDevice, read_body};
 use ob_net::Pos::{Closed, Opened};
-use ob_net::{Life, Name, Net, Pos, Refusal};
+use ob_net::{Name, Net, Node, Pos, Refusal, Stop};
 use std::alloc::Global;
 use std::process::Abort;
 use std::test::Fail;
@@ -23,16 +23,6 @@ device D3 BUS-B S3 closed 0 -
 device TIE S2 S3 open 0 -
 ";
 
-fn life_from(since: Moment, until: Option<Moment>) -> Life {
-    Life {
-        since: since.second(),
-        until: match until {
-            Some(until) => Some(until.second()),
-            None => None,
-        },
-    }
-}
-
 // Adds the part that a body text says; why it is refused, if it is.
 fn add(net: &mut Net, body: &str) -> Result<Option<Refusal>, Fail> {
     let command = read_body(body.as_bytes()).ok_or("a command")?;
@@ -40,16 +30,15 @@ fn add(net: &mut Net, body: &str) -> Result<Option<Refusal>, Fail> {
     match command {
         Command::Bus { name } => Ok(net.add_bus(name).err()),
         Command::Section { name, feeder } => Ok(net.add_section(name, feeder.get()).err()),
-        Command::Device {
-            name,
-            ends,
-            normal,
-            since,
-            until,
-        } => {
-            let life = life_from(since, until);
+        Command::Device(device) => {
+            let NewDevice {
+                name,
+                ends,
+                normal,
+                life,
+            } = device;
             Ok(
-                net.add_device(name, *ends.a(), *ends.b(), normal, life)
+                net.add_device(name, *ends.a(), *ends.b(), normal, life.life())
                     .err(),
             )
         }
@@ -174,6 +163,45 @@ fn tie_anew(rt: &impl Abort, net: &mut Net) -> Result<(), Fail> {
 fn a_device_is_taken_back(rt: HostRuntime) -> Result<(), Fail> {
     let mut net = meshed(&rt, rt.alloc())?;
     tie_anew(&rt, &mut net)
+}
+
+// Adds a node that isn't refused.
+fn put_node(net: &mut Net, name: Name, feeder: u8) -> Result<(), Stop>
+    requires { 1 ≤ feeder }
+{
+    net.reserve_one()?;
+    if let Some(refusal) = net.node_refusal(&name) {
+        return Err(Stop::Refused(refusal));
+    }
+    net.add_node(Node {
+        name,
+        feeder: Some(feeder),
+    });
+    Ok(())
+}
+
+// Adds a device that isn't refused, and answers the numbers of its ends.
+fn put_device(net: &mut Net, device: &NewDevice) -> Result<(u16, u16), Stop> {
+    let (a, b) = (device.ends.a(), device.ends.b());
+    net.reserve_one()?;
+    let ends = net.ends_of(&device.name, a, b, device.life.life())?;
+    net.join(device.between(ends.0, ends.1));
+    Ok(ends)
+}
+
+// A section and a device of it.
+#[test]
+fn parts_that_are_not_refused(rt: HostRuntime) -> Result<(), Fail> {
+    let mut net = meshed(&rt, rt.alloc())?;
+    put_node(&mut net, Name::read(b"S9").ok_or("a name")?, 7)?;
+    match read_body(b"device D9 S9 S1 open 5 9") {
+        Some(Command::Device(device)) => assert!(rt; put_device(&mut net, &device)? == (6, 3)),
+        _ => return Err("a device".into()),
+    }
+    counts(&rt, &net, 7, 7, 0);
+    is_node(&rt, &net, 6, b"S9", Some(7));
+    is_device(&rt, &net, 6, b"D9", Opened);
+    Ok(())
 }
 
 // How often the network was searched, positions of the devices, and the nodes that are supplied.

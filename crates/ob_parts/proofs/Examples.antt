@@ -13,7 +13,7 @@ abbrev bus : Referenced
 bus = record { reference = codes "N1"; command = Bus (codes "BUS-A") }
 
 abbrev breaker : AnyCommand
-breaker = Device (codes "B1") (end_names (codes "GRID") (codes "BUS-A")) Closed 0 None
+breaker = Device (record { name = codes "B1"; ends = end_names (codes "GRID") (codes "BUS-A"); normal = Closed; life = record { since = 0; until = None } })
 
 abbrev device : Referenced
 device = record { reference = codes "N2"; command = breaker }

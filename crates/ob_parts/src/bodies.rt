@@ -36,7 +36,7 @@ fn add_body(
         ≡ texts_of bodies.old.items ++ new_text no command.now) }
     ensures faults { IfErr result (λ stop. stop ≡ out_of_memory) }
 {
-    if matches!(command, Command::Device { .. }) {
+    if matches!(command, Command::Device(_)) {
         let body = body_text(alloc, command)?;
         bodies.push(NewBody { no, body })?;
     }

@@ -1,10 +1,10 @@
 -- Keys and names that no row has, and keys that one has.
-use Rattle.std.proofs.Common.{◌≡◌, ℕ, ◌+◌, ◌<◌, ◌≤◌, ◌==◌, ◌||◌, Bool, true, false, cond, zero, suc, List, [], ◌∷◌, ◌++◌, map, filter, length, Option, Some, None, is_some, option_map, refl, sym, ap₂, subst, ◌∙◌, arith, inl, inr, nat_lt, true≢false, position}
+use Rattle.std.proofs.Common.{◌≡◌, ℕ, ◌+◌, ◌<◌, ◌≤◌, ◌==◌, ◌||◌, Bool, true, false, cond, zero, suc, List, [], ◌∷◌, ◌++◌, map, length, Option, Some, None, is_some, option_map, refl, sym, ap₂, subst, ◌∙◌, arith, inl, inr, nat_lt, true≢false, position}
 use Rattle.std.specs.Prelude.{slice_index_or}
 use Rattle.std.specs.List.{AllByRecursion, list_any, position_or_len}
 use Rattle.std.specs.Option.{option_map_or}
 use Rattle.std.specs.List.Sorted.{IsPermutation}
-use Rattle.std.proofs.lemmas.Bool.{cases_Bool, lt-ltb, ltb-true, or_from, or_left, or_parts, or_right}
+use Rattle.std.proofs.lemmas.Bool.{cases_Bool, lt-ltb, or_from, or_left, or_parts, or_right}
 use Rattle.std.proofs.lemmas.Bool.Decides.{nat_tests}
 use Rattle.std.proofs.lemmas.List.Sorted.{IsPermutation-sym}
 use Rattle.sqlite_trees.proofs.ListLemmas.{all-map, all-permutation, all_weaker}
@@ -15,7 +15,7 @@ use Rattle.ob_tables.specs.Rows.{Columns, is_key}
 use Rattle.ob_tables.specs.Rules.{IsShort, IsShortValue}
 use Rattle.ob_record.specs.Tables.{numbered, present, row_of_entry}
 use Rattle.ob_record.proofs.Keyed.{key_is}
-use Rattle.ob_record.proofs.Listed.{AreNumberedFrom, numbered_rest, one_entry}
+use Rattle.ob_record.proofs.Listed.{AreNumberedFrom, all_passing, numbered_rest, one_entry}
 
 -- ---- as the elements, so their rows
 pub any_numbered : {X : Type 0} (row : ℕ → X → Columns) (test : Columns → Bool) (p : X → Bool) → ((n : ℕ) (x : X) → test (row n x) ≡ p x)
@@ -110,14 +110,6 @@ none_found p xs h = elim (cases_Bool (list_any p xs)) [
   | inr f ↦ f
 ]
 
-within : (b : Bool) (n i long : ℕ) → nat_lt n long ≡ b → cond b (Some n) None ≡ Some i → i < long
-within true n i long is at = let same : n ≡ i = cc in let low : n < long = ltb-true n long is in omega (arith, low, same)
-within false n i long is at = absurd (cc)
-
--- the place of one that is found is one of theirs
-pub found_within : {X : Type 0} (p : X → Bool) (xs : List X) (i : ℕ) → position p xs ≡ Some i → i < length xs
-found_within p xs i at = within (nat_lt (position_or_len p xs) (length xs)) (position_or_len p xs) i (length xs) refl at
-
 -- nothing is nothing of something
 pub not_mapped : {X Y : Type 0} (f : X → Y) (o : Option X) → option_map f o ≡ None → is_some o ≡ false
 not_mapped f None h = refl
@@ -140,14 +132,6 @@ pub next_entry_free : (entries : List Entry) (number : ℕ) → AreNumbered entr
 next_entry_free entries number are last =
     any_map row_of_entry (is_key number) (λ (e : Entry). e.«no» == number) (entry_keyed number) entries
     ∙ none_from 1 number entries (λ i d low. let at = are i d low in omega (arith, at)) (omega (arith, last))
-
--- what holds of those that pass holds of each that does
-all_passing : {X : Type 0} (P : X → Type 0) (p : X → Bool) (xs : List X) → AllByRecursion P (filter p xs) → AllByRecursion (λ x. p x ≡ true → P x) xs
-all_passing P p [] h = tt
-all_passing P p (x ∷ xs) h = elim (cases_Bool (p x)) [
-  | inl t ↦ (let here : AllByRecursion P (x ∷ filter p xs) = rw t at h in (λ _. here.0, all_passing P p xs here.1))
-  | inr f ↦ (λ t. absurd (true≢false (sym t ∙ f)), all_passing P p xs (rw f at h))
-]
 
 -- the row of an entry with a short crew is short
 row_short : (number : ℕ) (e : Entry) → (((e.«no» == number) ≡ true) → IsShort e.crew) → is_key number (row_of_entry e) ≡ true → AllByRecursion IsShortValue (row_of_entry e)

@@ -1,4 +1,3 @@
-mod Accepts
 mod Acted
 pub mod Free
 mod Fresh

@@ -1,16 +1,16 @@
 -- Rows of lists, where one element joins them, is changed or is taken out.
-use Rattle.std.proofs.Common.{◌≡◌, ℕ, ◌+◌, ◌<◌, ◌==◌, Bool, true, false, not, zero, suc, List, [], ◌∷◌, ◌++◌, map, filter, set, length, Option, Some, None, refl, ap, ap₂, subst, ◌∙◌, arith, inl, inr, nat_lt}
+use Rattle.std.proofs.Common.{◌≡◌, ℕ, ◌+◌, ◌<◌, ◌==◌, Bool, true, false, not, zero, suc, List, [], ◌∷◌, ◌++◌, map, filter, set, length, Option, Some, None, refl, sym, ap, ap₂, subst, ◌∙◌, arith, inl, inr, nat_lt, true≢false}
 use Rattle.std.specs.Prelude.{if◌then◌else◌, slice_index_or}
-use Rattle.std.specs.List.{All}
+use Rattle.std.specs.List.{All, AllByRecursion, find}
 use Rattle.std.specs.List.Sorted.{IsPermutation}
 use Rattle.std.proofs.lemmas.Bool.{cases_Bool}
 use Rattle.std.proofs.lemmas.Bool.Decides.{nat_tests}
 use Rattle.std.proofs.lemmas.List.Elements.{All-head, All-tail}
-use Rattle.std.proofs.lemmas.List.Sorted.{IsPermutation-refl, IsPermutation-sym, IsPermutation-cons, IsPermutation-to_front}
+use Rattle.std.proofs.lemmas.List.Sorted.{IsPermutation-refl, IsPermutation-sym, IsPermutation-cons, IsPermutation-map, IsPermutation-to_front}
 use Rattle.sqlite_trees.proofs.ListLemmas.{IsPermutation-filter}
 use Rattle.sqlite.proofs.Callers.{one_permutation}
 use Rattle.ob_cust.specs.declared.Customer.{Customer}
-use Rattle.ob_cust.specs.Roll.{with_customer, has_number}
+use Rattle.ob_cust.specs.Roll.{with_customer}
 use Rattle.ob_cust.proofs.Rolls.{AreRising, rising_head, rising_tail}
 use Rattle.ob_sheet.specs.declared.Entry.{Entry}
 use Rattle.ob_sheet.specs.Order.{entry_of}
@@ -86,15 +86,31 @@ module _ {X : Type 0} (row : ℕ → X → Columns) (key : ℕ) (keyed : (j : �
       let other : (n == key) ≡ false = grind (arith, nat_tests) in
       rw (keyed n y, other) (ap (λ l. row n y ∷ l) (present_cleared (n + 1) k xs (omega (arith, at))))
 
--- ---- the elements that pass a test are changed
-pub rows_changed : {X : Type 0} (row : X → Columns) (key : ℕ) (change : Columns → Columns) (test : X → Bool) (f : X → X)
-    → ((x : X) → is_key key (row x) ≡ test x) → ((x : X) → change (row x) ≡ row (f x)) → (xs : List X)
-    → change_where (is_key key) change (map row xs) ≡ map row (map (λ x. if test x then f x else x) xs)
-rows_changed row key change test f keyed made [] = refl
-rows_changed row key change test f keyed made (x ∷ xs) = elim (cases_Bool (test x)) [
-  | inl passes ↦ rw (keyed x, passes) (ap₂ (λ (r : Columns) (l : List Columns). r ∷ l) (made x) (rows_changed row key change test f keyed made xs))
-  | inr fails ↦ rw (keyed x, fails) (ap (λ l. row x ∷ l) (rows_changed row key change test f keyed made xs))
+-- ---- the one element that passes a test is changed
+-- what holds of those that pass holds of each that does
+pub all_passing : {X : Type 0} (P : X → Type 0) (p : X → Bool) (xs : List X) → AllByRecursion P (filter p xs) → AllByRecursion (λ x. p x ≡ true → P x) xs
+all_passing P p [] h = tt
+all_passing P p (x ∷ xs) h = elim (cases_Bool (p x)) [
+  | inl t ↦ (let here : AllByRecursion P (x ∷ filter p xs) = rw t at h in (λ _. here.0, all_passing P p xs here.1))
+  | inr f ↦ (λ t. absurd (true≢false (sym t ∙ f)), all_passing P p xs (rw f at h))
 ]
+
+module _ {X : Type 0} (row : X → Columns) (key : ℕ) (change : Columns → Columns) (test : X → Bool) (f : X → X) (keyed : (x : X) → is_key key (row x) ≡ test x) where
+  -- the rows are changed as the elements are
+  rows_changed : (xs : List X) → AllByRecursion (λ x. test x ≡ true → change (row x) ≡ row (f x)) xs
+      → change_where (is_key key) change (map row xs) ≡ map row (map (λ x. if test x then f x else x) xs)
+  rows_changed [] made = refl
+  rows_changed (x ∷ xs) made = elim (cases_Bool (test x)) [
+    | inl passes ↦ rw (keyed x, passes) (ap₂ (λ (r : Columns) (l : List Columns). r ∷ l) (made.0 passes) (rows_changed xs made.1))
+    | inr fails ↦ rw (keyed x, fails) (ap (λ l. row x ∷ l) (rows_changed xs made.1))
+  ]
+
+  pub one_changed : (rows : List Columns) (xs : List X) (x : X) → IsPermutation rows (map row xs) → filter test xs ≡ x ∷ [] → change (row x) ≡ row (f x)
+      → IsPermutation (change_where (is_key key) change rows) (map row (map (λ y. if test y then f y else y) xs))
+  one_changed rows xs x same one made =
+      let made_each = all_passing (λ (y : X). change (row y) ≡ row (f y)) test xs (subst (AllByRecursion (λ (y : X). change (row y) ≡ row (f y))) (sym one) (made, tt)) in
+      subst (IsPermutation (change_where (is_key key) change rows)) (rows_changed xs made_each)
+      (IsPermutation-map (λ r. if is_key key r then change r else r) rows (map row xs) same)
 
 -- rows in another order have the same one row of a key
 pub one_row : (rows known : List Columns) (key : ℕ) (row : Columns) → IsPermutation rows known → filter (is_key key) known ≡ row ∷ [] → filter (is_key key) rows ≡ row ∷ []
@@ -123,16 +139,15 @@ none_above n (c ∷ cs) above =
     let other : (c.«no» == n) ≡ false = grind (arith, nat_tests) in
     rw other (none_above n cs (All-tail (λ d. n < d.«no») c cs above))
 
-pub one_customer : (customers : List Customer) (n : ℕ) → AreRising customers → has_number customers n ≡ true → (c : Customer) × (c.«no» ≡ n) × (filter (λ d. d.«no» == n) customers ≡ c ∷ [])
-one_customer [] n rising has = cc
-one_customer (c ∷ cs) n rising has = elim (cases_Bool (c.«no» == n)) [
+pub one_customer : (customers : List Customer) (n : ℕ) (it : Customer) → AreRising customers → find (λ c. c.«no» == n) customers ≡ Some it → filter (λ c. c.«no» == n) customers ≡ it ∷ []
+one_customer [] n it rising found = cc
+one_customer (c ∷ cs) n it rising found = elim (cases_Bool (c.«no» == n)) [
   | inl same ↦
       let is : c.«no» ≡ n = grind (arith, nat_tests) in
       let rest = none_above n cs (λ k d low. let past = rising_head c cs rising k d low in omega (arith, past, is)) in
-      (c, is, rw (same, rest))
-  | inr other ↦
-      let found = one_customer cs n (rising_tail c cs rising) (rw other at has) in
-      (found.0, found.1, rw other found.2)
+      let here : c ≡ it = (let at = rw same at found in cc) in
+      rw (same, rest, here)
+  | inr other ↦ rw other (one_customer cs n it (rising_tail c cs rising) (rw other at found))
 ]
 
 -- the entries are numbered from this number on

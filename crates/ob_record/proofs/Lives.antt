@@ -1,7 +1,6 @@
 -- The rows of the lives of devices, where one device has another life.
-use Rattle.std.proofs.Common.{◌≡◌, ℕ, ◌+◌, ◌<◌, ◌==◌, true, false, zero, suc, List, [], ◌∷◌, filter, length, Option, refl, ap, ap₂, arith}
+use Rattle.std.proofs.Common.{◌≡◌, ℕ, ◌+◌, ◌<◌, ◌==◌, true, false, zero, suc, List, [], ◌∷◌, filter, length, refl, ap, ap₂, arith}
 use Rattle.std.proofs.lemmas.Bool.Decides.{nat_tests}
-use Rattle.ob_base.specs.Life.{life}
 use Rattle.ob_base.specs.declared.life.Life.{Life as ALife}
 use Rattle.ob_net.specs.Network.{with_life_at}
 use Rattle.ob_net.specs.declared.net.Device.{Device as NetDevice}
@@ -46,12 +45,12 @@ module _ (key : ℕ) where
       (rest.0, rw (keyed n d, other) rest.1)
 
   -- it is changed as the life is
-  pub lives_changed : (since : ℕ) (until : Option ℕ) (n k : ℕ) (ds : List NetDevice) → n + k ≡ key
-      → change_where (is_key key) (relive since until) (numbered row_of_life n ds) ≡ numbered row_of_life n (with_life_at ds k (life since until))
-  lives_changed since until n k [] at = refl
-  lives_changed since until n zero (d ∷ ds) at =
+  pub lives_changed : (l : ALife) (n k : ℕ) (ds : List NetDevice) → n + k ≡ key
+      → change_where (is_key key) (relive l.since l.until) (numbered row_of_life n ds) ≡ numbered row_of_life n (with_life_at ds k l)
+  lives_changed l n k [] at = refl
+  lives_changed l n zero (d ∷ ds) at =
       let same : (n == key) ≡ true = grind (arith, nat_tests) in
-      rw (keyed n d, same) (ap (λ rows. life_row n since until ∷ rows) (all_past (n + 1) ds (relive since until) (omega (arith, at))))
-  lives_changed since until n (suc k) (d ∷ ds) at =
+      rw (keyed n d, same) (ap (λ rows. life_row n l.since l.until ∷ rows) (all_past (n + 1) ds (relive l.since l.until) (omega (arith, at))))
+  lives_changed l n (suc k) (d ∷ ds) at =
       let other : (n == key) ≡ false = grind (arith, nat_tests) in
-      rw (keyed n d, other) (ap (λ rows. row_of_life n d ∷ rows) (lives_changed since until (n + 1) k ds (omega (arith, at))))
+      rw (keyed n d, other) (ap (λ rows. row_of_life n d ∷ rows) (lives_changed l (n + 1) k ds (omega (arith, at))))

@@ -81,18 +81,18 @@ words_brief (Bus name) is =
     (brief (codes "bus") 3 refl (omega arith), (name_brief name is, tt))
 words_brief (Section name feeder) is =
     (brief (codes "section") 7 refl (omega arith), (name_brief name is.0, (number_brief feeder, tt)))
-words_brief (Device name ends normal since until) is =
-    (brief (codes "device") 6 refl (omega arith), (name_brief name is.0, (name_brief ends.a is.1.0, (name_brief ends.b is.1.1, (normal_brief normal, (number_brief since, (until_brief until, tt)))))))
-words_brief (Life device since until) is =
-    (brief (codes "life") 4 refl (omega arith), (name_brief device is.0, (number_brief since, (until_brief until, tt))))
-words_brief (Connect customer section since until) is =
-    (brief (codes "connect") 7 refl (omega arith), (number_brief customer, (name_brief section is.1, (number_brief since, (until_brief until, tt)))))
-words_brief (Revise customer since until) is =
-    (brief (codes "revise") 6 refl (omega arith), (number_brief customer, (number_brief since, (until_brief until, tt))))
-words_brief (Switch device act second cause crew) is =
-    (brief (codes "switch") 6 refl (omega arith), (name_brief device is.0, (act_brief act, (number_brief second, (number_brief cause, (crew_brief crew is.3, tt))))))
-words_brief (Correct entry revision act second cause crew) is =
-    (brief (codes "correct") 7 refl (omega arith), (number_brief entry, (number_brief revision, (act_brief act, (number_brief second, (number_brief cause, (crew_brief crew is.4, tt)))))))
+words_brief (Device d) is =
+    (brief (codes "device") 6 refl (omega arith), (name_brief d.name is.0, (name_brief d.ends.a is.1.0, (name_brief d.ends.b is.1.1, (normal_brief d.normal, (number_brief d.life.since, (until_brief d.life.until, tt)))))))
+words_brief (Life device life) is =
+    (brief (codes "life") 4 refl (omega arith), (name_brief device is.0, (number_brief life.since, (until_brief life.until, tt))))
+words_brief (Connect customer section service) is =
+    (brief (codes "connect") 7 refl (omega arith), (number_brief customer, (name_brief section is.1, (number_brief service.since, (until_brief service.until, tt)))))
+words_brief (Revise customer service) is =
+    (brief (codes "revise") 6 refl (omega arith), (number_brief customer, (number_brief service.since, (until_brief service.until, tt))))
+words_brief (Switch device o) is =
+    (brief (codes "switch") 6 refl (omega arith), (name_brief device is.0, (act_brief o.act, (number_brief o.second, (number_brief o.cause, (crew_brief o.crew is.1.2, tt))))))
+words_brief (Correct entry revision o) is =
+    (brief (codes "correct") 7 refl (omega arith), (number_brief entry, (number_brief revision, (act_brief o.act, (number_brief o.second, (number_brief o.cause, (crew_brief o.crew is.2.2, tt)))))))
 words_brief (Withdraw entry revision) is =
     (brief (codes "withdraw") 8 refl (omega arith), (number_brief entry, (number_brief revision, tt)))
 words_brief (Mark date engineer) is =
@@ -104,12 +104,12 @@ few_words : (command : Command) → length (words command) ≤ 7
 few_words (Cause code name) = omega arith
 few_words (Bus name) = omega arith
 few_words (Section name feeder) = omega arith
-few_words (Device name ends normal since until) = omega arith
-few_words (Life device since until) = omega arith
-few_words (Connect customer section since until) = omega arith
-few_words (Revise customer since until) = omega arith
-few_words (Switch device act second cause crew) = omega arith
-few_words (Correct entry revision act second cause crew) = omega arith
+few_words (Device d) = omega arith
+few_words (Life device life) = omega arith
+few_words (Connect customer section service) = omega arith
+few_words (Revise customer service) = omega arith
+few_words (Switch device o) = omega arith
+few_words (Correct entry revision o) = omega arith
 few_words (Withdraw entry revision) = omega arith
 few_words (Mark date engineer) = omega arith
 few_words (Unmark date engineer) = omega arith

@@ -1,18 +1,20 @@
 //! The rows that an accepted command changes beside its own and those of its amounts.
-ghost use Rattle.std.specs.Prelude.{◌≡◌, None};
-ghost use Rattle.ob_command.specs.Commands.{IsEnd};
-ghost use Rattle.ob_command.specs.declared.command.Command.TheVariants.{Cause, Bus, Section, Device, Life, Connect, Revise};
-ghost use Rattle.ob_command.specs.declared.command.Command.TheVariants.{Switch, Correct, Withdraw, Mark, Unmark};
-ghost use Rattle.ob_state.specs.Refusals.{refusal};
-ghost use Rattle.ob_state.specs.Next.{next};
-ghost use Rattle.ob_sheet.specs.Revisions.{next_revision};
+ghost use Rattle.ob_base.specs.declared.life.Life.{Life as ALife};
+ghost use Rattle.ob_sheet.specs.declared.Entry.{Entry as AnEntry};
+ghost use Rattle.ob_cust.specs.declared.Customer.{Customer as ACustomer};
+ghost use Rattle.ob_state.specs.State.{BookState};
+ghost use Rattle.ob_state.specs.States.{IsSoundState};
+ghost use Rattle.ob_state.specs.Resolved.{CanTake, next_by};
+ghost use Rattle.ob_state.specs.Resolved.{IsCorrection, IsDeviceToJoin, IsFreeCause, IsFreeDay, IsMarkedDay, IsNewCustomer, IsNewNode, IsNextEntry, IsOtherLife, IsOtherService, IsWithdrawal};
 ghost use Rattle.ob_record.specs.Leading.{LeadsParts};
 
-use ob_base::{Crew, Name, Pos, Second};
-use ob_book::Book;
-use ob_command::{CauseCode, CivilDate, Command, Ends, FeederNumber, Moment, Serial};
+use ob_base::{Crew, Life, Name};
+use ob_command::CauseCode;
 use ob_commit::RowChange;
-use ob_sweep::Timeline;
+use ob_cust::Customer;
+use ob_net::{Device, Node};
+use ob_sheet::Entry;
+use ob_state::Resolved;
 
 /// The kind of a bus, as the rows of nodes have it.
 const KIND_OF_BUS: u32 = 1;
@@ -21,309 +23,161 @@ const KIND_OF_BUS: u32 = 1;
 const KIND_OF_SECTION: u32 = 2;
 
 /// The rows that an accepted command changes beside its own and those of its amounts.
-pub fn change_of<'t, T: Timeline>(book: &Book<T>, command: &'t Command) -> RowChange<'t>
-    requires accepted { refusal book.now.state command.now ≡ None }
-    ensures { LeadsParts book.now.state (next book.now.state command.now) result }
+pub fn change_of<'t>(resolved: &'t Resolved) -> RowChange<'t>
+    ensures { (b : BookState) → IsSoundState b → CanTake b resolved.now
+        → LeadsParts b (next_by b resolved.now) result }
 {
-    match command {
-        Command::Cause { code, name } => cause_added(book, *code, name),
-        Command::Bus { name } => bus_added(book, name),
-        Command::Section { name, feeder } => section_added(book, name, *feeder),
-        Command::Device {
-            name,
-            ends,
-            normal,
-            since,
-            until,
-        } => device_added(book, name, ends, *normal, *since, *until),
-        Command::Life {
-            device,
-            since,
-            until,
-        } => life_set(book, device, *since, *until),
-        Command::Connect {
-            customer,
-            section,
-            since,
-            until,
-        } => customer_added(book, *customer, section, *since, *until),
-        Command::Revise {
-            customer,
-            since,
-            until,
-        } => service_set(book, *customer, *since, *until),
-        Command::Switch {
-            device,
-            act,
-            second,
-            cause,
-            crew,
-        } => entry_added(book, device, *act, *second, *cause, crew),
-        Command::Correct {
-            entry,
-            revision,
-            act,
-            second,
-            cause,
-            crew,
-        } => entry_corrected(book, *entry, *revision, *act, *second, *cause, crew),
-        Command::Withdraw { entry, revision } => entry_withdrawn(book, *entry, *revision),
-        Command::Mark { date, engineer } => mark_added(book, *date, engineer),
-        Command::Unmark { date, engineer } => mark_dropped(book, *date, engineer),
+    match resolved {
+        Resolved::Cause { code, name } => cause_added(*code, name),
+        Resolved::Node { number, node } => node_added(*number, node),
+        Resolved::Device { number, device } => device_added(*number, device),
+        Resolved::Life { device, new, .. } => life_set(*device, *new),
+        Resolved::Customer(customer) => customer_added(*customer),
+        Resolved::Service { new, .. } => service_set(*new),
+        Resolved::Entered(entry) => entry_added(entry),
+        Resolved::Corrected { new, .. } => entry_corrected(new),
+        Resolved::Withdrawn { new, .. } => entry_withdrawn(new),
+        Resolved::Marked { day, engineer } => mark_added(*day, engineer),
+        Resolved::Unmarked { day } => mark_dropped(*day),
     }
 }
 
-fn cause_added<'t, T: Timeline>(book: &Book<T>, code: CauseCode, name: &'t Name) -> RowChange<'t>
-    requires accepted { refusal book.now.state (Cause code name.now) ≡ None }
-    ensures { LeadsParts book.now.state (next book.now.state (Cause code name.now)) result }
+fn cause_added<'t>(code: CauseCode, name: &'t Name) -> RowChange<'t>
+    ensures { (b : BookState) → IsSoundState b → IsFreeCause b code name.now
+        → LeadsParts b (next_by b (Resolved.Cause code name.now)) result }
 {
-    // There is a place for each code, by a clause of this call.
-    let _ = book.accepted();
     RowChange::AddCause {
         code: u32::from(code.get()),
         name: name.bytes(),
     }
 }
 
-fn bus_added<'t, T: Timeline>(book: &Book<T>, name: &'t Name) -> RowChange<'t>
-    requires accepted { refusal book.now.state (Bus name.now) ≡ None }
-    ensures { LeadsParts book.now.state (next book.now.state (Bus name.now)) result }
+fn node_added<'t>(number: u16, node: &'t Node) -> RowChange<'t>
+    ensures { (b : BookState) → IsSoundState b → IsNewNode b number node.now
+        → LeadsParts b (next_by b (Resolved.Node number node.now)) result }
 {
-    // Nodes are numbered by place, and a bus has no home feeder.
-    RowChange::AddNode {
-        no: u32::from(book.net().nodes()),
-        name: name.bytes(),
-        kind: KIND_OF_BUS,
-        feeder: 0,
+    let no = u32::from(number);
+    let name = node.name.bytes();
+    match node.feeder {
+        Some(feeder) => RowChange::AddNode {
+            no,
+            name,
+            kind: KIND_OF_SECTION,
+            feeder: u32::from(feeder),
+        },
+        // A bus has no home feeder.
+        None => RowChange::AddNode {
+            no,
+            name,
+            kind: KIND_OF_BUS,
+            feeder: 0,
+        },
     }
 }
 
-fn section_added<'t, T: Timeline>(
-    book: &Book<T>,
-    name: &'t Name,
-    feeder: FeederNumber,
-) -> RowChange<'t>
-    requires accepted { refusal book.now.state (Section name.now feeder) ≡ None }
-    ensures { LeadsParts book.now.state (next book.now.state (Section name.now feeder)) result }
+fn device_added<'t>(number: u16, device: &'t Device) -> RowChange<'t>
+    ensures { (b : BookState) → IsSoundState b → IsDeviceToJoin b number device.now
+        → LeadsParts b (next_by b (Resolved.Device number device.now)) result }
 {
-    RowChange::AddNode {
-        no: u32::from(book.net().nodes()),
-        name: name.bytes(),
-        kind: KIND_OF_SECTION,
-        feeder: u32::from(feeder.get()),
-    }
-}
-
-fn device_added<'t, T: Timeline>(
-    book: &Book<T>,
-    name: &'t Name,
-    ends: &Ends,
-    normal: Pos,
-    since: Moment,
-    until: Option<Moment>,
-) -> RowChange<'t>
-    requires accepted { refusal book.now.state (Device name.now ends.now normal since until)
-        ≡ None }
-    ensures { LeadsParts book.now.state
-        (next book.now.state (Device name.now ends.now normal since until)) result }
-{
-    // Both ends are nodes, since the command was accepted.
-    let net = book.net();
-    let Some(a) = net.node_of(ends.a()) else {
-        unreachable!();
-    };
-    let Some(b) = net.node_of(ends.b()) else {
-        unreachable!();
-    };
     RowChange::AddDevice {
-        no: u32::from(net.devices()),
-        name: name.bytes(),
-        a: u32::from(a),
-        b: u32::from(b),
-        normal,
-        since: since.second(),
-        until: end_of(until),
+        no: u32::from(number),
+        name: device.name.bytes(),
+        a: u32::from(device.a),
+        b: u32::from(device.b),
+        normal: device.normal,
+        since: device.life.since,
+        until: device.life.until,
     }
 }
 
-fn life_set<'t, T: Timeline>(
-    book: &Book<T>,
-    device: &Name,
-    since: Moment,
-    until: Option<Moment>,
-) -> RowChange<'t>
-    requires accepted { refusal book.now.state (Life device.now since until) ≡ None }
-    ensures { LeadsParts book.now.state (next book.now.state (Life device.now since until)) result }
+fn life_set<'t>(device: u16, life: Life) -> RowChange<'t>
+    ensures { (b : BookState) → IsSoundState b → (was : ALife) → IsOtherLife b device was life
+        → LeadsParts b (next_by b (Resolved.Life device was life)) result }
 {
-    // A device has the name, since the command was accepted.
-    let Some(device) = book.net().device_of(device) else {
-        unreachable!();
-    };
     RowChange::SetLife {
         device: u32::from(device),
-        since: since.second(),
-        until: end_of(until),
+        since: life.since,
+        until: life.until,
     }
 }
 
-// The end of a life or of a service as a second.
-fn end_of(until: Option<Moment>) -> Option<Second>
-    ensures value { result ≡ until }
-    ensures range { IsEnd until }
+fn customer_added<'t>(customer: Customer) -> RowChange<'t>
+    ensures { (b : BookState) → IsSoundState b → IsNewCustomer b customer
+        → LeadsParts b (next_by b (Resolved.Customer customer)) result }
 {
-    match until {
-        Some(until) => Some(until.second()),
-        None => None,
-    }
-}
-
-fn customer_added<'t, T: Timeline>(
-    book: &Book<T>,
-    customer: Serial,
-    section: &Name,
-    since: Moment,
-    until: Option<Moment>,
-) -> RowChange<'t>
-    requires accepted { refusal book.now.state (Connect customer section.now since until) ≡ None }
-    ensures { LeadsParts book.now.state (next book.now.state
-        (Connect customer section.now since until)) result }
-{
-    // The node that has the name is a section, since the command was accepted.
-    let Some(section) = book.net().node_of(section) else {
-        unreachable!();
-    };
     RowChange::AddCustomer {
-        no: customer.get(),
-        section: u32::from(section),
-        since: since.second(),
-        until: end_of(until),
+        no: customer.no,
+        section: u32::from(customer.section),
+        since: customer.since,
+        until: customer.until,
     }
 }
 
-fn service_set<'t, T: Timeline>(
-    book: &Book<T>,
-    customer: Serial,
-    since: Moment,
-    until: Option<Moment>,
-) -> RowChange<'t>
-    requires accepted { refusal book.now.state (Revise customer since until) ≡ None }
-    ensures { LeadsParts book.now.state (next book.now.state (Revise customer since until)) result }
+fn service_set<'t>(customer: Customer) -> RowChange<'t>
+    ensures { (b : BookState) → IsSoundState b → (was : ACustomer) → IsOtherService b was customer
+        → LeadsParts b (next_by b (Resolved.Service was customer)) result }
 {
-    // One customer has the number, by a clause of this call.
-    let _ = book.accepted();
     RowChange::SetService {
-        no: customer.get(),
-        since: since.second(),
-        until: end_of(until),
+        no: customer.no,
+        since: customer.since,
+        until: customer.until,
     }
 }
 
-fn entry_added<'t, T: Timeline>(
-    book: &Book<T>,
-    device: &Name,
-    act: Pos,
-    second: Moment,
-    cause: CauseCode,
-    crew: &'t Crew,
-) -> RowChange<'t>
-    requires accepted { refusal book.now.state (Switch device.now act second cause crew.now)
-        ≡ None }
-    ensures { LeadsParts book.now.state (next book.now.state
-        (Switch device.now act second cause crew.now)) result }
+fn entry_added<'t>(entry: &'t Entry) -> RowChange<'t>
+    ensures { (b : BookState) → IsSoundState b → IsNextEntry b entry.now
+        → LeadsParts b (next_by b (Resolved.Entered entry.now)) result }
 {
-    // The entries are numbered from 1, by a clause of this call.
-    let _ = book.accepted();
-    // A device has the name, since the command was accepted.
-    let Some(device) = book.net().device_of(device) else {
-        unreachable!();
-    };
     RowChange::AddEntry {
-        no: book.sheet().len() as u32 + 1,
-        device: u32::from(device),
-        act,
-        second: second.second(),
-        cause: u32::from(cause.get()),
-        crew: crew.bytes(),
+        no: entry.no,
+        device: u32::from(entry.device),
+        act: entry.pos,
+        second: entry.second,
+        cause: u32::from(entry.cause),
+        crew: entry.crew.bytes(),
     }
 }
 
-// The revision after that of an entry, which is the one that the command names.
-fn revision_after(revision: Serial) -> u32
-    ensures { result ≡ next_revision revision }
+fn entry_corrected<'t>(new: &'t Entry) -> RowChange<'t>
+    ensures { (b : BookState) → IsSoundState b → (was : AnEntry) → IsCorrection b was new.now
+        → LeadsParts b (next_by b (Resolved.Corrected was new.now)) result }
 {
-    revision.get().saturating_add(1)
-}
-
-fn entry_corrected<'t, T: Timeline>(
-    book: &Book<T>,
-    entry: Serial,
-    revision: Serial,
-    act: Pos,
-    second: Moment,
-    cause: CauseCode,
-    crew: &'t Crew,
-) -> RowChange<'t>
-    requires accepted { refusal book.now.state (Correct entry revision act second cause crew.now)
-        ≡ None }
-    ensures { LeadsParts book.now.state
-        (next book.now.state (Correct entry revision act second cause crew.now)) result }
-{
-    // One entry has the number, by a clause of this call.
-    let _ = book.accepted();
     RowChange::CorrectEntry {
-        no: entry.get(),
-        revision: revision_after(revision),
-        act,
-        second: second.second(),
-        cause: u32::from(cause.get()),
-        crew: crew.bytes(),
+        no: new.no,
+        revision: new.rev,
+        act: new.pos,
+        second: new.second,
+        cause: u32::from(new.cause),
+        crew: new.crew.bytes(),
     }
 }
 
-fn entry_withdrawn<'t, T: Timeline>(
-    book: &Book<T>,
-    entry: Serial,
-    revision: Serial,
-) -> RowChange<'t>
-    requires accepted { refusal book.now.state (Withdraw entry revision) ≡ None }
-    ensures { LeadsParts book.now.state (next book.now.state (Withdraw entry revision)) result }
+fn entry_withdrawn<'t>(withdrawn: &'t Entry) -> RowChange<'t>
+    ensures { (b : BookState) → IsSoundState b → (was : AnEntry) → IsWithdrawal b was withdrawn.now
+        → LeadsParts b (next_by b (Resolved.Withdrawn was withdrawn.now)) result }
 {
-    // One entry has the number, by a clause of this call.
-    let _ = book.accepted();
-    // It is there, since the command was accepted, and the name of its crew is short, by a clause of its bytes.
-    let Some(seen) = book.sheet().entry(entry.get()) else {
-        unreachable!();
-    };
-    let _ = seen.crew.bytes();
+    // The name of its crew is short, by a clause of this call.
+    let _ = withdrawn.crew.bytes();
     RowChange::WithdrawEntry {
-        no: entry.get(),
-        revision: revision_after(revision),
+        no: withdrawn.no,
+        revision: withdrawn.rev,
     }
 }
 
-fn mark_added<'t, T: Timeline>(book: &Book<T>, date: CivilDate, engineer: &'t Crew) -> RowChange<'t>
-    requires accepted { refusal book.now.state (Mark date engineer.now) ≡ None }
-    ensures { LeadsParts book.now.state (next book.now.state (Mark date engineer.now)) result }
+fn mark_added<'t>(day: u16, engineer: &'t Crew) -> RowChange<'t>
+    ensures { (b : BookState) → IsSoundState b → IsFreeDay b day
+        → LeadsParts b (next_by b (Resolved.Marked day engineer.now)) result }
 {
-    // There is a place for each day, by a clause of this call; and the date is a day, since the command was accepted.
-    let _ = book.accepted();
-    let Some(day) = book.period().day_index(&date.date()) else {
-        unreachable!();
-    };
     RowChange::AddMark {
         day: u32::from(day),
         engineer: engineer.bytes(),
     }
 }
 
-fn mark_dropped<'t, T: Timeline>(book: &Book<T>, date: CivilDate, engineer: &Crew) -> RowChange<'t>
-    requires accepted { refusal book.now.state (Unmark date engineer.now) ≡ None }
-    ensures { LeadsParts book.now.state (next book.now.state (Unmark date engineer.now)) result }
+fn mark_dropped<'t>(day: u16) -> RowChange<'t>
+    ensures { (b : BookState) → IsSoundState b → IsMarkedDay b day
+        → LeadsParts b (next_by b (Resolved.Unmarked day)) result }
 {
-    // The date is a day of the period, and marked, since the command was accepted.
-    let Some(day) = book.period().day_index(&date.date()) else {
-        unreachable!();
-    };
     RowChange::DropMark {
         day: u32::from(day),
     }

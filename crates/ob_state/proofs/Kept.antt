@@ -1,19 +1,13 @@
 -- What a state keeps to stays where one of its parts changes.
-use Rattle.std.proofs.Common.{◌≡◌, refl, ap, ℕ, ◌<◌, ◌≤◌, List, [], ◌∷◌, ◌++◌, IsSome, Option, length, map, get_or, zero, suc, arith, length-append, nat_lt, ◌==◌, cond, Bool, true, false}
+use Rattle.std.proofs.Common.{◌≡◌, refl, ap, ℕ, ◌<◌, List, [], ◌∷◌, IsSome, Option, length, map, get_or, zero, suc, arith, nat_lt, ◌==◌, cond, Bool, true, false}
 use Rattle.std.specs.List.{All}
-use Rattle.std.proofs.lemmas.List.{length-map}
-use Rattle.std.proofs.lemmas.List.Elements.{All-map, All-cons, All-push}
+use Rattle.std.proofs.lemmas.List.Elements.{All-map, All-cons}
 use Rattle.ob_net.specs.declared.net.Node.{Node}
 use Rattle.ob_base.specs.declared.life.Life.{Life}
 use Rattle.ob_net.specs.declared.net.Device.{Device}
 use Rattle.ob_net.specs.Network.{Network, home_feeder, with_life, with_life_at}
-use Rattle.ob_base.specs.declared.Pos.{Pos}
-use Rattle.ob_sheet.specs.declared.TheConstants.{MOST_ENTRIES}
-use Rattle.ob_sheet.specs.Revisions.{change_entry, corrected, withdrawn}
-use Rattle.ob_sheet.specs.Sheet.{new_entry}
 use Rattle.ob_cust.specs.declared.Customer.{Customer}
 use Rattle.ob_cust.specs.Roll.{revised, with_customer, with_service}
-use Rattle.ob_time.specs.Calendar.{first_second_of, end_second_of}
 use Rattle.ob_state.specs.State.{BookState}
 use Rattle.ob_state.specs.States.{IsBookState}
 
@@ -69,47 +63,6 @@ connected_is b customer h s =
 pub revised_is : (b : BookState) (number since : ℕ) (until : Option ℕ) → IsBookState b → IsBookState (record b { customers = with_service number since until b.customers })
 revised_is b number since until h =
     with_roll b _ h (All-change_where (λ c. IsSome (home_feeder b.network c.section)) (λ c. c.no == number) (revised since until) b.customers h.sections h.sections)
-
--- and where an entry of a device, in the period and with a cause, is entered
-pub entered_is : (b : BookState) (device : ℕ) (act : Pos) (second cause : ℕ) (crew : List ℕ) → IsBookState b → device < length b.network.devices → (first_second_of b.period ≤ second) × (second < end_second_of b.period) → cause < 64 → length b.entries < MOST_ENTRIES →
-    IsBookState (record b { entries = b.entries ++ new_entry b.entries device act second cause crew ∷ [] })
-entered_is b device act second cause crew h d s k few = let more = length-append b.entries (new_entry b.entries device act second cause crew ∷ []) in record {
-  sections = h.sections;
-  devices = All-push (λ e. e.device < length b.network.devices) b.entries _ h.devices d;
-  between = All-push (λ e. (first_second_of b.period ≤ e.second) × (e.second < end_second_of b.period)) b.entries _ h.between s;
-  entry_causes = All-push (λ e. e.cause < 64) b.entries _ h.entry_causes k;
-  few_entries = omega (arith, more);
-  causes = h.causes;
-  marks = h.marks;
-  few = h.few;
-}
-
--- and where an entry is corrected to a second in the period and a cause
-pub corrected_is : (b : BookState) (number : ℕ) (act : Pos) (second cause : ℕ) (crew : List ℕ) → IsBookState b → (first_second_of b.period ≤ second) × (second < end_second_of b.period) → cause < 64 →
-    IsBookState (record b { entries = change_entry number (corrected act second cause crew) b.entries })
-corrected_is b number act second cause crew h s k = let same = length-map b.entries (λ e. cond (e.no == number) (corrected act second cause crew e) e) in record {
-  sections = h.sections;
-  devices = All-change_where (λ e. e.device < length b.network.devices) (λ e. e.no == number) (corrected act second cause crew) b.entries h.devices h.devices;
-  between = All-change_where (λ e. (first_second_of b.period ≤ e.second) × (e.second < end_second_of b.period)) (λ e. e.no == number) (corrected act second cause crew) b.entries (λ i d l. s) h.between;
-  entry_causes = All-change_where (λ e. e.cause < 64) (λ e. e.no == number) (corrected act second cause crew) b.entries (λ i d l. k) h.entry_causes;
-  few_entries = rw same h.few_entries;
-  causes = h.causes;
-  marks = h.marks;
-  few = h.few;
-}
-
--- and where an entry is withdrawn
-pub withdrawn_is : (b : BookState) (number : ℕ) → IsBookState b → IsBookState (record b { entries = change_entry number withdrawn b.entries })
-withdrawn_is b number h = let same = length-map b.entries (λ e. cond (e.no == number) (withdrawn e) e) in record {
-  sections = h.sections;
-  devices = All-change_where (λ e. e.device < length b.network.devices) (λ e. e.no == number) withdrawn b.entries h.devices h.devices;
-  between = All-change_where (λ e. (first_second_of b.period ≤ e.second) × (e.second < end_second_of b.period)) (λ e. e.no == number) withdrawn b.entries h.between h.between;
-  entry_causes = All-change_where (λ e. e.cause < 64) (λ e. e.no == number) withdrawn b.entries h.entry_causes h.entry_causes;
-  few_entries = rw same h.few_entries;
-  causes = h.causes;
-  marks = h.marks;
-  few = h.few;
-}
 
 -- another life leaves the number of devices
 pub count_lived : (ds : List Device) (k : ℕ) (life : Life) → length (with_life_at ds k life) ≡ length ds

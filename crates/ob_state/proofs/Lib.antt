@@ -5,14 +5,11 @@ pub mod Changing
 pub mod Cutting
 pub mod Deltas
 pub mod Firsts
-pub mod Found
 pub mod Kept
 pub mod Leading
 pub mod NodeByNode
 pub mod NetworkChanges
-pub mod Refused
 pub mod Reposting
+pub mod Resolving
 pub mod Serving
-pub mod Testing
-pub mod Unrefused
 pub mod Untouched

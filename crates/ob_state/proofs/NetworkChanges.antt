@@ -1,5 +1,5 @@
 -- A change of the network: what stays, what it moves, and what leads to the runs after it.
-use Rattle.std.proofs.Common.{◌≡◌, ◌∙◌, sym, ap, ap₂, subst, refl, ℕ, zero, suc, ◌+◌, ◌-◌, ◌<◌, ◌==◌, ◌&&◌, Bool, true, false, cond, get_or, List, [], ◌∷◌, ◌++◌, length, map, take, sum_by, Option, Some, None, IsSome, slice_get, inl, inr, length-append, arith, is_some, unwrap_or}
+use Rattle.std.proofs.Common.{◌≡◌, ◌∙◌, sym, ap, ap₂, subst, refl, ℕ, zero, suc, ◌+◌, ◌-◌, ◌<◌, ◌==◌, ◌&&◌, Bool, true, false, cond, get_or, List, [], ◌∷◌, ◌++◌, length, map, take, sum_by, Option, Some, None, IsSome, slice_get, inl, inr, length-append, arith, is_some}
 use Rattle.std.specs.List.{All, AllPairs, Contains}
 use Rattle.std.specs.Option.{option_and_then, option_map_or}
 use Rattle.std.proofs.lemmas.Option.{same_Some}
@@ -8,13 +8,13 @@ use Rattle.std.proofs.Math.Seq.{take-append_seam}
 use Rattle.std.proofs.lemmas.List.Elements.{All-head, All-tail}
 use Rattle.std.proofs.lemmas.List.Sums.{sum_by-cons}
 use Rattle.ob_base.specs.declared.life.Life.{Life}
-use Rattle.ob_base.specs.declared.Pos.{Pos}
+use Rattle.ob_base.specs.Life.{life_refusal}
 use Rattle.ob_net.specs.declared.net.Device.{Device}
 use Rattle.ob_net.specs.declared.net.Node.{Node}
 use Rattle.ob_base.specs.declared.stop.Refusal.{Refusal}
 use Rattle.ob_base.specs.declared.stop.Refusal.TheVariants.{Full, NameTaken}
 use Rattle.ob_net.specs.declared.TheConstants.{MOST_NODES}
-use Rattle.ob_net.specs.Network.{IsNetwork, Network, home_feeder, node_of, node_refusal, with_device, with_life, with_life_at, with_node}
+use Rattle.ob_net.specs.Network.{HasLife, IsNetwork, JoinsTwo, Network, home_feeder, node_of, node_refusal, with_joined, with_life, with_life_at, with_node}
 use Rattle.ob_base.specs.Seconds.{seconds}
 use Rattle.ob_net.specs.Walk.{is_supplied}
 use Rattle.ob_sheet.specs.Supply.{is_deenergized}
@@ -22,7 +22,7 @@ use Rattle.ob_cust.specs.declared.Customer.{Customer}
 use Rattle.ob_cust.specs.WithoutSupply.{is_without_supply}
 use Rattle.ob_sheet.specs.declared.Entry.{Entry}
 use Rattle.ob_sheet.specs.Sheet.{NameDevices}
-use Rattle.ob_sweep.specs.Changed.{IsAfter}
+use Rattle.ob_sweep.specs.Changed.{changed, Applies, IsAfter, IsLastNode}
 use Rattle.ob_sweep.specs.declared.change.Change.TheVariants.{Joined}
 use Rattle.ob_sweep.specs.declared.Run.{Run}
 use Rattle.ob_sweep.specs.Deltas.{sections_of, IsDelta}
@@ -35,16 +35,15 @@ use Rattle.ob_post.specs.declared.Dim.TheVariants.{Cause, Feeder, Day}
 use Rattle.ob_post.specs.declared.posting.Posting.{Posting}
 use Rattle.ob_state.specs.Amounts.{amount, days_of_book}
 use Rattle.ob_post.specs.Balances.{Balances}
-use Rattle.ob_state.specs.Effects.{amount_of_first, amount_of_node, amount_of_nodes, with_network, without_device}
+use Rattle.ob_state.specs.Effects.{amount_of_first, amount_of_node, amount_of_nodes, before_change, with_network, without_device, without_node}
 use Rattle.ob_state.specs.Retimings.{runs_in}
-use Rattle.ob_state.specs.Refusals.{first, if_full}
+use Rattle.ob_state.specs.Resolved.{node_change}
 use Rattle.ob_state.specs.State.{BookState}
 use Rattle.ob_state.specs.States.{AreRunsOf}
 use Rattle.ob_state.proofs.Amounting.{all_nodes, get-before, is_section}
 use Rattle.ob_post.proofs.Balancing.{balances_as, same_change}
 use Rattle.ob_state.proofs.NodeByNode.{section_amount}
 use Rattle.ob_state.proofs.Deltas.{untouched}
-use Rattle.ob_state.proofs.Firsts.{no_head}
 use Rattle.ob_state.proofs.Kept.{section_within}
 use Rattle.ob_state.proofs.Untouched.{over_touched}
 
@@ -53,12 +52,12 @@ not_refused true r o h = cc
 not_refused false r o h = (refl, h)
 
 -- a network that takes one more node isn't full
-pub has_place : (b : BookState) (name : List ℕ) → IsNetwork b.network → first (node_refusal b.network name ∷ if_full b ∷ []) ≡ None → length b.network.nodes < MOST_NODES
-has_place b name ok h =
+pub has_place : (net : Network) (name : List ℕ) → IsNetwork net → node_refusal net name ≡ None → length net.nodes < MOST_NODES
+has_place net name ok h =
     let few = ok.few_nodes in
-    let free = not_refused (length b.network.nodes == MOST_NODES) (Full MOST_NODES) None (not_refused (is_some (node_of b.network name)) NameTaken _ (no_head (node_refusal b.network name) _ h)).1 in
-    elim (cases_eq (length b.network.nodes) MOST_NODES) as (λ _. length b.network.nodes < MOST_NODES) [
-      | inl e ↦ absurd (false≢true (sym free.0 ∙ eq-eqb (length b.network.nodes) MOST_NODES e))
+    let free = not_refused (length net.nodes == MOST_NODES) (Full MOST_NODES) None (not_refused (is_some (node_of net name)) NameTaken _ h).1 in
+    elim (cases_eq (length net.nodes) MOST_NODES) as (λ _. length net.nodes < MOST_NODES) [
+      | inl e ↦ absurd (false≢true (sym free.0 ∙ eq-eqb (length net.nodes) MOST_NODES e))
       | inr o ↦ omega (arith, few, o)
     ]
 
@@ -97,38 +96,6 @@ module _ (b : BookState) (node : Node) where
       let c : Customer = get_or b.customers i e in
       ap (λ t. cond t 1 0) (same_second p dim key c (get_or (seconds p.first p.end) k d) (section_within b.network c.section (ok i e m)))))
 
-  get_new : (nodes : List Node) → slice_get (nodes ++ node ∷ []) (length nodes) ≡ Some node
-  get_new [] = refl
-  get_new (x ∷ nodes) = get_new nodes
-
-  no_feeder : node.feeder ≡ None → IsSection more.network (length b.network.nodes) → ⊥
-  no_feeder none section =
-      false≢true (sym (ap is_some none) ∙ subst (λ (o : Option Node). IsSome (option_and_then (λ (n : Node). n.feeder) o)) (get_new b.network.nodes) section)
-
-  old_section : (v : ℕ) → node.feeder ≡ None → IsSection more.network v → IsSection b.network v
-  old_section v none section =
-      elim (cases_lt v (length b.network.nodes)) as (λ _. IsSection b.network v) [
-        | inl l ↦ subst IsSome (old_feeder v l) section
-        | inr past ↦
-            let within = section_within more.network v section in
-            let e : v ≡ length b.network.nodes = omega (arith, past, within, length-append b.network.nodes (node ∷ [])) in
-            absurd (no_feeder none (subst (IsSection more.network) e section))
-      ]
-
-  -- a bus changes no section's runs
-  pub bus_runs : (lists : List (List Run)) → node.feeder ≡ None → length b.network.nodes < MOST_NODES → AreRunsOf b lists → AreRunsOf more lists
-  unfolding is_supplied
-  bus_runs lists none place are =
-      let old : (v : ℕ) → IsSection more.network v → IsSection b.network v = λ v section. old_section v none section in
-      let grown = length-append b.network.nodes (node ∷ []) in
-      record {
-        count = omega (arith, place, grown, are.places);
-        places = are.places;
-        empty = λ v past. are.empty v (omega (arith, past, grown));
-        defined = λ v section. are.defined v (old v section);
-        related = λ v section r. are.related v (old v section) r;
-      }
-
   -- lists that hold a state's runs hold the same for each section that there is with the node
   pub same_lists : (one other : List (List Run)) → AreRunsOf b one → AreRunsOf b other → (v : ℕ) → IsSection more.network v → runs_at one v ≡ runs_at other v
   same_lists one other first second v section =
@@ -136,6 +103,43 @@ module _ (b : BookState) (node : Node) where
         | inl l ↦ (let s = subst IsSome (old_feeder v l) section in first.defined v s ∙ sym (second.defined v s))
         | inr past ↦ first.empty v (omega (arith, past)) ∙ sym (second.empty v (omega (arith, past)))
       ]
+
+-- the new node is the last one
+get_new : (nodes : List Node) (node : Node) → slice_get (nodes ++ node ∷ []) (length nodes) ≡ Some node
+get_new [] node = refl
+get_new (x ∷ nodes) node = get_new nodes node
+
+last_node : (net : Network) (node : Node) (home : Option ℕ) → node.feeder ≡ home → All (JoinsTwo (length net.nodes)) net.devices → IsLastNode (with_node net node) home
+last_node net node home is joins =
+    let more = length-append net.nodes (node ∷ []) in
+    let one : length (net.nodes ++ node ∷ []) - 1 ≡ length net.nodes = omega (arith, more) in
+    record {
+      some = omega (arith, more);
+      feeder = ap (λ n. home_feeder (with_node net node) n) one ∙ ap (option_and_then (λ (n : Node). n.feeder)) (get_new net.nodes node) ∙ is;
+      free = subst (λ n. All (JoinsTwo n) net.devices) (sym one) joins;
+    }
+
+-- the network with it is one after the change that it is
+pub node_after : (net : Network) (node : Node) (home : Option ℕ) → node.feeder ≡ home → All (JoinsTwo (length net.nodes)) net.devices → IsAfter (node_change home) (with_node net node)
+node_after net node None is joins = last_node net node None is joins
+node_after net node (Some f) is joins = last_node net node (Some f) is joins
+
+-- that change leaves the sheet
+pub node_sheet : (home : Option ℕ) (entries : List Entry) → (changed (node_change home) entries ≡ entries) × Applies (node_change home) entries
+node_sheet None entries = (refl, tt)
+node_sheet (Some f) entries = (refl, tt)
+
+pub node_before : (home : Option ℕ) (b : BookState) → before_change (node_change home) b ≡ without_node b
+node_before None b = refl
+node_before (Some f) b = refl
+
+-- a node that was added last is taken back
+pub node_back : (b : BookState) (node : Node) → without_node (with_network b (with_node b.network node)) ≡ b
+node_back b node =
+    let nodes : List Node = b.network.nodes ++ node ∷ [] in
+    let one : length nodes - 1 ≡ length b.network.nodes = omega (arith, length-append b.network.nodes (node ∷ [])) in
+    ap (λ (ns : List Node). record b { network = record b.network { nodes = ns } })
+    (ap (λ n. take n nodes) one ∙ take-append_seam b.network.nodes (node ∷ []))
 
 -- ---- another list of devices, where b is the state after the change
 abbrev with_devices : BookState → List Device → BookState
@@ -190,23 +194,18 @@ altered_balance b net same p lists delta ts by_runs ok are is named rising withi
     (device_balance b net.devices p lists delta ts by_runs ok (subst (λ (w : BookState). AreRunsOf w lists) e are) is named rising within
     (subst (λ (w : BookState). Balances (day_count b.period) p (amount_of_nodes w ts) (amount_of_nodes b ts)) e h))
 
--- the new device
-abbrev devices_end : BookState → List ℕ → List ℕ → List ℕ → Pos → Life → List Device
-devices_end b name a z normal life = record { name = name; a = unwrap_or (node_of b.network a) 0; b = unwrap_or (node_of b.network z) 0; normal = normal; life = life } ∷ []
-
 -- a device that was added last is taken back
-pub taken_back : (b : BookState) (name a z : List ℕ) (normal : Pos) (life : Life) → without_device (with_network b (with_device b.network name a z normal life)) ≡ b
-taken_back b name a z normal life =
-    let devices : List Device = (with_device b.network name a z normal life).devices in
-    let one : length devices - 1 ≡ length b.network.devices = omega (arith, length-append b.network.devices (devices_end b name a z normal life)) in
+pub taken_back : (b : BookState) (d : Device) → without_device (with_network b (with_joined b.network d)) ≡ b
+taken_back b d =
+    let devices : List Device = b.network.devices ++ d ∷ [] in
+    let one : length devices - 1 ≡ length b.network.devices = omega (arith, length-append b.network.devices (d ∷ [])) in
     ap (λ (ds : List Device). record b { network = record b.network { devices = ds } })
-    (ap (λ n. take n devices) one ∙ take-append_seam b.network.devices (devices_end b name a z normal life))
+    (ap (λ n. take n devices) one ∙ take-append_seam b.network.devices (d ∷ []))
 
 -- and no entry names it
-pub before_last : (b : BookState) (name a z : List ℕ) (normal : Pos) (life : Life) → NameDevices (length b.network.devices) b.entries
-    → All (λ (e : Entry). e.device < length (with_device b.network name a z normal life).devices - 1) b.entries
-before_last b name a z normal life h =
-    let one : length (with_device b.network name a z normal life).devices - 1 ≡ length b.network.devices = omega (arith, length-append b.network.devices (devices_end b name a z normal life)) in
+pub before_last : (b : BookState) (d : Device) → NameDevices (length b.network.devices) b.entries → All (λ (e : Entry). e.device < length (with_joined b.network d).devices - 1) b.entries
+before_last b d h =
+    let one : length (with_joined b.network d).devices - 1 ≡ length b.network.devices = omega (arith, length-append b.network.devices (d ∷ [])) in
     subst (λ n. All (λ (e : Entry). e.device < n) b.entries) (sym one) h
 
 -- it has its life
@@ -215,13 +214,9 @@ joined_life [] d = refl
 joined_life (x ∷ xs) d = joined_life xs d
 
 -- the network with it is one after the device joined
-pub joined_after : (b : BookState) (name a z : List ℕ) (normal : Pos) (life : Life) (number : ℕ) → number ≡ length b.network.devices
-    → IsAfter (Joined number life) (with_device b.network name a z normal life)
-joined_after b name a z normal life number is =
-    let devices = b.network.devices in
-    let end = devices_end b name a z normal life in
-    let device : Device = record { name = name; a = unwrap_or (node_of b.network a) 0; b = unwrap_or (node_of b.network z) 0; normal = normal; life = life } in
-    (omega (arith, is, length-append devices end), subst (λ n. slice_get (map (λ (x : Device). x.life) (devices ++ device ∷ [])) n ≡ Some life) (sym is) (joined_life devices device))
+pub joined_after : (net : Network) (d : Device) (number : ℕ) → number ≡ length net.devices → IsAfter (Joined number d.life) (with_joined net d)
+joined_after net d number is =
+    (omega (arith, is, length-append net.devices (d ∷ [])), subst (λ n. slice_get (map (λ (x : Device). x.life) (net.devices ++ d ∷ [])) n ≡ Some d.life) (sym is) (joined_life net.devices d))
 
 -- ---- a device with another life
 pub lived_now : (ds : List Device) (k : ℕ) (life : Life) → k < length ds → slice_get (map (λ (x : Device). x.life) (with_life_at ds k life)) k ≡ Some life
@@ -233,6 +228,12 @@ life_again : (ds : List Device) (k : ℕ) (old new : Life) → slice_get (map (�
 life_again [] k old new has = refl
 life_again (d ∷ ds) zero old new has = ap (λ (life : Life). record d { life = life } ∷ ds) (sym (same_Some d.life old has))
 life_again (d ∷ ds) (suc k) old new has = ap (λ (q : List Device). d ∷ q) (life_again ds k old new has)
+
+-- its old life is one that a device may have
+pub old_life : (ds : List Device) (k : ℕ) (old : Life) → All HasLife ds → slice_get (map (λ (x : Device). x.life) ds) k ≡ Some old → life_refusal old ≡ None
+old_life [] k old lives has = cc
+old_life (d ∷ ds) zero old lives has = subst (λ (l : Life). life_refusal l ≡ None) (same_Some d.life old has) (rw (All-head HasLife d ds lives) refl)
+old_life (d ∷ ds) (suc k) old lives has = old_life ds k old (All-tail HasLife d ds lives) has
 
 -- its old life set again gives the state as it was
 pub lived_back : (b : BookState) (k : ℕ) (old new : Life) → slice_get (map (λ (x : Device). x.life) b.network.devices) k ≡ Some old

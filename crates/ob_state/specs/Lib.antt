@@ -6,3 +6,4 @@ pub mod States
 pub mod Retimings
 pub mod Effects
 pub mod Searches
+pub mod Resolved

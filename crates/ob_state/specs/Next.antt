@@ -23,14 +23,14 @@ abbrev pub changed : BookState → Command → BookState
 changed b (Cause code name) = record b { causes = set b.causes code (Some name) }
 changed b (Bus name) = record b { network = with_node b.network (record { name = name; feeder = None }) }
 changed b (Section name feeder) = record b { network = with_node b.network (record { name = name; feeder = Some feeder }) }
-changed b (Device name ends normal since until) = record b { network = with_device b.network name ends.a ends.b normal (life since until) }
-changed b (Life device since until) = record b { network = with_life b.network (unwrap_or (device_of b.network device) 0) (life since until) }
-changed b (Connect customer section since until) =
-    record b { customers = with_customer (record { «no» = customer; section = unwrap_or (section_of b.network section) 0; since = since; until = until }) b.customers }
-changed b (Revise customer since until) = record b { customers = with_service customer since until b.customers }
-changed b (Switch device act second cause crew) =
-    record b { entries = b.entries ++ new_entry b.entries (unwrap_or (device_of b.network device) 0) act second cause crew ∷ [] }
-changed b (Correct entry revision act second cause crew) = record b { entries = change_entry entry (corrected act second cause crew) b.entries }
+changed b (Device d) = record b { network = with_device b.network d.name d.ends.a d.ends.b d.normal (life d.life.since d.life.until) }
+changed b (Life device s) = record b { network = with_life b.network (unwrap_or (device_of b.network device) 0) (life s.since s.until) }
+changed b (Connect customer section s) =
+    record b { customers = with_customer (record { «no» = customer; section = unwrap_or (section_of b.network section) 0; since = s.since; until = s.until }) b.customers }
+changed b (Revise customer s) = record b { customers = with_service customer s.since s.until b.customers }
+changed b (Switch device o) =
+    record b { entries = b.entries ++ new_entry b.entries (unwrap_or (device_of b.network device) 0) o.act o.second o.cause o.crew ∷ [] }
+changed b (Correct entry revision o) = record b { entries = change_entry entry (corrected o.act o.second o.cause o.crew) b.entries }
 changed b (Withdraw entry revision) = record b { entries = change_entry entry withdrawn b.entries }
 changed b (Mark date engineer) = record b { marks = with_mark (day_of_date b date) engineer b.marks }
 changed b (Unmark date engineer) = record b { marks = without_mark (day_of_date b date) b.marks }

@@ -57,18 +57,18 @@ abbrev pub refusals : BookState → Command → List (Option Refusal)
 refusals b (Cause code name) = refuse_if (has_cause b.causes code || has_cause_name b.causes name) NameTaken ∷ []
 refusals b (Bus name) = node_refusal b.network name ∷ []
 refusals b (Section name feeder) = node_refusal b.network name ∷ []
-refusals b (Device name ends normal since until) = device_refusal b.network name ends.a ends.b (life since until) ∷ []
-refusals b (Life device since until) = if_unknown_device b.network device ∷ life_refusal (life since until) ∷ []
-refusals b (Connect customer section since until) = connect_refusal_on (section_of b.network section) b.customers customer since until ∷ []
-refusals b (Revise customer since until) = revise_refusal b.customers customer since until ∷ []
-refusals b (Switch device act second cause crew) =
+refusals b (Device d) = device_refusal b.network d.name d.ends.a d.ends.b (life d.life.since d.life.until) ∷ []
+refusals b (Life device s) = if_unknown_device b.network device ∷ life_refusal (life s.since s.until) ∷ []
+refusals b (Connect customer section s) = connect_refusal_on (section_of b.network section) b.customers customer s.since s.until ∷ []
+refusals b (Revise customer s) = revise_refusal b.customers customer s.since s.until ∷ []
+refusals b (Switch device o) =
     if_unknown_device b.network device
-    ∷ if_outside b.period second
-    ∷ if_unknown_cause b.causes cause
+    ∷ if_outside b.period o.second
+    ∷ if_unknown_cause b.causes o.cause
     ∷ if_full_sheet b.entries
     ∷ []
-refusals b (Correct entry revision act second cause crew) =
-    revision_refusal b.entries entry revision ∷ if_outside b.period second ∷ if_unknown_cause b.causes cause ∷ []
+refusals b (Correct entry revision o) =
+    revision_refusal b.entries entry revision ∷ if_outside b.period o.second ∷ if_unknown_cause b.causes o.cause ∷ []
 refusals b (Withdraw entry revision) = revision_refusal b.entries entry revision ∷ []
 refusals b (Mark date engineer) = day_refusal (day_on b.period (epoch_day date)) (mark_refusal b.marks) ∷ []
 refusals b (Unmark date engineer) = day_refusal (day_on b.period (epoch_day date)) (unmark_refusal b.marks) ∷ []

@@ -26,13 +26,13 @@ abbrev pub change_of : BookState → Command → Option Change
 change_of b (Cause code name) = None
 change_of b (Bus name) = Some One-bus
 change_of b (Section name feeder) = Some (One-section feeder)
-change_of b (Device name ends normal since until) = Some (Joined (length b.network.devices) (life since until))
-change_of b (Life device since until) =
-    option_and_then (λ d. option_map (λ old. Lived d old (life since until)) (life_at b.network d)) (device_of b.network device)
-change_of b (Connect customer section since until) = None
-change_of b (Revise customer since until) = None
-change_of b (Switch device act second cause crew) = Some (Entered (new_entry b.entries (unwrap_or (device_of b.network device) 0) act second cause crew))
-change_of b (Correct entry revision act second cause crew) = option_map (λ old. Corrected old (corrected act second cause crew old)) (entry_of b.entries entry)
+change_of b (Device d) = Some (Joined (length b.network.devices) (life d.life.since d.life.until))
+change_of b (Life device s) =
+    option_and_then (λ d. option_map (λ old. Lived d old (life s.since s.until)) (life_at b.network d)) (device_of b.network device)
+change_of b (Connect customer section s) = None
+change_of b (Revise customer s) = None
+change_of b (Switch device o) = Some (Entered (new_entry b.entries (unwrap_or (device_of b.network device) 0) o.act o.second o.cause o.crew))
+change_of b (Correct entry revision o) = option_map (λ old. Corrected old (corrected o.act o.second o.cause o.crew old)) (entry_of b.entries entry)
 change_of b (Withdraw entry revision) = option_map (λ old. Withdrawn old) (entry_of b.entries entry)
 change_of b (Mark date engineer) = None
 change_of b (Unmark date engineer) = None

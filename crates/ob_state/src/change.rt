@@ -1,297 +1,156 @@
 //! The one change of an accepted command. No memory is asked for here: room was made.
-ghost use Rattle.std.specs.Prelude.{◌≡◌};
-ghost use Rattle.ob_base.specs.Life.{life};
-
+use crate::resolved::Resolved;
 use crate::state::State;
-use ob_base::{Crew, Life, Name, Pos, Second};
-use ob_command::{CauseCode, CivilDate, Command, Ends, FeederNumber, Moment, Serial};
+use ob_base::{Crew, Life, Name};
+use ob_command::CauseCode;
 use ob_cust::Customer;
-
-/// The end of a service as a second.
-pub fn end_of(until: Option<Moment>) -> Option<Second>
-    ensures { result ≡ until }
-{
-    match until {
-        Some(until) => Some(until.second()),
-        None => None,
-    }
-}
-
-/// The life from one moment until before another; without end where there is none.
-pub fn life_from(since: Moment, until: Option<Moment>) -> Life
-    ensures { result ≡ life since until }
-{
-    Life {
-        since: since.second(),
-        until: end_of(until),
-    }
-}
+use ob_net::{Device, Node};
+use ob_sheet::Entry;
 
 impl State {
-    ghost use Rattle.std.specs.Prelude.{◌≡◌, ◌<◌, ◌≤◌, None};
-    ghost use Rattle.ob_command.specs.declared.command.Command.TheVariants.{Cause, Bus, Section, Device, Connect, Revise, Switch, Correct, Withdraw, Mark, Unmark};
-    ghost use Rattle.ob_state.specs.Refusals.{refusal as refusal_to};
-    ghost use Rattle.ob_state.specs.Next.{changed, next};
+    ghost use Rattle.std.specs.Prelude.{◌≡◌, ◌<◌, ◌≤◌, None, length, set};
+    ghost use Rattle.ob_base.specs.Life.{life_refusal};
+    ghost use Rattle.ob_net.specs.Network.{CanJoin, HasFeederOrNone, node_refusal, with_joined, with_life, with_node};
+    ghost use Rattle.ob_state.specs.Effects.{with_network};
+    ghost use Rattle.ob_state.specs.Resolved.{CanTake, IsCorrection, IsNewCustomer, IsNextEntry, IsOtherService, IsWithdrawal, changed_by, next_by};
 
-    /// Makes the change of an accepted command.
-    pub fn change(&mut self, command: &Command)
-        requires accepted { refusal_to self.old.state command.now ≡ None }
+    /// Makes the change that an accepted command comes to.
+    pub fn change(&mut self, resolved: &Resolved)
+        requires takes { CanTake self.old.state resolved.now }
+        requires few { self.old.state.accepted < 1_000_000 }
         requires room { 0 < self.old.room }
-        ensures state { self.new.state ≡ next self.old.state command.now }
+        ensures state { self.new.state ≡ next_by self.old.state resolved.now }
         ensures searches { self.new.searches ≡ self.old.searches }
         ensures no_more_room { self.new.room ≤ self.old.room }
     {
-        self.change_parts(command);
+        self.change_parts(resolved);
         self.accepted += 1;
     }
 
     // Makes the change, all but the number of accepted commands.
-    fn change_parts(&mut self, command: &Command)
-        requires accepted { refusal_to self.old.state command.now ≡ None }
+    fn change_parts(&mut self, resolved: &Resolved)
+        requires takes { CanTake self.old.state resolved.now }
         requires room { 0 < self.old.room }
-        ensures state { self.new.state ≡ changed self.old.state command.now }
+        ensures state { self.new.state ≡ changed_by self.old.state resolved.now }
         ensures searches { self.new.searches ≡ self.old.searches }
         ensures no_more_room { self.new.room ≤ self.old.room }
     {
-        match *command {
-            Command::Cause { code, name } => self.name_cause(code, name),
-            Command::Bus { name } => self.add_bus(name),
-            Command::Section { name, feeder } => self.add_section(name, feeder),
-            Command::Device {
-                name,
-                ends,
-                normal,
-                since,
-                until,
-            } => self.add_device(name, ends, normal, life_from(since, until)),
-            Command::Life {
-                device,
-                since,
-                until,
-            } => self.live(&device, life_from(since, until)),
-            Command::Connect {
-                customer,
-                section,
-                since,
-                until,
-            } => self.connect(customer, &section, since, until),
-            Command::Revise {
-                customer,
-                since,
-                until,
-            } => self.revise(customer, since, until),
-            Command::Switch {
-                device,
-                act,
-                second,
-                cause,
-                crew,
-            } => self.switch(&device, act, second, cause, crew),
-            Command::Correct {
-                entry,
-                revision,
-                act,
-                second,
-                cause,
-                crew,
-            } => self.correct(entry, revision, act, second, cause, crew),
-            Command::Withdraw { entry, revision } => self.withdraw(entry, revision),
-            Command::Mark { date, engineer } => self.mark(date, engineer),
-            Command::Unmark { date, engineer } => self.unmark(date, engineer),
+        match *resolved {
+            Resolved::Cause { code, name } => self.name_cause(code, name),
+            Resolved::Node { node, .. } => self.add_node(node),
+            Resolved::Device { device, .. } => self.join(device),
+            Resolved::Life { device, new, .. } => self.set_life(device, new),
+            Resolved::Customer(customer) => self.connect(customer),
+            Resolved::Service { old, new } => self.revise(old, new),
+            Resolved::Entered(entry) => self.enter(entry),
+            Resolved::Corrected { old, new } => self.correct(old, new),
+            Resolved::Withdrawn { old, new } => self.withdraw(old, new),
+            Resolved::Marked { day, engineer } => self.mark(day, Some(engineer)),
+            Resolved::Unmarked { day } => self.mark(day, None),
         }
     }
 
     fn name_cause(&mut self, code: CauseCode, name: Name)
-        ensures state { self.new.state ≡ changed self.old.state (Cause code name) }
+        ensures state { self.new.state ≡ changed_by self.old.state (Resolved.Cause code name) }
         ensures searches { self.new.searches ≡ self.old.searches }
         ensures no_more_room { self.new.room ≤ self.old.room }
     {
         self.causes.put(code.get(), name);
     }
 
-    // Adds a bus that isn't refused.
-    fn add_bus(&mut self, name: Name)
-        requires accepted { refusal_to self.old.state (Bus name) ≡ None }
+    /// Adds a node whose name is free.
+    pub(crate) fn add_node(&mut self, node: Node)
         requires room { 0 < self.old.room }
-        ensures state { self.new.state ≡ changed self.old.state (Bus name) }
+        requires free { node_refusal self.old.state.network node.name ≡ None }
+        requires feeder { HasFeederOrNone node }
+        ensures state { self.new.state ≡ with_network self.old.state
+            (with_node self.old.state.network node) }
         ensures searches { self.new.searches ≡ self.old.searches }
         ensures no_more_room { self.new.room ≤ self.old.room }
     {
-        if self.net.add_bus(name).is_err() {
-            unreachable!();
-        }
+        self.net.add_node(node);
     }
 
-    /// Adds a section that isn't refused.
-    pub(crate) fn add_section(&mut self, name: Name, feeder: FeederNumber)
-        requires accepted { refusal_to self.old.state (Section name feeder) ≡ None }
+    /// Adds a device that the network can take.
+    pub(crate) fn join(&mut self, device: Device)
         requires room { 0 < self.old.room }
-        ensures state { self.new.state ≡ changed self.old.state (Section name feeder) }
+        requires joins { CanJoin self.old.state.network device }
+        ensures state { self.new.state ≡ with_network self.old.state
+            (with_joined self.old.state.network device) }
         ensures searches { self.new.searches ≡ self.old.searches }
         ensures no_more_room { self.new.room ≤ self.old.room }
     {
-        if self.net.add_section(name, feeder.get()).is_err() {
-            unreachable!();
-        }
+        self.net.join(device);
     }
 
-    /// Adds a device that isn't refused.
-    pub(crate) fn add_device(&mut self, name: Name, ends: Ends, normal: Pos, life: Life)
-        requires accepted { refusal_to self.old.state
-            (Device name ends normal life.since life.until) ≡ None }
+    /// Sets the life of a device.
+    pub(crate) fn set_life(&mut self, device: u16, life: Life)
+        requires device { device < length self.old.state.network.devices }
+        requires life { life_refusal life ≡ None }
+        ensures state { self.new.state ≡ with_network self.old.state
+            (with_life self.old.state.network device life) }
+        ensures searches { self.new.searches ≡ self.old.searches }
+        ensures no_more_room { self.new.room ≤ self.old.room }
+    {
+        self.net.give_life(device, life);
+    }
+
+    fn connect(&mut self, customer: Customer)
+        requires takes { IsNewCustomer self.old.state customer }
         requires room { 0 < self.old.room }
-        ensures state { self.new.state ≡ changed self.old.state
-            (Device name ends normal life.since life.until) }
+        ensures state { self.new.state ≡ changed_by self.old.state (Resolved.Customer customer) }
         ensures searches { self.new.searches ≡ self.old.searches }
         ensures no_more_room { self.new.room ≤ self.old.room }
     {
-        if self
-            .net
-            .add_device(name, *ends.a(), *ends.b(), normal, life)
-            .is_err()
-        {
-            unreachable!();
-        }
+        self.roll.add(customer);
     }
 
-    // Sets the life of a device anew, where that isn't refused.
-    fn live(&mut self, device: &Name, life: Life)
-        requires accepted { refusal_to self.old.state
-            (Command.Life device.now life.since life.until) ≡ None }
-        ensures state { self.new.state ≡ changed self.old.state
-            (Command.Life device.now life.since life.until) }
+    fn revise(&mut self, old: Customer, new: Customer)
+        requires { IsOtherService self.old.state old new }
+        ensures state { self.new.state ≡ changed_by self.old.state (Resolved.Service old new) }
         ensures searches { self.new.searches ≡ self.old.searches }
         ensures no_more_room { self.new.room ≤ self.old.room }
     {
-        let Some(device) = self.net.device_of(device) else {
-            unreachable!();
-        };
-        if self.net.set_life(device, life).is_err() {
-            unreachable!();
-        }
+        self.roll.serve(old, new);
     }
 
-    fn connect(&mut self, customer: Serial, section: &Name, since: Moment, until: Option<Moment>)
-        requires accepted { refusal_to self.old.state (Connect customer section.now since until)
-            ≡ None }
+    fn enter(&mut self, entry: Entry)
+        requires takes { IsNextEntry self.old.state entry }
         requires room { 0 < self.old.room }
-        ensures state { self.new.state ≡ changed self.old.state
-            (Connect customer section.now since until) }
+        ensures state { self.new.state ≡ changed_by self.old.state (Resolved.Entered entry) }
         ensures searches { self.new.searches ≡ self.old.searches }
         ensures no_more_room { self.new.room ≤ self.old.room }
     {
-        let Some(section) = self.section_named(section) else {
-            unreachable!();
-        };
-        let customer = Customer {
-            no: customer.get(),
-            section,
-            since: since.second(),
-            until: end_of(until),
-        };
-        if self.roll.connect(customer).is_err() {
-            unreachable!();
-        }
+        self.sheet.add(entry);
     }
 
-    fn revise(&mut self, customer: Serial, since: Moment, until: Option<Moment>)
-        requires { refusal_to self.old.state (Revise customer since until) ≡ None }
-        ensures state { self.new.state ≡ changed self.old.state (Revise customer since until) }
+    fn correct(&mut self, old: Entry, new: Entry)
+        requires { IsCorrection self.old.state old new }
+        ensures state { self.new.state ≡ changed_by self.old.state (Resolved.Corrected old new) }
         ensures searches { self.new.searches ≡ self.old.searches }
         ensures no_more_room { self.new.room ≤ self.old.room }
     {
-        if self
-            .roll
-            .revise(customer.get(), since.second(), end_of(until))
-            .is_err()
-        {
-            unreachable!();
-        }
+        self.sheet.replace(old, new);
     }
 
-    fn switch(&mut self, device: &Name, act: Pos, second: Moment, cause: CauseCode, crew: Crew)
-        requires accepted { refusal_to self.old.state (Switch device.now act second cause crew)
-            ≡ None }
-        requires room { 0 < self.old.room }
-        ensures state { self.new.state ≡ changed self.old.state
-            (Switch device.now act second cause crew) }
+    fn withdraw(&mut self, old: Entry, new: Entry)
+        requires { IsWithdrawal self.old.state old new }
+        ensures state { self.new.state ≡ changed_by self.old.state (Resolved.Withdrawn old new) }
         ensures searches { self.new.searches ≡ self.old.searches }
         ensures no_more_room { self.new.room ≤ self.old.room }
     {
-        let Some(device) = self.net.device_of(device) else {
-            unreachable!();
-        };
-        self.sheet
-            .enter(device, act, second.second(), cause.get(), crew);
+        let _ = self.sheet.entry(old.no);
+        self.sheet.replace(old, new);
     }
 
-    fn correct(
-        &mut self,
-        entry: Serial,
-        revision: Serial,
-        act: Pos,
-        second: Moment,
-        cause: CauseCode,
-        crew: Crew,
-    )
-        requires { refusal_to self.old.state (Correct entry revision act second cause crew) ≡ None }
-        ensures state { self.new.state ≡ changed self.old.state
-            (Correct entry revision act second cause crew) }
+    // Marks a day for an engineer, or takes its mark away.
+    fn mark(&mut self, day: u16, engineer: Option<Crew>)
+        requires { day < length self.old.state.marks }
+        ensures state { self.new.state
+            ≡ record (self.old.state) { marks = set self.old.state.marks day engineer } }
         ensures searches { self.new.searches ≡ self.old.searches }
         ensures no_more_room { self.new.room ≤ self.old.room }
     {
-        if self
-            .sheet
-            .correct(
-                entry.get(),
-                revision.get(),
-                act,
-                second.second(),
-                cause.get(),
-                crew,
-            )
-            .is_err()
-        {
-            unreachable!();
-        }
-    }
-
-    fn withdraw(&mut self, entry: Serial, revision: Serial)
-        requires { refusal_to self.old.state (Withdraw entry revision) ≡ None }
-        ensures state { self.new.state ≡ changed self.old.state (Withdraw entry revision) }
-        ensures searches { self.new.searches ≡ self.old.searches }
-        ensures no_more_room { self.new.room ≤ self.old.room }
-    {
-        if self.sheet.withdraw(entry.get(), revision.get()).is_err() {
-            unreachable!();
-        }
-    }
-
-    fn mark(&mut self, date: CivilDate, engineer: Crew)
-        requires { refusal_to self.old.state (Mark date engineer) ≡ None }
-        ensures state { self.new.state ≡ changed self.old.state (Mark date engineer) }
-        ensures searches { self.new.searches ≡ self.old.searches }
-        ensures no_more_room { self.new.room ≤ self.old.room }
-    {
-        let Some(day) = self.period.day_index(&date.date()) else {
-            unreachable!();
-        };
-        if self.marks.mark(day, engineer).is_err() {
-            unreachable!();
-        }
-    }
-
-    fn unmark(&mut self, date: CivilDate, engineer: Crew)
-        requires { refusal_to self.old.state (Unmark date engineer) ≡ None }
-        ensures state { self.new.state ≡ changed self.old.state (Unmark date engineer) }
-        ensures searches { self.new.searches ≡ self.old.searches }
-        ensures no_more_room { self.new.room ≤ self.old.room }
-    {
-        let Some(day) = self.period.day_index(&date.date()) else {
-            unreachable!();
-        };
-        if self.marks.unmark(day).is_err() {
-            unreachable!();
-        }
+        self.marks.put(day, engineer);
     }
 }

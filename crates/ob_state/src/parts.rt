@@ -1,73 +1,51 @@
 //! What a change of the network moves: a part more, or another life of a device.
-ghost use Rattle.std.specs.Prelude.{◌≡◌, ◌+◌, ◌≤◌, ◌<◌, ℕ, List, None, IfOk, IfErr, IsSome, OnOk, length};
+ghost use Rattle.std.specs.Prelude.{◌≡◌, ◌+◌, ◌≤◌, ◌<◌, ℕ, None, IfOk, IfErr, IsSome, OnOk, length};
 ghost use Rattle.ob_base.specs.Stop.{out_of_memory};
+ghost use Rattle.ob_net.specs.Network.{node_refusal, HasFeederOrNone};
 ghost use Rattle.ob_sweep.specs.Changed.{changed, net_before, Applies, IsAfter};
 ghost use Rattle.ob_sweep.specs.Deltas.{new_runs, Fits, IsDelta};
 ghost use Rattle.ob_time.specs.Calendar.{day_count};
 ghost use Rattle.ob_post.specs.declared.Dim.{Dim as Dimension};
 ghost use Rattle.ob_state.specs.Amounts.{amount};
 ghost use Rattle.ob_state.specs.States.{AreRunsOf, IsSoundState};
-ghost use Rattle.ob_state.specs.Refusals.{refusal};
-ghost use Rattle.ob_state.specs.Next.{next};
 ghost use Rattle.ob_state.specs.Retimings.{runs_in};
 ghost use Rattle.ob_post.specs.Balances.{Balances, together};
 ghost use Rattle.ob_state.specs.Effects.{IsEffect, amount_of_node, before_change};
-ghost use Rattle.ob_state.specs.Searches.{most_searches};
+ghost use Rattle.ob_state.specs.Resolved.{next_by, node_change, searches_by, IsDeviceToJoin, IsOtherLife};
 
 use crate::effect::Effect;
+use crate::resolved::Resolved;
 use crate::retiming::Retiming;
 use crate::state::State;
-use ob_base::{Life, Name, Pos, Stop};
-use ob_command::{Command, Ends, FeederNumber};
+use ob_base::{Life, Stop};
+use ob_net::{Device, Node};
 use ob_post::Posting;
 use ob_post::laws::{section_laws, total_laws};
 use ob_sweep::{Change, Delta, Timeline};
 use std::alloc::Global;
 
-/// A device that a command adds.
-#[derive(Clone, Copy)]
-pub struct NewDevice {
-    pub name: Name,
-    pub ends: Ends,
-    pub normal: Pos,
-    pub life: Life,
-}
-
-/// The effect of a bus that isn't refused: no section's runs change.
-pub fn with_bus(alloc: Global, state: &State) -> Effect
-    ensures effect { (name : List ℕ) → refusal state.now.state (Command.Bus name) ≡ None
-        → IsEffect state.now.state (next state.now.state (Command.Bus name)) result }
-{
-    let _ = state.accepted();
-    Effect {
-        moves: Vec::new(alloc),
-        retiming: Retiming::Same,
-    }
-}
-
-/// The effect of a section that isn't refused: it has runs, and no customers yet. The error is that memory was refused.
-pub fn with_section<T: Timeline>(
+/// The effect of a bus or a section more: there are no customers on it yet, and a section has runs. The error is that
+/// memory was refused.
+pub fn with_node<T: Timeline>(
     alloc: Global,
     state: &mut State,
     timeline: &T,
-    name: Name,
-    feeder: FeederNumber,
+    node: Node,
 ) -> Result<Effect, Stop>
-    requires accepted { refusal state.old.state (Command.Section name feeder) ≡ None }
+    requires free { node_refusal state.old.state.network node.name ≡ None }
+    requires feeder { HasFeederOrNone node }
     requires runs { AreRunsOf state.old.state (T.content timeline.now) }
-    ensures effect { IfOk result (IsEffect state.old.state
-        (next state.old.state (Command.Section name feeder))) }
+    ensures effect { IfOk result (IsEffect state.old.state (next_by state.old.state
+        (Resolved.Node (length state.old.state.network.nodes) node))) }
     ensures err { IfErr result (λ stop. stop ≡ out_of_memory) }
     ensures state { state.new.state ≡ state.old.state }
-    ensures searches { state.new.searches ≤ state.old.searches
-        + most_searches T.bound state.old.state (Command.Section name feeder) }
+    ensures searches { state.new.searches ≤ state.old.searches + searches_by T.bound
+        state.old.state (Resolved.Node (length state.old.state.network.nodes) node) }
 {
     state.reserve_one()?;
     let _ = state.accepted();
-    state.add_section(name, feeder);
-    let change = Change::Section {
-        feeder: feeder.get(),
-    };
+    let change = change_of_node(node.feeder);
+    state.add_node(node);
     let delta = plan_change(state, timeline, &change);
     state.take_back_node();
     Ok(Effect {
@@ -76,70 +54,69 @@ pub fn with_section<T: Timeline>(
     })
 }
 
-/// The effect of a device that isn't refused. The error is that memory was refused.
+/// The effect of a device more. The error is that memory was refused.
 pub fn with_device<T: Timeline>(
     alloc: Global,
     state: &mut State,
     timeline: &T,
-    device: NewDevice,
+    number: u16,
+    device: Device,
 ) -> Result<Effect, Stop>
-    requires accepted { refusal state.old.state (Command.Device device.name device.ends
-        device.normal device.life.since device.life.until) ≡ None }
+    requires takes { IsDeviceToJoin state.old.state number device }
     requires runs { AreRunsOf state.old.state (T.content timeline.now) }
-    ensures effect { IfOk result (IsEffect state.old.state
-        (next state.old.state (Command.Device device.name device.ends device.normal
-        device.life.since device.life.until))) }
+    ensures effect { IfOk result (IsEffect state.old.state (next_by state.old.state
+        (Resolved.Device number device))) }
     ensures err { IfErr result (λ stop. stop ≡ out_of_memory) }
     ensures state { state.new.state ≡ state.old.state }
-    ensures searches { state.new.searches ≤ state.old.searches + most_searches T.bound
-        state.old.state (Command.Device device.name device.ends device.normal device.life.since
-        device.life.until) }
+    ensures searches { state.new.searches ≤ state.old.searches + searches_by T.bound
+        state.old.state (Resolved.Device number device) }
 {
     state.reserve_one()?;
     let _ = state.accepted();
-    let number = state.net.devices();
-    state.add_device(device.name, device.ends, device.normal, device.life);
     let change = Change::Joined {
         device: number,
         life: device.life,
     };
+    state.join(device);
     let effect = effect_on_network(alloc, state, timeline, &change);
     state.take_back_device();
     effect
 }
 
-/// The effect of another life of a device, where that isn't refused. The error is that memory was refused.
+/// The effect of another life of a device. The error is that memory was refused.
 pub fn with_life<T: Timeline>(
     alloc: Global,
     state: &mut State,
     timeline: &T,
-    device: &Name,
-    life: Life,
+    device: u16,
+    old: Life,
+    new: Life,
 ) -> Result<Effect, Stop>
-    requires accepted { refusal state.old.state (Command.Life device.now life.since life.until)
-        ≡ None }
+    requires takes { IsOtherLife state.old.state device old new }
     requires runs { AreRunsOf state.old.state (T.content timeline.now) }
-    ensures effect { IfOk result (IsEffect state.old.state (next state.old.state
-        (Command.Life device.now life.since life.until))) }
+    ensures effect { IfOk result (IsEffect state.old.state (next_by state.old.state
+        (Resolved.Life device old new))) }
     ensures err { IfErr result (λ stop. stop ≡ out_of_memory) }
     ensures state { state.new.state ≡ state.old.state }
-    ensures searches { state.new.searches ≤ state.old.searches + most_searches T.bound
-        state.old.state (Command.Life device.now life.since life.until) }
+    ensures searches { state.new.searches ≤ state.old.searches + searches_by T.bound
+        state.old.state (Resolved.Life device old new) }
 {
     let _ = state.accepted();
-    let Some(device) = state.net.device_of(device) else {
-        unreachable!();
-    };
-    let old = state.net.life_of(device);
-    state.set_life(device, life);
-    let change = Change::Lived {
-        device,
-        old,
-        new: life,
-    };
+    state.set_life(device, new);
+    let change = Change::Lived { device, old, new };
     let effect = effect_on_network(alloc, state, timeline, &change);
     state.set_life(device, old);
     effect
+}
+
+// The change that a node with this home feeder more is.
+fn change_of_node(feeder: Option<u8>) -> Change
+    ensures { result ≡ node_change feeder }
+{
+    match feeder {
+        Some(feeder) => Change::Section { feeder },
+        None => Change::Bus,
+    }
 }
 
 // The effect of a change of the devices that was made, where a timeline holds the runs before it.

@@ -1,57 +1,42 @@
 //! What a customer that is connected, or gets another service, moves.
-ghost use Rattle.std.specs.Prelude.{◌≡◌, ℕ, ◌∷◌, [], IsSome, false, None, IfOk, IfErr, OnOk};
+ghost use Rattle.std.specs.Prelude.{◌≡◌, ℕ, ◌∷◌, [], IsSome, false, IfOk, IfErr, OnOk};
 ghost use Rattle.ob_net.specs.Network.{home_feeder};
 ghost use Rattle.ob_base.specs.Stop.{out_of_memory};
 ghost use Rattle.ob_cust.specs.Roll.{is_bad_service};
 ghost use Rattle.ob_time.specs.Calendar.{day_count};
 ghost use Rattle.ob_post.specs.declared.Dim.{Dim as Dimension};
 ghost use Rattle.ob_state.specs.States.{AreRunsOf, IsSoundState};
-ghost use Rattle.ob_state.specs.Refusals.{refusal};
-ghost use Rattle.ob_state.specs.Next.{next};
 ghost use Rattle.ob_post.specs.Balances.{together, Balances};
 ghost use Rattle.ob_state.specs.Effects.{amount_of_customer, IsEffect};
+ghost use Rattle.ob_state.specs.Resolved.{next_by, IsNewCustomer, IsOtherService};
 
-use crate::change::end_of;
 use crate::effect::Effect;
+use crate::resolved::Resolved;
 use crate::retiming::Retiming;
 use crate::state::State;
-use ob_base::{Name, Stop};
-use ob_command::{Command, Moment, Serial};
+use ob_base::Stop;
 use ob_cust::{Customer, Roll};
 use ob_post::Posting;
 use ob_post::laws::{roll_laws, section_laws, total_laws};
 use ob_sweep::Timeline;
 use std::alloc::Global;
 
-/// The effect of a customer that isn't refused. The error is that memory was refused.
+/// The effect of a customer more. The error is that memory was refused.
 pub fn effect_of_connect<T: Timeline>(
     alloc: Global,
     state: &State,
     timeline: &T,
-    customer: Serial,
-    section: &Name,
-    since: Moment,
-    until: Option<Moment>,
+    customer: Customer,
 ) -> Result<Effect, Stop>
-    requires accepted { refusal state.now.state (Command.Connect customer section.now since until)
-        ≡ None }
+    requires takes { IsNewCustomer state.now.state customer }
     requires runs { AreRunsOf state.now.state (T.content timeline.now) }
-    ensures effect { IfOk result (IsEffect state.now.state (next state.now.state
-        (Command.Connect customer section.now since until))) }
+    ensures effect { IfOk result (IsEffect state.now.state (next_by state.now.state
+        (Resolved.Customer customer))) }
     ensures err { IfErr result (λ stop. stop ≡ out_of_memory) }
 {
     roll_laws();
     total_laws();
     let _ = state.accepted();
-    let Some(section) = state.section_named(section) else {
-        unreachable!();
-    };
-    let customer = Customer {
-        no: customer.get(),
-        section,
-        since: since.second(),
-        until: end_of(until),
-    };
     let mut posting = Posting::new(alloc);
     give_customer(alloc, state, timeline, customer, &mut posting)?;
     Ok(Effect {
@@ -60,33 +45,23 @@ pub fn effect_of_connect<T: Timeline>(
     })
 }
 
-/// The effect of another service of a customer, which isn't refused. The error is that memory was
-/// refused.
+/// The effect of another service of a customer. The error is that memory was refused.
 pub fn effect_of_revise<T: Timeline>(
     alloc: Global,
     state: &State,
     timeline: &T,
-    customer: Serial,
-    since: Moment,
-    until: Option<Moment>,
+    old: Customer,
+    new: Customer,
 ) -> Result<Effect, Stop>
-    requires accepted { refusal state.now.state (Command.Revise customer since until) ≡ None }
+    requires takes { IsOtherService state.now.state old new }
     requires runs { AreRunsOf state.now.state (T.content timeline.now) }
-    ensures effect { IfOk result (IsEffect state.now.state (next state.now.state
-        (Command.Revise customer since until))) }
+    ensures effect { IfOk result (IsEffect state.now.state (next_by state.now.state
+        (Resolved.Service old new))) }
     ensures err { IfErr result (λ stop. stop ≡ out_of_memory) }
 {
     roll_laws();
     total_laws();
     let _ = state.accepted();
-    let Some(old) = state.roll.customer(customer.get()) else {
-        unreachable!();
-    };
-    let new = Customer {
-        since: since.second(),
-        until: end_of(until),
-        ..old
-    };
     let mut posting = Posting::new(alloc);
     take_customer(alloc, state, timeline, old, &mut posting)?;
     give_customer(alloc, state, timeline, new, &mut posting)?;

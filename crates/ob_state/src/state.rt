@@ -1,6 +1,6 @@
 //! The state of a book: everything but the runs and the amounts, which follow from it.
 use crate::causes::Causes;
-use ob_base::{Life, Name, Stop};
+use ob_base::{Name, Stop};
 use ob_cust::Roll;
 use ob_index::Marks;
 use ob_net::Net;
@@ -39,13 +39,12 @@ impl Model for State {
 }
 
 impl State {
-    ghost use Rattle.std.specs.Prelude.{◌≡◌, ◌<◌, ◌≤◌, ◌+◌, ◌-◌, None, IfOk, IfErr, OnOk, IfSome, IsSome, length};
+    ghost use Rattle.std.specs.Prelude.{◌≡◌, ◌<◌, ◌≤◌, ◌+◌, ◌-◌, IfOk, IfErr, OnOk, IsSome, length};
     ghost use Rattle.std.specs.List.{All};
     ghost use Rattle.ob_base.specs.Stop.{out_of_memory};
-    ghost use Rattle.ob_base.specs.Life.{life_refusal};
-    ghost use Rattle.ob_net.specs.Network.{section_of, home_feeder, with_life, without_last_node, JoinsTwo};
+    ghost use Rattle.ob_net.specs.Network.{home_feeder, without_last_node, JoinsTwo};
     ghost use Rattle.ob_state.specs.State.{empty_book, cause_name_of};
-    ghost use Rattle.ob_state.specs.Effects.{with_network, without_device, without_node};
+    ghost use Rattle.ob_state.specs.Effects.{without_device, without_node};
     ghost use Rattle.ob_state.specs.Searches.{searches_of_state};
     ghost use Rattle.ob_state.specs.States.{AreRunsOf, IsSoundState};
 
@@ -134,18 +133,6 @@ impl State {
         let _ = (self.roll.customers().len(), self.sheet.entry(1));
     }
 
-    /// The number of the section with a name; None where no node has it, or one that is no section.
-    pub(crate) fn section_named(&self, name: &Name) -> Option<u16>
-        ensures section { result ≡ section_of self.now.state.network name.now }
-        ensures exists { IfSome result (λ v. v < length self.now.state.network.nodes) }
-    {
-        let node = self.net.node_of(name)?;
-        match self.net.feeder_of(node) {
-            Some(_) => Some(node),
-            None => None,
-        }
-    }
-
     /// The name of the cause with a code; None where there is none.
     pub fn cause_name(&self, code: u8) -> Option<Name>
         ensures { result ≡ cause_name_of self.now.state.causes code }
@@ -188,18 +175,5 @@ impl State {
         ensures searches { self.new.searches ≡ self.old.searches }
     {
         self.net.take_back_device();
-    }
-
-    /// Sets the life of a device.
-    pub(crate) fn set_life(&mut self, device: u16, life: Life)
-        requires device { device < length self.old.state.network.devices }
-        requires life { life_refusal life ≡ None }
-        ensures state { self.new.state ≡ with_network self.old.state
-            (with_life self.old.state.network device life) }
-        ensures searches { self.new.searches ≡ self.old.searches }
-    {
-        if self.net.set_life(device, life).is_err() {
-            unreachable!();
-        }
     }
 }

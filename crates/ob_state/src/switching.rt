@@ -1,169 +1,27 @@
 //! What a change of the switching sheet moves.
-ghost use Rattle.std.specs.Prelude.{◌≡◌, ◌+◌, ◌<◌, ◌≤◌, None, Some, true, IfOk, IfErr, IsSome, IsTrue, OnOk, length};
+ghost use Rattle.std.specs.Prelude.{◌≡◌, ◌+◌, ◌<◌, ◌≤◌, IfOk, IfErr, IsSome, IsTrue, OnOk, length};
 ghost use Rattle.ob_base.specs.Stop.{out_of_memory};
-ghost use Rattle.ob_sheet.specs.Order.{entry_of};
-ghost use Rattle.ob_sheet.specs.Revisions.{corrected as corrected_entry, revision_refusal};
-ghost use Rattle.ob_sheet.specs.Sheet.{new_entry};
 ghost use Rattle.ob_sweep.specs.Changed.{changed, of_sheet, Applies};
 ghost use Rattle.ob_sweep.specs.Deltas.{new_runs, IsDelta};
 ghost use Rattle.ob_time.specs.Calendar.{day_count};
 ghost use Rattle.ob_state.specs.Amounts.{amount, moves};
 ghost use Rattle.ob_state.specs.Retimings.{runs_in};
 ghost use Rattle.ob_state.specs.States.{AreRunsOf, IsBookState, IsSoundState};
-ghost use Rattle.ob_state.specs.Refusals.{refusal};
-ghost use Rattle.ob_state.specs.Next.{next};
 ghost use Rattle.ob_state.specs.Effects.{amount_of_node, with_entries, BalancesFirst, IsEffect};
 ghost use Rattle.ob_post.specs.Balances.{Balances, Posts};
 ghost use Rattle.ob_post.specs.Causes.{KeepsCause};
-ghost use Rattle.ob_state.specs.Searches.{most_searches};
 
 use crate::effect::Effect;
 use crate::retiming::Retiming;
 use crate::state::State;
-use ob_base::{Crew, Name, Pos, Stop};
-use ob_command::{CauseCode, Command, Moment, Serial};
+use ob_base::Stop;
 use ob_post::laws::{cause_laws, section_laws, total_laws};
 use ob_post::{Moved, Posting};
-use ob_sheet::Entry;
 use ob_sweep::{Change, Delta, Timeline};
 use std::alloc::Global;
 
-/// A switching operation, as an entry tells it.
-#[derive(Clone, Copy)]
-pub struct Operation {
-    pub act: Pos,
-    pub second: Moment,
-    pub cause: CauseCode,
-    pub crew: Crew,
-}
-
-/// The effect of a new entry that isn't refused. The error is that memory was refused.
-pub fn effect_of_switch<T: Timeline>(
-    alloc: Global,
-    state: &mut State,
-    timeline: &T,
-    device: &Name,
-    operation: Operation,
-) -> Result<Effect, Stop>
-    requires accepted { refusal state.old.state (Command.Switch device.now operation.act
-        operation.second operation.cause operation.crew) ≡ None }
-    requires runs { AreRunsOf state.old.state (T.content timeline.now) }
-    ensures effect { IfOk result (IsEffect state.old.state
-        (next state.old.state (Command.Switch device.now operation.act operation.second
-        operation.cause operation.crew))) }
-    ensures err { IfErr result (λ stop. stop ≡ out_of_memory) }
-    ensures state { state.new.state ≡ state.old.state }
-    ensures searches { state.new.searches ≤ state.old.searches + most_searches T.bound
-        state.old.state (Command.Switch device.now operation.act operation.second operation.cause
-        operation.crew) }
-{
-    let Some(device) = state.net.device_of(device) else {
-        unreachable!();
-    };
-    let _ = state.accepted();
-    let entry = next_entry(state, device, operation);
-    effect_on_sheet(alloc, state, timeline, &Change::Entered(entry))
-}
-
-/// The effect of a correction that isn't refused. The error is that memory was refused.
-pub fn effect_of_correct<T: Timeline>(
-    alloc: Global,
-    state: &mut State,
-    timeline: &T,
-    entry: Serial,
-    revision: Serial,
-    operation: Operation,
-) -> Result<Effect, Stop>
-    requires accepted { refusal state.old.state (Command.Correct entry revision operation.act
-        operation.second operation.cause operation.crew) ≡ None }
-    requires runs { AreRunsOf state.old.state (T.content timeline.now) }
-    ensures effect { IfOk result (IsEffect state.old.state
-        (next state.old.state (Command.Correct entry revision operation.act operation.second
-        operation.cause operation.crew))) }
-    ensures err { IfErr result (λ stop. stop ≡ out_of_memory) }
-    ensures state { state.new.state ≡ state.old.state }
-    ensures searches { state.new.searches ≤ state.old.searches + most_searches T.bound
-        state.old.state (Command.Correct entry revision operation.act operation.second
-        operation.cause operation.crew) }
-{
-    let old = entry_at(state, entry, revision);
-    let _ = state.accepted();
-    let change = correction(old, operation);
-    effect_on_sheet(alloc, state, timeline, &change)
-}
-
-/// The effect of a withdrawal that isn't refused. The error is that memory was refused.
-pub fn effect_of_withdraw<T: Timeline>(
-    alloc: Global,
-    state: &mut State,
-    timeline: &T,
-    entry: Serial,
-    revision: Serial,
-) -> Result<Effect, Stop>
-    requires accepted { refusal state.old.state (Command.Withdraw entry revision) ≡ None }
-    requires runs { AreRunsOf state.old.state (T.content timeline.now) }
-    ensures effect { IfOk result (IsEffect state.old.state
-        (next state.old.state (Command.Withdraw entry revision))) }
-    ensures err { IfErr result (λ stop. stop ≡ out_of_memory) }
-    ensures state { state.new.state ≡ state.old.state }
-    ensures searches { state.new.searches ≤ state.old.searches
-        + most_searches T.bound state.old.state (Command.Withdraw entry revision) }
-{
-    let old = entry_at(state, entry, revision);
-    let _ = state.accepted();
-    effect_on_sheet(alloc, state, timeline, &Change::Withdrawn(old))
-}
-
-// The kept entry with a number and a revision.
-fn entry_at(state: &State, entry: Serial, revision: Serial) -> Entry
-    requires { revision_refusal state.now.state.entries entry revision ≡ None }
-    ensures on { entry_of state.now.state.entries entry ≡ Some result }
-    ensures kept { result.kept ≡ true }
-{
-    let Some(entry) = state.sheet.entry(entry.get()) else {
-        unreachable!();
-    };
-    prove!(entry.kept && entry.rev == revision.get());
-    entry
-}
-
-// The next entry, of an operation of a device.
-fn next_entry(state: &State, device: u16, operation: Operation) -> Entry
-    ensures entry { result ≡ new_entry state.now.state.entries device operation.act operation.second
-        operation.cause operation.crew }
-    ensures cause { operation.cause < 64 }
-{
-    Entry {
-        no: state.sheet.len() as u32 + 1,
-        rev: 1,
-        device,
-        pos: operation.act,
-        second: operation.second.second(),
-        cause: operation.cause.get(),
-        crew: operation.crew,
-        kept: true,
-    }
-}
-
-// The correction by which an entry tells of another operation.
-fn correction(old: Entry, operation: Operation) -> Change
-    ensures change { result ≡ Change.Corrected old
-        (corrected_entry operation.act operation.second operation.cause operation.crew old) }
-    ensures cause { operation.cause < 64 }
-{
-    let new = Entry {
-        rev: old.rev.saturating_add(1),
-        pos: operation.act,
-        second: operation.second.second(),
-        cause: operation.cause.get(),
-        crew: operation.crew,
-        ..old
-    };
-    Change::Corrected { old, new }
-}
-
-// The effect of a change of the sheet.
-fn effect_on_sheet<T: Timeline>(
+/// The effect of a change of the sheet. The error is that memory was refused.
+pub fn effect_on_sheet<T: Timeline>(
     alloc: Global,
     state: &mut State,
     timeline: &T,

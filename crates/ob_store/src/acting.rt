@@ -100,7 +100,9 @@ fn accept<S: Alter, T: Timeline>(
         Ok(moved) => Moves::new(moved),
         Err(_) => return Err(Stop::Fault(Fault::OutOfMemory)),
     };
-    let change = change_of(book, command);
+    // The state is sound, by a clause of this call.
+    let _ = book.accepted();
+    let change = change_of(plan.resolved());
     let act = act_of(book, &plan, change, reference.bytes(), body);
     let no = act.no;
     match commit_act(conn, &act, book.postings()) {

@@ -10,8 +10,8 @@ ghost use Rattle.ob_time.specs.Calendar.{first_second_of, end_second_of};
 
 use crate::change::change_by;
 use crate::sheet::enter;
-use ob_command::{Command, Ends, Moment};
-use ob_net::{Life, MOST_NODES, Name, Net, Pos};
+use ob_command::{Command, NewDevice};
+use ob_net::{Life, MOST_NODES, Name, Net};
 use ob_sheet::Sheet;
 use ob_sweep::Change;
 use ob_time::CivilDays;
@@ -20,10 +20,8 @@ use std::test::Fail;
 // Whether a command asks for a change of the network.
 fn is_of_network(command: &Command) -> bool {
     match command {
-        Command::Bus { .. }
-        | Command::Section { .. }
-        | Command::Device { .. }
-        | Command::Life { .. } => true,
+        Command::Bus { .. } | Command::Section { .. } | Command::Device(_) | Command::Life { .. } =>
+            true,
         _ => false,
     }
 }
@@ -65,29 +63,9 @@ pub fn change_network(net: &mut Net, command: &Command) -> Result<Change, Fail>
     match command {
         Command::Bus { name } => bus_more(net, *name),
         Command::Section { name, feeder } => section_more(net, *name, feeder.get()),
-        Command::Device {
-            name,
-            ends,
-            normal,
-            since,
-            until,
-        } => device_more(net, *name, ends, *normal, life_from(*since, *until)),
-        Command::Life {
-            device,
-            since,
-            until,
-        } => other_life(net, device, life_from(*since, *until)),
+        Command::Device(device) => device_more(net, device),
+        Command::Life { device, life } => other_life(net, device, life.life()),
         _ => Err("no change of the network".into()),
-    }
-}
-
-fn life_from(since: Moment, until: Option<Moment>) -> Life {
-    Life {
-        since: since.second(),
-        until: match until {
-            Some(until) => Some(until.second()),
-            None => None,
-        },
     }
 }
 
@@ -129,13 +107,7 @@ fn section_more(net: &mut Net, name: Name, feeder: u8) -> Result<Change, Fail>
     Ok(Change::Section { feeder })
 }
 
-fn device_more(
-    net: &mut Net,
-    name: Name,
-    ends: &Ends,
-    normal: Pos,
-    life: Life,
-) -> Result<Change, Fail>
+fn device_more(net: &mut Net, device: &NewDevice) -> Result<Change, Fail>
     ensures before { IfOk result (λ c. net_before c net.new.network ≡ net.old.network) }
     ensures after { IfOk result (λ c. IsAfter c net.new.network) }
     ensures applies { (entries : List AnEntry) → IfOk result (λ c. Applies c entries) }
@@ -144,7 +116,8 @@ fn device_more(
 {
     let number = net.devices();
     net.reserve_one()?;
-    net.add_device(name, *ends.a(), *ends.b(), normal, life)?;
+    let (ends, life) = (&device.ends, device.life.life());
+    net.add_device(device.name, *ends.a(), *ends.b(), device.normal, life)?;
     Ok(Change::Joined {
         device: number,
         life,

@@ -6,20 +6,11 @@ ghost use Rattle.ob_sweep.specs.Changed.{changed, net_before, Applies, IsAfter};
 ghost use Rattle.ob_sweep.specs.Timeline.{LieBetween};
 ghost use Rattle.ob_time.specs.Calendar.{first_second_of, end_second_of};
 
-use ob_command::Command;
-use ob_net::{Crew, Net, Pos, Second};
+use ob_command::{Command, Operation};
+use ob_net::{Net, Second};
 use ob_sheet::{Entry, Sheet};
 use ob_sweep::Change;
 use ob_time::CivilDays;
-
-// What is done: a position from a second on, with its cause and crew.
-#[derive(Clone, Copy)]
-struct Act {
-    pos: Pos,
-    second: Second,
-    cause: u8,
-    crew: Crew,
-}
 
 /// The change of a sheet by a command; None where it makes none.
 pub fn change_by(net: &Net, sheet: &Sheet, period: &CivilDays, command: &Command) -> Option<Change>
@@ -35,37 +26,14 @@ pub fn change_by(net: &Net, sheet: &Sheet, period: &CivilDays, command: &Command
         (end_second_of period.now) (changed c sheet.now.entries)) }
 {
     match command {
-        Command::Switch {
-            device,
-            act,
-            second,
-            cause,
-            crew,
-        } => {
-            let act = Act {
-                pos: *act,
-                second: second.second(),
-                cause: cause.get(),
-                crew: *crew,
-            };
-            entered(net, sheet, period, net.device_of(device)?, &act)
+        Command::Switch { device, operation } => {
+            entered(net, sheet, period, net.device_of(device)?, operation)
         }
         Command::Correct {
             entry,
-            act,
-            second,
-            cause,
-            crew,
+            operation,
             ..
-        } => {
-            let act = Act {
-                pos: *act,
-                second: second.second(),
-                cause: cause.get(),
-                crew: *crew,
-            };
-            corrected(net, sheet, period, entry.get(), &act)
-        }
+        } => corrected(net, sheet, period, entry.get(), operation),
         Command::Withdraw { entry, .. } => withdrawn(net, sheet, period, entry.get()),
         _ => None,
     }
@@ -78,7 +46,13 @@ fn is_outside(period: &CivilDays, second: Second) -> bool
     second < period.first_second() || period.end_second() <= second
 }
 
-fn entered(net: &Net, sheet: &Sheet, period: &CivilDays, device: u16, act: &Act) -> Option<Change>
+fn entered(
+    net: &Net,
+    sheet: &Sheet,
+    period: &CivilDays,
+    device: u16,
+    operation: &Operation,
+) -> Option<Change>
     requires device { device < length net.now.network.devices }
     requires devices { NameDevices (length net.now.network.devices) sheet.now.entries }
     requires all { All (λ e. (first_second_of period.now ≤ e.second)
@@ -91,22 +65,29 @@ fn entered(net: &Net, sheet: &Sheet, period: &CivilDays, device: u16, act: &Act)
     ensures between { IfSome result (λ c. LieBetween (first_second_of period.now)
         (end_second_of period.now) (changed c sheet.now.entries)) }
 {
-    if is_outside(period, act.second) {
+    let second = operation.second.second();
+    if is_outside(period, second) {
         return None;
     }
     Some(Change::Entered(Entry {
         no: sheet.len() as u32 + 1,
         rev: 1,
         device,
-        pos: act.pos,
-        second: act.second,
-        cause: act.cause,
-        crew: act.crew,
+        pos: operation.act,
+        second,
+        cause: operation.cause.get(),
+        crew: operation.crew,
         kept: true,
     }))
 }
 
-fn corrected(net: &Net, sheet: &Sheet, period: &CivilDays, no: u32, act: &Act) -> Option<Change>
+fn corrected(
+    net: &Net,
+    sheet: &Sheet,
+    period: &CivilDays,
+    no: u32,
+    operation: &Operation,
+) -> Option<Change>
     requires devices { NameDevices (length net.now.network.devices) sheet.now.entries }
     requires all { All (λ e. (first_second_of period.now ≤ e.second)
         × (e.second < end_second_of period.now)) sheet.now.entries }
@@ -118,18 +99,19 @@ fn corrected(net: &Net, sheet: &Sheet, period: &CivilDays, no: u32, act: &Act) -
     ensures between { IfSome result (λ c. LieBetween (first_second_of period.now)
         (end_second_of period.now) (changed c sheet.now.entries)) }
 {
+    let second = operation.second.second();
     let old = sheet.entry(no)?;
-    if old.no != no || !old.kept || net.devices() <= old.device || is_outside(period, act.second) {
+    if old.no != no || !old.kept || net.devices() <= old.device || is_outside(period, second) {
         return None;
     }
     Some(Change::Corrected {
         old,
         new: Entry {
             rev: old.rev.saturating_add(1),
-            pos: act.pos,
-            second: act.second,
-            cause: act.cause,
-            crew: act.crew,
+            pos: operation.act,
+            second,
+            cause: operation.cause.get(),
+            crew: operation.crew,
             ..old
         },
     })

@@ -9,7 +9,7 @@ use crate::example::planned;
 use crate::feeders::{NODES, net_of};
 use crate::plain::{World, plain_runs};
 use crate::sheet::period_of;
-use ob_command::{Command, Ends, Moment, read_body};
+use ob_command::{Command, Ends, Moment, NewDevice, Service, read_body};
 use ob_net::Pos::{Closed, Opened};
 use ob_net::{Name, Net, Second};
 use ob_sheet::Sheet;
@@ -55,29 +55,30 @@ impl Random {
         }
     }
 
-    // The beginning and the end of a life.
-    fn life(&mut self) -> Option<(Moment, Option<Moment>)> {
+    // A life of a device.
+    fn life(&mut self) -> Option<Service> {
         let since = if self.below(2) == 0 {
             0
         } else {
             self.second(3)
         };
         let until = self.second(3);
-        if self.below(2) == 0 || until <= since {
-            return Some((Moment::new(since)?, None));
-        }
-        Some((Moment::new(since)?, Some(Moment::new(until)?)))
+        let until = if self.below(2) == 0 || until <= since {
+            None
+        } else {
+            Some(Moment::new(until)?)
+        };
+        Some(Service {
+            since: Moment::new(since)?,
+            until,
+        })
     }
 
     // Another life of one of so many devices.
     fn other_life(&mut self, devices: u16) -> Option<Command> {
         let device = Name::read(self.name(devices)?.as_bytes())?;
-        let (since, until) = self.life()?;
-        Some(Command::Life {
-            device,
-            since,
-            until,
-        })
+        let life = self.life()?;
+        Some(Command::Life { device, life })
     }
 
     // A device more, the one with this number, between two of so many nodes.
@@ -85,14 +86,13 @@ impl Random {
         let name = name_at(&DEVICES, u64::from(number))?;
         let ends = self.ends(nodes)?;
         let normal = if self.below(4) == 0 { Opened } else { Closed };
-        let (since, until) = self.life()?;
-        Some(Command::Device {
+        let life = self.life()?;
+        Some(Command::Device(NewDevice {
             name,
             ends,
             normal,
-            since,
-            until,
-        })
+            life,
+        }))
     }
 
     fn ends(&mut self, nodes: u16) -> Option<Ends> {
@@ -143,9 +143,9 @@ fn ask(random: &mut Random, net: &Net, body: &str) -> Option<Command> {
 
 // Keeps the ends of a device more.
 fn keep_ends(net: &Net, ends: &mut Vec<(u16, u16)>, command: &Command) -> Result<(), Fail> {
-    if let Command::Device { ends: names, .. } = command {
-        let a = net.node_of(names.a()).ok_or("a node")?;
-        let b = net.node_of(names.b()).ok_or("a node")?;
+    if let Command::Device(device) = command {
+        let a = net.node_of(device.ends.a()).ok_or("a node")?;
+        let b = net.node_of(device.ends.b()).ok_or("a node")?;
         ends.push((a, b))?;
     }
     Ok(())

@@ -1,6 +1,6 @@
 //! The roll: customers by number, why one is refused, seconds of service, and equal services.
 use ob_cust::{Block, Customer, Roll, SectionBlock};
-use ob_net::{LAST_SECOND, Refusal, Second};
+use ob_net::{LAST_SECOND, Refusal, Second, Stop};
 use std::alloc::Global;
 use std::process::Abort;
 use std::test::Fail;
@@ -104,6 +104,35 @@ fn revises_the_service_of_one_customer(rt: HostRuntime) -> Result<(), Fail> {
         ],
     );
     has_customers(&rt, &roll, &[three, service(5, 1, 10, Some(11))]);
+    Ok(())
+}
+
+// Connects a customer that isn't refused, and ends its service at a second.
+fn add_and_serve(
+    rt: &impl Abort,
+    roll: &mut Roll,
+    customer: Customer,
+    until: Second,
+) -> Result<(), Stop> {
+    roll.reserve_one()?;
+    if let Some(refusal) = roll.connect_refusal(&customer) {
+        return Err(Stop::Refused(refusal));
+    }
+    roll.add(customer);
+    let until = Some(until);
+    let old = roll.customer_for(customer.no, customer.since, until)?;
+    assert!(rt; old.no == customer.no && old.since == customer.since);
+    roll.serve(old, Customer { until, ..old });
+    Ok(())
+}
+
+#[test]
+fn adds_a_customer_and_ends_its_service(rt: HostRuntime) -> Result<(), Fail> {
+    let five = service(5, 2, 10, None);
+    let mut roll = roll_of(rt.alloc(), &[five])?;
+    add_and_serve(&rt, &mut roll, service(3, 1, 4, None), 9)?;
+    has_customers(&rt, &roll, &[service(3, 1, 4, Some(9)), five]);
+    assert!(rt; roll.served_seconds(1, 0, 20) == 5);
     Ok(())
 }
 

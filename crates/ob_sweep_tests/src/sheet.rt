@@ -56,37 +56,34 @@ pub fn enter(
         × (e.second < end_second_of period.now)) sheet.new.entries) }
 {
     match command {
-        Command::Switch {
-            device,
-            act,
-            second,
-            cause,
-            crew,
-        } => {
+        Command::Switch { device, operation } => {
             let device = net.device_of(device).ok_or("a device")?;
-            let second = inside(period, second.second())?;
+            let second = inside(period, operation.second.second())?;
             if sheet.is_full() {
                 return Err("no entry".into());
             }
             sheet.reserve_one()?;
-            sheet.enter(device, *act, second, cause.get(), *crew);
+            sheet.enter(
+                device,
+                operation.act,
+                second,
+                operation.cause.get(),
+                operation.crew,
+            );
         }
         Command::Correct {
             entry,
             revision,
-            act,
-            second,
-            cause,
-            crew,
+            operation,
         } => {
-            let second = inside(period, second.second())?;
+            let second = inside(period, operation.second.second())?;
             sheet.correct(
                 entry.get(),
                 revision.get(),
-                *act,
+                operation.act,
                 second,
-                cause.get(),
-                *crew,
+                operation.cause.get(),
+                operation.crew,
             )?;
         }
         Command::Withdraw { entry, revision } => sheet.withdraw(entry.get(), revision.get())?,

@@ -232,6 +232,42 @@ fn revisions_are_refused(rt: HostRuntime) -> Result<(), Fail> {
     Ok(())
 }
 
+// Enters a closing as the fifth entry, and has an earlier one in its place: the entry as it is then.
+fn add_and_replace(rt: &impl Abort, sheet: &mut Sheet, crew: Crew) -> Result<Entry, Fail> {
+    sheet.reserve_one()?;
+    assert!(rt; sheet.len() == 4);
+    let entry = Entry {
+        no: 5,
+        rev: 1,
+        device: 2,
+        pos: Closed,
+        second: 250,
+        cause: 7,
+        crew,
+        kept: true,
+    };
+    sheet.add(entry);
+    is_in_order(rt, sheet, &[3, 1, 4, 5, 2]);
+    let old = sheet.kept_entry(5, 1)?;
+    assert!(rt; old.no == 5 && old == entry);
+    let new = Entry {
+        rev: 2,
+        second: 90,
+        ..old
+    };
+    sheet.replace(old, new);
+    Ok(new)
+}
+
+#[test]
+fn an_entry_is_put_in_place_of_another(rt: HostRuntime) -> Result<(), Fail> {
+    let (_, mut sheet) = switched(rt.alloc(), "")?;
+    let new = add_and_replace(&rt, &mut sheet, crew()?)?;
+    is_in_order(&rt, &sheet, &[5, 3, 1, 4, 2]);
+    is_entry(&rt, &sheet, new);
+    Ok(())
+}
+
 fn fill(rt: &impl Abort, sheet: &mut Sheet, crew: Crew) -> Result<(), Fail> {
     for second in 0..50_000 {
         sheet.reserve_one()?;

@@ -5,11 +5,10 @@ use Rattle.std.specs.Fmt.{digits}
 use Rattle.std.proofs.lemmas.List.{append_cancel_right}
 use Rattle.std.proofs.lemmas.Bool.{and_parts}
 use Rattle.std.proofs.lemmas.Bool.Decides.{nat_tests}
-use Rattle.ob_base.specs.declared.Pos.{Pos}
-use Rattle.ob_command.specs.Ranges.{EndNames}
-use Rattle.ob_command.specs.Commands.{body_text, normal_text, BodiesDiffer, IsCommand}
+use Rattle.ob_command.specs.Commands.{body_text, normal_text, until_text, BodiesDiffer, IsCommand}
 use Rattle.ob_command.specs.declared.command.Command.{Command}
 use Rattle.ob_command.specs.declared.command.Command.TheVariants.{Cause, Bus, Section, Device, Life, Connect, Revise, Switch, Correct, Withdraw, Mark, Unmark}
+use Rattle.ob_command.specs.declared.device.NewDevice.{NewDevice}
 use Rattle.ob_upgrade.specs.Laws.{BodiesGrow, OldBodiesDiffer}
 use Rattle.ob_upgrade.specs.Old.{is_device, is_old, old_body_text}
 use Rattle.ob_upgrade.specs.Reading.{is_of_device, is_old_device, is_old_other, kept_if}
@@ -26,11 +25,6 @@ zero_text : decimal 0 ≡ codes "0"
 unfolding digits
 zero_text = refl
 
-whole_text : (name : List ℕ) (ends : EndNames) (normal : Pos) → body_text (Device name ends normal 0 None) ≡ old_body_text (Device name ends normal 0 None) ++ tail
-whole_text name ends normal =
-    two_more (codes "device") (name ∷ ends.a ∷ ends.b ∷ normal_text normal ∷ []) (decimal 0) (codes "-")
-    ∙ ap (λ z. old_body_text (Device name ends normal 0 None) ++ (32 ∷ z ++ 32 ∷ codes "-")) zero_text
-
 is_zero : (n : ℕ) → (n == 0) ≡ true → n ≡ 0
 is_zero n h = grind (arith, nat_tests)
 
@@ -39,46 +33,48 @@ is_none_so None h = refl
 is_none_so (Some s) h = absurd (true≢false (sym h))
 
 -- a device of version 1 lives always
-pub old_device : (name : List ℕ) (ends : EndNames) (normal : Pos) (since : ℕ) (until : Option ℕ) → is_old (Device name ends normal since until) ≡ true
-    → (since ≡ 0) × (until ≡ None)
-old_device name ends normal since until h =
-    let parts = and_parts (since == 0) (is_none until) h in
-    (is_zero since parts.0, is_none_so until parts.1)
+pub old_device : (d : NewDevice) → is_old (Device d) ≡ true → (d.life.since ≡ 0) × (d.life.until ≡ None)
+old_device d h =
+    let parts = and_parts (d.life.since == 0) (is_none d.life.until) h in
+    (is_zero d.life.since parts.0, is_none_so d.life.until parts.1)
 
-device_text : (name : List ℕ) (ends : EndNames) (normal : Pos) (since : ℕ) (until : Option ℕ) → is_old (Device name ends normal since until) ≡ true
-    → body_text (Device name ends normal since until) ≡ old_body_text (Device name ends normal since until) ++ tail
-device_text name ends normal since until h =
-    let whole = old_device name ends normal since until h in
-    ap (λ n. body_text (Device name ends normal n until)) whole.0 ∙ ap (λ u. body_text (Device name ends normal 0 u)) whole.1 ∙ whole_text name ends normal
+device_text : (d : NewDevice) → is_old (Device d) ≡ true → body_text (Device d) ≡ old_body_text (Device d) ++ tail
+device_text d h =
+    let whole = old_device d h in
+    let old = old_body_text (Device d) in
+    two_more (codes "device") (d.name ∷ d.ends.a ∷ d.ends.b ∷ normal_text d.normal ∷ []) (decimal d.life.since) (until_text d.life.until)
+    ∙ ap (λ (n : ℕ). old ++ (32 ∷ decimal n ++ 32 ∷ until_text d.life.until)) whole.0
+    ∙ ap (λ (u : Option ℕ). old ++ (32 ∷ decimal 0 ++ 32 ∷ until_text u)) whole.1
+    ∙ ap (λ (z : List ℕ). old ++ (32 ∷ z ++ 32 ∷ codes "-")) zero_text
 
 not_false : {X : Type 0} (b : Bool) → b ≡ true → b ≡ false → X
 not_false b is not_so = absurd (true≢false (sym is ∙ not_so))
 
 pub bodies_grow : BodiesGrow
-bodies_grow (Device name ends normal since until) h = device_text name ends normal since until h
-bodies_grow (Life device since until) h = not_false false h refl
+bodies_grow (Device d) h = device_text d h
+bodies_grow (Life device life) h = not_false false h refl
 bodies_grow (Cause code name) h = sym (append-nil (body_text (Cause code name)))
 bodies_grow (Bus name) h = sym (append-nil (body_text (Bus name)))
 bodies_grow (Section name feeder) h = sym (append-nil (body_text (Section name feeder)))
-bodies_grow (Connect customer section since until) h = sym (append-nil (body_text (Connect customer section since until)))
-bodies_grow (Revise customer since until) h = sym (append-nil (body_text (Revise customer since until)))
-bodies_grow (Switch device act second cause crew) h = sym (append-nil (body_text (Switch device act second cause crew)))
-bodies_grow (Correct entry revision act second cause crew) h = sym (append-nil (body_text (Correct entry revision act second cause crew)))
+bodies_grow (Connect customer section service) h = sym (append-nil (body_text (Connect customer section service)))
+bodies_grow (Revise customer service) h = sym (append-nil (body_text (Revise customer service)))
+bodies_grow (Switch device o) h = sym (append-nil (body_text (Switch device o)))
+bodies_grow (Correct entry revision o) h = sym (append-nil (body_text (Correct entry revision o)))
 bodies_grow (Withdraw entry revision) h = sym (append-nil (body_text (Withdraw entry revision)))
 bodies_grow (Mark date engineer) h = sym (append-nil (body_text (Mark date engineer)))
 bodies_grow (Unmark date engineer) h = sym (append-nil (body_text (Unmark date engineer)))
 
 -- only a device's text begins as one
 pub begins : (c : Command) → is_old c ≡ true → is_of_device (old_body_text c) ≡ is_device c
-begins (Device name ends normal since until) h = refl
-begins (Life device since until) h = not_false false h refl
+begins (Device d) h = refl
+begins (Life device life) h = not_false false h refl
 begins (Cause code name) h = refl
 begins (Bus name) h = refl
 begins (Section name feeder) h = refl
-begins (Connect customer section since until) h = refl
-begins (Revise customer since until) h = refl
-begins (Switch device act second cause crew) h = refl
-begins (Correct entry revision act second cause crew) h = refl
+begins (Connect customer section service) h = refl
+begins (Revise customer service) h = refl
+begins (Switch device o) h = refl
+begins (Correct entry revision o) h = refl
 begins (Withdraw entry revision) h = refl
 begins (Mark date engineer) h = refl
 begins (Unmark date engineer) h = refl

@@ -1,19 +1,24 @@
 -- The words of version 1 on plain cases.
-use Rattle.std.proofs.Common.{◌≡◌, refl, [], ◌∷◌, false, true, None, Some, codes}
+use Rattle.std.proofs.Common.{◌≡◌, refl, ℕ, [], ◌∷◌, false, true, Option, None, Some, codes}
 use Rattle.ob_base.specs.declared.Pos.TheVariants.{Closed}
 use Rattle.ob_command.specs.Ranges.{end_names}
+use Rattle.ob_command.specs.declared.command.Command.{Command}
 use Rattle.ob_command.specs.declared.command.Command.TheVariants.{Bus, Device}
 use Rattle.ob_sheet.specs.declared.Entry.{Entry}
 use Rattle.ob_upgrade.specs.Old.{fits_old, is_old, old_body_text}
 
-device_text : old_body_text (Device (codes "X1") (end_names (codes "BUS-A") (codes "S1")) Closed 0 None) ≡ codes "device X1 BUS-A S1 closed"
+-- a device with this life
+abbrev device : ℕ → Option ℕ → Command
+device since until = Device (record { name = codes "X1"; ends = end_names (codes "BUS-A") (codes "S1"); normal = Closed; life = record { since = since; until = until } })
+
+device_text : old_body_text (device 0 None) ≡ codes "device X1 BUS-A S1 closed"
 device_text = refl
 
 -- a device that joins later is none of version 1, nor is one that leaves
-joins_later : is_old (Device (codes "X1") (end_names (codes "BUS-A") (codes "S1")) Closed 1704072200 None) ≡ false
+joins_later : is_old (device 1704072200 None) ≡ false
 joins_later = refl
 
-leaves : is_old (Device (codes "X1") (end_names (codes "BUS-A") (codes "S1")) Closed 0 (Some 1704072200)) ≡ false
+leaves : is_old (device 0 (Some 1704072200)) ≡ false
 leaves = refl
 
 -- a bus before the first entry, and behind it, whether that was withdrawn or not

@@ -3,12 +3,12 @@ use Rattle.std.proofs.Common.{◌≡◌, ◌∙◌, true≢false, sym, ap, subst
 use Rattle.std.specs.Option.{option_map_or, option_and_then}
 use Rattle.std.proofs.lemmas.Bool.{and_parts, le-leb}
 use Rattle.std.proofs.lemmas.List.Elements.{All-append, All-cons, All-head, All-tail}
-use Rattle.ob_base.specs.Life.{is_alive, life, whole_life}
+use Rattle.ob_base.specs.Life.{ends_later, is_alive, life, whole_life}
 use Rattle.ob_base.specs.Seconds.{seconds, intervals}
 use Rattle.ob_base.specs.declared.Pos.{Pos}
 use Rattle.ob_base.specs.declared.Pos.TheVariants.{Opened}
 use Rattle.ob_base.specs.declared.stop.Refusal.{Refusal}
-use Rattle.ob_base.specs.declared.stop.Refusal.TheVariants.{UnknownName, NameTaken, Full}
+use Rattle.ob_base.specs.declared.stop.Refusal.TheVariants.{UnknownName, NameTaken, Full, BadLife}
 use Rattle.ob_net.specs.Network.{Network, AreWhole, as_of, home_feeder, node_refusal, node_of, device_of}
 use Rattle.ob_net.specs.Walk.{is_supplied}
 use Rattle.ob_net.specs.declared.net.Device.{Device as OneDevice}
@@ -36,7 +36,7 @@ use Rattle.ob_state.specs.State.{BookState}
 use Rattle.ob_book.specs.Views.{counts_of_book}
 use Rattle.ob_upgrade.proofs.Bodies.{old_device}
 use Rattle.ob_upgrade.specs.Laws.{AcceptedButForParts, AcceptedByBoth, LiveAlways, SameFigures}
-use Rattle.ob_upgrade.specs.Old.{fits_old, is_old, is_part, is_sealed, old_accepts, old_next_all, old_passes}
+use Rattle.ob_upgrade.specs.Old.{fits_old, is_old, is_part, is_sealed, old_accepts, old_next_all}
 use Rattle.ob_upgrade.specs.OldFigures.{old_amount, old_counts_of_book, old_is_supplied_under, old_moves, old_positions}
 
 -- ---- the definitions once more, over a test that tells which node is supplied under a set of entries taken at a second
@@ -103,54 +103,50 @@ part_same false (Some r) f = refl
 part_same false None None = refl
 part_same false None (Some r) = refl
 
--- a device without an end of its life
-device_same : (z s u t f : Bool) (o : Option Refusal)
-    → ((z && true) && (not s && is_none (if u then Some UnknownName else if t then Some NameTaken else if f then Some (Full 2048) else None)) && is_none o)
-    ≡ (((z && true) && not (true && s)) && is_none (first ((if u then Some UnknownName else if t then Some NameTaken else if f then Some (Full 2048) else None) ∷ o ∷ [])))
-device_same false s u t f o = refl
-device_same true true u t f o = refl
-device_same true false true t f o = refl
-device_same true false false true f o = refl
-device_same true false false false true o = refl
-device_same true false false false false None = refl
-device_same true false false false false (Some r) = refl
-
--- and with one
-never_same : (z p q r s : Bool) → ((z && false) && p && q) ≡ (((z && false) && r) && s)
-never_same true p q r s = refl
-never_same false p q r s = refl
+-- a device, whose life without an end is never refused
+device_same : (z : Bool) (since : ℕ) (until : Option ℕ) (s u t f : Bool) (o : Option Refusal)
+    → ((z && is_none until) && (not s && is_none (if u then Some UnknownName else if t then Some NameTaken else if f then Some (Full 2048) else None)) && is_none o)
+    ≡ (((z && is_none until) && not (true && s))
+    && is_none (first ((if u then Some UnknownName else if t then Some NameTaken else if not (ends_later (life since until)) then Some BadLife else if f then Some (Full 2048) else None) ∷ o ∷ [])))
+device_same false since until s u t f o = refl
+device_same true since (Some end) s u t f o = refl
+device_same true since None true u t f o = refl
+device_same true since None false true t f o = refl
+device_same true since None false false true f o = refl
+device_same true since None false false false true o = refl
+device_same true since None false false false false None = refl
+device_same true since None false false false false (Some r) = refl
 
 pub accepted_but_for_parts : AcceptedButForParts
 accepted_but_for_parts b (Bus name) = part_same (is_sealed b.entries) (node_refusal b.network name) (if_full b)
 accepted_but_for_parts b (Section name feeder) = part_same (is_sealed b.entries) (node_refusal b.network name) (if_full b)
-accepted_but_for_parts b (Device name ends normal since None) =
-    device_same (since == 0) (is_sealed b.entries) (is_none (node_of b.network ends.a) || is_none (node_of b.network ends.b)) (is_some (device_of b.network name)) (length b.network.devices == 2048) (if_full b)
-accepted_but_for_parts b (Device name ends normal since (Some until)) =
-    never_same (since == 0) (old_passes b (Device name ends normal since (Some until))) (is_none (if_full b)) (not (is_sealed b.entries)) (is_none (refusal b (Device name ends normal since (Some until))))
-accepted_but_for_parts b (LifeOf device since until) = refl
+accepted_but_for_parts b (Device d) =
+    device_same (d.life.since == 0) d.life.since d.life.until (is_sealed b.entries)
+    (is_none (node_of b.network d.ends.a) || is_none (node_of b.network d.ends.b)) (is_some (device_of b.network d.name)) (length b.network.devices == 2048) (if_full b)
+accepted_but_for_parts b (LifeOf device service) = refl
 accepted_but_for_parts b (Cause code name) = first_append (refusals b (Cause code name)) (if_full b)
-accepted_but_for_parts b (Connect customer section since until) = first_append (refusals b (Connect customer section since until)) (if_full b)
-accepted_but_for_parts b (Revise customer since until) = first_append (refusals b (Revise customer since until)) (if_full b)
-accepted_but_for_parts b (Switch device act second cause crew) = first_append (refusals b (Switch device act second cause crew)) (if_full b)
-accepted_but_for_parts b (Correct entry revision act second cause crew) = first_append (refusals b (Correct entry revision act second cause crew)) (if_full b)
+accepted_but_for_parts b (Connect customer section service) = first_append (refusals b (Connect customer section service)) (if_full b)
+accepted_but_for_parts b (Revise customer service) = first_append (refusals b (Revise customer service)) (if_full b)
+accepted_but_for_parts b (Switch device o) = first_append (refusals b (Switch device o)) (if_full b)
+accepted_but_for_parts b (Correct entry revision o) = first_append (refusals b (Correct entry revision o)) (if_full b)
 accepted_but_for_parts b (Withdraw entry revision) = first_append (refusals b (Withdraw entry revision)) (if_full b)
 accepted_but_for_parts b (Mark date engineer) = first_append (refusals b (Mark date engineer)) (if_full b)
 accepted_but_for_parts b (Unmark date engineer) = first_append (refusals b (Unmark date engineer)) (if_full b)
 
 -- ---- lists of commands
 whole_next : (b : BookState) (x : Command) → LiveAlways b → is_old x ≡ true → LiveAlways (next b x)
-whole_next b (Device name ends normal since until) h old =
-    let whole = old_device name ends normal since until old in
-    let lives : life since until ≡ whole_life = ap (λ s. life s until) whole.0 ∙ ap (λ u. life 0 u) whole.1 in
+whole_next b (Device new) h old =
+    let whole = old_device new old in
+    let lives : life new.life.since new.life.until ≡ whole_life = ap (λ s. life s new.life.until) whole.0 ∙ ap (λ u. life 0 u) whole.1 in
     All-append (λ d. d.life ≡ whole_life) b.network.devices _ h (All-cons (λ d. d.life ≡ whole_life) _ [] lives (λ k d l. absurd (omega (arith, l))))
-whole_next b (LifeOf device since until) h old = absurd (true≢false (sym old))
+whole_next b (LifeOf device service) h old = absurd (true≢false (sym old))
 whole_next b (Bus name) h old = h
 whole_next b (Section name feeder) h old = h
 whole_next b (Cause code name) h old = h
-whole_next b (Connect customer section since until) h old = h
-whole_next b (Revise customer since until) h old = h
-whole_next b (Switch device act second cause crew) h old = h
-whole_next b (Correct entry revision act second cause crew) h old = h
+whole_next b (Connect customer section service) h old = h
+whole_next b (Revise customer service) h old = h
+whole_next b (Switch device o) h old = h
+whole_next b (Correct entry revision o) h old = h
 whole_next b (Withdraw entry revision) h old = h
 whole_next b (Mark date engineer) h old = h
 whole_next b (Unmark date engineer) h old = h

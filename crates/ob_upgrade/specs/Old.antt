@@ -15,13 +15,13 @@ use Rattle.ob_book.specs.Acts.{ActState, Referenced, number_of, take_on}
 
 -- a device had no life, and no life could be set: a whole one stands for it
 abbrev pub is_old : Command → Bool
-is_old (Device name ends normal since until) = since == 0 && is_none until
-is_old (Life device since until) = false
+is_old (Device d) = d.life.since == 0 && is_none d.life.until
+is_old (Life device life) = false
 is_old command = true
 
 -- the words of its body text: a device's without its life
 abbrev pub old_words : Command → List (List ℕ)
-old_words (Device name ends normal since until) = codes "device" ∷ name ∷ ends.a ∷ ends.b ∷ normal_text normal ∷ []
+old_words (Device d) = codes "device" ∷ d.name ∷ d.ends.a ∷ d.ends.b ∷ normal_text d.normal ∷ []
 old_words command = words command
 
 -- the words, joined by one space
@@ -30,14 +30,14 @@ old_body_text command = join_with_byte 32 (old_words command)
 
 -- a device is added
 abbrev pub is_device : Command → Bool
-is_device (Device name ends normal since until) = true
+is_device (Device d) = true
 is_device command = false
 
 -- the command adds a part to the network
 abbrev pub is_part : Command → Bool
 is_part (Bus name) = true
 is_part (Section name feeder) = true
-is_part (Device name ends normal since until) = true
+is_part (Device d) = true
 is_part command = false
 
 -- the network took no more parts once the sheet held an entry, kept or withdrawn
@@ -59,8 +59,7 @@ old_device_refusal net name a b =
 abbrev pub old_passes : BookState → Command → Bool
 old_passes b (Bus name) = not (is_sealed b.entries) && is_none (node_refusal b.network name)
 old_passes b (Section name feeder) = not (is_sealed b.entries) && is_none (node_refusal b.network name)
-old_passes b (Device name ends normal since until) =
-    not (is_sealed b.entries) && is_none (old_device_refusal b.network name ends.a ends.b)
+old_passes b (Device d) = not (is_sealed b.entries) && is_none (old_device_refusal b.network d.name d.ends.a d.ends.b)
 old_passes b command = is_none (first (refusals b command))
 
 -- version 1 accepted the command

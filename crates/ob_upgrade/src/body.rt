@@ -63,7 +63,7 @@ fn other_alone(found: Option<Command>) -> Option<Command>
 fn is_device(command: &Command) -> bool
     ensures { result ≡ is_device command.now }
 {
-    matches!(command, Command::Device { .. })
+    matches!(command, Command::Device(_))
 }
 
 fn is_of_device(text: &[u8]) -> bool

@@ -25,7 +25,7 @@ pub(crate) fn is_old(command: &Command) -> bool
     ensures { result ≡ is_old command.now }
 {
     match command {
-        Command::Device { since, until, .. } => since.second() == 0 && until.is_none(),
+        Command::Device(device) => device.life.since.second() == 0 && device.life.until.is_none(),
         Command::Life { .. } => false,
         _ => true,
     }
@@ -37,6 +37,6 @@ fn is_part(command: &Command) -> bool
 {
     matches!(
         command,
-        Command::Bus { .. } | Command::Section { .. } | Command::Device { .. }
+        Command::Bus { .. } | Command::Section { .. } | Command::Device(_)
     )
 }

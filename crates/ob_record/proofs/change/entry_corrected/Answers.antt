@@ -2,7 +2,6 @@ use Rattle.ob_record.proofs.Leads.{lead_correction}
 use Rattle.ob_record.proofs.change.entry_corrected.Goals as goal
 
 pub returns : goal.returns
-returns g c =
-    rw (c.get.ensures.value, c.second.ensures.value, c.from.ensures, c.get-2.ensures.value, ← c.bytes.ensures.value)
-    (lead_correction c.args.book.now.state c.args.entry c.args.revision c.args.act c.args.second c.args.cause c.bytes.result c.revision_after.result c.accepted.ensures.sound c.second.ensures.range c.revision_after.ensures
-    (rw c.bytes.ensures.value c.bytes.ensures.identifier) c.requires.accepted)
+returns c b sound was takes =
+    rw c.from.ensures
+    (lead_correction b was c.args.new.now c.bytes.result sound takes c.bytes.ensures.value (rw c.bytes.ensures.value c.bytes.ensures.identifier))

@@ -1,14 +1,5 @@
-use Rattle.std.proofs.Common.{◌≡◌, Some}
-use Rattle.jiff.specs.Types.{Date}
-use Rattle.jiff.specs.Words.{epoch_day}
-use Rattle.ob_time.specs.Calendar.{Calendar, day_on}
-use Rattle.ob_record.proofs.Accepts.{found_in}
 use Rattle.ob_record.proofs.Leads.{lead_unmark}
 use Rattle.ob_record.proofs.change.mark_dropped.Goals as goal
 
 pub returns : goal.returns
-returns g c =
-    let b = c.args.book.now.state in
-    let on : day_on b.period (epoch_day c.args.date) ≡ Some c.from.result =
-    found_in (λ (p : Calendar) (d : Date). day_on p (epoch_day d)) b.period c.args.date _ _ _ _ _ c.period.ensures c.date.ensures.value c.day_index.ensures.index c.in-Some.is c.from.ensures in
-    lead_unmark b c.args.date c.args.engineer.now c.from.result on c.requires.accepted
+returns c b sound takes = rw c.from.ensures (lead_unmark b c.args.day takes)

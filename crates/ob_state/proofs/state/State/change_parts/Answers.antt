@@ -1,4 +1,7 @@
 use Rattle.ob_state.proofs.state.State.change_parts.Goals as goal
 
-pub returns-in-Connect-clause-state : goal.returns-in-Connect-clause-state
-returns-in-Connect-clause-state c = rw c.in-Connect.is c.connect.ensures.state
+pub returns-in-Corrected-clause-state : goal.returns-in-Corrected-clause-state
+returns-in-Corrected-clause-state c = rw c.in-Corrected.is c.correct.ensures.state
+
+pub returns-in-Withdrawn-clause-state : goal.returns-in-Withdrawn-clause-state
+returns-in-Withdrawn-clause-state c = rw c.in-Withdrawn.is c.withdraw.ensures.state

@@ -6,5 +6,5 @@ use Rattle.ob_state.proofs.state.State.set_life.Goals as goal
 
 pub invariant_of-self : goal.invariant_of-self
 invariant_of-self c =
-    let is : c.set_life.new.self.network ≡ with_life c.self.inside.net.network c.args.device c.args.life = search rules in
+    let is : c.give_life.new.self.network ≡ with_life c.self.inside.net.network c.args.device c.args.life = search rules in
     rw is (lived_is (the_view c.self.inside).state c.args.device c.args.life c.self.invariant)
