@@ -32,6 +32,7 @@ pub struct Views {
 }
 
 /// Takes no moved amount.
+#[derive(Drop)]
 struct NoRoom;
 
 impl MoveSink for NoRoom {
