@@ -4,12 +4,15 @@
 others. So the trunk, the crates that many others stand on, is proved first, by a call of its own in which a proof may have
 several processors. Its upper part, over the database, is one long chain that keeps one or two processors at work. What nothing in
 it waits for and has no database goes beside that part, behind it in what the processors have to give. What passes is kept, and
-the call of the whole begins from there. What fails is told by that one.
+the call of the whole begins from there. What fails is told by that one. The trunk's must-fail edits are tried where it leaves
+lanes idle; what goes beside tries none, or both would try the same.
 """
 
 from __future__ import annotations
 
 import re
+import shutil
+import tempfile
 import time
 from concurrent.futures import ThreadPoolExecutor
 from dataclasses import dataclass
@@ -59,9 +62,16 @@ class Waited:
 
 
 def prove_beside(place: Path, names: tuple[str, ...], lanes: int, waited: Waited) -> Ran:
-    """Proves what goes beside the trunk, once what it stands on is proved."""
+    """Proves what goes beside the trunk, once what it stands on is proved, over a copy without edits."""
     waited.over.wait()
-    return run([*BEHIND, "rt", "ci", *names], place, {"RT_JOBS": str(lanes)}) if names and not waited.left else NOTHING
+    if not names or waited.left:
+        return NOTHING
+    with tempfile.TemporaryDirectory(prefix="outagebook-beside-") as folder:
+        tree = Path(folder) / "tree"
+        shutil.copytree(
+            place, tree, symlinks=True, ignore=shutil.ignore_patterns("must-fail", "out", ".git", "bench-data")
+        )
+        return run([*BEHIND, "rt", "ci", *names], tree, {"RT_JOBS": str(lanes)})
 
 
 def prove_ahead(place: Path, lanes: int) -> Ran:

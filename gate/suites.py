@@ -19,7 +19,13 @@ OVER_ORACLE = (  # programs over the oracle's modules
 )
 WAREHOUSE_PAGE = "docs/WAREHOUSE.md"  # its blocks want a PostgreSQL server
 TYPED = ("oracle", "benches", "gate", "tools", "screen")
-SHARES = ("[a-d]", "[e-n]", "o", "[p-z]")  # of the tools' tests, by the first letter of their subject: side by side
+SHARES = (
+    "[ab]",
+    "[cd]",
+    "[e-n]",
+    "o",
+    "[p-z]",
+)  # of the tools' tests, by the first letter of their subject: side by side
 RAN = re.compile(r"^Ran ([0-9]+) tests? in ", re.MULTILINE)
 ENDED = re.compile(r"^(?:OK|FAILED)(?: \((.*)\))?$", re.MULTILINE)
 SKIPPED = re.compile(r"^(.*) \.\.\. skipped (.*)$", re.MULTILINE)

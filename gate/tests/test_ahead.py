@@ -31,6 +31,8 @@ class Order(unittest.TestCase):
         self.addCleanup(folder.cleanup)
         self.place = Path(folder.name)
         (self.place / "crates.txt").write_text(CRATES, encoding="ascii")
+        (self.place / "crates/low/must-fail").mkdir(parents=True)
+        (self.place / "crates/low/must-fail/turned.edit").touch()
         self.calls: list[tuple[list[str], str | None]] = []
         self.told = ["low proved", "middle is kept: an earlier run proved the same", "high NOT PROVED"]
 
@@ -43,7 +45,10 @@ class Order(unittest.TestCase):
         heard: Callable[[str], None] = unheard,
     ) -> Ran:
         """Stands in for a command: it notes the words and the lanes, and tells of crates."""
-        self.assertEqual(folder, self.place)
+        is_beside = words[0] == ahead.BEHIND[0]
+        self.assertEqual(folder == self.place, not is_beside)
+        self.assertEqual((Path(folder) / "crates/low/must-fail/turned.edit").exists(), not is_beside)
+        self.assertEqual((Path(folder) / "crates.txt").read_text(encoding="ascii"), CRATES)
         self.calls.append(([*map(str, words)], (more or {}).get("RT_JOBS")))
         for line in self.told:
             heard(f"rt: {line}\n")
