@@ -3,10 +3,11 @@
     python3 gate/edits.py plan [--all]         # crate by crate, why its edits are tried or not
     python3 gate/edits.py record [NAME ..]     # runs `rt ci` over these crates (those whose line doesn't hold), and writes their lines
 
-gate/edits.txt has a line for each crate that has edits: its name, a sum of all that their checks read (sums.py), and how
+gate/edits.txt has lines for each crate that has edits: its name, a sum of all that their checks read (sums.py), and how
 many were refused. A line is written by a run that has just seen `rt ci` refuse each of them, and by nobody else. It
-holds as long as the sum is that of the files. Each state of the tree has a turn, one crate in eight of those whose
-lines hold: their edits are tried all the same, so that a line that was never true doesn't stand for long.
+holds as long as the sum is that of the files and of the toolchain. The last two lines of a crate stay, so that of two
+toolchains that take turns each finds its own. Each state of the tree has a turn, one crate in eight of those of which
+a line holds: their edits are tried all the same, so that a line that was never true doesn't stand for long.
 """
 
 from __future__ import annotations
@@ -14,21 +15,23 @@ from __future__ import annotations
 import argparse
 import subprocess
 import sys
+from collections import defaultdict
 from dataclasses import dataclass
 from enum import Enum
 from pathlib import Path
 
 from crates import edits_of
 from parts import run
-from rt_output import tried_edits, unrefused
+from rt_output import counts_of, tried_edits, unrefused
 from sums import edit_sums
 from tree import sum_of_tree
 
 ROOT = Path(__file__).resolve().parent.parent
 TURNS = 8
+LINES = 2  # of a crate, the newest first
 HEADER = """\
 # Crate by crate: the sum of all that its must-fail edits' checks read when `rt ci` was last seen to refuse each of them,
-# and how many there were. Written by `sh .ci/run --record` and gate/edits.py, never by hand: gate/README.md.
+# and how many there were; the time before it too. Written by `sh .ci/run --record` and gate/edits.py, never by hand: gate/README.md.
 """
 
 
@@ -56,7 +59,7 @@ class Planned:
     name: str
     edits: tuple[str, ...]
     why: Why
-    is_changed: bool  # its line isn't there, or has another sum
+    is_changed: bool  # no line of it has this sum
 
     @property
     def is_tried(self) -> bool:
@@ -68,17 +71,21 @@ def kit_of(root: Path) -> str:
     return subprocess.run(["rt", "version"], cwd=root, check=True, capture_output=True, text=True).stdout.strip()
 
 
-def read_lines(root: Path) -> dict[str, Line]:
+def read_lines(root: Path) -> dict[str, list[Line]]:
     """The lines of gate/edits.txt by crate; none where there is no such file."""
     file = root / "gate/edits.txt"
     rows = (row.split() for row in (file.read_text(encoding="ascii") if file.exists() else "").splitlines())
-    return {row[0]: Line(row[1], int(row[2])) for row in rows if row and row[0] != "#"}
+    lines: dict[str, list[Line]] = defaultdict(list)
+    for row in rows:
+        if row and row[0] != "#":
+            lines[row[0]].append(Line(row[1], int(row[2])))
+    return lines
 
 
-def write_lines(root: Path, lines: dict[str, Line]) -> None:
+def write_lines(root: Path, lines: dict[str, list[Line]]) -> None:
     """Writes gate/edits.txt anew."""
-    rows = "".join(f"{name} {line.sum} {line.refused}\n" for name, line in sorted(lines.items()))
-    (root / "gate/edits.txt").write_text(HEADER + rows, encoding="ascii")
+    rows = (f"{name} {line.sum} {line.refused}\n" for name in sorted(lines) for line in lines[name][:LINES])
+    (root / "gate/edits.txt").write_text(HEADER + "".join(rows), encoding="ascii")
 
 
 def turn_of(root: Path) -> int:
@@ -92,7 +99,7 @@ def plan(root: Path, sums: dict[str, str], turn: int, tries_all: bool = False) -
     found, holding = [], 0
     for name, found_sum in sums.items():
         edits = tuple(edits_of(root, name))
-        holds = lines.get(name) == Line(found_sum, len(edits))
+        holds = Line(found_sum, len(edits)) in lines.get(name, [])
         is_turn = holds and holding % TURNS == turn
         holding += holds
         why = Why.ASKED if tries_all else Why.CHANGED if not holds else Why.TURN if is_turn else Why.STANDS
@@ -101,12 +108,14 @@ def plan(root: Path, sums: dict[str, str], turn: int, tries_all: bool = False) -
 
 
 def write_seen(root: Path, sums: dict[str, str], lost: dict[str, list[str]]) -> None:
-    """Writes the lines of the crates that a run tried, by what it hasn't seen refused of each: nothing, or no line.
+    """Writes the lines of the crates that a run tried, by what it hasn't seen refused of each: nothing, or no line of this sum.
 
     The lines of crates that have no edits any more go; those of the others stay.
     """
-    lines = {name: line for name, line in read_lines(root).items() if name in sums and name not in lost}
-    lines.update({name: Line(sums[name], len(edits_of(root, name))) for name, edits in lost.items() if not edits})
+    lines = {name: kept for name, kept in read_lines(root).items() if name in sums}
+    for name, edits in lost.items():
+        seen = [] if edits else [Line(sums[name], len(edits_of(root, name)))]
+        lines[name] = [*seen, *(line for line in lines.get(name, []) if line.sum != sums[name])]
     write_lines(root, lines)
 
 
@@ -119,7 +128,10 @@ def record(root: Path, names: list[str]) -> int:
     if unknown or not wanted:
         print(f"no crate with edits: {' '.join(unknown)}" if unknown else "every line holds")
         return 1 if unknown else 0
-    tried = tried_edits(run(["rt", "ci", *wanted], root, shows=True).said)
+    ran = run(["rt", "ci", *wanted], root, shows=True)
+    if counts_of(ran.said) is None:  # a toolchain whose `rt ci` takes no names
+        ran = run(["rt", "must-fail", *wanted], root, shows=True)
+    tried = tried_edits(ran.said)
     if edit_sums(root, kit) != sums:
         print("files changed while rt ci ran: nothing is recorded")
         return 1

@@ -68,6 +68,7 @@ class MadeRepository:
         self.root = self.folder / "repository"
         self.tried = self.folder / "tried"
         self.kit = "rattle-kit-made"
+        self.takes_names = True
         for name, text in FILES.items():
             self.write(name, text)
         for crate in ("low", "middle", "high", "beside", "outagebook", "high_tests"):
@@ -113,6 +114,7 @@ class MadeRepository:
         env = {name: text for name, text in os.environ.items() if name not in ("CI", "OUTAGEBOOK")}
         env |= {"PATH": f"{self.programs}:{env['PATH']}", "MADE_RT_TRIED": str(self.tried), "MADE_RT_KIT": self.kit}
         env |= {"RT_JOBS": "2", **({"CI": "true"} if is_ci else {})}
+        env |= {} if self.takes_names else {"MADE_RT_NAMELESS": "1"}
         self.tried.unlink(missing_ok=True)
         return subprocess.run([*map(str, words)], cwd=self.root, env=env, capture_output=True, text=True, check=False)
 

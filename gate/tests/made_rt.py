@@ -2,7 +2,7 @@
 """A stand-in for `rt`: it says of made crates what `rt ci` would say, and builds a program of one line.
 
 A crate's contract is its line `ensures`: with one an edit is refused, without one it isn't. An edit whose text isn't
-there is a bad one. The crates whose edits were tried are written to MADE_RT_TRIED.
+there is a bad one. The crates whose edits were tried are written to MADE_RT_TRIED. Under MADE_RT_NAMELESS `rt ci` takes no names.
 """
 
 from __future__ import annotations
@@ -49,4 +49,6 @@ if __name__ == "__main__":
     if sys.argv[1:] == ["version"]:
         print(os.environ["MADE_RT_KIT"])
         sys.exit(0)
+    if sys.argv[1] == "ci" and sys.argv[2:] and "MADE_RT_NAMELESS" in os.environ:
+        sys.exit("usage: rt ci")
     sys.exit(check(sys.argv[2:]))

@@ -96,6 +96,21 @@ class Edits(Whole):
         self.passes()
         self.assertEqual(self.made.crates_tried(), ["beside", "high", "low", "middle"])
 
+    def test_two_toolchains_that_take_turns_keep_a_line_each(self) -> None:
+        for kit in ("rattle-kit-made", "rattle-kit-other"):
+            self.made.kit = kit
+            self.made.record()
+        self.made.turn_to(7)
+        for kit in ("rattle-kit-made", "rattle-kit-other"):
+            self.made.kit = kit
+            self.passes()
+            self.assertEqual(self.made.crates_tried(), [])
+        self.made.kit = "rattle-kit-third"
+        self.made.record()
+        self.made.kit = "rattle-kit-made"
+        self.passes()
+        self.assertEqual(self.made.crates_tried(), ["beside", "high", "low", "middle"])
+
     def test_edit_that_cannot_be_applied(self) -> None:
         self.made.write("crates/low/must-fail/other.edit", EDIT.replace("42", "43"))
         self.fails("low: other.edit: BAD EDIT", "--record")
@@ -106,6 +121,9 @@ class Edits(Whole):
 class Records(Whole):
     def record(self, *names: str) -> Done:
         return self.made.run("/usr/bin/python3", "gate/edits.py", "record", *names)
+
+    def plan(self) -> str:
+        return self.made.run("/usr/bin/python3", "gate/edits.py", "plan").stdout
 
     def names(self) -> list[str]:
         lines = (self.made.root / "gate/edits.txt").read_text().splitlines()
@@ -125,10 +143,25 @@ class Records(Whole):
         )
         self.assertEqual(self.record().stdout, "every line holds\n")
 
-    def test_line_of_a_weakened_crate_goes(self) -> None:
+    def test_toolchain_that_proves_no_crates_by_name_tries_the_edits_alone(self) -> None:
+        self.made.takes_names = False
+        done = self.record("low", "high")
+        self.assertEqual((done.returncode, self.names()), (0, ["high", "low"]), done.stdout)
+
+    def test_weakened_crate_gets_no_line(self) -> None:
+        self.record()
+        before = (self.made.root / "gate/edits.txt").read_text()
+        self.made.write("crates/beside/src/lib.rt", WEAK)
+        self.assertEqual(self.record().returncode, 1)
+        self.assertEqual((self.made.root / "gate/edits.txt").read_text(), before)
+        self.assertIn("beside                 1  changed", self.plan())
+
+    def test_line_that_is_found_untrue_goes(self) -> None:
         self.record()
         self.made.write("crates/beside/src/lib.rt", WEAK)
-        self.assertEqual((self.record().returncode, self.names()), (1, ["high", "low", "middle"]))
+        self.assertEqual(self.made.run("/usr/bin/python3", "-c", FORGERY).returncode, 0)
+        self.assertNotIn("changed", self.plan())
+        self.assertEqual((self.record("beside").returncode, self.names()), (1, ["high", "low", "middle"]))
 
 
 class Suites(Whole):
@@ -212,7 +245,7 @@ from sums import edit_sums
 
 root = Path.cwd()
 sums = edit_sums(root, kit_of(root))
-write_lines(root, {name: Line(sums[name], line.refused) for name, line in read_lines(root).items()})
+write_lines(root, {name: [Line(sums[name], lines[0].refused)] for name, lines in read_lines(root).items()})
 """
 
 if __name__ == "__main__":
