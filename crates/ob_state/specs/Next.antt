@@ -1,12 +1,13 @@
 -- What an accepted command changes.
 use Rattle.std.specs.Prelude.{ℕ, ◌+◌, List, [], ◌∷◌, ◌++◌, Option, Some, None, is_none, set, unwrap_or, if◌then◌else◌}
 use Rattle.ob_base.specs.Life.{life}
-use Rattle.ob_net.specs.Network.{with_node, with_device, with_life, device_of, section_of}
+use Rattle.ob_net.specs.Network.{with_node, with_joined, with_life, node_of, device_of, section_of}
 use Rattle.ob_sheet.specs.Sheet.{new_entry}
 use Rattle.ob_sheet.specs.Revisions.{change_entry, corrected, withdrawn}
 use Rattle.ob_cust.specs.Roll.{with_customer, with_service}
 use Rattle.ob_time.specs.Calendar.{Calendar, day_on}
 use Rattle.ob_index.specs.Marks.{with_mark, without_mark}
+use Rattle.ob_command.specs.Devices.{device_between}
 use Rattle.ob_command.specs.declared.command.Command.{Command}
 use Rattle.ob_command.specs.declared.command.Command.TheVariants.{Cause, Bus, Section, Device, Life, Connect, Revise, Switch, Correct, Withdraw, Mark, Unmark}
 use Rattle.ob_state.specs.State.{BookState, empty_book}
@@ -23,7 +24,8 @@ abbrev pub changed : BookState → Command → BookState
 changed b (Cause code name) = record b { causes = set b.causes code (Some name) }
 changed b (Bus name) = record b { network = with_node b.network (record { name = name; feeder = None }) }
 changed b (Section name feeder) = record b { network = with_node b.network (record { name = name; feeder = Some feeder }) }
-changed b (Device d) = record b { network = with_device b.network d.name d.ends.a d.ends.b d.normal (life d.life.since d.life.until) }
+changed b (Device d) =
+    record b { network = with_joined b.network (device_between d (unwrap_or (node_of b.network d.ends.a) 0) (unwrap_or (node_of b.network d.ends.b) 0)) }
 changed b (Life device s) = record b { network = with_life b.network (unwrap_or (device_of b.network device) 0) (life s.since s.until) }
 changed b (Connect customer section s) =
     record b { customers = with_customer (record { «no» = customer; section = unwrap_or (section_of b.network section) 0; since = s.since; until = s.until }) b.customers }
