@@ -146,6 +146,7 @@ impl Roll {
         let shelf = shelf_of(customer.section, self.shelves.len());
         self.shelves[shelf].add(&customer);
         self.room -= 1;
+        // There is room for one more, so no memory is asked for.
         if self.customers.insert(place, customer).is_err() {
             unreachable!();
         }

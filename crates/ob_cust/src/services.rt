@@ -107,8 +107,9 @@ impl Services {
             ≡ sum_of f self.old.blocks }
         ensures capacity { self.new.capacity ≡ self.old.capacity }
     {
+        // No block of such a service: there is nothing to take away.
         let Ok(place) = place_of(&self.blocks, section, since, until) else {
-            unreachable!()
+            return;
         };
         let count = self.blocks[place].block.count;
         if count > 1 {
@@ -285,6 +286,7 @@ fn put(blocks: &mut Vec<SectionBlock>, before: &mut Vec<Before>, place: usize, b
     };
     match (blocks.insert(place, block), before.insert(place, none)) {
         (Ok(()), Ok(())) => carry(blocks, before, block.section, place),
+        // Both have room for one more, so neither asks for memory.
         _ => unreachable!(),
     }
 }

@@ -4,13 +4,14 @@ use Rattle.ob_cust.specs.Services.{ServicesState, sum_of, key}
 use Rattle.ob_cust.proofs.Held.{one_at, one_there, none_at, one_less}
 use Rattle.ob_cust.proofs.services.Services.remove.Goals as goal
 
-pub unreachable-requires : goal.unreachable-requires
-unreachable-requires c =
+-- a block of such a service is there, since the premise counts one of it
+pub returns-in_default-clause-sums : goal.returns-in_default-clause-sums
+returns-in_default-clause-sums c f =
     let q : ℕ × (ℕ × Option ℕ) = (c.args.section, (c.args.since, c.args.until)) in
     let there = subst (λ (v : ServicesState). one_at q c.args.section c.args.since c.args.until ≤ sum_of (one_at q) v.blocks) (sym c.self.view_is) (c.requires.there (one_at q)) in
     let none = none_at c.deref.result.now c.in_default.field-0 q c.in_default.ensures.below c.in_default.ensures.above in
     let is = ap (λ (bs : List SectionBlock). sum_of (one_at q) bs) c.deref.ensures.value in
-    omega (arith, there, none, is, one_there c.args.section c.args.since c.args.until)
+    absurd (omega (arith, there, none, is, one_there c.args.section c.args.since c.args.until))
 
 pub returns-then-count-gt1-clause-sums : goal.returns-then-count-gt1-clause-sums
 returns-then-count-gt1-clause-sums c f =
