@@ -3,7 +3,7 @@ ghost use Rattle.std.specs.Prelude.{◌≡◌, ◌≤◌, []};
 
 use ob_command::{Command, NewDevice, read_body};
 use ob_net::Pos::{Closed, Opened};
-use ob_net::{Name, Net, Node, Pos, Refusal, Stop};
+use ob_net::{Name, Net, Node, Pos, Refusal, Stop, grid};
 use std::alloc::Global;
 use std::process::Abort;
 use std::test::Fail;
@@ -127,6 +127,12 @@ fn nodes_and_devices(rt: HostRuntime) -> Result<(), Fail> {
         ],
     );
     Ok(())
+}
+
+#[test]
+fn the_first_node(rt: HostRuntime) {
+    let Node { name, feeder } = grid();
+    assert!(rt; name.bytes() == b"GRID".as_slice() && feeder == None);
 }
 
 // Adds a bus to a network of GRID alone, and takes it back.
