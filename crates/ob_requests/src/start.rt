@@ -32,6 +32,7 @@ fn text_of(alloc: Global, bytes: &[u8]) -> Result<String, Fault>
     ensures text { IfOk result (λ text. string_bytes text ≡ bytes.now) }
     ensures fault { IfErr result (λ f. f ≡ Fault.OutOfMemory) }
 {
+    // They are one, so the test of them doesn't fail.
     let Ok(text) = std::str::from_utf8(bytes) else {
         unreachable!()
     };
