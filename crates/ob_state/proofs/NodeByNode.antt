@@ -38,14 +38,15 @@ node_more days p b c v h =
     balances_as days p (together (amount_of_first b v) (amount_of_node b v)) (together (amount_of_first c v) (amount_of_node c v)) (amount_of_first b (v + 1)) (amount_of_first c (v + 1))
     (first_more b v) (first_more c v) h
 
--- a node that is no section
+-- a node that is no section has no amounts
+pub no_amounts : (days : ℕ) (p : Posting) (b c : BookState) (v : ℕ) → home_feeder b.network v ≡ None → home_feeder c.network v ≡ None → (old new : Dim → ℕ → ℕ)
+    → Balances days p old new → Balances days p (together old (amount_of_node b v)) (together new (amount_of_node c v))
+no_amounts days p b c v hb hc old new h = same_more days p old new (amount_of_node b v) (amount_of_node c v) (λ dim key. rw (hb, hc) refl) h
+
+-- one node more, which is no section
 pub no_section : (days : ℕ) (p : Posting) (b c : BookState) (v : ℕ) → home_feeder b.network v ≡ None → home_feeder c.network v ≡ None
     → Balances days p (amount_of_first b v) (amount_of_first c v) → Balances days p (amount_of_first b (v + 1)) (amount_of_first c (v + 1))
-no_section days p b c v hb hc h =
-    node_more days p b c v
-    (same_more days p (amount_of_first b v) (amount_of_first c v) (amount_of_node b v) (amount_of_node c v)
-    (λ dim key. rw (hb, hc) refl)
-    h)
+no_section days p b c v hb hc h = node_more days p b c v (no_amounts days p b c v hb hc (amount_of_first b v) (amount_of_first c v) h)
 
 pub section_amount : (b : BookState) (v f : ℕ) (runs : List Run) → home_feeder b.network v ≡ Some f → runs ≡ runs_in b v
     → (dim : Dim) (key : ℕ) → amount_of_node b v dim key ≡ amount_of_runs b.entries b.customers (days_of b.period) f runs dim key

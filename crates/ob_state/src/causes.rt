@@ -30,7 +30,7 @@ impl Causes {
         ensures { result ≡ unassigned_alone }
     {
         let mut names = [None; MOST_CAUSES];
-        names[0] = Some(unassigned_name());
+        names[0] = Some(unassigned());
         Causes { names }
     }
 
@@ -63,12 +63,13 @@ impl Causes {
     }
 }
 
-// The name of cause 0.
-fn unassigned_name() -> Name
+/// The name of the cause of code 0.
+pub fn unassigned() -> Name
     ensures { result ≡ codes "UNASSIGNED" }
 {
     match Name::read(b"UNASSIGNED") {
         Some(name) => name,
+        // It is a name: ten bytes of A-Z.
         None => unreachable!(),
     }
 }

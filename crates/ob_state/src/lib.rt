@@ -21,6 +21,7 @@ mod state;
 mod switching;
 
 pub use amounts::amounts_are_small;
+pub use causes::unassigned;
 pub use effect::{Effect, effect_of};
 pub use resolved::Resolved;
 pub use retiming::{Retiming, retime};

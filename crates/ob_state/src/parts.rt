@@ -219,8 +219,9 @@ fn repost<T: Timeline>(
 {
     section_laws();
     let (sheet, roll, period) = (&state.sheet, &state.roll, &state.period);
+    // No section: it has no customers, and nothing is posted.
     let Some(feeder) = state.net.feeder_of(node) else {
-        unreachable!();
+        return Ok(());
     };
     posting.take(timeline.runs_of(node), sheet, feeder, roll, period)?;
     posting.give(delta.runs(node), sheet, feeder, roll, period)

@@ -209,8 +209,9 @@ fn post_touched<T: Timeline>(
     ensures err { IfErr result (λ stop. stop ≡ out_of_memory) }
 {
     section_laws();
+    // No section: it has no customers, and nothing is posted.
     let Some(feeder) = state.net.feeder_of(node) else {
-        unreachable!();
+        return Ok(());
     };
     posting.replace(
         timeline.runs_of(node),

@@ -1,4 +1,4 @@
-use Rattle.std.proofs.Common.{◌≡◌, ◌∙◌, sym, ap, subst, ℕ, ◌+◌, List, Some}
+use Rattle.std.proofs.Common.{◌≡◌, ◌∙◌, sym, ap, subst, ℕ, ◌+◌, List, Some, None}
 use Rattle.std.proofs.lemmas.Result.{on_ok_weaker}
 use Rattle.ob_net.specs.Network.{home_feeder}
 use Rattle.ob_sweep.specs.declared.Run.{Run}
@@ -11,10 +11,19 @@ use Rattle.ob_post.specs.Balances.{together}
 use Rattle.ob_state.specs.Effects.{amount_of_node, before_change}
 use Rattle.ob_state.proofs.Amounting.{feeder_from_one, is_section}
 use Rattle.ob_post.proofs.Balancing.{balances_as}
-use Rattle.ob_state.proofs.NodeByNode.{section_amount}
+use Rattle.ob_state.proofs.NodeByNode.{no_amounts, section_amount}
 use Rattle.ob_state.proofs.NetworkChanges.{same_home}
 use Rattle.ob_state.proofs.Reposting.{Takes, Gives}
 use Rattle.ob_state.proofs.parts.repost.Goals as goal
+
+pub returns-in_default-clause-posted : goal.returns-in_default-clause-posted
+returns-in_default-clause-posted g c = λ old new bal.
+    let b = c.args.state.now.state in
+    let before = before_change c.args.change.now b in
+    let v = c.args.node in
+    let hb : home_feeder b.network v ≡ None = ap (λ (s : BookValue). home_feeder s.state.network v) (sym c.state.view_is) ∙ sym c.feeder_of.ensures ∙ c.in_default.is in
+    let ha : home_feeder before.network v ≡ None = same_home before.network b.network c.requires.nodes v ∙ hb in
+    no_amounts (day_count b.period) c.args.posting.now before b v ha hb old new bal
 
 pub take-requires-clause-feeder : goal.take-requires-clause-feeder
 take-requires-clause-feeder g c =

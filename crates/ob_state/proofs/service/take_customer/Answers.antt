@@ -1,4 +1,4 @@
-use Rattle.std.proofs.Common.{◌≡◌, ◌∙◌, sym, ap, subst, refl, ℕ, ◌+◌, Some}
+use Rattle.std.proofs.Common.{◌≡◌, ◌∙◌, sym, ap, subst, refl, is_some, true≢false, ℕ, ◌+◌, Some, None}
 use Rattle.std.specs.Result.{OnOk}
 use Rattle.std.proofs.lemmas.Result.{on_ok_weaker}
 use Rattle.ob_net.specs.Network.{home_feeder}
@@ -11,6 +11,12 @@ use Rattle.ob_state.specs.Effects.{amount_of_customer}
 use Rattle.ob_state.proofs.Amounting.{feeder_from_one, one_customer}
 use Rattle.ob_post.proofs.Balancing.{balances_as}
 use Rattle.ob_state.proofs.service.take_customer.Goals as goal
+
+-- the customer is of a section
+pub returns-in_default-clause-taken : goal.returns-in_default-clause-taken
+returns-in_default-clause-taken g c =
+    let hb : home_feeder c.args.state.now.state.network c.args.customer.section ≡ None = ap (λ (s : BookValue). home_feeder s.state.network c.args.customer.section) (sym c.state.view_is) ∙ sym c.feeder_of.ensures ∙ c.in_default.is in
+    absurd (true≢false (sym c.requires.section ∙ ap is_some hb))
 
 pub take-requires-clause-feeder : goal.take-requires-clause-feeder
 take-requires-clause-feeder g c =

@@ -1,4 +1,4 @@
-use Rattle.std.proofs.Common.{◌≡◌, ◌∙◌, sym, ap, subst, ℕ, ◌+◌, List, Some}
+use Rattle.std.proofs.Common.{◌≡◌, ◌∙◌, sym, ap, subst, ℕ, ◌+◌, List, Some, None}
 use Rattle.std.proofs.lemmas.Result.{on_ok_weaker}
 use Rattle.ob_net.specs.Network.{home_feeder}
 use Rattle.ob_sweep.specs.Changed.{changed}
@@ -14,10 +14,17 @@ use Rattle.ob_state.specs.Effects.{amount_of_node, with_entries}
 use Rattle.ob_post.specs.Causes.{BeginAtCutters}
 use Rattle.ob_state.proofs.Amounting.{feeder_from_one, is_section}
 use Rattle.ob_post.proofs.Balancing.{balances_as}
-use Rattle.ob_state.proofs.NodeByNode.{section_amount}
+use Rattle.ob_state.proofs.NodeByNode.{no_amounts, section_amount}
 use Rattle.ob_state.proofs.Cutting.{runs_begin}
 use Rattle.ob_state.proofs.Reposting.{Replaces}
 use Rattle.ob_state.proofs.switching.post_touched.Goals as goal
+
+pub returns-in_default-clause-posted : goal.returns-in_default-clause-posted
+returns-in_default-clause-posted g c = λ old new bal.
+    let b = c.args.state.now.state in
+    let v = c.args.node in
+    let hb : home_feeder b.network v ≡ None = ap (λ (s : BookValue). home_feeder s.state.network v) (sym c.state.view_is) ∙ sym c.feeder_of.ensures ∙ c.in_default.is in
+    no_amounts (day_count b.period) c.args.posting.now b (with_entries b (changed c.args.change.now b.entries)) v hb hb old new bal
 
 pub replace-requires-clause-feeder : goal.replace-requires-clause-feeder
 replace-requires-clause-feeder g c =
