@@ -5,7 +5,7 @@ ghost use Rattle.sqlite_value.specs.Value.{owned};
 ghost use Rattle.sqlite.specs.declared.types.Value.TheVariants.{Int};
 ghost use Rattle.ob_base.specs.Stop.{out_of_memory};
 ghost use Rattle.ob_tables.specs.Steps.{Runs, IsStoreFault};
-ghost use Rattle.ob_tables.specs.Rows.{number, number_or_null, position_number};
+ghost use Rattle.ob_tables.specs.Rows.{bit, number, number_or_null, position_number};
 
 use ob_base::{Fault, Pos, Stop};
 use sqlite::{Alter, Error, ErrorCode, Transaction};
@@ -77,4 +77,11 @@ pub(crate) fn position(pos: Pos) -> ValueRef<'static>
         Pos::Opened => ValueRef::Int(0),
         Pos::Closed => ValueRef::Int(1),
     }
+}
+
+/// 1 for true, 0 for false, as a parameter.
+pub(crate) fn flag(is: bool) -> ValueRef<'static>
+    ensures { owned result ≡ number (bit is) }
+{
+    ValueRef::Int(if is { 1 } else { 0 })
 }
