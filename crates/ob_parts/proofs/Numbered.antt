@@ -1,7 +1,6 @@
 -- What stands under a number.
-use Rattle.std.proofs.Common.{◌≡◌, ℕ, zero, suc, ◌+◌, ◌<◌, List, [], ◌∷◌, length, map, slice_index_or, Option, Some, true, false, refl, sym, ap, ◌∙◌, arith}
-use Rattle.std.specs.Prelude.{◌==◌, slice_get, option_map}
-use Rattle.std.proofs.lemmas.Option.{slice_get-map}
+use Rattle.std.proofs.Common.{◌≡◌, ℕ, zero, suc, ◌+◌, ◌<◌, List, [], ◌∷◌, length, slice_index_or, Some, true, false, refl, arith}
+use Rattle.std.specs.Prelude.{◌==◌, slice_get}
 use Rattle.std.specs.List.{AllPairs, find}
 use Rattle.std.proofs.lemmas.Bool.Decides.{nat_tests}
 use Rattle.ob_sheet.specs.declared.Entry.{Entry}
@@ -31,15 +30,3 @@ entry_found entries at number all low is = found_from 1 entries at number (λ k 
 
 pub entries_rise : (entries : List Entry) → AreNumbered entries → AllPairs (λ a b. a.«no» < b.«no») entries
 entries_rise entries all = λ i j d less low. omega (arith, all i d (omega (arith, less, low)), all j d low, less)
-
-pub some_element : {X : Type 0} (xs : List X) (at : ℕ) → at < length xs → (x : X) × (slice_get xs at ≡ Some x)
-some_element [] at low = absurd (omega (arith, low))
-some_element (x ∷ xs) zero low = (x, refl)
-some_element (x ∷ xs) (suc at) low = some_element xs at (omega (arith, low))
-
-same_some : {X : Type 0} {a b : X} → ◌≡◌ {A = Option X} (Some a) (Some b) → a ≡ b
-same_some h = cc
-
--- what stands at a place of a list of values
-pub value_of : {X Y : Type 0} (f : X → Y) (xs : List X) (at : ℕ) (x : X) (y : Y) → slice_get xs at ≡ Some x → slice_get (map f xs) at ≡ Some y → y ≡ f x
-value_of f xs at x y here there = same_some (sym there ∙ slice_get-map f xs at ∙ ap (option_map f) here)

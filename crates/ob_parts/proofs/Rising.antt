@@ -106,6 +106,27 @@ pub present_all : {X : Type 0} (row : ℕ → X → Columns) (n : ℕ) (xs : Lis
 present_all row n [] = refl
 present_all row n (x ∷ xs) = ap (λ l. row n x ∷ l) (present_all row (n + 1) xs)
 
+-- ---- places that all hold something
+module _ {X : Type 0} (row : ℕ → X → Columns) (xs : List X) where
+  pub length_all : length (placed row 0 (map Some xs)) ≡ length xs
+  length_all = length_placed row 0 (map Some xs) ∙ length_places (λ x. x) xs
+
+  pub has_all : (at : ℕ) → at < length (placed row 0 (map Some xs)) → true ≡ is_some (slice_index_or (placed row 0 (map Some xs)) at None)
+  has_all at low =
+      let within : at < length (map Some xs) = omega (arith, low, length_placed row 0 (map Some xs)) in
+      has_place (λ x. x) xs at within ∙ some_placed row 0 (map Some xs) at
+
+  -- a row is that of a place, where it is that of the element there
+  pub decides_all : (test : Bool) (at : ℕ) (x : X) (r : Columns) → at < length (placed row 0 (map Some xs)) → x ≡ get_or xs at x → IsTrue test ↔ (r ≡ row at x)
+      → IsTrue test ↔ (slice_index_or (placed row 0 (map Some xs)) at None ≡ Some r)
+  decides_all test at x r low is tells =
+      let within : at < length xs = omega (arith, low, length_all) in
+      let here : slice_index_or (map Some xs) at None ≡ Some x = place_is (λ x. x) xs at x within ∙ ap Some (sym is) in
+      decides test _ r (row at x) tells (at_placed row 0 (map Some xs) at x here at (omega arith))
+
+  pub standing_each : standing (placed row 0 (map Some xs)) ≡ numbered row 0 xs
+  standing_each = standing_placed row 0 (map Some xs) ∙ present_all row 0 xs
+
 -- ---- rows with the numbers of their places
 module _ {X : Type 0} (rest : ℕ → X → Columns) where
   abbrev placed_row : ℕ → X → Columns

@@ -8,7 +8,6 @@
 #![tactic(auto)]
 
 mod bodies;
-mod fields;
 mod laws;
 mod part;
 mod parts;

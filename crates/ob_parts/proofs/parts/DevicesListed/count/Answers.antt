@@ -1,9 +1,7 @@
-use Rattle.std.proofs.Common.{Some, map, sym, ◌∙◌}
-use Rattle.ob_record.specs.Tables.{row_of_device}
-use Rattle.ob_parts.proofs.Rising.{length_placed, length_places}
+use Rattle.std.proofs.Common.{sym}
+use Rattle.ob_tables.specs.Rows.{device_row}
+use Rattle.ob_parts.proofs.Rising.{length_all}
 use Rattle.ob_parts.proofs.parts.DevicesListed.count.Goals as goal
 
 pub returns : goal.returns
-returns c =
-    let xs = c.args.self.now.net.now.network.devices in
-    c.from.ensures ∙ c.devices.ensures.count ∙ sym (length_placed row_of_device 0 (map Some xs) ∙ length_places (λ x. x) xs)
+returns c = sym (length_all device_row c.args.self.now.devices.now)

@@ -1,9 +1,7 @@
-use Rattle.std.proofs.Common.{Some, map, sym, ◌∙◌}
-use Rattle.ob_record.specs.Tables.{row_of_node}
-use Rattle.ob_parts.proofs.Rising.{length_placed, length_places}
+use Rattle.std.proofs.Common.{sym}
+use Rattle.ob_tables.specs.Rows.{node_row}
+use Rattle.ob_parts.proofs.Rising.{length_all}
 use Rattle.ob_parts.proofs.parts.NodesListed.count.Goals as goal
 
 pub returns : goal.returns
-returns c =
-    let xs = c.args.self.now.net.now.network.nodes in
-    c.from.ensures ∙ c.nodes.ensures.count ∙ sym (length_placed row_of_node 0 (map Some xs) ∙ length_places (λ x. x) xs)
+returns c = sym (length_all node_row c.args.self.now.nodes.now)
