@@ -9,6 +9,7 @@
 
 mod bodies;
 mod laws;
+mod numbered;
 mod part;
 mod parts;
 

@@ -12,9 +12,9 @@ ghost use Rattle.ob_tables.specs.declared.version.Version.{Version as AVersion};
 ghost use Rattle.ob_compare.specs.Parts.{Compares};
 ghost use Rattle.ob_parts.specs.Parts.{IsPart, parts_in};
 
+use crate::numbered::{Devices, Lives, Nodes, holds_numbered};
 use crate::parts::{
-    holds_amounts, holds_causes, holds_customers, holds_devices, holds_entries, holds_heading,
-    holds_lives, holds_marks, holds_nodes,
+    holds_amounts, holds_causes, holds_customers, holds_entries, holds_heading, holds_marks,
 };
 use ob_base::Stop;
 use ob_book::Book;
@@ -80,9 +80,9 @@ pub fn holds_part<S: Alter, T: Timeline>(
     match table {
         Table::Meta => holds_period(conn, book.period(), version),
         Table::Cause => holds_causes(conn, book),
-        Table::Node => holds_nodes(conn, layout.nodes()),
-        Table::Device => holds_devices(conn, layout.devices()),
-        Table::Life => holds_lives(conn, layout.devices()),
+        Table::Node => holds_numbered::<S, Nodes>(conn, layout.nodes()),
+        Table::Device => holds_numbered::<S, Devices>(conn, layout.devices()),
+        Table::Life => holds_numbered::<S, Lives>(conn, layout.devices()),
         Table::Customer => holds_customers(conn, book.roll()),
         Table::Entry => holds_entries(conn, book.sheet()),
         Table::Mark => holds_marks(conn, book.marks(), book.period().days()),

@@ -6,9 +6,8 @@ ghost use Rattle.ob_tables.specs.Versions.{Has};
 ghost use Rattle.ob_commit.specs.Amounts.{all_keys, amount_rows};
 ghost use Rattle.ob_post.specs.Keys.{IsKey};
 ghost use Rattle.ob_post.specs.Postings.{amount_of, day_count};
-ghost use Rattle.ob_record.specs.Tables.{numbered, present, row_of_life};
-ghost use Rattle.ob_tables.specs.Rows.{cause_row, customer_row, device_row, entry_row};
-ghost use Rattle.ob_tables.specs.Rows.{mark_row, meta_row, node_row};
+ghost use Rattle.ob_record.specs.Tables.{present};
+ghost use Rattle.ob_tables.specs.Rows.{cause_row, customer_row, entry_row, mark_row, meta_row};
 ghost use Rattle.ob_compare.specs.Parts.{Compares};
 
 use ob_base::Stop;
@@ -16,13 +15,11 @@ use ob_book::Book;
 use ob_compare::{Listed, holds};
 use ob_cust::Roll;
 use ob_index::Marks;
-use ob_net::{Device, Node};
 use ob_post::{Dim, Postings};
 use ob_sheet::Sheet;
 use ob_sweep::Timeline;
 use ob_tables::{
-    Table, is_cause_row, is_customer_row, is_device_row, is_entry_row, is_life_row, is_mark_row,
-    is_meta_row, is_node_row, is_posting_row,
+    Table, is_cause_row, is_customer_row, is_entry_row, is_mark_row, is_meta_row, is_posting_row,
 };
 use sqlite::{Alter, Connection, Row};
 
@@ -282,137 +279,6 @@ pub(crate) fn holds_marks<S: Alter>(
         → Compares S.Store v ATable.Mark (present mark_row 0 marks.now) conn.old conn.new result }
 {
     holds(conn, &Days { marks, days })
-}
-
-/// The nodes of a network, by number.
-#[derive(Drop)]
-struct Nodes<'b> {
-    nodes: &'b [Node],
-}
-
-impl<'b> Listed for Nodes<'b> {
-    ghost use Rattle.std.specs.Prelude.{map, Some};
-    ghost use Rattle.ob_tables.specs.declared.table.Table.{Table as ATable};
-    ghost use Rattle.ob_tables.specs.Rows.{node_row};
-    ghost use Rattle.ob_parts.specs.Parts.{placed};
-
-    ghost table = { ATable.Node };
-
-    ghost places = { λ l. placed node_row 0 (map Some l.nodes.now) };
-
-    fn table(&self) -> Table {
-        Table::Node
-    }
-
-    fn count(&self) -> usize {
-        self.nodes.len()
-    }
-
-    fn has_row(&self, _at: usize) -> bool {
-        true
-    }
-
-    fn is_row(&self, at: usize, row: &Row) -> bool {
-        is_node_row(row, at as u64, &self.nodes[at])
-    }
-}
-
-/// Whether the table of nodes holds these, by number. Nothing is written.
-pub(crate) fn holds_nodes<S: Alter>(conn: &mut Connection<S>, nodes: &[Node]) -> Result<bool, Stop>
-    ensures { (v : AVersion) → Has v ATable.Node
-        → Compares S.Store v ATable.Node (numbered node_row 0 nodes.now) conn.old conn.new result }
-{
-    holds(conn, &Nodes { nodes })
-}
-
-/// The devices of a network, by number.
-#[derive(Drop)]
-struct Devices<'b> {
-    devices: &'b [Device],
-}
-
-impl<'b> Listed for Devices<'b> {
-    ghost use Rattle.std.specs.Prelude.{map, Some};
-    ghost use Rattle.ob_tables.specs.declared.table.Table.{Table as ATable};
-    ghost use Rattle.ob_tables.specs.Rows.{device_row};
-    ghost use Rattle.ob_parts.specs.Parts.{placed};
-
-    ghost table = { ATable.Device };
-
-    ghost places = { λ l. placed device_row 0 (map Some l.devices.now) };
-
-    fn table(&self) -> Table {
-        Table::Device
-    }
-
-    fn count(&self) -> usize {
-        self.devices.len()
-    }
-
-    fn has_row(&self, _at: usize) -> bool {
-        true
-    }
-
-    fn is_row(&self, at: usize, row: &Row) -> bool {
-        is_device_row(row, at as u64, &self.devices[at])
-    }
-}
-
-/// Whether the table of devices holds these, by number. Nothing is written.
-pub(crate) fn holds_devices<S: Alter>(
-    conn: &mut Connection<S>,
-    devices: &[Device],
-) -> Result<bool, Stop>
-    ensures { (v : AVersion) → Has v ATable.Device
-        → Compares S.Store v ATable.Device (numbered device_row 0 devices.now) conn.old conn.new
-        result }
-{
-    holds(conn, &Devices { devices })
-}
-
-/// The lives of the devices of a network, by the number of the device.
-#[derive(Drop)]
-struct Lives<'b> {
-    devices: &'b [Device],
-}
-
-impl<'b> Listed for Lives<'b> {
-    ghost use Rattle.std.specs.Prelude.{map, Some};
-    ghost use Rattle.ob_tables.specs.declared.table.Table.{Table as ATable};
-    ghost use Rattle.ob_record.specs.Tables.{row_of_life};
-    ghost use Rattle.ob_parts.specs.Parts.{placed};
-
-    ghost table = { ATable.Life };
-
-    ghost places = { λ l. placed row_of_life 0 (map Some l.devices.now) };
-
-    fn table(&self) -> Table {
-        Table::Life
-    }
-
-    fn count(&self) -> usize {
-        self.devices.len()
-    }
-
-    fn has_row(&self, _at: usize) -> bool {
-        true
-    }
-
-    fn is_row(&self, at: usize, row: &Row) -> bool {
-        is_life_row(row, at as u64, self.devices[at].life)
-    }
-}
-
-/// Whether the table of lives holds those of these devices, by number. Nothing is written.
-pub(crate) fn holds_lives<S: Alter>(
-    conn: &mut Connection<S>,
-    devices: &[Device],
-) -> Result<bool, Stop>
-    ensures { (v : AVersion) → Has v ATable.Life
-        → Compares S.Store v ATable.Life (numbered row_of_life 0 devices.now) conn.old conn.new
-        result }
-{
-    holds(conn, &Lives { devices })
 }
 
 /// The amounts under all keys, with so many days.
