@@ -1,6 +1,6 @@
 mod Rising
 mod Versions
-mod Numbered
+mod Entries
 mod Keyed
 mod Letting
 mod Changed

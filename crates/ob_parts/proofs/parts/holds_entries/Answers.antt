@@ -5,7 +5,7 @@ use Rattle.ob_tables.specs.Rows.{bit, entry_row, number, position_number}
 use Rattle.sqlite.specs.declared.types.Value.TheVariants.{Text}
 use Rattle.ob_tables.specs.declared.table.Table.TheVariants.{Entry}
 use Rattle.ob_compare.specs.Parts.{Compares, row_cmp}
-use Rattle.ob_parts.proofs.Numbered.{entries_rise}
+use Rattle.ob_parts.proofs.Entries.{entries_rise}
 use Rattle.ob_parts.proofs.Rising.{rise_mapped, standing_all}
 use Rattle.ob_parts.proofs.parts.holds_entries.Goals as goal
 

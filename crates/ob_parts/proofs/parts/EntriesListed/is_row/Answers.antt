@@ -1,7 +1,7 @@
 use Rattle.std.proofs.Common.{◌≡◌, ◌<◌, ◌∙◌, Some, sym, refl, length, arith, ◌+◌}
 use Rattle.std.specs.Prelude.{slice_get}
 use Rattle.ob_tables.specs.Rows.{entry_row}
-use Rattle.ob_parts.proofs.Numbered.{entry_found}
+use Rattle.ob_parts.proofs.Entries.{entry_found}
 use Rattle.ob_parts.proofs.Rising.{decides, length_places, place_of}
 use Rattle.ob_parts.proofs.parts.EntriesListed.is_row.Goals as goal
 
