@@ -5,7 +5,7 @@ ghost use Rattle.ob_tables.specs.Rows.{Always, with_change, serve, HasCustomer, 
 ghost use Rattle.ob_tables.specs.Rules.{HasRoom, LetsBody, LetsVersion, LetsCorrected, LetsWithdrawn};
 ghost use Rattle.ob_tables.specs.declared.table.Table.{Table as ATable};
 
-use crate::run::{int, large, large_or_null, position, run};
+use crate::run::{int, key, large, large_or_null, position, run};
 use ob_base::{Life, Stop};
 use ob_cust::Customer;
 use ob_sheet::Entry;
@@ -85,7 +85,7 @@ pub fn correct_entry<S: Alter>(tx: &mut Transaction<'_, S>, entry: &Entry) -> Re
         tx,
         "UPDATE entry SET rev = ?2, pos = ?3, second = ?4, cause = ?5, crew = ?6 WHERE id = ?1",
         &[
-            int(entry.no),
+            key(entry.no),
             int(entry.rev),
             position(entry.pos),
             large(entry.second),

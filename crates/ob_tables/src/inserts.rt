@@ -6,7 +6,7 @@ ghost use Rattle.ob_tables.specs.Rules.{LetsMeta, LetsCause, LetsNode, LetsDevic
 ghost use Rattle.ob_tables.specs.declared.table.Table.{Table as ATable};
 
 use crate::fields::kind_of;
-use crate::run::{flag, int, large, large_or_null, position, run, signed_value};
+use crate::run::{flag, int, key, large, large_or_null, position, run, signed_value};
 use ob_base::{Crew, Life, Name, Stop};
 use ob_cust::Customer;
 use ob_net::{Device, Node};
@@ -142,7 +142,7 @@ pub fn add_entry<S: Alter>(tx: &mut Transaction<'_, S>, entry: &Entry) -> Result
         tx,
         "INSERT INTO entry (id, rev, device, pos, second, cause, crew, kept) VALUES (?1, ?2, ?3, ?4, ?5, ?6, ?7, ?8)",
         &[
-            int(entry.no),
+            key(entry.no),
             int(entry.rev),
             int(u32::from(entry.device)),
             position(entry.pos),

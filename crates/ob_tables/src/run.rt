@@ -43,6 +43,14 @@ pub fn int(n: u32) -> ValueRef<'static>
     ValueRef::Int(i64::from(n))
 }
 
+/// The number of a row as a parameter, which is far below the largest row number.
+pub(crate) fn key(n: u32) -> ValueRef<'static>
+    ensures value { owned result ≡ number n }
+    ensures small { n < 2 ^ 32 }
+{
+    int(n)
+}
+
 /// A number that may be below 0 as a value.
 pub fn signed_value(n: i64) -> ValueRef<'static>
     ensures { owned result ≡ Int n }

@@ -10,5 +10,5 @@ returns g c =
     let low : c.args.number < 2 ^ 16 = search rules in
     let small : c.args.number < 2 ^ 32 = omega (arith, low) in
     changes g.S.Store _ _ _ _ _ c.run.ensures
-    (λ ran. adds_node _ _ c.args.number c.args.node.now (rw (c.int.ensures, c.int-2.ensures, c.int-3.ensures, c.from-2.ensures, c.kind_of-kind.ensures, c.from-kind.ensures, c.from-3.ensures, c.unwrap_or-feeder.ensures, c.bytes.ensures.value) at ran))
-    (λ failed lets. lets_node _ _ c.args.number c.args.node.now small (short_name c.args.node.now.name c.bytes.ensures.identifier) (rw (c.int.ensures, c.int-2.ensures, c.int-3.ensures, c.from-2.ensures, c.kind_of-kind.ensures, c.from-kind.ensures, c.from-3.ensures, c.unwrap_or-feeder.ensures, c.bytes.ensures.value) at failed) lets)
+    (λ ran. adds_node _ _ c.args.number c.args.node.now (rw (c.int.ensures, c.int-2.ensures, c.int-3.ensures, c.kind_of-kind.ensures, c.from.ensures, c.from-2.ensures, c.from-3.ensures, c.unwrap_or-feeder.ensures, c.bytes.ensures.value) at ran))
+    (λ failed lets. lets_node _ _ c.args.number c.args.node.now small (short_name c.args.node.now.name c.bytes.ensures.identifier) (rw (c.int.ensures, c.int-2.ensures, c.int-3.ensures, c.kind_of-kind.ensures, c.from.ensures, c.from-2.ensures, c.from-3.ensures, c.unwrap_or-feeder.ensures, c.bytes.ensures.value) at failed) lets)
