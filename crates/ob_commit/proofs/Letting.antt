@@ -1,5 +1,5 @@
 -- What the rules let in of the steps of a change, where they let in the change.
-use Rattle.std.proofs.Common.{◌≡◌, ◌≢◌, ◌∙◌, ap, refl, sym, subst, subst₂, ℕ, zero, suc, ◌+◌, ◌<◌, ◌≤◌, ◌^◌, Bool, true, false, List, [], ◌∷◌, ◌++◌, length, map, take, get_or, codes, arith, inl, inr, None}
+use Rattle.std.proofs.Common.{◌≡◌, ◌≢◌, ◌∙◌, ap, refl, sym, subst, subst₂, ℕ, zero, suc, ◌+◌, ◌<◌, ◌≤◌, ◌^◌, Bool, true, false, List, [], ◌∷◌, ◌++◌, length, map, take, get_or, codes, arith, inl, inr}
 use Rattle.std.specs.List.{All, AllByRecursion, AllPairs, list_any, range_with_len}
 use Rattle.std.specs.Prelude.{if◌then◌else◌}
 use Rattle.std.proofs.lemmas.Bool.{or_from, and_left, and_right, cases_eq}
@@ -8,6 +8,7 @@ use Rattle.std.proofs.lemmas.List.Elements.{All-append, All-from_get_or, All-map
 use Rattle.std.proofs.lemmas.List.Folds.{list_any-append, list_any_none}
 use Rattle.std.proofs.lemmas.List.FromFn.{get_or-map-range_with_len, get_or-range_with_len, length-map-range_with_len, length-range_with_len}
 use Rattle.std.proofs.lemmas.List.Kept.{AllPairs-cons}
+use Rattle.ob_base.specs.Life.{whole_life}
 use Rattle.ob_post.specs.Keys.{dim_number}
 use Rattle.ob_post.specs.Moved.{IsBefore}
 use Rattle.ob_post.specs.Postings.{PostedAmounts}
@@ -15,20 +16,19 @@ use Rattle.ob_post.specs.declared.Dim.{Dim}
 use Rattle.ob_post.specs.declared.Dim.TheVariants as dim
 use Rattle.ob_post.specs.declared.Moved.{Moved}
 use Rattle.ob_post.proofs.Keying.{same_dim}
+use Rattle.ob_state.specs.declared.resolved.Resolved.{Resolved}
+use Rattle.ob_state.specs.declared.resolved.Resolved.TheVariants as resolved
 use Rattle.ob_tables.specs.Rows.{Columns, HasCommand, HasPosting, Tables, is_key, is_posting, is_reference, change_where, rebody, command_row, life_row}
 use Rattle.ob_tables.specs.Rules.{HasKey, HasRoom, HasShort, IsShort, IsShortValue, LetsBody, LetsCause, LetsCommand, LetsLife, LetsMeta, LetsMoved, LetsNode, LetsPosting, is_moved}
 use Rattle.ob_tables.specs.declared.table.Table.TheVariants.{Meta, Device, Life, Command, Moved as Moves, Posting}
 use Rattle.ob_commit.specs.Acts.{with_command}
 use Rattle.ob_commit.specs.Amounts.{all_keys, amount_row}
-use Rattle.ob_commit.specs.Changing.{changed_by}
+use Rattle.ob_commit.specs.Changing.{rows_by}
 use Rattle.ob_commit.specs.Moves.{HasRows, LetsMoves, with_move, with_moves}
 use Rattle.ob_commit.specs.NewBook.{LetsHeading, LetsZeros, keys_of, no_amount, with_zeros}
 use Rattle.ob_commit.specs.Stored.{row_of, rows_of}
 use Rattle.ob_commit.specs.Upgrade.{HasBodies, LetsBodies, LetsLivesOf, with_bodies, with_body, with_lives}
 use Rattle.ob_commit.specs.declared.act.Act.{Act}
-use Rattle.ob_commit.specs.declared.change.RowChange.{RowChange}
-use Rattle.ob_commit.specs.declared.change.RowChange.TheVariants.{AddCause, AddNode, AddDevice, SetLife, AddCustomer, SetService}
-use Rattle.ob_commit.specs.declared.change.RowChange.TheVariants.{AddEntry, CorrectEntry, WithdrawEntry, AddMark, DropMark}
 use Rattle.ob_commit.specs.declared.upgrade.NewBody.{NewBody}
 use Rattle.ob_commit.proofs.Tests.{keyed, last_passes, no_front, none_more, none_of_fewer, not_keyed, other_number, short_column}
 use Rattle.ob_commit.proofs.Zeros.{ranges_are_all}
@@ -92,58 +92,58 @@ pub lets_turn : (id : ℕ) (p : PostedAmounts) (ms : List Moved) (at : ℕ) (d :
 lets_turn id p ms at d t low has key lets = (first_rows id p ms at t has, row_at id p ms at d t low has, lets_move id p ms at d t low key lets)
 
 -- ---- the rows of a command
--- a change of rows leaves the commands and what they moved
-commands_left : (x : RowChange) (t : Tables) → changed_by x t Command ≡ t Command
-commands_left (AddCause code name) t = refl
-commands_left (AddNode id name kind feeder) t = refl
-commands_left (AddDevice id name a b normal since until) t = refl
-commands_left (SetLife device since until) t = refl
-commands_left (AddCustomer id section since until) t = refl
-commands_left (SetService id since until) t = refl
-commands_left (AddEntry id device act second cause crew) t = refl
-commands_left (CorrectEntry id revision act second cause crew) t = refl
-commands_left (WithdrawEntry id revision) t = refl
-commands_left (AddMark day engineer) t = refl
-commands_left (DropMark day) t = refl
+-- the rows that it changes beside its own leave the commands and what they moved
+commands_left : (r : Resolved) (t : Tables) → rows_by r t Command ≡ t Command
+commands_left (resolved.Cause code name) t = refl
+commands_left (resolved.Node number node) t = refl
+commands_left (resolved.Device number d) t = refl
+commands_left (resolved.Life device old new) t = refl
+commands_left (resolved.Customer c) t = refl
+commands_left (resolved.Service old new) t = refl
+commands_left (resolved.Entered e) t = refl
+commands_left (resolved.Corrected old new) t = refl
+commands_left (resolved.Withdrawn old new) t = refl
+commands_left (resolved.Marked day engineer) t = refl
+commands_left (resolved.Unmarked day) t = refl
 
-moves_left : (x : RowChange) (t : Tables) → changed_by x t Moves ≡ t Moves
-moves_left (AddCause code name) t = refl
-moves_left (AddNode id name kind feeder) t = refl
-moves_left (AddDevice id name a b normal since until) t = refl
-moves_left (SetLife device since until) t = refl
-moves_left (AddCustomer id section since until) t = refl
-moves_left (SetService id since until) t = refl
-moves_left (AddEntry id device act second cause crew) t = refl
-moves_left (CorrectEntry id revision act second cause crew) t = refl
-moves_left (WithdrawEntry id revision) t = refl
-moves_left (AddMark day engineer) t = refl
-moves_left (DropMark day) t = refl
+moves_left : (r : Resolved) (t : Tables) → rows_by r t Moves ≡ t Moves
+moves_left (resolved.Cause code name) t = refl
+moves_left (resolved.Node number node) t = refl
+moves_left (resolved.Device number d) t = refl
+moves_left (resolved.Life device old new) t = refl
+moves_left (resolved.Customer c) t = refl
+moves_left (resolved.Service old new) t = refl
+moves_left (resolved.Entered e) t = refl
+moves_left (resolved.Corrected old new) t = refl
+moves_left (resolved.Withdrawn old new) t = refl
+moves_left (resolved.Marked day engineer) t = refl
+moves_left (resolved.Unmarked day) t = refl
 
-amounts_left : (x : RowChange) (t : Tables) → changed_by x t Posting ≡ t Posting
-amounts_left (AddCause code name) t = refl
-amounts_left (AddNode id name kind feeder) t = refl
-amounts_left (AddDevice id name a b normal since until) t = refl
-amounts_left (SetLife device since until) t = refl
-amounts_left (AddCustomer id section since until) t = refl
-amounts_left (SetService id since until) t = refl
-amounts_left (AddEntry id device act second cause crew) t = refl
-amounts_left (CorrectEntry id revision act second cause crew) t = refl
-amounts_left (WithdrawEntry id revision) t = refl
-amounts_left (AddMark day engineer) t = refl
-amounts_left (DropMark day) t = refl
+amounts_left : (r : Resolved) (t : Tables) → rows_by r t Posting ≡ t Posting
+amounts_left (resolved.Cause code name) t = refl
+amounts_left (resolved.Node number node) t = refl
+amounts_left (resolved.Device number d) t = refl
+amounts_left (resolved.Life device old new) t = refl
+amounts_left (resolved.Customer c) t = refl
+amounts_left (resolved.Service old new) t = refl
+amounts_left (resolved.Entered e) t = refl
+amounts_left (resolved.Corrected old new) t = refl
+amounts_left (resolved.Withdrawn old new) t = refl
+amounts_left (resolved.Marked day engineer) t = refl
+amounts_left (resolved.Unmarked day) t = refl
 
 -- so the command's row is let in after it
-pub lets_command : (x : RowChange) (id : ℕ) (reference body : List ℕ) (t : Tables) → LetsCommand id reference body t → LetsCommand id reference body (changed_by x t)
-lets_command x id reference body t it =
-    let same = commands_left x t in
+pub lets_command : (r : Resolved) (id : ℕ) (reference body : List ℕ) (t : Tables) → LetsCommand id reference body t → LetsCommand id reference body (rows_by r t)
+lets_command r id reference body t it =
+    let same = commands_left r t in
     (ap (list_any (is_key id)) same ∙ it.0, ap (list_any (is_reference reference)) same ∙ it.1, it.2, it.3)
 
 -- and then the amounts
 pub lets_moves : (act : Act) (t : Tables) → LetsMoves act.no act.moves.now t → HasKey Command act.no (with_command act t) × LetsMoves act.no act.moves.now (with_command act t)
 lets_moves act t it =
-    let moves : with_command act t Moves ≡ t Moves = moves_left act.change t in
-    let amounts : with_command act t Posting ≡ t Posting = amounts_left act.change t in (
-      last_passes (is_key act.no) (changed_by act.change t Command) (command_row act.no act.reference.now act.body.now) (keyed act.no),
+    let moves : with_command act t Moves ≡ t Moves = moves_left act.resolved.now t in
+    let amounts : with_command act t Posting ≡ t Posting = amounts_left act.resolved.now t in (
+      last_passes (is_key act.no) (rows_by act.resolved.now t Command) (command_row act.no act.reference.now act.body.now) (keyed act.no),
       record {
         fresh = ap (list_any (is_key act.no)) moves ∙ it.fresh;
         in_order = it.in_order;
@@ -158,10 +158,10 @@ pub lets_meta : (first zone : List ℕ) (t : Tables) → LetsHeading first zone 
 lets_meta first zone t it = (ap (list_any (is_key 1)) it.meta, it.first_fits, it.zone_fits)
 
 pub lets_unassigned : (first zone : List ℕ) (t : Tables) → LetsHeading first zone t → LetsCause 0 (codes "UNASSIGNED") t
-lets_unassigned first zone t it = (ap (list_any (is_key 0)) it.causes, ap (list_any (is_reference (codes "UNASSIGNED"))) it.causes, omega arith)
+lets_unassigned first zone t it = (ap (list_any (is_key 0)) it.causes, ap (list_any (is_reference (codes "UNASSIGNED"))) it.causes)
 
 pub lets_grid : (first zone : List ℕ) (t : Tables) → LetsHeading first zone t → LetsNode 0 (codes "GRID") t
-lets_grid first zone t it = (ap (list_any (is_key 0)) it.nodes, ap (list_any (is_reference (codes "GRID"))) it.nodes, omega arith)
+lets_grid first zone t it = (ap (list_any (is_key 0)) it.nodes, ap (list_any (is_reference (codes "GRID"))) it.nodes)
 
 -- ---- amounts of 0
 -- the row of a key is none of another one
@@ -384,7 +384,7 @@ lives_leave_meta (suc n) t = lives_leave_meta n t
 lives_lack : (n at : ℕ) (t : Tables) → n ≤ at → t Life ≡ [] → list_any (is_key at) (with_lives n t Life) ≡ false
 lives_lack zero at t low none = ap (list_any (is_key at)) none
 lives_lack (suc n) at t low none =
-    none_more (is_key at) (with_lives n t Life) (life_row n 0 None) (lives_lack n at t (omega (arith, low)) none) (not_keyed n at (λ e. omega (arith, low, e)))
+    none_more (is_key at) (with_lives n t Life) (life_row n whole_life) (lives_lack n at t (omega (arith, low)) none) (not_keyed n at (λ e. omega (arith, low, e)))
 
 -- the next life is let in once those before it are there
 pub lets_life : (devices at : ℕ) (t : Tables) → at < devices → LetsLivesOf devices t → LetsLife at (with_lives at t)

@@ -1,6 +1,7 @@
 -- Step after step over the tables of version 1.
-use Rattle.std.proofs.Common.{◌≡◌, refl, sym, subst, arith, ℕ, zero, suc, ◌+◌, ◌<◌, List, [], ◌∷◌, length, take, get_or, None}
+use Rattle.std.proofs.Common.{◌≡◌, refl, sym, subst, arith, ℕ, zero, suc, ◌+◌, ◌<◌, List, [], ◌∷◌, length, take, get_or}
 use Rattle.sqlite.specs.State.{State}
+use Rattle.ob_base.specs.Life.{whole_life}
 use Rattle.ob_tables.specs.Rows.{Tables, Always, HasCommand, HasHeading, life_row, with_row}
 use Rattle.ob_tables.specs.Steps.{LetsIn, Makes}
 use Rattle.ob_tables.specs.Rules.{HasShort}
@@ -59,7 +60,7 @@ next_body old mid new bodies at b low here was step =
     (makes_then old mid new (HasBodies (take at bodies)) (HasCommand it.no) (HasBodies (take (suc at) bodies)) (with_bodies (take at bodies)) (with_body it) (λ t. bodies_suc bodies at b t low) was next))
 
 -- the lives so far and one more
-pub next_life : (old mid new : State) (at : ℕ) → Makes old mid Always (with_lives at) → Makes mid new Always (with_row Life (life_row at 0 None)) → Makes old new Always (with_lives (at + 1))
+pub next_life : (old mid new : State) (at : ℕ) → Makes old mid Always (with_lives at) → Makes mid new Always (with_row Life (life_row at whole_life)) → Makes old new Always (with_lives (at + 1))
 next_life old mid new at was step =
     let e : suc at ≡ at + 1 = omega arith in
-    subst (λ n. Makes old new Always (with_lives n)) e (makes_then old mid new Always Always Always (with_lives at) (with_row Life (life_row at 0 None)) (λ t any. (tt, tt)) was step)
+    subst (λ n. Makes old new Always (with_lives n)) e (makes_then old mid new Always Always Always (with_lives at) (with_row Life (life_row at whole_life)) (λ t any. (tt, tt)) was step)

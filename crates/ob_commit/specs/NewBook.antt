@@ -1,6 +1,6 @@
 -- The tables of a new book.
 use Rattle.std.specs.List.{All, AllPairs, list_any}
-use Rattle.std.specs.Prelude.{◌≡◌, ◌≢◌, ◌<◌, ◌+◌, ◌^◌, false, length, ℕ, List, [], ◌∷◌, ◌++◌, map, codes, IsTrue}
+use Rattle.std.specs.Prelude.{◌≡◌, ◌≢◌, ◌<◌, ◌+◌, ◌^◌, false, length, ℕ, List, [], ◌∷◌, ◌++◌, map, codes, None, IsTrue}
 use Rattle.sqlite.specs.Effect.{IsDatabase}
 use Rattle.sqlite.specs.State.{State}
 use Rattle.ob_post.specs.Keys.{dim_number}
@@ -20,7 +20,7 @@ no_amount dim key = 0
 abbrev pub new_tables : List ℕ → ℕ → List ℕ → Tables
 new_tables first days zone Meta = meta_row 2 first days zone ∷ []
 new_tables first days zone Cause = cause_row 0 (codes "UNASSIGNED") ∷ []
-new_tables first days zone Node = node_row 0 (codes "GRID") 0 0 ∷ []
+new_tables first days zone Node = node_row 0 (record { name = codes "GRID"; feeder = None }) ∷ []
 new_tables first days zone Device = []
 new_tables first days zone Life = []
 new_tables first days zone Customer = []
@@ -33,8 +33,8 @@ new_tables first days zone Posting = amount_rows days no_amount
 -- with the rows of the period, of cause 0 and of GRID
 abbrev pub with_heading : List ℕ → ℕ → List ℕ → Tables → Tables
 with_heading first days zone tables =
-    with_row Node (node_row 0 (codes "GRID") 0 0) (with_row Cause (cause_row 0 (codes "UNASSIGNED"))
-    (with_row Meta (meta_row 2 first days zone) tables))
+    with_row Node (node_row 0 (record { name = codes "GRID"; feeder = None }))
+    (with_row Cause (cause_row 0 (codes "UNASSIGNED")) (with_row Meta (meta_row 2 first days zone) tables))
 
 -- the rules of the tables let these rows in: no row stands in the three tables, and the texts fit
 pub record LetsHeading (first zone : List ℕ) (t : Tables) : Type 0 where

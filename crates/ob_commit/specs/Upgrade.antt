@@ -1,12 +1,13 @@
 -- What is left of the tables of version 1 once they were to be made those of version 2.
 use Rattle.std.specs.List.{All}
-use Rattle.std.specs.Prelude.{◌≡◌, ◌<◌, ℕ, zero, suc, List, [], ◌∷◌, None, ⊤, fold, IsTrue, Result, IfErr, OnOk}
+use Rattle.std.specs.Prelude.{◌≡◌, ◌<◌, ℕ, zero, suc, List, [], ◌∷◌, ⊤, fold, IsTrue, Result, IfErr, OnOk}
 use Rattle.std.specs.Borrow.{MutBor}
 use Rattle.sqlite_trees.specs.declared.store.Store.{Ghosts}
 use Rattle.sqlite.specs.Effect.{IsDatabase}
 use Rattle.sqlite.specs.Held.{Held, state}
 use Rattle.sqlite.specs.State.{State, HasCleanDisk}
 use Rattle.sqlite.specs.Tree.{Trees}
+use Rattle.ob_base.specs.Life.{whole_life}
 use Rattle.ob_base.specs.declared.stop.Stop.{Stop}
 use Rattle.ob_base.specs.declared.stop.Stop.TheVariants.{Fault}
 use Rattle.ob_base.specs.declared.stop.Fault.TheVariants.{Store}
@@ -48,7 +49,7 @@ HasBodies (b ∷ bodies) t = HasCommand b.no t × HasBodies bodies (with_body b 
 -- so many devices live always
 abbrev pub with_lives : ℕ → Tables → Tables
 with_lives zero t = t
-with_lives (suc n) t = with_row Life (life_row n 0 None) (with_lives n t)
+with_lives (suc n) t = with_row Life (life_row n whole_life) (with_lives n t)
 
 -- with these bodies, and so many lives
 abbrev pub with_rows : List NewBody → ℕ → Tables → Tables

@@ -8,10 +8,11 @@ ghost use Rattle.ob_tables.specs.Rows.{Tables};
 ghost use Rattle.ob_commit.specs.Acts.{CanWrite, LetsAct, NeedsRows, with_act};
 ghost use Rattle.ob_commit.specs.Keeps.{HasCommitCause, Keeps, KeepsEither, KeepsNumbers, LeavesChanged};
 
-use crate::change::{RowChange, write_change};
+use crate::change::write_rows;
 use crate::moves::write_moves;
 use ob_base::{Fault, Stop};
 use ob_post::{Moved, Postings};
+use ob_state::Resolved;
 use ob_tables::add_command;
 use sqlite::{Alter, Connection, Transaction};
 
@@ -24,8 +25,8 @@ pub struct Act<'t> {
     pub reference: &'t [u8],
     /// Its body text.
     pub body: &'t [u8],
-    /// What it does to the rows beside its own and those of its amounts.
-    pub change: RowChange<'t>,
+    /// What it comes to, which tells what it does to the rows beside its own and those of its amounts.
+    pub resolved: &'t Resolved,
     /// The amounts that it moves.
     pub moves: &'t [Moved],
 }
@@ -41,7 +42,7 @@ pub(crate) fn write_act<S: Alter>(
         (NeedsRows postings.now act.now) (LetsAct act.now)
         (with_act postings.now act.now) }
 {
-    write_change(tx, &act.change)?;
+    write_rows(tx, act.resolved)?;
     add_command(tx, act.no, act.reference, act.body)?;
     write_moves(tx, act.no, postings, act.moves)
 }

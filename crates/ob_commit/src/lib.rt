@@ -15,6 +15,7 @@ mod act;
 mod change;
 mod columns;
 mod creation;
+mod first;
 mod known;
 mod moves;
 mod stored;
@@ -22,8 +23,8 @@ mod upgrade;
 mod writing;
 
 pub use act::{Act, commit_act};
-pub use change::RowChange;
 pub use creation::commit_new;
+pub use first::grid;
 pub use known::{Known, look_up};
 pub use stored::stored_moves;
 pub use upgrade::{NewBody, commit_upgrade};

@@ -9,7 +9,7 @@ ghost use Rattle.ob_tables.specs.declared.version.Version.{Version as AVersion};
 ghost use Rattle.ob_commit.specs.Keeps.{ChangesOpen, HasCommitCause, Keeps, KeepsIn, KeepsNumbers};
 ghost use Rattle.ob_commit.specs.Upgrade.{CanUpgrade, HasBodies, KeepsOldOr, LeavesUpgraded, LetsBodies, LetsLivesOf, LetsUpgrade, UpgradesOpen, with_bodies, with_lives, with_upgrade};
 
-use ob_base::{Fault, Stop};
+use ob_base::{Fault, Life, Stop};
 use ob_tables::{add_life, create_life, set_body, set_version};
 use sqlite::{Alter, Connection, Transaction};
 
@@ -35,12 +35,16 @@ fn write_bodies<S: Alter>(tx: &mut Transaction<'_, S>, bodies: &[NewBody]) -> Re
 }
 
 /// Gives so many devices, from number 0 on, a life without end from the first second on.
-fn write_lives<S: Alter>(tx: &mut Transaction<'_, S>, devices: u32) -> Result<(), Stop>
+fn write_lives<S: Alter>(tx: &mut Transaction<'_, S>, devices: u16) -> Result<(), Stop>
     ensures { ChangesOpen S.Store tx.old.conn tx.new.conn result Always
         (LetsLivesOf devices) (with_lives devices) }
 {
+    let whole = Life {
+        since: 0,
+        until: None,
+    };
     'lives: for at in 0..devices {
-        add_life(tx, at, 0, None)?;
+        add_life(tx, at, whole)?;
     }
     Ok(())
 }
@@ -50,7 +54,7 @@ fn write_lives<S: Alter>(tx: &mut Transaction<'_, S>, devices: u32) -> Result<()
 fn write_upgrade<S: Alter>(
     tx: &mut Transaction<'_, S>,
     bodies: &[NewBody],
-    devices: u32,
+    devices: u16,
 ) -> Result<(), Stop>
     ensures { UpgradesOpen S.Store tx.old.conn tx.new.conn result (CanUpgrade bodies.now devices)
         (LetsUpgrade bodies.now devices) (with_upgrade bodies.now devices) }
@@ -66,7 +70,7 @@ fn write_upgrade<S: Alter>(
 pub fn commit_upgrade<S: Alter>(
     conn: &mut Connection<S>,
     bodies: &[NewBody],
-    devices: u32,
+    devices: u16,
 ) -> Result<(), Stop>
     requires mode { conn.old.in_transaction ≡ false }
     ensures mode { conn.new.in_transaction ≡ false }

@@ -7,6 +7,7 @@ ghost use Rattle.ob_commit.specs.Amounts.{all_keys};
 ghost use Rattle.ob_commit.specs.Keeps.{ChangesOpen};
 ghost use Rattle.ob_commit.specs.NewBook.{LetsHeading, LetsNew, LetsZeros, new_tables, with_heading, with_zeros, keys_of, MakesNew};
 
+use crate::first::{grid, unassigned};
 use ob_base::Stop;
 use ob_post::Dim;
 use ob_tables::{add_cause, add_meta, add_node, add_posting, create_tables};
@@ -44,8 +45,8 @@ fn write_heading<S: Alter>(
         (LetsHeading first_day.now zone.now) (with_heading first_day.now days zone.now) }
 {
     add_meta(tx, first_day, u32::from(days), zone)?;
-    add_cause(tx, 0, b"UNASSIGNED")?;
-    add_node(tx, 0, b"GRID", 0, 0)
+    add_cause(tx, 0, &unassigned())?;
+    add_node(tx, 0, &grid())
 }
 
 /// Adds the row of each amount, which is 0.

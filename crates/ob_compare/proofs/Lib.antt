@@ -15,11 +15,11 @@ pub mod Selects
 mod Places
 pub mod Reaching
 mod Twins
-mod Naming
 mod Led
+mod Lives
 mod Texts
 pub mod NoWrite
 mod RowNumbers
 mod NumberQuery
-mod SameEnds
+mod SameNetwork
 mod Versions

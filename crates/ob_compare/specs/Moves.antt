@@ -1,18 +1,13 @@
--- What commands under references move, as the rows of a table, and the ends of the devices of a network.
+-- What commands under references move, as the rows of a table.
 use Rattle.std.specs.Prelude.{◌≡◌, List, [], ◌∷◌, Some, map, codes}
 use Rattle.std.specs.List.Sorted.{IsPermutation}
-use Rattle.ob_net.specs.Network.{Network}
-use Rattle.ob_net.specs.declared.net.Device.{Device}
 use Rattle.ob_command.specs.declared.command.Command.{Command}
 use Rattle.ob_state.specs.State.{BookState}
-use Rattle.ob_state.specs.declared.resolved.Resolved.{Resolved}
-use Rattle.ob_state.specs.declared.resolved.Resolved.TheVariants as resolved
 use Rattle.ob_book.specs.Acts.{Referenced}
 use Rattle.ob_tables.specs.Rows.{Columns}
 use Rattle.ob_tables.specs.declared.table.Table.TheVariants.{Moved}
 use Rattle.ob_tables.specs.declared.version.Version.{Version}
 use Rattle.ob_record.specs.Tables.{moved_rows}
-use Rattle.ob_compare.specs.declared.ends.EndNodes.{EndNodes}
 use Rattle.ob_compare.specs.Listing.{Listing}
 use Rattle.ob_compare.specs.Versioned.{next_all_in}
 
@@ -32,12 +27,3 @@ commands_of list = map (λ (a : Referenced). a.command) list
 abbrev pub HasMoved : Version → List Columns → BookState → List Referenced → Type 0
 HasMoved version table b list =
     (c : BookState) × (next_all_in version b (commands_of list) ≡ Some c) × IsPermutation table (moved_rows b 1 list)
-
--- the numbers of the nodes that each device joins
-abbrev pub ends_of : Network → List EndNodes
-ends_of net = map (λ (d : Device). record { a = d.a; b = d.b }) net.devices
-
--- the numbers of the nodes that the device of a command joins, where it adds one
-abbrev pub ends_by : Resolved → List EndNodes
-ends_by (resolved.Device number device) = record { a = device.a; b = device.b } ∷ []
-ends_by r = []

@@ -18,12 +18,12 @@ ghost use Rattle.ob_commit.specs.Keeps.{KeepsIn};
 ghost use Rattle.ob_record.specs.Tables.{Shows, rows_of_moves};
 ghost use Rattle.ob_compare.specs.Faults.{HasNoMeaning, IsMissed, IsReadFault, bad_book};
 ghost use Rattle.ob_compare.specs.Listing.{Goes, filed_of};
-ghost use Rattle.ob_compare.specs.Moves.{HasMoved, commands_of, ends_of, moved_listing};
+ghost use Rattle.ob_compare.specs.Moves.{HasMoved, commands_of, moved_listing};
 ghost use Rattle.ob_compare.specs.Versioned.{accepts_in, next_all_in};
 
-use crate::ends::EndNodes;
 use crate::filed::Filed;
-use crate::leading::decide_noting_ends;
+use crate::layout::Layout;
+use crate::leading::decide_noting;
 use crate::listed::select_of;
 use crate::progress::{Progress, Work};
 use crate::query::prepare;
@@ -128,14 +128,14 @@ fn fits<T: Timeline>(book: &Book<T>, command: &Command, version: Version) -> boo
     }
 }
 
-/// Whether a version accepts the command, and the next rows are those of what it moves. If so, the book adopts it, and the
-/// ends of the device that it adds are noted.
+/// Whether a version accepts the command, and the next rows are those of what it moves. If so, the book adopts it, and
+/// what it makes of the network is noted.
 fn takes_on<S: Alter, T: Timeline>(
     rows: &mut Rows<'_, S>,
     book: &mut Book<T>,
     no: u32,
     command: &Command,
-    noted: &mut Vec<EndNodes>,
+    noted: &mut Layout,
     version: Version,
 ) -> Result<bool, Stop>
     ensures same_reference { rows.new.conn.ghost_name ≡ rows.old.conn.ghost_name }
@@ -163,13 +163,13 @@ fn takes_on<S: Alter, T: Timeline>(
         (rows_of_moves no (moves_of book.old.state (next book.old.state command.now)))) }
     ensures book { result ≡ Ok true → IsTrue (accepts_in version book.old.state command.now)
         × (book.new.state ≡ next book.old.state command.now) }
-    ensures noted { result ≡ Ok true → noted.old.items ≡ ends_of book.old.state.network
-        → noted.new.items ≡ ends_of book.new.state.network }
+    ensures noted { result ≡ Ok true → noted.old ≡ book.old.state.network
+        → noted.new ≡ book.new.state.network }
 {
     if !fits(book, command, version) {
         return Ok(false);
     }
-    let Some(plan) = decide_noting_ends(book, command, noted)? else {
+    let Some(plan) = decide_noting(book, command, noted)? else {
         return Ok(false);
     };
     if !matches(rows, no, plan.moves())? {
@@ -180,12 +180,12 @@ fn takes_on<S: Alter, T: Timeline>(
 }
 
 /// Whether the rows to come are those of what the commands move, each accepted in its turn by a version. The book is led
-/// along, and the ends of its devices are noted.
+/// along, and what they make of the network is noted.
 fn follows<S: Alter, T: Timeline, P: Progress>(
     rows: &mut Rows<'_, S>,
     book: &mut Book<T>,
     commands: &[Filed],
-    noted: &mut Vec<EndNodes>,
+    noted: &mut Layout,
     version: Version,
     progress: &mut P,
 ) -> Result<bool, Stop>
@@ -213,8 +213,8 @@ fn follows<S: Alter, T: Timeline, P: Progress>(
         → IsTrue is ↔ HasMoved version table book.old.state (filed_of commands.now)) }
     ensures book { result ≡ Ok true → next_all_in version book.old.state
         (commands_of (filed_of commands.now)) ≡ Some book.new.state }
-    ensures noted { result ≡ Ok true → noted.old.items ≡ ends_of book.old.state.network
-        → noted.new.items ≡ ends_of book.new.state.network }
+    ensures noted { result ≡ Ok true → noted.old ≡ book.old.state.network
+        → noted.new ≡ book.new.state.network }
 {
     progress.begin(Work::Commands, commands.len() as u64);
     'commands: for at in 0..commands.len() {
@@ -230,13 +230,14 @@ fn follows<S: Alter, T: Timeline, P: Progress>(
 }
 
 /// Whether the table of moved amounts holds what the commands move, each accepted in its turn by a version, and no other
-/// row. The book is led along, and the ends of its devices are noted. Nothing is written. A database without the table is
-/// refused as no book's. The tables may be those of either version. Who listens is told of each command that was led along.
+/// row. The book is led along, and what they make of the network is noted. Nothing is written. A database without the
+/// table is refused as no book's. The tables may be those of either version. Who listens is told of each command that was
+/// led along.
 pub fn holds_moves<S: Alter, T: Timeline, P: Progress>(
     conn: &mut Connection<S>,
     book: &mut Book<T>,
     commands: &[Filed],
-    noted: &mut Vec<EndNodes>,
+    noted: &mut Layout,
     version: Version,
     progress: &mut P,
 ) -> Result<bool, Stop>
@@ -263,8 +264,8 @@ pub fn holds_moves<S: Alter, T: Timeline, P: Progress>(
         → IsTrue is ↔ HasMoved version table book.old.state (filed_of commands.now)) }
     ensures book { result ≡ Ok true → next_all_in version book.old.state
         (commands_of (filed_of commands.now)) ≡ Some book.new.state }
-    ensures noted { result ≡ Ok true → noted.old.items ≡ ends_of book.old.state.network
-        → noted.new.items ≡ ends_of book.new.state.network }
+    ensures noted { result ≡ Ok true → noted.old ≡ book.old.state.network
+        → noted.new ≡ book.new.state.network }
 {
     // A `?` converts the stop on its way, and the clauses say which it is.
     let statement = match prepare(conn, select_of(Table::Moved)) {

@@ -1,5 +1,6 @@
 -- Each table, once tables of version 1 were made those of version 2.
-use Rattle.std.proofs.Common.{◌≡◌, ◌∙◌, ℕ, ◌==◌, false, zero, suc, List, [], ◌∷◌, ◌++◌, filter, None, if◌then◌else◌, refl, ap}
+use Rattle.std.proofs.Common.{◌≡◌, ◌∙◌, ℕ, ◌==◌, false, zero, suc, List, [], ◌∷◌, ◌++◌, filter, if◌then◌else◌, refl, ap}
+use Rattle.ob_base.specs.Life.{whole_life}
 use Rattle.ob_tables.specs.Rows.{HasHeading, Tables, change_where, is_key, life_row, meta_row, rebody, reversion, tree_of}
 use Rattle.ob_tables.specs.Versions.{without_lives}
 use Rattle.ob_tables.specs.declared.table.Table.{Table}
@@ -21,7 +22,7 @@ bodies_leave other apart (b ∷ bodies) t =
 lives_leave : (other : Table) → (tree_of Life == tree_of other) ≡ false → (k : ℕ) (t : Tables) → with_lives k t other ≡ t other
 lives_leave other apart zero t = refl
 lives_leave other apart (suc k) t =
-    ap (λ same. if same then with_lives k t other ++ life_row k 0 None ∷ [] else with_lives k t other) apart ∙ lives_leave other apart k t
+    ap (λ same. if same then with_lives k t other ++ life_row k whole_life ∷ [] else with_lives k t other) apart ∙ lives_leave other apart k t
 
 module _ (bodies : List NewBody) (devices : ℕ) (t : Tables) where
   both_leave : (other : Table) → (tree_of Command == tree_of other) ≡ false → (tree_of Life == tree_of other) ≡ false

@@ -9,12 +9,12 @@ use Rattle.ob_command.specs.Commands.{body_text}
 use Rattle.ob_book.specs.Acts.{Referenced}
 use Rattle.ob_upgrade.specs.Laws.{BodiesGrow}
 use Rattle.ob_upgrade.specs.Old.{is_device, old_body_text}
-use Rattle.ob_tables.specs.Rows.{Tables, is_key}
+use Rattle.ob_tables.specs.Rows.{Tables, device_row, is_key}
 use Rattle.ob_tables.specs.Rules.{HasShort, IsShort, IsShortValue}
 use Rattle.ob_tables.specs.declared.table.Table.TheVariants.{Command}
 use Rattle.ob_commit.specs.declared.upgrade.NewBody.{NewBody}
 use Rattle.ob_record.specs.Naming.{IsReferenced}
-use Rattle.ob_record.specs.Tables.{numbered, row_of_device}
+use Rattle.ob_record.specs.Tables.{numbered}
 use Rattle.ob_record.proofs.Free.{number_there}
 use Rattle.ob_record.proofs.Keyed.{key_is}
 use Rattle.ob_record.proofs.Short.{short_body, short_reference}
@@ -63,8 +63,8 @@ date_short : (day : ℤ) → IsShort (day_text day)
 date_short day = let long = date_length day in omega (arith, long)
 
 -- ---- each device is there
-device_there : (n : ℕ) (devices : List NetDevice) → n < length devices → list_any (is_key n) (numbered row_of_device 0 devices) ≡ true
-device_there n devices low = number_there row_of_device n (λ m d. key_is n m (row_of_device m d) refl) 0 n devices (omega arith) low
+device_there : (n : ℕ) (devices : List NetDevice) → n < length devices → list_any (is_key n) (numbered device_row 0 devices) ≡ true
+device_there n devices low = number_there device_row n (λ m d. key_is n m (device_row m d) refl) 0 n devices (omega arith) low
 
 pub lets_upgraded : BodiesGrow → OldIsReached → LetsUpgraded
 lets_upgraded grow reached b bodies h named texts =

@@ -1,7 +1,6 @@
 mod Rising
 mod Versions
-mod Numbered
-mod Network
+mod Entries
 mod Keyed
 mod Letting
 mod Changed

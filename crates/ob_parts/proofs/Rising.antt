@@ -1,5 +1,5 @@
 -- Rows that rise by the number in their first field.
-use Rattle.std.proofs.Common.{true≢false, ap₂, Bool, false, IsTrue, ◌≡◌, ℕ, zero, suc, ◌+◌, ◌<◌, pos, List, [], ◌∷◌, length, map, get_or, slice_index_or, Option, Some, None, is_some, true, Less, refl, sym, ap, ◌∙◌, arith}
+use Rattle.std.proofs.Common.{true≢false, ap₂, Bool, false, IsTrue, ◌≡◌, ℕ, zero, suc, ◌+◌, ◌<◌, pos, List, [], ◌∷◌, length, map, get_or, slice_index_or, Option, Some, None, is_some, true, Less, refl, sym, ap, subst, ◌∙◌, arith}
 use Rattle.std.specs.Prelude.{◌↔◌, slice_get}
 use Rattle.std.specs.List.{AllByRecursion, AllPairs}
 use Rattle.std.specs.List.Sorted.{IsStrictlySortedBy}
@@ -106,6 +106,27 @@ pub present_all : {X : Type 0} (row : ℕ → X → Columns) (n : ℕ) (xs : Lis
 present_all row n [] = refl
 present_all row n (x ∷ xs) = ap (λ l. row n x ∷ l) (present_all row (n + 1) xs)
 
+-- ---- places that all hold something
+module _ {X : Type 0} (row : ℕ → X → Columns) (xs : List X) where
+  pub length_all : length (placed row 0 (map Some xs)) ≡ length xs
+  length_all = length_placed row 0 (map Some xs) ∙ length_places (λ x. x) xs
+
+  pub has_all : (at : ℕ) → at < length (placed row 0 (map Some xs)) → true ≡ is_some (slice_index_or (placed row 0 (map Some xs)) at None)
+  has_all at low =
+      let within : at < length (map Some xs) = omega (arith, low, length_placed row 0 (map Some xs)) in
+      has_place (λ x. x) xs at within ∙ some_placed row 0 (map Some xs) at
+
+  -- a row is that of a place, where it is that of the element there
+  pub decides_all : (test : Bool) (at : ℕ) (d : X) (r : Columns) → at < length (placed row 0 (map Some xs)) → IsTrue test ↔ (r ≡ row at (get_or xs at d))
+      → IsTrue test ↔ (slice_index_or (placed row 0 (map Some xs)) at None ≡ Some r)
+  decides_all test at d r low tells =
+      let x = get_or xs at d in
+      let within : at < length xs = omega (arith, low, length_all) in
+      decides test _ r (row at x) tells (at_placed row 0 (map Some xs) at x (place_is (λ x. x) xs at d within) at (omega arith))
+
+  pub standing_each : standing (placed row 0 (map Some xs)) ≡ numbered row 0 xs
+  standing_each = standing_placed row 0 (map Some xs) ∙ present_all row 0 xs
+
 -- ---- rows with the numbers of their places
 module _ {X : Type 0} (rest : ℕ → X → Columns) where
   abbrev placed_row : ℕ → X → Columns
@@ -121,6 +142,9 @@ module _ {X : Type 0} (rest : ℕ → X → Columns) where
   rise_present n [] = tt
   rise_present n (None ∷ xs) = rise_present (n + 1) xs
   rise_present n (Some x ∷ xs) = (all_later n (n + 1) (rest n x) xs (omega arith), rise_present (n + 1) xs)
+
+  pub rise_numbered : (xs : List X) → IsStrictlySortedBy (row_cmp Customer) (numbered placed_row 0 xs)
+  rise_numbered xs = subst (IsStrictlySortedBy (row_cmp Customer)) (present_all placed_row 0 xs) (rise_present 0 (map Some xs))
 
 pub one_rises : (row : Columns) → IsStrictlySortedBy (row_cmp Customer) (row ∷ [])
 unfolding IsStrictlySortedBy

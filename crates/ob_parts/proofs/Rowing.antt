@@ -1,10 +1,11 @@
 -- Rows of commands under their numbers, where the commands of some numbers get other body texts; and rows of lives.
-use Rattle.std.proofs.Common.{◌≡◌, ◌∙◌, ℕ, ◌+◌, ◌<◌, ◌≤◌, ◌==◌, true, false, zero, suc, List, [], ◌∷◌, ◌++◌, map, filter, length, None, if◌then◌else◌, refl, sym, ap, ap₂, inl, inr, arith}
+use Rattle.std.proofs.Common.{◌≡◌, ◌∙◌, ℕ, ◌+◌, ◌<◌, ◌≤◌, ◌==◌, true, false, zero, suc, List, [], ◌∷◌, ◌++◌, map, filter, length, if◌then◌else◌, refl, sym, ap, ap₂, inl, inr, arith}
 use Rattle.std.specs.Prelude.{⊤}
 use Rattle.std.specs.List.{AllByRecursion}
 use Rattle.std.proofs.lemmas.Bool.{cases_Bool}
 use Rattle.std.proofs.lemmas.Bool.Decides.{nat_tests}
 use Rattle.sqlite.specs.Order.{column}
+use Rattle.ob_base.specs.Life.{whole_life}
 use Rattle.ob_command.specs.Commands.{body_text}
 use Rattle.ob_book.specs.Acts.{Referenced}
 use Rattle.ob_upgrade.specs.Old.{is_device, old_body_text}
@@ -144,12 +145,12 @@ rows_anew n (x ∷ xs) keeps =
 -- so many devices that live always, the first with this number
 abbrev pub whole_rows : ℕ → ℕ → List Columns
 whole_rows n zero = []
-whole_rows n (suc k) = life_row n 0 None ∷ whole_rows (n + 1) k
+whole_rows n (suc k) = life_row n whole_life ∷ whole_rows (n + 1) k
 
-one_more : (n k m : ℕ) → n + k ≡ m → whole_rows n (suc k) ≡ whole_rows n k ++ life_row m 0 None ∷ []
-one_more n zero m at = let e : n ≡ m = omega (arith, at) in ap (λ j. life_row j 0 None ∷ []) e
-one_more n (suc k) m at = ap (λ l. life_row n 0 None ∷ l) (one_more (n + 1) k m (omega (arith, at)))
+one_more : (n k m : ℕ) → n + k ≡ m → whole_rows n (suc k) ≡ whole_rows n k ++ life_row m whole_life ∷ []
+one_more n zero m at = let e : n ≡ m = omega (arith, at) in ap (λ j. life_row j whole_life ∷ []) e
+one_more n (suc k) m at = ap (λ l. life_row n whole_life ∷ l) (one_more (n + 1) k m (omega (arith, at)))
 
 pub lives_rows : (k : ℕ) (t : Tables) → t Life ≡ [] → with_lives k t Life ≡ whole_rows 0 k
 lives_rows zero t none = none
-lives_rows (suc k) t none = ap (λ l. l ++ life_row k 0 None ∷ []) (lives_rows k t none) ∙ sym (one_more 0 k k (omega arith))
+lives_rows (suc k) t none = ap (λ l. l ++ life_row k whole_life ∷ []) (lives_rows k t none) ∙ sym (one_more 0 k k (omega arith))

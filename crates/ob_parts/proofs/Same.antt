@@ -97,5 +97,5 @@ keep_texts grow (a ∷ list) old = (keeps_text grow a.command old.0, keep_texts 
 pub whole_are : (n : ℕ) (ds : List NetDevice) → AreWhole ds → numbered row_of_life n ds ≡ whole_rows n (length ds)
 whole_are n [] whole = refl
 whole_are n (d ∷ ds) whole =
-    ap₂ (λ (l : ALife) rows. life_row n l.since l.until ∷ rows) (All-head (λ (d : NetDevice). d.life ≡ whole_life) d ds whole)
+    ap₂ (λ (l : ALife) rows. life_row n l ∷ rows) (All-head (λ (d : NetDevice). d.life ≡ whole_life) d ds whole)
     (whole_are (n + 1) ds (All-tail (λ (d : NetDevice). d.life ≡ whole_life) d ds whole))

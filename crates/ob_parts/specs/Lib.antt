@@ -1,4 +1,3 @@
-pub mod Fields
 pub mod Parts
 pub mod OldTables
 pub mod Laws

@@ -8,8 +8,8 @@
 #![tactic(auto)]
 
 mod bodies;
-mod fields;
 mod laws;
+mod numbered;
 mod part;
 mod parts;
 

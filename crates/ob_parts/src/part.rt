@@ -1,5 +1,5 @@
 //! Each table against what a book has of it.
-ghost use Rattle.std.specs.Prelude.{◌≡◌, [], ◌∷◌, map};
+ghost use Rattle.std.specs.Prelude.{◌≡◌, [], ◌∷◌};
 ghost use Rattle.ob_time.specs.Calendar.{day_count};
 ghost use Rattle.ob_time.specs.Dates.{day_text};
 ghost use Rattle.ob_state.specs.Amounts.{amount};
@@ -9,17 +9,16 @@ ghost use Rattle.ob_tables.specs.Rows.{meta_row};
 ghost use Rattle.ob_tables.specs.Versions.{Has, version_number};
 ghost use Rattle.ob_tables.specs.declared.table.Table.{Table as ATable};
 ghost use Rattle.ob_tables.specs.declared.version.Version.{Version as AVersion};
-ghost use Rattle.ob_compare.specs.Moves.{ends_of};
 ghost use Rattle.ob_compare.specs.Parts.{Compares};
 ghost use Rattle.ob_parts.specs.Parts.{IsPart, parts_in};
 
+use crate::numbered::{Devices, Lives, Nodes, holds_numbered};
 use crate::parts::{
-    holds_amounts, holds_causes, holds_customers, holds_devices, holds_entries, holds_heading,
-    holds_lives, holds_marks, holds_nodes,
+    holds_amounts, holds_causes, holds_customers, holds_entries, holds_heading, holds_marks,
 };
-use ob_base::{Name, Stop};
+use ob_base::Stop;
 use ob_book::Book;
-use ob_compare::EndNodes;
+use ob_compare::Layout;
 use ob_sweep::Timeline;
 use ob_tables::{Table, Version};
 use ob_time::Period;
@@ -63,29 +62,27 @@ fn holds_posted<S: Alter, T: Timeline>(
 }
 
 /// Whether a table of a version holds what a book has of it: any table that the version has but those of commands and
-/// of what they moved. Of the book's network these are the names of the nodes and the ends of the devices. Nothing is
-/// written. A database without the table is refused as no book's.
+/// of what they moved. The layout has the nodes and the devices of the book's network. Nothing is written. A database
+/// without the table is refused as no book's.
 pub fn holds_part<S: Alter, T: Timeline>(
     conn: &mut Connection<S>,
     book: &Book<T>,
-    names: &[Name],
-    ends: &[EndNodes],
+    layout: &Layout,
     version: Version,
     table: Table,
 ) -> Result<bool, Stop>
     requires part { IsPart table }
     requires has { Has version table }
-    requires names { names.now ≡ map (λ n. n.name) book.now.state.network.nodes }
-    requires ends { ends.now ≡ ends_of book.now.state.network }
+    requires layout { layout.now ≡ book.now.state.network }
     ensures { (b : ActState) → b.book ≡ book.now.state
         → Compares S.Store version table (parts_in version b table) conn.old conn.new result }
 {
     match table {
         Table::Meta => holds_period(conn, book.period(), version),
         Table::Cause => holds_causes(conn, book),
-        Table::Node => holds_nodes(conn, book.net(), names),
-        Table::Device => holds_devices(conn, book.net(), ends),
-        Table::Life => holds_lives(conn, book.net()),
+        Table::Node => holds_numbered::<S, Nodes>(conn, layout.nodes()),
+        Table::Device => holds_numbered::<S, Devices>(conn, layout.devices()),
+        Table::Life => holds_numbered::<S, Lives>(conn, layout.devices()),
         Table::Customer => holds_customers(conn, book.roll()),
         Table::Entry => holds_entries(conn, book.sheet()),
         Table::Mark => holds_marks(conn, book.marks(), book.period().days()),

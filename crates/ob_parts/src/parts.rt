@@ -1,28 +1,26 @@
 //! Each table against the part of a book that it holds.
-ghost use Rattle.std.specs.Prelude.{◌≡◌, [], ◌∷◌, ◌==◌, ◌↔◌, is_some, if◌then◌else◌};
-ghost use Rattle.std.specs.Prelude.{◌<◌, ◌+◌, Some, IsTrue, length, map, slice_get};
+ghost use Rattle.std.specs.Prelude.{◌≡◌, ◌<◌, ◌+◌, [], ◌∷◌, Some, length, map, slice_get};
 ghost use Rattle.ob_tables.specs.declared.table.Table.{Table as ATable};
 ghost use Rattle.ob_tables.specs.declared.version.Version.{Version as AVersion};
 ghost use Rattle.ob_tables.specs.Versions.{Has};
 ghost use Rattle.ob_commit.specs.Amounts.{all_keys, amount_rows};
 ghost use Rattle.ob_post.specs.Keys.{IsKey};
 ghost use Rattle.ob_post.specs.Postings.{amount_of, day_count};
-ghost use Rattle.ob_record.specs.Tables.{numbered, present, row_of_customer, row_of_device, row_of_entry, row_of_life, row_of_node};
-ghost use Rattle.ob_tables.specs.Rows.{cause_row, mark_row, meta_row};
-ghost use Rattle.ob_compare.specs.Moves.{ends_of};
+ghost use Rattle.ob_record.specs.Tables.{present};
+ghost use Rattle.ob_tables.specs.Rows.{cause_row, customer_row, entry_row, mark_row, meta_row};
 ghost use Rattle.ob_compare.specs.Parts.{Compares};
 
-use crate::fields::{Field, bit, has_fields, number_or_nothing, position_number};
-use ob_base::{Name, Stop};
+use ob_base::Stop;
 use ob_book::Book;
-use ob_compare::{EndNodes, Listed, holds};
-use ob_cust::{Customer, Roll};
+use ob_compare::{Listed, holds};
+use ob_cust::Roll;
 use ob_index::Marks;
-use ob_net::Net;
 use ob_post::{Dim, Postings};
-use ob_sheet::{Entry, Sheet};
+use ob_sheet::Sheet;
 use ob_sweep::Timeline;
-use ob_tables::Table;
+use ob_tables::{
+    Table, is_cause_row, is_customer_row, is_entry_row, is_mark_row, is_meta_row, is_posting_row,
+};
 use sqlite::{Alter, Connection, Row};
 
 /// The one row of the heading: its version, the first day, the count of days and the zone.
@@ -56,16 +54,7 @@ impl<'b> Listed for HeadingRow<'b> {
     }
 
     fn is_row(&self, _at: usize, row: &Row) -> bool {
-        has_fields(
-            row,
-            &[
-                Field::Number(1),
-                Field::Number(u64::from(self.version)),
-                Field::Words(self.first_day),
-                Field::Number(u64::from(self.days)),
-                Field::Words(self.zone),
-            ],
-        )
+        is_meta_row(row, self.version, self.first_day, self.days, self.zone)
     }
 }
 
@@ -100,11 +89,11 @@ struct Customers<'b> {
 impl<'b> Listed for Customers<'b> {
     ghost use Rattle.std.specs.Prelude.{map, Some};
     ghost use Rattle.ob_tables.specs.declared.table.Table.{Table as ATable};
-    ghost use Rattle.ob_record.specs.Tables.{row_of_customer};
+    ghost use Rattle.ob_tables.specs.Rows.{customer_row};
 
     ghost table = { ATable.Customer };
 
-    ghost places = { λ l. map (λ c. Some (row_of_customer c)) l.roll.now.customers };
+    ghost places = { λ l. map (λ c. Some (customer_row c)) l.roll.now.customers };
 
     fn table(&self) -> Table {
         Table::Customer
@@ -119,28 +108,14 @@ impl<'b> Listed for Customers<'b> {
     }
 
     fn is_row(&self, at: usize, row: &Row) -> bool {
-        let Customer {
-            no,
-            section,
-            since,
-            until,
-        } = self.roll.customers()[at];
-        has_fields(
-            row,
-            &[
-                Field::Number(u64::from(no)),
-                Field::Number(u64::from(section)),
-                Field::Number(since),
-                number_or_nothing(until),
-            ],
-        )
+        is_customer_row(row, self.roll.customers()[at])
     }
 }
 
 /// Whether the table of customers holds those of a roll. Nothing is written.
 pub(crate) fn holds_customers<S: Alter>(conn: &mut Connection<S>, roll: &Roll) -> Result<bool, Stop>
     ensures { (v : AVersion) → Has v ATable.Customer
-        → Compares S.Store v ATable.Customer (map row_of_customer roll.now.customers) conn.old
+        → Compares S.Store v ATable.Customer (map customer_row roll.now.customers) conn.old
         conn.new result }
 {
     // They rise by number, by a clause of this call.
@@ -157,11 +132,11 @@ struct Entries<'b> {
 impl<'b> Listed for Entries<'b> {
     ghost use Rattle.std.specs.Prelude.{map, Some};
     ghost use Rattle.ob_tables.specs.declared.table.Table.{Table as ATable};
-    ghost use Rattle.ob_record.specs.Tables.{row_of_entry};
+    ghost use Rattle.ob_tables.specs.Rows.{entry_row};
 
     ghost table = { ATable.Entry };
 
-    ghost places = { λ l. map (λ e. Some (row_of_entry e)) l.sheet.now.entries };
+    ghost places = { λ l. map (λ e. Some (entry_row e)) l.sheet.now.entries };
 
     fn table(&self) -> Table {
         Table::Entry
@@ -181,33 +156,14 @@ impl<'b> Listed for Entries<'b> {
         let Some(entry) = self.sheet.entry(at as u32 + 1) else {
             return false;
         };
-        is_row_of_entry(row, &entry)
+        is_entry_row(row, &entry)
     }
-}
-
-/// Whether a row is that of an entry.
-fn is_row_of_entry(row: &Row, entry: &Entry) -> bool
-    ensures { IsTrue result ↔ (row.now ≡ row_of_entry entry.now) }
-{
-    has_fields(
-        row,
-        &[
-            Field::Number(u64::from(entry.no)),
-            Field::Number(u64::from(entry.rev)),
-            Field::Number(u64::from(entry.device)),
-            Field::Number(position_number(entry.pos)),
-            Field::Number(entry.second),
-            Field::Number(u64::from(entry.cause)),
-            Field::Words(entry.crew.bytes()),
-            Field::Number(bit(entry.kept)),
-        ],
-    )
 }
 
 /// Whether the table of entries holds those of a sheet. Nothing is written.
 pub(crate) fn holds_entries<S: Alter>(conn: &mut Connection<S>, sheet: &Sheet) -> Result<bool, Stop>
     ensures { (v : AVersion) → Has v ATable.Entry
-        → Compares S.Store v ATable.Entry (map row_of_entry sheet.now.entries) conn.old conn.new
+        → Compares S.Store v ATable.Entry (map entry_row sheet.now.entries) conn.old conn.new
         result }
 {
     // They are numbered, by a clause of this call.
@@ -250,7 +206,7 @@ impl<'b, T: Timeline> Listed for Causes<'b, T> {
         let Some(name) = self.book.cause_name(at as u8) else {
             return false;
         };
-        has_fields(row, &[Field::Number(at as u64), Field::Words(name.bytes())])
+        is_cause_row(row, at as u64, &name)
     }
 }
 
@@ -299,10 +255,7 @@ impl<'b> Listed for Days<'b> {
         let Some(engineer) = self.marks.engineer(day_at(at, self.days)) else {
             return false;
         };
-        has_fields(
-            row,
-            &[Field::Number(at as u64), Field::Words(engineer.bytes())],
-        )
+        is_mark_row(row, at as u64, &engineer)
     }
 }
 
@@ -326,204 +279,6 @@ pub(crate) fn holds_marks<S: Alter>(
         → Compares S.Store v ATable.Mark (present mark_row 0 marks.now) conn.old conn.new result }
 {
     holds(conn, &Days { marks, days })
-}
-
-/// The element at a place.
-fn element<X: Copy>(list: &[X], at: usize) -> X
-    requires { at < length list.now }
-    ensures { slice_get list.now at ≡ Some result }
-{
-    list[at]
-}
-
-/// The devices of a network with their ends.
-#[derive(Drop)]
-struct Devices<'b> {
-    net: &'b Net,
-    ends: &'b [EndNodes],
-    ghost all: { ends.now ≡ ends_of net.now.network },
-}
-
-impl<'b> Listed for Devices<'b> {
-    ghost use Rattle.std.specs.Prelude.{map, Some};
-    ghost use Rattle.ob_tables.specs.declared.table.Table.{Table as ATable};
-    ghost use Rattle.ob_record.specs.Tables.{row_of_device};
-    ghost use Rattle.ob_parts.specs.Parts.{placed};
-
-    ghost table = { ATable.Device };
-
-    ghost places = { λ d. placed row_of_device 0 (map Some d.net.now.network.devices) };
-
-    fn table(&self) -> Table {
-        Table::Device
-    }
-
-    fn count(&self) -> usize {
-        usize::from(self.net.devices())
-    }
-
-    fn has_row(&self, _at: usize) -> bool {
-        true
-    }
-
-    fn is_row(&self, at: usize, row: &Row) -> bool {
-        // They are few, by a clause of this call.
-        let _ = self.net.devices();
-        let EndNodes { a, b } = element(self.ends, at);
-        let name = self.net.device_name(at as u16);
-        let normal = self.net.normal(at as u16);
-        has_fields(
-            row,
-            &[
-                Field::Number(at as u64),
-                Field::Words(name.bytes()),
-                Field::Number(u64::from(a)),
-                Field::Number(u64::from(b)),
-                Field::Number(position_number(normal)),
-            ],
-        )
-    }
-}
-
-/// Whether the table of devices holds those of a network, of which these are the ends. Nothing is written.
-pub(crate) fn holds_devices<S: Alter>(
-    conn: &mut Connection<S>,
-    net: &Net,
-    ends: &[EndNodes],
-) -> Result<bool, Stop>
-    requires { ends.now ≡ ends_of net.now.network }
-    ensures { (v : AVersion) → Has v ATable.Device
-        → Compares S.Store v ATable.Device (numbered row_of_device 0 net.now.network.devices)
-        conn.old conn.new result }
-{
-    holds(conn, &Devices { net, ends })
-}
-
-/// The lives of the devices of a network.
-#[derive(Drop)]
-struct Lives<'b> {
-    net: &'b Net,
-}
-
-impl<'b> Listed for Lives<'b> {
-    ghost use Rattle.std.specs.Prelude.{map, Some};
-    ghost use Rattle.ob_tables.specs.declared.table.Table.{Table as ATable};
-    ghost use Rattle.ob_record.specs.Tables.{row_of_life};
-    ghost use Rattle.ob_parts.specs.Parts.{placed};
-
-    ghost table = { ATable.Life };
-
-    ghost places = { λ l. placed row_of_life 0 (map Some l.net.now.network.devices) };
-
-    fn table(&self) -> Table {
-        Table::Life
-    }
-
-    fn count(&self) -> usize {
-        usize::from(self.net.devices())
-    }
-
-    fn has_row(&self, _at: usize) -> bool {
-        true
-    }
-
-    fn is_row(&self, at: usize, row: &Row) -> bool {
-        // They are few, by a clause of this call.
-        let _ = self.net.devices();
-        let life = self.net.life_of(at as u16);
-        has_fields(
-            row,
-            &[
-                Field::Number(at as u64),
-                Field::Number(life.since),
-                number_or_nothing(life.until),
-            ],
-        )
-    }
-}
-
-/// Whether the table of lives holds those of a network's devices. Nothing is written.
-pub(crate) fn holds_lives<S: Alter>(conn: &mut Connection<S>, net: &Net) -> Result<bool, Stop>
-    ensures { (v : AVersion) → Has v ATable.Life
-        → Compares S.Store v ATable.Life (numbered row_of_life 0 net.now.network.devices) conn.old
-        conn.new result }
-{
-    holds(conn, &Lives { net })
-}
-
-/// The nodes of a network with their names.
-#[derive(Drop)]
-struct Nodes<'b> {
-    net: &'b Net,
-    names: &'b [Name],
-    ghost all: { names.now ≡ map (λ n. n.name) net.now.network.nodes },
-}
-
-impl<'b> Listed for Nodes<'b> {
-    ghost use Rattle.std.specs.Prelude.{map, Some};
-    ghost use Rattle.ob_tables.specs.declared.table.Table.{Table as ATable};
-    ghost use Rattle.ob_record.specs.Tables.{row_of_node};
-    ghost use Rattle.ob_parts.specs.Parts.{placed};
-
-    ghost table = { ATable.Node };
-
-    ghost places = { λ d. placed row_of_node 0 (map Some d.net.now.network.nodes) };
-
-    fn table(&self) -> Table {
-        Table::Node
-    }
-
-    fn count(&self) -> usize {
-        usize::from(self.net.nodes())
-    }
-
-    fn has_row(&self, _at: usize) -> bool {
-        true
-    }
-
-    fn is_row(&self, at: usize, row: &Row) -> bool {
-        // They are few, by a clause of this call.
-        let _ = self.net.nodes();
-        let name = element(self.names, at);
-        let feeder = self.net.feeder_of(at as u16);
-        // The column of the home feeder is 0 for GRID and for a bus, which have none.
-        has_fields(
-            row,
-            &[
-                Field::Number(at as u64),
-                Field::Words(name.bytes()),
-                Field::Number(kind_of(at, feeder)),
-                Field::Number(u64::from(feeder.unwrap_or(0))),
-            ],
-        )
-    }
-}
-
-/// 2 for a section, 0 for GRID, which is the node numbered 0, and 1 for a bus.
-fn kind_of(number: usize, feeder: Option<u8>) -> u64
-    ensures { result ≡ (if is_some feeder then 2 else if number == 0 then 0 else 1) }
-{
-    if feeder.is_some() {
-        2
-    } else if number == 0 {
-        0
-    } else {
-        1
-    }
-}
-
-/// Whether the table of nodes holds those of a network, of which these are the names. Nothing is written.
-pub(crate) fn holds_nodes<S: Alter>(
-    conn: &mut Connection<S>,
-    net: &Net,
-    names: &[Name],
-) -> Result<bool, Stop>
-    requires { names.now ≡ map (λ n. n.name) net.now.network.nodes }
-    ensures { (v : AVersion) → Has v ATable.Node
-        → Compares S.Store v ATable.Node (numbered row_of_node 0 net.now.network.nodes) conn.old
-        conn.new result }
-{
-    holds(conn, &Nodes { net, names })
 }
 
 /// The amounts under all keys, with so many days.
@@ -558,13 +313,11 @@ impl<'b> Listed for Amounts<'b> {
 
     fn is_row(&self, at: usize, row: &Row) -> bool {
         let (dim, key) = key_at(at, self.days);
-        has_fields(
+        is_posting_row(
             row,
-            &[
-                Field::Number(u64::from(dim.number())),
-                Field::Number(u64::from(key)),
-                Field::Number(self.postings.amount(dim, key)),
-            ],
+            u64::from(dim.number()),
+            u64::from(key),
+            self.postings.amount(dim, key),
         )
     }
 }

@@ -19,6 +19,8 @@ use Rattle.ob_command.specs.Commands.{body_text}
 use Rattle.ob_state.specs.State.{BookState, empty_book}
 use Rattle.ob_state.specs.Next.{next}
 use Rattle.ob_state.specs.Amounts.{amount, moves}
+use Rattle.ob_state.specs.declared.resolved.Resolved.{Resolved}
+use Rattle.ob_state.specs.declared.resolved.Resolved.TheVariants as resolved
 use Rattle.ob_book.specs.Acts.{ActState, PeriodStays, Referenced, StateIsOfCommands, number_of, take_on}
 use Rattle.ob_book.specs.Books.{ArePosted}
 use Rattle.ob_tables.specs.Rows.{Columns, Tables, command_row, moved_row, tree_of}
@@ -26,12 +28,9 @@ use Rattle.ob_tables.specs.Rules.{IsShort, LacksName, LetsCommand}
 use Rattle.ob_tables.specs.declared.table.Table.{Table}
 use Rattle.ob_tables.specs.declared.table.Table.TheVariants as tables
 use Rattle.ob_commit.specs.declared.act.Act.{Act}
-use Rattle.ob_commit.specs.declared.change.RowChange.{RowChange}
-use Rattle.ob_commit.specs.declared.change.RowChange.TheVariants.{AddCause, AddNode, AddDevice, SetLife, AddCustomer, SetService}
-use Rattle.ob_commit.specs.declared.change.RowChange.TheVariants.{AddEntry, CorrectEntry, WithdrawEntry, AddMark, DropMark}
 use Rattle.ob_commit.specs.Acts.{CanWrite, LetsAct, NeedsRows, with_act, with_command}
 use Rattle.ob_commit.specs.Amounts.{all_keys, amount_rows}
-use Rattle.ob_commit.specs.Changing.{changed_by}
+use Rattle.ob_commit.specs.Changing.{rows_by}
 use Rattle.ob_commit.specs.Moves.{CanMove, LetsMoves, moved_to, with_move, with_moves}
 use Rattle.ob_record.specs.Tables.{moved_rows, numbered, row_of_command, rows_of_moves, tables_of}
 use Rattle.ob_record.specs.Reached.{IsReached}
@@ -45,24 +44,24 @@ use Rattle.ob_record.proofs.Posted.{IsOnce, all_from_both, ends_new, keys_are, m
 
 -- ---- which tables stay
 
--- a change of rows leaves the rows of the commands, of what they moved and of the amounts
-record Leaves (change : RowChange) (t : Tables) : Type 0 where
-  commands : changed_by change t tables.Command ≡ t tables.Command
-  moved : changed_by change t tables.Moved ≡ t tables.Moved
-  amounts : changed_by change t tables.Posting ≡ t tables.Posting
+-- what a command comes to leaves the rows of the commands, of what they moved and of the amounts
+record Leaves (r : Resolved) (t : Tables) : Type 0 where
+  commands : rows_by r t tables.Command ≡ t tables.Command
+  moved : rows_by r t tables.Moved ≡ t tables.Moved
+  amounts : rows_by r t tables.Posting ≡ t tables.Posting
 
-leaves : (change : RowChange) (t : Tables) → Leaves change t
-leaves (AddCause code name) t = record { commands = refl; moved = refl; amounts = refl }
-leaves (AddNode id name kind feeder) t = record { commands = refl; moved = refl; amounts = refl }
-leaves (AddDevice id name a b normal since until) t = record { commands = refl; moved = refl; amounts = refl }
-leaves (SetLife device since until) t = record { commands = refl; moved = refl; amounts = refl }
-leaves (AddCustomer id section since until) t = record { commands = refl; moved = refl; amounts = refl }
-leaves (SetService id since until) t = record { commands = refl; moved = refl; amounts = refl }
-leaves (AddEntry id device act second cause crew) t = record { commands = refl; moved = refl; amounts = refl }
-leaves (CorrectEntry id revision act second cause crew) t = record { commands = refl; moved = refl; amounts = refl }
-leaves (WithdrawEntry id revision) t = record { commands = refl; moved = refl; amounts = refl }
-leaves (AddMark day engineer) t = record { commands = refl; moved = refl; amounts = refl }
-leaves (DropMark day) t = record { commands = refl; moved = refl; amounts = refl }
+leaves : (r : Resolved) (t : Tables) → Leaves r t
+leaves (resolved.Cause code name) t = record { commands = refl; moved = refl; amounts = refl }
+leaves (resolved.Node number node) t = record { commands = refl; moved = refl; amounts = refl }
+leaves (resolved.Device number device) t = record { commands = refl; moved = refl; amounts = refl }
+leaves (resolved.Life device was new) t = record { commands = refl; moved = refl; amounts = refl }
+leaves (resolved.Customer c) t = record { commands = refl; moved = refl; amounts = refl }
+leaves (resolved.Service was new) t = record { commands = refl; moved = refl; amounts = refl }
+leaves (resolved.Entered e) t = record { commands = refl; moved = refl; amounts = refl }
+leaves (resolved.Corrected was new) t = record { commands = refl; moved = refl; amounts = refl }
+leaves (resolved.Withdrawn was new) t = record { commands = refl; moved = refl; amounts = refl }
+leaves (resolved.Marked day engineer) t = record { commands = refl; moved = refl; amounts = refl }
+leaves (resolved.Unmarked day) t = record { commands = refl; moved = refl; amounts = refl }
 
 -- moves leave each other table
 beside : (table : Table) → (12 == tree_of table) ≡ false → (14 == tree_of table) ≡ false
@@ -128,7 +127,7 @@ pub record AreRowsOf (s : BookState) (a : Referenced) (p : PostedAmounts) (act :
   pub id : act.no ≡ s.accepted + 1
   pub reference : act.reference.now ≡ a.reference
   pub body : act.body.now ≡ body_text a.command
-  pub change : LeadsParts s (next s a.command) act.change
+  pub leads : LeadsParts s (next s a.command) act.resolved.now
   pub moves : act.moves.now ≡ moves s (next s a.command)
   pub posted : ArePosted s p
   pub small : AreSmall (amount s)
@@ -172,12 +171,12 @@ module _ (keyed : MovesHaveKeys) (s : BookState) (a : Referenced) (p : PostedAmo
 
   pub can_write : CanWrite p act
   can_write = record {
-    change = rows.change.small;
+    change = rows.leads.small;
     moves = All-from_recursion (CanMove p) ms (all_from_both _ _ (CanMove p) can ms have_keys have_changes);
   }
 
-  leads : AllByRecursion (λ (m : Moved). unsigned_abs (moved_to p m) ≡ new m.dim m.key) ms
-  leads =
+  moves_lead : AllByRecursion (λ (m : Moved). unsigned_abs (moved_to p m) ≡ new m.dim m.key) ms
+  moves_lead =
       all_from_both _ _ (λ (m : Moved). unsigned_abs (moved_to p m) ≡ new m.dim m.key) (λ m key delta. ap unsigned_abs (moved_is m key delta)) ms
       have_keys have_changes
 
@@ -193,7 +192,7 @@ module _ (keyed : MovesHaveKeys) (s : BookState) (a : Referenced) (p : PostedAmo
       rows_after act.no p (all_keys days) ms (amount s) t are
       ∙ same_rows put new (all_keys days)
       (all_weaker (λ (k : Dim × ℕ). IsKey days k.0 k.1) (λ (k : Dim × ℕ). put k.0 k.1 ≡ new k.0 k.1)
-      (λ k h. ends_new act.no p (all_keys days) new k.0 k.1 ms (amount s) leads (moved_or_same of_change (amount s) new days k.0 k.1 h ms rows.moves))
+      (λ k h. ends_new act.no p (all_keys days) new k.0 k.1 ms (amount s) moves_lead (moved_or_same of_change (amount s) new days k.0 k.1 h ms rows.moves))
       (all_keys days) (keys_are days))
 
 -- ---- one command more
@@ -221,11 +220,11 @@ module _ (keyed : MovesHaveKeys) (of_change : MovesAreOfChange) (order : MovesAr
 
   -- the amounts as they stand when the moves begin
   amounts_are : with_command act before tables.Posting ≡ amount_rows (day_count b.book.period) (amount b.book)
-  amounts_are = (leaves act.change before).amounts
+  amounts_are = (leaves act.resolved.now before).amounts
 
   needs_rows : NeedsRows p act before
   needs_rows = record {
-    change = rows.change.needs before (own_parts b);
+    change = rows.leads.needs before (own_parts b);
     amounts =
         rows_there act.no p (all_keys (day_count b.book.period)) act.moves.now (amount b.book) (with_command act before)
         (stand_once keyed b.book a p act rows) amounts_are;
@@ -262,12 +261,12 @@ module _ (keyed : MovesHaveKeys) (of_change : MovesAreOfChange) (order : MovesAr
       }
 
   lets_act : number_of b a.reference ≡ None → IsReferenced a → LetsAct act before
-  lets_act fresh named = record { change = rows.change.lets before (own_parts b); command = lets_command fresh named; moves = lets_moves }
+  lets_act fresh named = record { change = rows.leads.lets before (own_parts b); command = lets_command fresh named; moves = lets_moves }
 
   commands_after : after tables.Command ≡ tables_of (take_on b a) tables.Command
   commands_after =
       beside tables.Command refl refl act.no p act.moves.now (with_command act before)
-      ∙ ap (λ l. l ++ command_row act.no act.reference.now act.body.now ∷ []) (leaves act.change before).commands
+      ∙ ap (λ l. l ++ command_row act.no act.reference.now act.body.now ∷ []) (leaves act.resolved.now before).commands
       ∙ ap (λ n. commands ++ command_row n act.reference.now act.body.now ∷ []) number_is
       ∙ ap₂ (λ r t. commands ++ command_row (1 + length b.accepted) r t ∷ []) rows.reference rows.body
       ∙ sym (numbered_more row_of_command 1 b.accepted a)
@@ -275,7 +274,7 @@ module _ (keyed : MovesHaveKeys) (of_change : MovesAreOfChange) (order : MovesAr
   moved_after : after tables.Moved ≡ tables_of (take_on b a) tables.Moved
   moved_after =
       more_moved act.no p act.moves.now (with_command act before)
-      ∙ ap (λ l. l ++ rows_of_moves act.no act.moves.now) (leaves act.change before).moved
+      ∙ ap (λ l. l ++ rows_of_moves act.no act.moves.now) (leaves act.resolved.now before).moved
       ∙ ap₂ (λ n l. moved ++ rows_of_moves n l) number_is rows.moves
       ∙ ap (λ s. moved ++ rows_of_moves (1 + length b.accepted) (moves s (next s a.command))) (reached_book law b reached)
       ∙ sym (moved_more (empty_book b.book.period) 1 b.accepted a)
@@ -286,13 +285,13 @@ module _ (keyed : MovesHaveKeys) (of_change : MovesAreOfChange) (order : MovesAr
       moves_write keyed b.book a p act rows of_change (with_command act before) amounts_are
       ∙ ap (λ c. amount_rows (day_count c) (amount (next b.book a.command))) (sym (stays b.book a.command))
 
-  parts : HaveParts (next b.book a.command) (changed_by act.change before)
-  parts = rows.change.parts before (own_parts b)
+  parts : HaveParts (next b.book a.command) (rows_by act.resolved.now before)
+  parts = rows.leads.parts before (own_parts b)
 
   -- a table of the book's parts
   part : (table : Table) → (12 == tree_of table) ≡ false → (14 == tree_of table) ≡ false
-      → with_command act before table ≡ changed_by act.change before table
-      → IsPermutation (changed_by act.change before table) (tables_of (take_on b a) table)
+      → with_command act before table ≡ rows_by act.resolved.now before table
+      → IsPermutation (rows_by act.resolved.now before table) (tables_of (take_on b a) table)
       → IsPermutation (after table) (tables_of (take_on b a) table)
   part table no_move no_amount no_command h =
       let same = beside table no_move no_amount act.no p act.moves.now (with_command act before) ∙ no_command in

@@ -11,9 +11,9 @@ use Rattle.sqlite_trees.proofs.ListLemmas.{all-map, all-permutation, all_weaker}
 use Rattle.ob_sheet.specs.declared.Entry.{Entry}
 use Rattle.ob_sheet.specs.Order.{entry_of}
 use Rattle.ob_sheet.specs.Sheet.{AreNumbered}
-use Rattle.ob_tables.specs.Rows.{Columns, is_key}
+use Rattle.ob_tables.specs.Rows.{Columns, is_key, entry_row}
 use Rattle.ob_tables.specs.Rules.{IsShort, IsShortValue}
-use Rattle.ob_record.specs.Tables.{numbered, present, row_of_entry}
+use Rattle.ob_record.specs.Tables.{numbered, present}
 use Rattle.ob_record.proofs.Keyed.{key_is}
 use Rattle.ob_record.proofs.Listed.{AreNumberedFrom, all_passing, numbered_rest, one_entry}
 
@@ -124,24 +124,24 @@ none_from k n (e ∷ es) are past =
     let other : (e.«no» == n) ≡ false = grind (arith, nat_tests) in
     or_from (e.«no» == n) (list_any (λ (d : Entry). d.«no» == n) es) other (none_from (k + 1) n es (numbered_rest k e es are) (omega (arith, past)))
 
-entry_keyed : (number : ℕ) (e : Entry) → is_key number (row_of_entry e) ≡ (e.«no» == number)
-entry_keyed number e = key_is number e.«no» (row_of_entry e) refl
+entry_keyed : (number : ℕ) (e : Entry) → is_key number (entry_row e) ≡ (e.«no» == number)
+entry_keyed number e = key_is number e.«no» (entry_row e) refl
 
 -- the next number is free
-pub next_entry_free : (entries : List Entry) (number : ℕ) → AreNumbered entries → number ≡ length entries + 1 → list_any (is_key number) (map row_of_entry entries) ≡ false
+pub next_entry_free : (entries : List Entry) (number : ℕ) → AreNumbered entries → number ≡ length entries + 1 → list_any (is_key number) (map entry_row entries) ≡ false
 next_entry_free entries number are last =
-    any_map row_of_entry (is_key number) (λ (e : Entry). e.«no» == number) (entry_keyed number) entries
+    any_map entry_row (is_key number) (λ (e : Entry). e.«no» == number) (entry_keyed number) entries
     ∙ none_from 1 number entries (λ i d low. let at = are i d low in omega (arith, at)) (omega (arith, last))
 
 -- the row of an entry with a short crew is short
-row_short : (number : ℕ) (e : Entry) → (((e.«no» == number) ≡ true) → IsShort e.crew) → is_key number (row_of_entry e) ≡ true → AllByRecursion IsShortValue (row_of_entry e)
+row_short : (number : ℕ) (e : Entry) → (((e.«no» == number) ≡ true) → IsShort e.crew) → is_key number (entry_row e) ≡ true → AllByRecursion IsShortValue (entry_row e)
 row_short number e short is = (tt, (tt, (tt, (tt, (tt, (tt, (short (sym (entry_keyed number e) ∙ is), (tt, tt))))))))
 
 pub entry_short : (entries : List Entry) (number : ℕ) (e : Entry) → AreNumbered entries → entry_of entries number ≡ Some e → IsShort e.crew
-    → (rows : List Columns) → IsPermutation rows (map row_of_entry entries) → AllByRecursion (λ row. is_key number row ≡ true → AllByRecursion IsShortValue row) rows
+    → (rows : List Columns) → IsPermutation rows (map entry_row entries) → AllByRecursion (λ row. is_key number row ≡ true → AllByRecursion IsShortValue row) rows
 entry_short entries number e are found short rows same =
     let P : Entry → Type 0 = λ d. IsShort d.crew in
     let Q : Columns → Type 0 = λ row. is_key number row ≡ true → AllByRecursion IsShortValue row in
     let passing = all_passing P (λ (d : Entry). d.«no» == number) entries (subst (AllByRecursion P) (sym (one_entry entries number e are found)) (short, tt)) in
-    let each = all_weaker (λ (d : Entry). (d.«no» == number) ≡ true → P d) (λ (d : Entry). Q (row_of_entry d)) (row_short number) entries passing in
-    all-permutation Q (map row_of_entry entries) rows (IsPermutation-sym rows (map row_of_entry entries) same) (all-map Q row_of_entry entries each)
+    let each = all_weaker (λ (d : Entry). (d.«no» == number) ≡ true → P d) (λ (d : Entry). Q (entry_row d)) (row_short number) entries passing in
+    all-permutation Q (map entry_row entries) rows (IsPermutation-sym rows (map entry_row entries) same) (all-map Q entry_row entries each)

@@ -4,15 +4,15 @@ use Rattle.std.proofs.lemmas.Bool.Decides.{nat_tests}
 use Rattle.ob_base.specs.declared.life.Life.{Life as ALife}
 use Rattle.ob_net.specs.Network.{with_life_at}
 use Rattle.ob_net.specs.declared.net.Device.{Device as NetDevice}
-use Rattle.ob_tables.specs.Rows.{Columns, is_key, change_where, relive, life_row}
-use Rattle.ob_record.specs.Tables.{numbered, row_of_device, row_of_life}
+use Rattle.ob_tables.specs.Rows.{Columns, is_key, change_where, relive, device_row, life_row}
+use Rattle.ob_record.specs.Tables.{numbered, row_of_life}
 use Rattle.ob_record.proofs.Keyed.{key_is}
 
 -- ---- the rows of the devices stay
-pub devices_stay : (n : ℕ) (ds : List NetDevice) (k : ℕ) (l : ALife) → numbered row_of_device n (with_life_at ds k l) ≡ numbered row_of_device n ds
+pub devices_stay : (n : ℕ) (ds : List NetDevice) (k : ℕ) (l : ALife) → numbered device_row n (with_life_at ds k l) ≡ numbered device_row n ds
 devices_stay n [] k l = refl
 devices_stay n (d ∷ ds) zero l = refl
-devices_stay n (d ∷ ds) (suc k) l = ap (λ rows. row_of_device n d ∷ rows) (devices_stay (n + 1) ds k l)
+devices_stay n (d ∷ ds) (suc k) l = ap (λ rows. device_row n d ∷ rows) (devices_stay (n + 1) ds k l)
 
 -- ---- the row of one life
 module _ (key : ℕ) where
@@ -46,11 +46,11 @@ module _ (key : ℕ) where
 
   -- it is changed as the life is
   pub lives_changed : (l : ALife) (n k : ℕ) (ds : List NetDevice) → n + k ≡ key
-      → change_where (is_key key) (relive l.since l.until) (numbered row_of_life n ds) ≡ numbered row_of_life n (with_life_at ds k l)
+      → change_where (is_key key) (relive l) (numbered row_of_life n ds) ≡ numbered row_of_life n (with_life_at ds k l)
   lives_changed l n k [] at = refl
   lives_changed l n zero (d ∷ ds) at =
       let same : (n == key) ≡ true = grind (arith, nat_tests) in
-      rw (keyed n d, same) (ap (λ rows. life_row n l.since l.until ∷ rows) (all_past (n + 1) ds (relive l.since l.until) (omega (arith, at))))
+      rw (keyed n d, same) (ap (λ rows. life_row n l ∷ rows) (all_past (n + 1) ds (relive l) (omega (arith, at))))
   lives_changed l n (suc k) (d ∷ ds) at =
       let other : (n == key) ≡ false = grind (arith, nat_tests) in
       rw (keyed n d, other) (ap (λ rows. row_of_life n d ∷ rows) (lives_changed l (n + 1) k ds (omega (arith, at))))

@@ -6,9 +6,9 @@ use Rattle.ob_net.specs.Network.{Network}
 use Rattle.ob_sheet.specs.declared.Entry.{Entry as SheetEntry}
 use Rattle.ob_cust.specs.declared.Customer.{Customer as RollCustomer}
 use Rattle.ob_state.specs.State.{BookState}
-use Rattle.ob_tables.specs.Rows.{Columns, Tables, with_table, cause_row, mark_row}
+use Rattle.ob_tables.specs.Rows.{Columns, Tables, with_table, cause_row, node_row, device_row, customer_row, entry_row, mark_row}
 use Rattle.ob_tables.specs.declared.table.Table.TheVariants.{Cause, Node, Device, Life, Customer, Entry, Mark}
-use Rattle.ob_record.specs.Tables.{numbered, present, row_of_node, row_of_device, row_of_life, row_of_customer, row_of_entry}
+use Rattle.ob_record.specs.Tables.{numbered, present, row_of_life}
 use Rattle.ob_record.specs.Leading.{HaveParts}
 
 -- ---- one part changed, and how many commands were accepted
@@ -26,26 +26,26 @@ module _ (b : BookState) (accepted : ℕ) (change : List Columns → List Column
     marks = have.marks;
   }
 
-  pub nodes_part : (net : Network) → net.devices ≡ b.network.devices → IsPermutation (change (t Node)) (numbered row_of_node 0 net.nodes)
+  pub nodes_part : (net : Network) → net.devices ≡ b.network.devices → IsPermutation (change (t Node)) (numbered node_row 0 net.nodes)
       → HaveParts (record b { network = net; accepted = accepted }) (with_table Node change t)
   nodes_part net same here = record {
     meta = have.meta;
     causes = have.causes;
     nodes = here;
-    devices = subst (λ ds. IsPermutation (t Device) (numbered row_of_device 0 ds)) (sym same) have.devices;
+    devices = subst (λ ds. IsPermutation (t Device) (numbered device_row 0 ds)) (sym same) have.devices;
     lives = subst (λ ds. IsPermutation (t Life) (numbered row_of_life 0 ds)) (sym same) have.lives;
     customers = have.customers;
     entries = have.entries;
     marks = have.marks;
   }
 
-  pub lives_part : (net : Network) → net.nodes ≡ b.network.nodes → numbered row_of_device 0 net.devices ≡ numbered row_of_device 0 b.network.devices
+  pub lives_part : (net : Network) → net.nodes ≡ b.network.nodes → numbered device_row 0 net.devices ≡ numbered device_row 0 b.network.devices
       → IsPermutation (change (t Life)) (numbered row_of_life 0 net.devices)
       → HaveParts (record b { network = net; accepted = accepted }) (with_table Life change t)
   lives_part net same alike here = record {
     meta = have.meta;
     causes = have.causes;
-    nodes = subst (λ ns. IsPermutation (t Node) (numbered row_of_node 0 ns)) (sym same) have.nodes;
+    nodes = subst (λ ns. IsPermutation (t Node) (numbered node_row 0 ns)) (sym same) have.nodes;
     devices = subst (IsPermutation (t Device)) (sym alike) have.devices;
     lives = here;
     customers = have.customers;
@@ -53,7 +53,7 @@ module _ (b : BookState) (accepted : ℕ) (change : List Columns → List Column
     marks = have.marks;
   }
 
-  pub customers_part : (customers : List RollCustomer) → IsPermutation (change (t Customer)) (map row_of_customer customers)
+  pub customers_part : (customers : List RollCustomer) → IsPermutation (change (t Customer)) (map customer_row customers)
       → HaveParts (record b { customers = customers; accepted = accepted }) (with_table Customer change t)
   customers_part customers here = record {
     meta = have.meta;
@@ -66,7 +66,7 @@ module _ (b : BookState) (accepted : ℕ) (change : List Columns → List Column
     marks = have.marks;
   }
 
-  pub entries_part : (entries : List SheetEntry) → IsPermutation (change (t Entry)) (map row_of_entry entries)
+  pub entries_part : (entries : List SheetEntry) → IsPermutation (change (t Entry)) (map entry_row entries)
       → HaveParts (record b { entries = entries; accepted = accepted }) (with_table Entry change t)
   entries_part entries here = record {
     meta = have.meta;
@@ -94,12 +94,12 @@ module _ (b : BookState) (accepted : ℕ) (change : List Columns → List Column
 
 -- the devices changed, and their lives with them
 pub devices_part : (b : BookState) (accepted : ℕ) (change live : List Columns → List Columns) (t : Tables) → HaveParts b t → (net : Network) → net.nodes ≡ b.network.nodes
-    → IsPermutation (change (t Device)) (numbered row_of_device 0 net.devices) → IsPermutation (live (t Life)) (numbered row_of_life 0 net.devices)
+    → IsPermutation (change (t Device)) (numbered device_row 0 net.devices) → IsPermutation (live (t Life)) (numbered row_of_life 0 net.devices)
     → HaveParts (record b { network = net; accepted = accepted }) (with_table Life live (with_table Device change t))
 devices_part b accepted change live t have net same here alive = record {
   meta = have.meta;
   causes = have.causes;
-  nodes = subst (λ ns. IsPermutation (t Node) (numbered row_of_node 0 ns)) (sym same) have.nodes;
+  nodes = subst (λ ns. IsPermutation (t Node) (numbered node_row 0 ns)) (sym same) have.nodes;
   devices = here;
   lives = alive;
   customers = have.customers;

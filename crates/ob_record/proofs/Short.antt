@@ -1,32 +1,21 @@
--- The texts of the rows are short: names, references, and the bodies of commands.
-use Rattle.std.proofs.Common.{◌≡◌, ◌&&◌, ℕ, ℤ, ◌+◌, ◌*◌, ◌/◌, ◌%◌, ◌≤◌, ◌==◌, Bool, true, false, zero, suc, pos, negsuc, List, [], ◌∷◌, ◌++◌, length, codes, decimal, Option, Some, None, refl, arith, inl, inr, nat_le, nat_lt, length-append}
+-- The texts of the row of a command are short: its reference and its body.
+use Rattle.std.proofs.Common.{◌≡◌, ℕ, ℤ, ◌+◌, ◌*◌, ◌/◌, ◌%◌, ◌≤◌, ◌==◌, Bool, true, false, zero, suc, pos, negsuc, List, [], ◌∷◌, ◌++◌, length, codes, decimal, Option, Some, None, refl, arith, inl, inr, length-append}
 use Rattle.std.specs.Fmt.{digit_glyph, digits, digits_onto}
-use Rattle.std.specs.List.{AllByRecursion, join_with_byte, list_all}
-use Rattle.std.proofs.lemmas.Bool.{and_parts, cases_Bool, leb-true}
+use Rattle.std.specs.List.{AllByRecursion, join_with_byte}
+use Rattle.std.proofs.lemmas.Bool.{cases_Bool}
 use Rattle.jiff.specs.Types.{Date}
 use Rattle.jiff.specs.Words.{date_text}
 use Rattle.jiff_fmt.specs.Text.{pad2, year_text}
 use Rattle.ob_base.specs.declared.Pos.{Pos}
 use Rattle.ob_base.specs.declared.Pos.TheVariants.{Opened, Closed}
-use Rattle.ob_base.specs.Identifier.{is_identifier, is_identifier_byte}
+use Rattle.ob_base.specs.Identifier.{is_identifier}
 use Rattle.ob_command.specs.Commands.{IsCommand, IsName, IsCrew, act_text, body_text, normal_text, until_text, words}
 use Rattle.ob_command.specs.declared.command.Command.{Command}
 use Rattle.ob_command.specs.declared.command.Command.TheVariants.{Cause, Bus, Section, Device, Life, Connect, Revise, Switch, Correct, Withdraw, Mark, Unmark}
 use Rattle.ob_tables.specs.Rules.{IsShort}
+use Rattle.ob_tables.proofs.Identifiers.{identifier_long}
 
--- an identifier has no more bytes than it may have
-identifier_long : (limit : ℕ) (text : List ℕ) → is_identifier limit text ≡ true → length text ≤ limit
-identifier_long limit text h =
-    let outer = and_parts (nat_lt 0 (length text) && nat_le (length text) limit) (list_all is_identifier_byte text) h in
-    let inner = and_parts (nat_lt 0 (length text)) (nat_le (length text) limit) outer.0 in
-    leb-true (length text) limit inner.1
-
-pub short_name : (name : List ℕ) → is_identifier 24 name ≡ true → IsShort name
-short_name name h = let long = identifier_long 24 name h in omega (arith, long)
-
-pub short_crew : (crew : List ℕ) → is_identifier 16 crew ≡ true → IsShort crew
-short_crew crew h = let long = identifier_long 16 crew h in omega (arith, long)
-
+-- a reference is short
 pub short_reference : (reference : List ℕ) → is_identifier 40 reference ≡ true → IsShort reference
 short_reference reference h = let long = identifier_long 40 reference h in omega (arith, long)
 

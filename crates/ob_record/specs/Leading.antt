@@ -1,4 +1,4 @@
--- What a change of rows, and the rows of a command, make of the tables of a book.
+-- What the rows that a command changes, and all its rows, make of the tables of a book.
 use Rattle.std.specs.Prelude.{◌≡◌, [], None}
 use Rattle.std.specs.List.Sorted.{IsPermutation}
 use Rattle.ob_tables.specs.Rows.{Tables}
@@ -6,10 +6,10 @@ use Rattle.ob_tables.specs.declared.table.Table.{Table}
 use Rattle.ob_tables.specs.declared.table.Table.TheVariants.{Meta, Cause, Node, Device, Life, Customer, Entry, Mark}
 use Rattle.ob_post.specs.Postings.{PostedAmounts}
 use Rattle.ob_state.specs.State.{BookState}
+use Rattle.ob_state.specs.declared.resolved.Resolved.{Resolved}
 use Rattle.ob_book.specs.Acts.{ActState, Referenced, number_of, take_on}
-use Rattle.ob_commit.specs.declared.change.RowChange.{RowChange}
 use Rattle.ob_commit.specs.declared.act.Act.{Act}
-use Rattle.ob_commit.specs.Changing.{HasSmallSeconds, LetsRow, NeedsRow, changed_by}
+use Rattle.ob_commit.specs.Changing.{HasSmallSeconds, LetsRow, NeedsRow, rows_by}
 use Rattle.ob_commit.specs.Acts.{CanWrite, LetsAct, NeedsRows, with_act}
 use Rattle.ob_record.specs.Naming.{IsReferenced}
 use Rattle.ob_record.specs.Tables.{tables_of}
@@ -29,12 +29,12 @@ pub record HaveParts (b : BookState) (t : Tables) : Type 0 where
   pub entries : IsPermutation (t Entry) (tables_of (bare b) Entry)
   pub marks : IsPermutation (t Mark) (tables_of (bare b) Mark)
 
--- the change of rows makes of the rows of one book's parts those of another's, and the rules of the tables let it in
-pub record LeadsParts (b c : BookState) (change : RowChange) : Type 0 where
-  pub small : HasSmallSeconds change
-  pub needs : (t : Tables) → HaveParts b t → NeedsRow change t
-  pub lets : (t : Tables) → HaveParts b t → LetsRow change t
-  pub parts : (t : Tables) → HaveParts b t → HaveParts c (changed_by change t)
+-- what a command comes to makes of the rows of one book's parts those of another's, and the rules of the tables let it in
+pub record LeadsParts (b c : BookState) (resolved : Resolved) : Type 0 where
+  pub small : HasSmallSeconds resolved
+  pub needs : (t : Tables) → HaveParts b t → NeedsRow resolved t
+  pub lets : (t : Tables) → HaveParts b t → LetsRow resolved t
+  pub parts : (t : Tables) → HaveParts b t → HaveParts c (rows_by resolved t)
 
 -- the rows of a command under a reference can be written, and make of the tables of a book those of the book with the
 -- command; under a new reference the rules of the tables let them in

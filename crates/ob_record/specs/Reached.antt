@@ -1,5 +1,5 @@
 -- The states that a book of accepted commands can have.
-use Rattle.std.specs.Prelude.{◌≡◌, ◌≤◌, [], ◌∷◌, length, codes, true}
+use Rattle.std.specs.Prelude.{◌≡◌, ◌≤◌, [], ◌∷◌, length, codes, None, true}
 use Rattle.ob_time.specs.Calendar.{Calendar, day_count}
 use Rattle.ob_time.specs.Dates.{day_text}
 use Rattle.ob_time.specs.Period.{IsPeriodText}
@@ -42,7 +42,7 @@ ReachedAreFew = (b : ActState) → IsReached b → length b.accepted ≤ 1_000_0
 abbrev pub first_rows : Calendar → Tables
 first_rows p Meta = meta_row 2 (day_text p.first_day) (day_count p) p.zone ∷ []
 first_rows p Cause = cause_row 0 (codes "UNASSIGNED") ∷ []
-first_rows p Node = node_row 0 (codes "GRID") 0 0 ∷ []
+first_rows p Node = node_row 0 (record { name = codes "GRID"; feeder = None }) ∷ []
 first_rows p Device = []
 first_rows p Life = []
 first_rows p Customer = []

@@ -1,11 +1,8 @@
 -- The eleven tables of a book and its accepted commands: for each table the list of its rows.
-use Rattle.std.specs.Prelude.{ℕ, ◌+◌, ◌==◌, List, [], ◌∷◌, ◌++◌, map, Option, Some, None, is_some, unwrap_or, if◌then◌else◌}
+use Rattle.std.specs.Prelude.{ℕ, ◌+◌, List, [], ◌∷◌, ◌++◌, map, Option, Some, None}
 use Rattle.std.specs.List.Sorted.{IsPermutation}
 use Rattle.sqlite.specs.Tree.{Trees}
-use Rattle.ob_net.specs.declared.net.Node.{Node as NetNode}
 use Rattle.ob_net.specs.declared.net.Device.{Device as NetDevice}
-use Rattle.ob_sheet.specs.declared.Entry.{Entry as SheetEntry}
-use Rattle.ob_cust.specs.declared.Customer.{Customer as RollCustomer}
 use Rattle.ob_time.specs.Calendar.{day_count}
 use Rattle.ob_time.specs.Dates.{day_text}
 use Rattle.ob_post.specs.Keys.{dim_number}
@@ -35,24 +32,9 @@ present row n [] = []
 present row n (None ∷ xs) = present row (n + 1) xs
 present row n (Some x ∷ xs) = row n x ∷ present row (n + 1) xs
 
--- 2 for a section, 0 for GRID, which is the node numbered 0, and 1 for a bus
-abbrev pub node_kind : ℕ → NetNode → ℕ
-node_kind id node = if is_some node.feeder then 2 else if id == 0 then 0 else 1
-
-abbrev pub row_of_node : ℕ → NetNode → Columns
-row_of_node id node = node_row id node.name (node_kind id node) (unwrap_or node.feeder 0)
-
-abbrev pub row_of_device : ℕ → NetDevice → Columns
-row_of_device id device = device_row id device.name device.a device.b device.normal
-
+-- the row of a device's life
 abbrev pub row_of_life : ℕ → NetDevice → Columns
-row_of_life id device = life_row id device.life.since device.life.until
-
-abbrev pub row_of_customer : RollCustomer → Columns
-row_of_customer c = customer_row c.no c.section c.since c.until
-
-abbrev pub row_of_entry : SheetEntry → Columns
-row_of_entry e = entry_row e.no e.rev e.device e.pos e.second e.cause e.crew e.kept
+row_of_life id device = life_row id device.life
 
 -- the row of an accepted command under its number
 abbrev pub row_of_command : ℕ → Referenced → Columns
@@ -73,11 +55,11 @@ moved_rows b n (a ∷ more) =
 abbrev pub tables_of : ActState → Tables
 tables_of b Meta = meta_row 2 (day_text b.book.period.first_day) (day_count b.book.period) b.book.period.zone ∷ []
 tables_of b Cause = present cause_row 0 b.book.causes
-tables_of b Node = numbered row_of_node 0 b.book.network.nodes
-tables_of b Device = numbered row_of_device 0 b.book.network.devices
+tables_of b Node = numbered node_row 0 b.book.network.nodes
+tables_of b Device = numbered device_row 0 b.book.network.devices
 tables_of b Life = numbered row_of_life 0 b.book.network.devices
-tables_of b Customer = map row_of_customer b.book.customers
-tables_of b Entry = map row_of_entry b.book.entries
+tables_of b Customer = map customer_row b.book.customers
+tables_of b Entry = map entry_row b.book.entries
 tables_of b Mark = present mark_row 0 b.book.marks
 tables_of b Command = numbered row_of_command 1 b.accepted
 tables_of b Moved = moved_rows (empty_book b.book.period) 1 b.accepted

@@ -1,7 +1,9 @@
 //! The rows of a whole command, and laws of the states that a book of accepted commands can have.
-ghost use Rattle.std.specs.Prelude.{◌≡◌, ◌+◌};
+ghost use Rattle.std.specs.Prelude.{◌≡◌, ◌+◌, true};
+ghost use Rattle.ob_base.specs.Identifier.{is_identifier};
 ghost use Rattle.ob_post.specs.MoveLaws.{AreSmall};
 ghost use Rattle.ob_post.specs.Postings.{PostedAmounts};
+ghost use Rattle.ob_sheet.specs.declared.Entry.{Entry};
 ghost use Rattle.ob_command.specs.Commands.{body_text};
 ghost use Rattle.ob_state.specs.Amounts.{amount};
 ghost use Rattle.ob_state.specs.Next.{next};
@@ -9,27 +11,25 @@ ghost use Rattle.ob_book.specs.Acts.{ActState};
 ghost use Rattle.ob_book.specs.Books.{ArePosted};
 ghost use Rattle.ob_book.specs.Plans.{IsPlan};
 ghost use Rattle.ob_commit.specs.Acts.{CanWrite};
-ghost use Rattle.ob_record.specs.Leading.{LeadsParts, Records};
+ghost use Rattle.ob_record.specs.Leading.{Records};
 ghost use Rattle.ob_record.specs.Reached.{AcceptedIsReached, IsReached, ReachedCounts, ReachedIsOfCommands};
 ghost use Rattle.ob_record.specs.Reached.{StartHasFirstRows, StartIsReached};
 
 use ob_book::{Book, Plan, acts_law, next_law};
-use ob_commit::{Act, RowChange};
+use ob_commit::Act;
 use ob_post::laws::move_laws;
+use ob_state::Resolved;
 use ob_sweep::Timeline;
 
-/// The rows of an accepted command: its number, reference and body, the rows that it changes, and the amounts that it
-/// moves.
+/// The rows of an accepted command: its number, reference and body, what it comes to, and the amounts that it moves.
 pub fn act_of<'t, T: Timeline>(
     book: &Book<T>,
     plan: &'t Plan<T>,
-    change: RowChange<'t>,
     reference: &'t [u8],
     body: &'t [u8],
 ) -> Act<'t>
     requires plan { IsPlan book.now.state plan.now }
     requires body { body.now ≡ body_text plan.now.command }
-    requires change { LeadsParts book.now.state (next book.now.state plan.now.command) change }
     requires small { AreSmall (amount book.now.state)
         × AreSmall (amount (next book.now.state plan.now.command)) }
     ensures no { result.no ≡ book.now.state.accepted + 1 }
@@ -41,12 +41,24 @@ pub fn act_of<'t, T: Timeline>(
     next_law();
     acts_law();
     move_laws();
+    let resolved = plan.resolved();
+    crew_law(resolved);
     Act {
         no: book.accepted() + 1,
         reference,
         body,
-        change,
+        resolved,
         moves: plan.moves(),
+    }
+}
+
+/// The crew of an entry that a command withdraws is an identifier. This does nothing when it runs.
+fn crew_law(resolved: &Resolved)
+    ensures { (was entry : Entry) → resolved.now ≡ Resolved.Withdrawn was entry
+        → is_identifier 16 entry.crew ≡ true }
+{
+    if let Resolved::Withdrawn { new, .. } = resolved {
+        let _ = new.crew.bytes();
     }
 }
 

@@ -2,9 +2,7 @@
 #![tactic(auto)]
 
 mod act;
-mod change;
 mod naming;
 
 pub use act::{act_of, reached_law};
-pub use change::change_of;
 pub use naming::naming_law;

@@ -23,7 +23,6 @@ use Rattle.ob_compare.specs.Distinct.{ActsAreAccepted, AreDistinct, MovedIsOf, R
 use Rattle.ob_compare.specs.Moves.{commands_of}
 use Rattle.ob_compare.specs.Ordered.{RowsHaveOneOrder}
 use Rattle.ob_compare.specs.Reading.{command_rows}
-use Rattle.ob_compare.specs.Versioned.{next_all_in}
 use Rattle.ob_parts.specs.Laws.{OldIsReached, TablesAreAlike}
 use Rattle.ob_store.specs.Books.{IsReachedIn, tables_in}
 use Rattle.ob_store.specs.Laws.{Laws}
@@ -100,8 +99,3 @@ module _ (few : ReachedAreFew) (accepted : ActsAreAccepted) (reaching : ReachedB
       moved = λ b r. moved_now b (old b r).0 ∙ sym (alike b r Moved tt);
       stays = λ p list s led. same_period stays (empty_book p) list s (today p list s led);
     }
-
--- what version 1 accepted is accepted today
-pub led_today : AcceptedByBoth → (v : Version) (p : Calendar) (list : List Command) (s : BookState) → next_all_in v (empty_book p) list ≡ Some s → next_all (empty_book p) list ≡ Some s
-led_today by_both One p list s led = (by_both list (empty_book p) s (alive p) led).0
-led_today by_both Two p list s led = led

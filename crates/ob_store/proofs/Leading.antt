@@ -17,7 +17,6 @@ use Rattle.ob_base.specs.Stop.{IsRefusedOrNoMemory}
 use Rattle.ob_time.specs.Calendar.{Calendar, day_count}
 use Rattle.ob_time.specs.Dates.{day_text}
 use Rattle.ob_time.specs.Period.{IsPeriodText}
-use Rattle.ob_command.specs.declared.command.Command.{Command as ACommand}
 use Rattle.ob_state.specs.State.{BookState, empty_book}
 use Rattle.ob_state.specs.Next.{next_all}
 use Rattle.ob_book.specs.Acts.{ActState, Referenced}
@@ -29,17 +28,15 @@ use Rattle.ob_record.specs.Tables.{Shows, moved_rows}
 use Rattle.ob_compare.specs.Reading.{heading_row}
 use Rattle.sqlite_value.specs.declared.value.Value.{Value}
 use Rattle.ob_compare.specs.Listing.{filed_of}
-use Rattle.ob_compare.specs.Moves.{HasMoved, commands_of, ends_of}
-use Rattle.ob_compare.specs.declared.ends.EndNodes.{EndNodes}
+use Rattle.ob_compare.specs.Moves.{HasMoved, commands_of}
 use Rattle.ob_compare.specs.declared.filed.Filed.{Filed}
-use Rattle.ob_net.specs.declared.net.Node.{Node}
 use Rattle.ob_compare.specs.Distinct.{AreDistinct}
 use Rattle.ob_compare.specs.Versioned.{next_all_in}
 use Rattle.ob_compare.specs.declared.heading.Heading.{Heading}
 use Rattle.ob_store.specs.declared.named.Named.{Named}
 use Rattle.ob_store.specs.Books.{IsReachedIn, tables_in}
 use Rattle.ob_store.specs.Finding.{HasNoBook, HasNoBookIn, IsBookIn, IsNamed}
-use Rattle.ob_store.specs.Leading.{HasNoPeriodOf, HasParts, IsLedBy, IsLedIn, IsNewBook, LeadsNowhere, MovesAre}
+use Rattle.ob_store.specs.Leading.{HasNoPeriodOf, IsLedBy, IsLedIn, IsNewBook, LeadsNowhere, MovesAre}
 use Rattle.ob_store.specs.Laws.{Laws}
 use Rattle.ob_store.proofs.Laws.{dated_in, rows_are}
 
@@ -202,14 +199,6 @@ bad_period (Fault f) x at is = absurd cc
 module _ (v : Version) (it : Named) (first : BookState) (new : IsNewBook it.heading first) (list : List Filed) (list_is : list ≡ it.commands.items) where
   pub led_by : (s : BookState) → next_all_in v first (commands_of (filed_of list)) ≡ Some s → IsLedBy v it s
   led_by s led = record { first = first; new = new; led = ap (λ l. next_all_in v first (commands_of (filed_of l))) (sym list_is) ∙ led }
-
-  pub has_parts : ((p : Calendar) (l : List ACommand) (s : BookState) → next_all_in v (empty_book p) l ≡ Some s → next_all (empty_book p) l ≡ Some s) → (s : BookState) → next_all_in v first (commands_of (filed_of list)) ≡ Some s → (names : List (List ℕ)) (same : List Filed) → same ≡ it.commands.items
-      → ((p : Calendar) (b : BookState) → next_all (empty_book p) (commands_of (filed_of same)) ≡ Some b → names ≡ map (λ (n : Node). n.name) b.network.nodes)
-      → (none ends : List EndNodes) → none ≡ [] → (none ≡ ends_of first.network → ends ≡ ends_of s.network) → HasParts s names ends
-  has_parts today s led names same same_is named none ends none_is joined =
-      let from : next_all_in v (empty_book first.period) (commands_of (filed_of same)) ≡ Some s = ap₂ (λ x l. next_all_in v x (commands_of (filed_of l))) (sym new.new) (same_is ∙ sym list_is) ∙ led in
-      let no_ends : ends_of first.network ≡ [] = ap (λ (x : BookState). ends_of x.network) new.new in
-      (named first.period s (today first.period (commands_of (filed_of same)) s from), joined (none_is ∙ sym no_ends))
 
   -- what its moves were found to be
   pub moves_found : (trees : Trees) (found moved : Bool) → found ≡ moved → ((rows : List Columns) → Shows trees Moved rows → IsTrue found ↔ HasMoved v rows first (filed_of list)) → MovesAre v it trees moved

@@ -1,7 +1,7 @@
 -- A book that is led along the commands which the tables name.
-use Rattle.std.specs.Prelude.{◌≡◌, ◌↔◌, ◌⊎◌, ℕ, Bool, List, [], Some, None, IsTrue, map}
+use Rattle.std.specs.Prelude.{◌≡◌, ◌↔◌, ◌⊎◌, Bool, List, Some, None, IsTrue}
 use Rattle.sqlite.specs.Tree.{Trees}
-use Rattle.ob_net.specs.declared.net.Node.{Node}
+use Rattle.ob_net.specs.Network.{Network}
 use Rattle.ob_time.specs.Calendar.{Calendar, day_count}
 use Rattle.ob_time.specs.Dates.{day_text}
 use Rattle.ob_time.specs.Period.{IsPeriodText}
@@ -13,10 +13,9 @@ use Rattle.ob_tables.specs.declared.table.Table.TheVariants.{Command, Moved}
 use Rattle.ob_tables.specs.declared.version.Version.{Version}
 use Rattle.ob_tables.specs.declared.version.Version.TheVariants.{Two}
 use Rattle.ob_record.specs.Tables.{Shows}
-use Rattle.ob_compare.specs.declared.ends.EndNodes.{EndNodes}
 use Rattle.ob_compare.specs.declared.heading.Heading.{Heading}
 use Rattle.ob_compare.specs.Listing.{filed_of}
-use Rattle.ob_compare.specs.Moves.{HasMoved, commands_of, ends_of}
+use Rattle.ob_compare.specs.Moves.{HasMoved, commands_of}
 use Rattle.ob_compare.specs.Versioned.{next_all_in}
 use Rattle.ob_store.specs.declared.named.Named.{Named}
 use Rattle.ob_store.specs.Books.{tables_in}
@@ -38,12 +37,10 @@ pub record IsNewBook (h : Heading) (b : BookState) : Type 0 where
   -- it names no other
   pub only : (p : Calendar) → IsPeriodText h.first_day.items h.days h.zone.items p → p ≡ b.period
 
--- a new book of the heading's period, with the names of the nodes that the commands give it, and no ends yet
-pub record IsBegun (it : Named) (b : BookState) (names : List (List ℕ)) (ends : List EndNodes) : Type 0 where
+-- a new book of the heading's period, with the layout of its network
+pub record IsBegun (it : Named) (b : BookState) (layout : Network) : Type 0 where
   pub new : IsNewBook it.heading b
-  pub named : (p : Calendar) (s : BookState) → next_all (empty_book p) (commands_of (filed_of it.commands.items)) ≡ Some s
-      → names ≡ map (λ (n : Node). n.name) s.network.nodes
-  pub no_ends : ends ≡ []
+  pub laid_out : layout ≡ b.network
 
 -- the commands, each accepted by a version in its turn, lead a new book of the heading's period to this one
 pub record IsLedBy (version : Version) (it : Named) (b : BookState) : Type 0 where
@@ -62,10 +59,6 @@ abbrev pub MovesAre : Version → Named → Trees → Bool → Type 0
 MovesAre version it trees moved =
     (first : BookState) × IsNewBook it.heading first
     × ((rows : List Columns) → Shows trees Moved rows → IsTrue moved ↔ HasMoved version rows first (filed_of it.commands.items))
-
--- the names of a book's nodes, and the ends of its devices
-abbrev pub HasParts : BookState → List (List ℕ) → List EndNodes → Type 0
-HasParts b names ends = (names ≡ map (λ (n : Node). n.name) b.network.nodes) × (ends ≡ ends_of b.network)
 
 -- the state is that of the book of a version, and of no other, whose period and commands the trees name
 pub record IsLedIn (version : Version) (trees : Trees) (s : BookState) (counted moved : Bool) : Type 0 where

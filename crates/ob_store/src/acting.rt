@@ -14,7 +14,7 @@ use ob_base::{Fault, Ref, Refusal, Stop};
 use ob_book::{Book, Command, body_text};
 use ob_commit::{Known, commit_act, look_up};
 use ob_compare::reaching_law;
-use ob_record::{act_of, change_of, naming_law, reached_law};
+use ob_record::{act_of, naming_law, reached_law};
 use ob_sweep::Timeline;
 use sqlite::{Alter, Connection};
 use std::alloc::Global;
@@ -100,10 +100,7 @@ fn accept<S: Alter, T: Timeline>(
         Ok(moved) => Moves::new(moved),
         Err(_) => return Err(Stop::Fault(Fault::OutOfMemory)),
     };
-    // The state is sound, by a clause of this call.
-    let _ = book.accepted();
-    let change = change_of(plan.resolved());
-    let act = act_of(book, &plan, change, reference.bytes(), body);
+    let act = act_of(book, &plan, reference.bytes(), body);
     let no = act.no;
     match commit_act(conn, &act, book.postings()) {
         Ok(()) => {

@@ -4,29 +4,24 @@ ghost use Rattle.ob_base.specs.Stop.{out_of_memory};
 ghost use Rattle.ob_compare.specs.Reading.{bad_book};
 ghost use Rattle.ob_tables.specs.declared.version.Version.{Version as AVersion};
 ghost use Rattle.ob_store.specs.Finding.{Finds, HasNoBook};
-ghost use Rattle.ob_store.specs.Leading.{HasNoPeriodOf, HasParts, IsBegun, IsLed, IsLedBy, IsNewBook, LeadsNowhere, MovesAre};
+ghost use Rattle.ob_store.specs.Leading.{HasNoPeriodOf, IsBegun, IsLed, IsLedBy, IsNewBook, LeadsNowhere, MovesAre};
 
 use crate::named::{BAD_BOOK, Named, read_named};
-use ob_base::{Name, Stop};
+use ob_base::Stop;
 use ob_book::{Book, next_law};
-use ob_compare::{
-    EndNodes, Heading, Progress, are_distinct, holds_moves, lead, names_of, reaching_law,
-};
+use ob_compare::{Heading, Layout, Progress, are_distinct, holds_moves, lead, reaching_law};
 use ob_record::naming_law;
 use ob_sweep::Timeline;
 use ob_tables::Version;
 use ob_time::Period;
-use ob_upgrade::version_law;
 use sqlite::{Alter, Connection};
 use std::alloc::Global;
 
-/// A book, led along the commands that the tables hold, and what its network doesn't show: the names of its nodes and the
-/// ends of its devices.
+/// A book, led along the commands that the tables hold, with the layout of its network.
 #[derive(Drop)]
 pub(crate) struct Led<T: Timeline> {
     pub(crate) book: Book<T>,
-    pub(crate) names: Vec<Name>,
-    pub(crate) ends: Vec<EndNodes>,
+    pub(crate) layout: Layout,
     /// Whether the table of commands numbers them from 1, with no number left out.
     pub(crate) counted: bool,
     /// Whether the table of moved amounts holds what the commands move.
@@ -51,10 +46,9 @@ fn new_book<T: Timeline>(alloc: Global, heading: &Heading) -> Result<Book<T>, St
     }
 }
 
-/// A new book of the heading's period, before the commands, with the names of the nodes that they give it.
+/// A new book of the heading's period, before the commands, with the layout of its network.
 fn begin<T: Timeline>(alloc: Global, named: &Named) -> Result<Led<T>, Stop>
-    ensures begun { IfOk result (λ led. IsBegun named.now led.book.state led.names.items
-        led.ends.items) }
+    ensures begun { IfOk result (λ led. IsBegun named.now led.book.state led.layout) }
     ensures counted { IfOk result (λ led. led.counted ≡ named.now.counted) }
     ensures moved { IfOk result (λ led. led.moved ≡ false) }
     ensures none { IfErr result (λ stop. stop ≡ bad_book → HasNoPeriodOf named.now.heading) }
@@ -64,11 +58,10 @@ fn begin<T: Timeline>(alloc: Global, named: &Named) -> Result<Led<T>, Stop>
         Ok(book) => book,
         Err(stop) => return Err(stop),
     };
-    match names_of(alloc, &named.commands) {
-        Ok(names) => Ok(Led {
+    match Layout::new(alloc) {
+        Ok(layout) => Ok(Led {
             book,
-            names,
-            ends: Vec::new(alloc),
+            layout,
             counted: named.counted,
             moved: false,
         }),
@@ -87,12 +80,11 @@ pub(crate) fn follow<S: Alter, T: Timeline, P: Progress>(
 ) -> Result<Option<Led<T>>, Stop>
     ensures led { IfOk result (λ found. IfSome found
         (λ led. IsLedBy version named.now led.book.state
-        × HasParts led.book.state led.names.items led.ends.items × (led.moved ≡ true)
+        × (led.layout ≡ led.book.state.network) × (led.moved ≡ true)
         × (led.counted ≡ named.now.counted))) }
     ensures finds { Finds S.Store version (λ trees found. MovesAre version named.now trees
         (is_some found)) (λ _. HasNoPeriodOf named.now.heading) conn.old conn.new result }
 {
-    version_law();
     let mut led: Led<T> = match begin(alloc, named) {
         Ok(led) => led,
         Err(stop) => return Err(stop),
@@ -101,7 +93,7 @@ pub(crate) fn follow<S: Alter, T: Timeline, P: Progress>(
         conn,
         &mut led.book,
         &named.commands,
-        &mut led.ends,
+        &mut led.layout,
         version,
         progress,
     ) {
@@ -117,7 +109,7 @@ pub(crate) fn follow<S: Alter, T: Timeline, P: Progress>(
 /// A new book, led along the commands alone.
 fn again<T: Timeline>(alloc: Global, named: &Named) -> Result<Led<T>, Stop>
     ensures led { IfOk result (λ led. IsLedBy AVersion.Two named.now led.book.state
-        × HasParts led.book.state led.names.items led.ends.items × (led.moved ≡ false)
+        × (led.layout ≡ led.book.state.network) × (led.moved ≡ false)
         × (led.counted ≡ named.now.counted)) }
     ensures nowhere { IfErr result (λ stop. stop ≡ bad_book → LeadsNowhere named.now) }
     ensures faults { IfErr result (λ stop. (stop ≡ bad_book) ⊎ (stop ≡ out_of_memory)) }
@@ -126,7 +118,7 @@ fn again<T: Timeline>(alloc: Global, named: &Named) -> Result<Led<T>, Stop>
         Ok(led) => led,
         Err(stop) => return Err(stop),
     };
-    match lead(&mut led.book, &named.commands, &mut led.ends) {
+    match lead(&mut led.book, &named.commands, &mut led.layout) {
         Ok(true) => Ok(led),
         Ok(false) => Err(BAD_BOOK),
         Err(stop) => Err(stop),
@@ -140,7 +132,7 @@ pub(crate) fn read_led<S: Alter, T: Timeline, P: Progress>(
     conn: &mut Connection<S>,
     progress: &mut P,
 ) -> Result<Led<T>, Stop>
-    ensures parts { IfOk result (λ led. HasParts led.book.state led.names.items led.ends.items) }
+    ensures layout { IfOk result (λ led. led.layout ≡ led.book.state.network) }
     ensures finds { Finds S.Store AVersion.Two (λ trees led. IsLed trees led.book.state led.counted
         led.moved) HasNoBook conn.old conn.new result }
 {

@@ -1,6 +1,5 @@
 //! The book that the tables hold, and the first of them that differs from one.
-ghost use Rattle.std.specs.Prelude.{◌≡◌, Ok, map};
-ghost use Rattle.ob_compare.specs.Moves.{ends_of};
+ghost use Rattle.std.specs.Prelude.{◌≡◌, Ok};
 ghost use Rattle.ob_tables.specs.declared.version.Version.{Version as AVersion};
 ghost use Rattle.ob_store.specs.Finding.{Finds, HasNoBook};
 ghost use Rattle.ob_store.specs.Keeping.{Answers};
@@ -51,8 +50,7 @@ fn find_off<S: Alter, T: Timeline>(
 
 /// Refuses a led book as `BadBook` where its tables aren't those that stand. Nothing is written.
 fn check_led<S: Alter, T: Timeline>(conn: &mut Connection<S>, led: &Led<T>) -> Result<(), Stop>
-    requires named { led.now.names.items ≡ map (λ n. n.name) led.now.book.state.network.nodes }
-    requires joined { led.now.ends.items ≡ ends_of led.now.book.state.network }
+    requires layout { led.now.layout ≡ led.now.book.state.network }
     // where the led book was read so before
     ensures { (first : _) → Finds S.Store AVersion.Two
         (λ trees l. IsLed trees l.book.state l.counted l.moved) HasNoBook first conn.old

@@ -1,10 +1,9 @@
 //! The tables of version 1 made those of version 2.
-ghost use Rattle.std.specs.Prelude.{◌≡◌, ◌↔◌, ◌≤◌, false, true, length, map, Ok, IsTrue, IfOk, IfErr};
+ghost use Rattle.std.specs.Prelude.{◌≡◌, ◌↔◌, ◌≤◌, false, true, length, Ok, IsTrue, IfOk, IfErr};
 ghost use Rattle.ob_base.specs.Stop.{out_of_memory};
 ghost use Rattle.ob_compare.specs.Listing.{filed_of};
 ghost use Rattle.sqlite.specs.Held.{state};
 ghost use Rattle.sqlite.specs.State.{HasCleanDisk, Survives};
-ghost use Rattle.ob_compare.specs.Moves.{ends_of};
 ghost use Rattle.ob_parts.specs.OldTables.{new_texts, texts_of};
 ghost use Rattle.ob_record.specs.Tables.{tables_of};
 ghost use Rattle.ob_commit.specs.Keeps.{KeepsEitherIn, KeepsIn, KeepsNumbers};
@@ -14,7 +13,7 @@ ghost use Rattle.ob_tables.specs.declared.version.Version.{Version as AVersion};
 ghost use Rattle.ob_store.specs.Differing.{NoneSo};
 ghost use Rattle.ob_store.specs.Finding.{Finds, IsNamed};
 ghost use Rattle.ob_store.specs.Laws.{Laws};
-ghost use Rattle.ob_store.specs.Leading.{HasParts, IsLedIn};
+ghost use Rattle.ob_store.specs.Leading.{IsLedIn};
 ghost use Rattle.ob_store.specs.Migrating.{HoldsNoOldBook, MigratesOn, ShowsVersion};
 ghost use Rattle.ob_store.specs.Shapes.{IsShapeOf};
 ghost use Rattle.ob_store.specs.Upgrading.{HasOldParts, HasOldRows, HasWriteCause, IsTold, IsUntold, LeavesWritten, Migrates, OfUpgraded, Upgradable, Upgraded};
@@ -114,14 +113,13 @@ fn tells_new<S: Alter>(conn: &mut Connection<S>) -> Result<bool, Stop>
 
 /// Whether the tables of version 1, those of commands and of what they moved aside, have the rows of a led book.
 fn has_old_rows<S: Alter, T: Timeline>(conn: &mut Connection<S>, led: &Led<T>) -> Result<bool, Stop>
-    requires named { led.now.names.items ≡ map (λ n. n.name) led.now.book.state.network.nodes }
-    requires joined { led.now.ends.items ≡ ends_of led.now.book.state.network }
+    requires layout { led.now.layout ≡ led.now.book.state.network }
     ensures { Finds S.Store AVersion.One (λ trees is. IsTrue is
         ↔ HasOldRows trees led.now.book.state) NoneSo conn.old conn.new result }
 {
     'parts: for at in 0..OLD_PARTS.len() {
         let part = OLD_PARTS[at];
-        match holds_part(conn, &led.book, &led.names, &led.ends, Version::One, part) {
+        match holds_part(conn, &led.book, &led.layout, Version::One, part) {
             Ok(true) => {}
             Ok(false) => return Ok(false),
             Err(stop) => return Err(stop),
@@ -132,8 +130,7 @@ fn has_old_rows<S: Alter, T: Timeline>(conn: &mut Connection<S>, led: &Led<T>) -
 
 /// Refuses a led book as `BadBook` where its tables of version 1 aren't those that stand. Nothing is written.
 fn check_old<S: Alter, T: Timeline>(conn: &mut Connection<S>, led: &Led<T>) -> Result<(), Stop>
-    requires named { led.now.names.items ≡ map (λ n. n.name) led.now.book.state.network.nodes }
-    requires joined { led.now.ends.items ≡ ends_of led.now.book.state.network }
+    requires layout { led.now.layout ≡ led.now.book.state.network }
     ensures { Finds S.Store AVersion.One (λ trees done. HasOldParts trees led.now.book.state)
         (λ trees. ¬ (HasOldRows trees led.now.book.state)) conn.old conn.new result }
 {
@@ -156,7 +153,7 @@ fn lead_old<S: Alter, T: Timeline>(
     conn: &mut Connection<S>,
     named: &Named,
 ) -> Result<Led<T>, Stop>
-    ensures parts { IfOk result (λ led. HasParts led.book.state led.names.items led.ends.items) }
+    ensures layout { IfOk result (λ led. led.layout ≡ led.book.state.network) }
     // where the commands were read so before
     ensures finds { (first : _) → Finds S.Store AVersion.One (IsNamed AVersion.One) HoldsNoOldBook
         first conn.old (Ok named.now) → Finds S.Store AVersion.One

@@ -1,7 +1,6 @@
 //! The first table that differs from what a led book has.
-ghost use Rattle.std.specs.Prelude.{◌≡◌, map};
+ghost use Rattle.std.specs.Prelude.{◌≡◌};
 ghost use Rattle.ob_book.specs.Acts.{ActState};
-ghost use Rattle.ob_compare.specs.Moves.{ends_of};
 ghost use Rattle.ob_parts.specs.Parts.{IsPart};
 ghost use Rattle.ob_tables.specs.declared.version.Version.{Version as AVersion};
 ghost use Rattle.ob_store.specs.Finding.{Finds};
@@ -33,12 +32,11 @@ fn part_off<S: Alter, T: Timeline>(
     table: Table,
 ) -> Result<Option<Table>, Stop>
     requires part { IsPart table }
-    requires named { led.now.names.items ≡ map (λ n. n.name) led.now.book.state.network.nodes }
-    requires joined { led.now.ends.items ≡ ends_of led.now.book.state.network }
+    requires layout { led.now.layout ≡ led.now.book.state.network }
     ensures { (b : ActState) → b.book ≡ led.now.book.state
         → Finds S.Store AVersion.Two (IsOff b table) NoneSo conn.old conn.new result }
 {
-    match holds_part(conn, &led.book, &led.names, &led.ends, Version::Two, table) {
+    match holds_part(conn, &led.book, &led.layout, Version::Two, table) {
         Ok(true) => Ok(None),
         Ok(false) => Ok(Some(table)),
         Err(stop) => Err(stop),
@@ -50,8 +48,7 @@ fn first_part_off<S: Alter, T: Timeline>(
     conn: &mut Connection<S>,
     led: &Led<T>,
 ) -> Result<Option<Table>, Stop>
-    requires named { led.now.names.items ≡ map (λ n. n.name) led.now.book.state.network.nodes }
-    requires joined { led.now.ends.items ≡ ends_of led.now.book.state.network }
+    requires layout { led.now.layout ≡ led.now.book.state.network }
     ensures { (b : ActState) → b.book ≡ led.now.book.state
         → Finds S.Store AVersion.Two (IsFirstOffOf 8 b) NoneSo conn.old conn.new result }
 {
@@ -71,8 +68,7 @@ pub(crate) fn first_off<S: Alter, T: Timeline>(
     conn: &mut Connection<S>,
     led: &Led<T>,
 ) -> Result<Option<Table>, Stop>
-    requires named { led.now.names.items ≡ map (λ n. n.name) led.now.book.state.network.nodes }
-    requires joined { led.now.ends.items ≡ ends_of led.now.book.state.network }
+    requires layout { led.now.layout ≡ led.now.book.state.network }
     ensures { (b : ActState) → b.book ≡ led.now.book.state
         → Finds S.Store AVersion.Two (IsFirstOff b led.now.counted led.now.moved) NoneSo conn.old
         conn.new result }

@@ -1,6 +1,6 @@
 -- What an INSERT makes of the tables.
 use Rattle.std.proofs.Common.{◌≡◌, ◌≢◌, ℕ, inl, inr, ◌/◌, ◌≤◌, pos, ℤ, List, [], ◌∷◌, filter, length, codes, Bool, true, false, Option, Some, Ordering, Less, Equal, Greater, true≢false, refl, sym, ap, subst, ◌∙◌, arith, slice_get}
-use Rattle.std.specs.Prelude.{IsTrue}
+use Rattle.std.specs.Prelude.{IsTrue, unwrap_or}
 use Rattle.std.specs.List.{AllByRecursion, list_any}
 use Rattle.std.specs.Ordering.{is_eq}
 use Rattle.std.proofs.lemmas.Bool.{cases_Bool, or_parts}
@@ -29,9 +29,13 @@ use Rattle.sqlite_rules.specs.Action.{works}
 use Rattle.sqlite_schema.specs.declared.schema.Keys.TheVariants.{Enforced}
 use Rattle.sqlite.specs.Rowids.TheVariants.{Chosen}
 use Rattle.sqlite.proofs.Callers.{IsPlain, command_of, runs_as}
-use Rattle.ob_base.specs.declared.Pos.{Pos}
+use Rattle.ob_base.specs.declared.life.Life.{Life as ALife}
+use Rattle.ob_net.specs.declared.net.Node.{Node as NetNode}
+use Rattle.ob_net.specs.declared.net.Device.{Device as NetDevice}
+use Rattle.ob_sheet.specs.declared.Entry.{Entry as SheetEntry}
+use Rattle.ob_cust.specs.declared.Customer.{Customer as RollCustomer}
 use Rattle.ob_tables.specs.Schema.{book_schema, meta_table, cause_table, node_table, device_table, customer_table, entry_table, mark_table, command_table, moved_table, posting_table, life_table}
-use Rattle.ob_tables.specs.Rows.{Columns, tree_of, shown, AreApart, Holds, with_row, Always, number_or_null, position_number, meta_row, cause_row, node_row, device_row, life_row, customer_row, entry_row, mark_row, command_row, moved_row, posting_row}
+use Rattle.ob_tables.specs.Rows.{Columns, tree_of, shown, AreApart, Holds, with_row, Always, number_or_null, position_number, bit, node_kind, meta_row, cause_row, node_row, device_row, life_row, customer_row, entry_row, mark_row, command_row, moved_row, posting_row}
 use Rattle.ob_tables.specs.Rules.{AreNumbered}
 use Rattle.ob_tables.specs.Steps.{Ran, Makes}
 use Rattle.ob_tables.specs.declared.table.Table.{Table}
@@ -152,14 +156,18 @@ pub node_insert_plain : IsPlain (understood book_schema node_insert)
 unfolding understood everything
 node_insert_plain = (refl, refl)
 
+abbrev pub node_params : ℕ → NetNode → Row
+node_params id node = Int (pos id) ∷ Text node.name ∷ Int (pos (node_kind id node)) ∷ Int (pos (unwrap_or node.feeder 0)) ∷ []
+
 pub stored_node : (id : ℕ) (name : List ℕ) (kind : ℕ) (feeder : ℕ) (rows : List Row)
-    → shown Node (with_rowid Chosen rows (cast_row (record node_table { tree = 3 }) (eval_all node_terms ((Int (pos id) ∷ Text name ∷ Int (pos kind) ∷ Int (pos feeder) ∷ []) ∷ [])))) ≡ node_row id name kind feeder
+    → shown Node (with_rowid Chosen rows (cast_row (record node_table { tree = 3 }) (eval_all node_terms ((Int (pos id) ∷ Text name ∷ Int (pos kind) ∷ Int (pos feeder) ∷ []) ∷ []))))
+    ≡ Int (pos id) ∷ Text name ∷ Int (pos kind) ∷ Int (pos feeder) ∷ []
 stored_node id name kind feeder rows = rw (cast_int (pos id), cast_int (pos kind), cast_int (pos feeder))
 
-pub adds_node : (old new : State) (id : ℕ) (name : List ℕ) (kind : ℕ) (feeder : ℕ) → Ran node_insert (Int (pos id) ∷ Text name ∷ Int (pos kind) ∷ Int (pos feeder) ∷ []) old new → Makes old new Always (with_row Node (node_row id name kind feeder))
-adds_node old new id name kind feeder ran =
-    makes_row Node 2 (record node_table { tree = 3 }) node_terms 5 node_insert _ (node_row id name kind feeder) refl refl node_insert_is node_insert_plain refl refl refl (λ new. refl)
-    (stored_node id name kind feeder) (λ e. omega (arith, e)) (λ e. omega (arith, e)) old new ran
+pub adds_node : (old new : State) (id : ℕ) (node : NetNode) → Ran node_insert (node_params id node) old new → Makes old new Always (with_row Node (node_row id node))
+adds_node old new id node ran =
+    makes_row Node 2 (record node_table { tree = 3 }) node_terms 5 node_insert (node_params id node) (node_row id node) refl refl node_insert_is node_insert_plain refl refl refl (λ new. refl)
+    (stored_node id node.name (node_kind id node) (unwrap_or node.feeder 0)) (λ e. omega (arith, e)) (λ e. omega (arith, e)) old new ran
 
 abbrev pub device_insert : List ℕ
 device_insert = codes "INSERT INTO device (id, name, a, b, normal) VALUES (?1, ?2, ?3, ?4, ?5)"
@@ -175,14 +183,17 @@ pub device_insert_plain : IsPlain (understood book_schema device_insert)
 unfolding understood everything
 device_insert_plain = (refl, refl)
 
-pub stored_device : (id : ℕ) (name : List ℕ) (a : ℕ) (b : ℕ) (normal : Pos) (rows : List Row)
-    → shown Device (with_rowid Chosen rows (cast_row (record device_table { tree = 5 }) (eval_all device_terms ((Int (pos id) ∷ Text name ∷ Int (pos a) ∷ Int (pos b) ∷ Int (pos (position_number normal)) ∷ []) ∷ [])))) ≡ device_row id name a b normal
-stored_device id name a b normal rows = rw (cast_int (pos id), cast_int (pos a), cast_int (pos b), cast_int (pos (position_number normal)))
+abbrev pub device_params : ℕ → NetDevice → Row
+device_params id d = Int (pos id) ∷ Text d.name ∷ Int (pos d.a) ∷ Int (pos d.b) ∷ Int (pos (position_number d.normal)) ∷ []
 
-pub adds_device : (old new : State) (id : ℕ) (name : List ℕ) (a : ℕ) (b : ℕ) (normal : Pos) → Ran device_insert (Int (pos id) ∷ Text name ∷ Int (pos a) ∷ Int (pos b) ∷ Int (pos (position_number normal)) ∷ []) old new → Makes old new Always (with_row Device (device_row id name a b normal))
-adds_device old new id name a b normal ran =
-    makes_row Device 3 (record device_table { tree = 5 }) device_terms 6 device_insert _ (device_row id name a b normal) refl refl device_insert_is device_insert_plain refl refl refl (λ new. refl)
-    (stored_device id name a b normal) (λ e. omega (arith, e)) (λ e. omega (arith, e)) old new ran
+pub stored_device : (id : ℕ) (d : NetDevice) (rows : List Row)
+    → shown Device (with_rowid Chosen rows (cast_row (record device_table { tree = 5 }) (eval_all device_terms (device_params id d ∷ [])))) ≡ device_row id d
+stored_device id d rows = rw (cast_int (pos id), cast_int (pos d.a), cast_int (pos d.b), cast_int (pos (position_number d.normal)))
+
+pub adds_device : (old new : State) (id : ℕ) (d : NetDevice) → Ran device_insert (device_params id d) old new → Makes old new Always (with_row Device (device_row id d))
+adds_device old new id d ran =
+    makes_row Device 3 (record device_table { tree = 5 }) device_terms 6 device_insert (device_params id d) (device_row id d) refl refl device_insert_is device_insert_plain refl refl refl (λ new. refl)
+    (stored_device id d) (λ e. omega (arith, e)) (λ e. omega (arith, e)) old new ran
 
 abbrev pub customer_insert : List ℕ
 customer_insert = codes "INSERT INTO customer (id, section, since, until) VALUES (?1, ?2, ?3, ?4)"
@@ -198,14 +209,17 @@ pub customer_insert_plain : IsPlain (understood book_schema customer_insert)
 unfolding understood everything
 customer_insert_plain = (refl, refl)
 
-pub stored_customer : (id : ℕ) (section : ℕ) (since : ℕ) (until : Option ℕ) (rows : List Row)
-    → shown Customer (with_rowid Chosen rows (cast_row (record customer_table { tree = 7 }) (eval_all customer_terms ((Int (pos id) ∷ Int (pos section) ∷ Int (pos since) ∷ number_or_null until ∷ []) ∷ [])))) ≡ customer_row id section since until
-stored_customer id section since until rows = rw (cast_int (pos id), cast_int (pos section), cast_int (pos since), cast_optional until)
+abbrev pub customer_params : RollCustomer → Row
+customer_params c = Int (pos c.no) ∷ Int (pos c.section) ∷ Int (pos c.since) ∷ number_or_null c.until ∷ []
 
-pub adds_customer : (old new : State) (id : ℕ) (section : ℕ) (since : ℕ) (until : Option ℕ) → Ran customer_insert (Int (pos id) ∷ Int (pos section) ∷ Int (pos since) ∷ number_or_null until ∷ []) old new → Makes old new Always (with_row Customer (customer_row id section since until))
-adds_customer old new id section since until ran =
-    makes_row Customer 4 (record customer_table { tree = 7 }) customer_terms 5 customer_insert _ (customer_row id section since until) refl refl customer_insert_is customer_insert_plain refl refl refl (λ new. refl)
-    (stored_customer id section since until) (λ e. omega (arith, e)) (λ e. omega (arith, e)) old new ran
+pub stored_customer : (c : RollCustomer) (rows : List Row)
+    → shown Customer (with_rowid Chosen rows (cast_row (record customer_table { tree = 7 }) (eval_all customer_terms (customer_params c ∷ [])))) ≡ customer_row c
+stored_customer c rows = rw (cast_int (pos c.no), cast_int (pos c.section), cast_int (pos c.since), cast_optional c.until)
+
+pub adds_customer : (old new : State) (c : RollCustomer) → Ran customer_insert (customer_params c) old new → Makes old new Always (with_row Customer (customer_row c))
+adds_customer old new c ran =
+    makes_row Customer 4 (record customer_table { tree = 7 }) customer_terms 5 customer_insert (customer_params c) (customer_row c) refl refl customer_insert_is customer_insert_plain refl refl refl (λ new. refl)
+    (stored_customer c) (λ e. omega (arith, e)) (λ e. omega (arith, e)) old new ran
 
 abbrev pub life_insert : List ℕ
 life_insert = codes "INSERT INTO life (device, since, until) VALUES (?1, ?2, ?3)"
@@ -221,20 +235,23 @@ pub life_insert_plain : IsPlain (understood book_schema life_insert)
 unfolding understood everything
 life_insert_plain = (refl, refl)
 
-pub stored_life : (device since : ℕ) (until : Option ℕ) (rows : List Row)
-    → shown Life (with_rowid Chosen rows (cast_row (record life_table { tree = 16 }) (eval_all life_terms ((Int (pos device) ∷ Int (pos since) ∷ number_or_null until ∷ []) ∷ [])))) ≡ life_row device since until
-stored_life device since until rows = rw (cast_int (pos device), cast_int (pos since), cast_optional until)
+abbrev pub life_params : ℕ → ALife → Row
+life_params device life = Int (pos device) ∷ Int (pos life.since) ∷ number_or_null life.until ∷ []
 
-pub adds_life : (old new : State) (device since : ℕ) (until : Option ℕ) → Ran life_insert (Int (pos device) ∷ Int (pos since) ∷ number_or_null until ∷ []) old new → Makes old new Always (with_row Life (life_row device since until))
-adds_life old new device since until ran =
-    makes_row Life 10 (record life_table { tree = 16 }) life_terms 4 life_insert _ (life_row device since until) refl refl life_insert_is life_insert_plain refl refl refl (λ new. refl)
-    (stored_life device since until) (λ e. omega (arith, e)) (λ e. omega (arith, e)) old new ran
+pub stored_life : (device : ℕ) (life : ALife) (rows : List Row)
+    → shown Life (with_rowid Chosen rows (cast_row (record life_table { tree = 16 }) (eval_all life_terms (life_params device life ∷ [])))) ≡ life_row device life
+stored_life device life rows = rw (cast_int (pos device), cast_int (pos life.since), cast_optional life.until)
+
+pub adds_life : (old new : State) (device : ℕ) (life : ALife) → Ran life_insert (life_params device life) old new → Makes old new Always (with_row Life (life_row device life))
+adds_life old new device life ran =
+    makes_row Life 10 (record life_table { tree = 16 }) life_terms 4 life_insert (life_params device life) (life_row device life) refl refl life_insert_is life_insert_plain refl refl refl (λ new. refl)
+    (stored_life device life) (λ e. omega (arith, e)) (λ e. omega (arith, e)) old new ran
 
 abbrev pub entry_insert : List ℕ
-entry_insert = codes "INSERT INTO entry (id, rev, device, pos, second, cause, crew, kept) VALUES (?1, 1, ?2, ?3, ?4, ?5, ?6, 1)"
+entry_insert = codes "INSERT INTO entry (id, rev, device, pos, second, cause, crew, kept) VALUES (?1, ?2, ?3, ?4, ?5, ?6, ?7, ?8)"
 
 abbrev pub entry_terms : List Term
-entry_terms = col 0 0 ∷ lit Null ∷ lit (Int (pos 1)) ∷ col 0 1 ∷ col 0 2 ∷ col 0 3 ∷ col 0 4 ∷ col 0 5 ∷ lit (Int (pos 1)) ∷ []
+entry_terms = col 0 0 ∷ lit Null ∷ col 0 1 ∷ col 0 2 ∷ col 0 3 ∷ col 0 4 ∷ col 0 5 ∷ col 0 6 ∷ col 0 7 ∷ []
 
 pub entry_insert_is : command_of (understood book_schema entry_insert) ≡ Insert 5 (Values entry_terms 9)
 unfolding understood everything
@@ -244,14 +261,19 @@ pub entry_insert_plain : IsPlain (understood book_schema entry_insert)
 unfolding understood everything
 entry_insert_plain = (refl, refl)
 
-pub stored_entry : (id : ℕ) (device : ℕ) (position : Pos) (second : ℕ) (cause : ℕ) (crew : List ℕ) (rows : List Row)
-    → shown Entry (with_rowid Chosen rows (cast_row (record entry_table { tree = 8 }) (eval_all entry_terms ((Int (pos id) ∷ Int (pos device) ∷ Int (pos (position_number position)) ∷ Int (pos second) ∷ Int (pos cause) ∷ Text crew ∷ []) ∷ [])))) ≡ entry_row id 1 device position second cause crew true
-stored_entry id device position second cause crew rows = rw (cast_int (pos id), cast_int (pos 1), cast_int (pos device), cast_int (pos (position_number position)), cast_int (pos second), cast_int (pos cause))
+abbrev pub entry_params : SheetEntry → Row
+entry_params e =
+    Int (pos e.no) ∷ Int (pos e.rev) ∷ Int (pos e.device) ∷ Int (pos (position_number e.pos)) ∷ Int (pos e.second) ∷ Int (pos e.cause) ∷ Text e.crew ∷ Int (pos (bit e.kept)) ∷ []
 
-pub adds_entry : (old new : State) (id : ℕ) (device : ℕ) (position : Pos) (second : ℕ) (cause : ℕ) (crew : List ℕ) → Ran entry_insert (Int (pos id) ∷ Int (pos device) ∷ Int (pos (position_number position)) ∷ Int (pos second) ∷ Int (pos cause) ∷ Text crew ∷ []) old new → Makes old new Always (with_row Entry (entry_row id 1 device position second cause crew true))
-adds_entry old new id device position second cause crew ran =
-    makes_row Entry 5 (record entry_table { tree = 8 }) entry_terms 9 entry_insert _ (entry_row id 1 device position second cause crew true) refl refl entry_insert_is entry_insert_plain refl refl refl (λ new. refl)
-    (stored_entry id device position second cause crew) (λ e. omega (arith, e)) (λ e. omega (arith, e)) old new ran
+pub stored_entry : (e : SheetEntry) (rows : List Row)
+    → shown Entry (with_rowid Chosen rows (cast_row (record entry_table { tree = 8 }) (eval_all entry_terms (entry_params e ∷ [])))) ≡ entry_row e
+stored_entry e rows =
+    rw (cast_int (pos e.no), cast_int (pos e.rev), cast_int (pos e.device), cast_int (pos (position_number e.pos)), cast_int (pos e.second), cast_int (pos e.cause), cast_int (pos (bit e.kept)))
+
+pub adds_entry : (old new : State) (e : SheetEntry) → Ran entry_insert (entry_params e) old new → Makes old new Always (with_row Entry (entry_row e))
+adds_entry old new e ran =
+    makes_row Entry 5 (record entry_table { tree = 8 }) entry_terms 9 entry_insert (entry_params e) (entry_row e) refl refl entry_insert_is entry_insert_plain refl refl refl (λ new. refl)
+    (stored_entry e) (λ e. omega (arith, e)) (λ e. omega (arith, e)) old new ran
 
 abbrev pub mark_insert : List ℕ
 mark_insert = codes "INSERT INTO mark (day, engineer) VALUES (?1, ?2)"

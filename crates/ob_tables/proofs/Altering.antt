@@ -30,15 +30,19 @@ use Rattle.sqlite.specs.declared.types.Value.TheVariants.{Null, Int, Text}
 use Rattle.sqlite.specs.State.{State}
 use Rattle.ob_base.specs.declared.Pos.{Pos}
 use Rattle.ob_base.specs.declared.Pos.TheVariants.{Opened, Closed}
+use Rattle.ob_base.specs.declared.life.Life.{Life as ALife}
+use Rattle.ob_sheet.specs.declared.Entry.{Entry as SheetEntry}
+use Rattle.ob_cust.specs.declared.Customer.{Customer as RollCustomer}
 use Rattle.ob_tables.specs.Schema.{book_schema, meta_table, customer_table, entry_table, mark_table, command_table, life_table}
 use Rattle.ob_tables.specs.Rows.{Columns, Tables, Holds, Always, tree_of, shown, number_or_null, position_number, bit, is_key, meta_row, customer_row, life_row, entry_row, mark_row, command_row, HasCustomer, HasLife, HasCommand, HasHeading, HasEntry, HasMark}
 use Rattle.ob_tables.specs.Rules.{IsShort, IsShortValue, HasShort, LetsBody, LetsVersion, LetsCorrected, LetsWithdrawn}
 use Rattle.ob_tables.specs.Steps.{Failed, HasFailed, LetsIn}
 use Rattle.ob_tables.specs.declared.table.Table.{Table}
 use Rattle.ob_tables.specs.declared.table.Table.TheVariants.{Meta, Life, Customer, Entry, Mark, Command}
+use Rattle.ob_tables.proofs.Adding.{life_params}
 use Rattle.ob_tables.proofs.Casts.{cast_int, cast_null, cast_optional}
 use Rattle.ob_tables.proofs.Entering.{Enters}
-use Rattle.ob_tables.proofs.Keyed.{filter_alike, HasOne, has_key, stored_one, by_key, service_update, service_shows, customer_anew, correct_update, correct_shows, entry_anew, withdraw_update, withdraw_shows, mark_delete, life_update, life_shows, life_anew, body_update, body_shows, command_anew, version_update, version_shows, meta_anew}
+use Rattle.ob_tables.proofs.Keyed.{filter_alike, HasOne, has_key, has_one, stored_one, by_key, service_update, service_params, service_shows, customer_anew, correct_update, correct_params, correct_shows, entry_anew, withdraw_update, withdraw_shows, mark_delete, life_update, life_shows, life_anew, body_update, body_shows, command_anew, version_update, version_shows, meta_anew}
 use Rattle.ob_tables.proofs.Keys.{enters, is_new, left_was, left_free, clash_kept, storable, storable_row, HasEntries}
 use Rattle.ob_tables.proofs.Parents.{updated_refers, deleted_refers, finds_cause, sound_book}
 use Rattle.ob_tables.proofs.Refusing.{update_edit, update_row, update_left, delete_edit}
@@ -153,19 +157,21 @@ customer_suits id section since (Some end) = record {
   entries = unindexed customer_it (customer_stored id section since (Some end)) refl;
 }
 
-pub lets_service : (old new : State) (id since : ℕ) (until : Option ℕ) → id < 2 ^ 32 → Failed service_update (Int (pos id) ∷ Int (pos since) ∷ number_or_null until ∷ []) old new
-    → LetsIn old (HasCustomer id) Always → HasFailed old new
-lets_service old new id since until small fails lets =
+pub lets_service : (old new : State) (c : RollCustomer) → c.no < 2 ^ 32 → Failed service_update (service_params c) old new → LetsIn old (HasCustomer c.no) Always → HasFailed old new
+lets_service old new c small fails lets =
     let db = old.now.trees in
     let sound = sound_book old lets.schema lets.sound in
-    let need = lets.needed in
-    let put = can_put Customer customer_table by_key service_shows (Int (pos id) ∷ Int (pos since) ∷ number_or_null until ∷ []) id (λ r. refl) refl (λ r. refl)
-    4 refl db lets.tables (customer_row id need.section need.since need.until) (customer_stored id need.section since until) small sound lets.holds (record { one = need.row; keyed = refl })
-    (customer_suits id need.section since until)
-    (λ r is. ap (λ (c : Columns). customer_anew (column c 0) (column c 1) since until) is ∙ customer_cast id need.section since until)
+    let was = lets.needed.customer in
+    let one = has_one Customer c.no was.no (customer_row was) lets.tables lets.needed.row refl in
+    let put = can_put Customer customer_table by_key service_shows (service_params c) c.no (λ r. refl) refl (λ r. refl)
+    4 refl db lets.tables (customer_row was) (customer_stored c.no was.section c.since c.until) small sound lets.holds one
+    (customer_suits c.no was.section c.since c.until)
+    (λ r is.
+    ap (λ (x : Columns). customer_anew (column x 0) (column x 1) c.since c.until) is ∙ ap (λ v. customer_anew v (Int (pos was.section)) c.since c.until) one.keyed
+    ∙ customer_cast c.no was.section c.since c.until)
     (λ r there is numbered. refl)
-    (λ r is next done. (inl (ap (λ (c : Columns). column c 1) is, tt), tt)) in
-    service_fails old new id since until lets.schema fails put.row put.passing put.entering put.parents
+    (λ r is next done. (inl (ap (λ (x : Columns). column x 1) is, tt), tt)) in
+    service_fails old new c lets.schema fails put.row put.passing put.entering put.parents
 
 -- ---- a device's life
 abbrev life_it : sql.Table
@@ -195,19 +201,18 @@ life_suits device since (Some end) = record {
   entries = unindexed life_it (life_stored device since (Some end)) refl;
 }
 
-pub lets_life_ends : (old new : State) (device since : ℕ) (until : Option ℕ) → device < 2 ^ 32 → Failed life_update (Int (pos device) ∷ Int (pos since) ∷ number_or_null until ∷ []) old new
-    → LetsIn old (HasLife device) Always → HasFailed old new
-lets_life_ends old new device since until small fails lets =
+pub lets_life_ends : (old new : State) (device : ℕ) (life : ALife) → device < 2 ^ 32 → Failed life_update (life_params device life) old new → LetsIn old (HasLife device) Always → HasFailed old new
+lets_life_ends old new device life small fails lets =
     let db = old.now.trees in
     let sound = sound_book old lets.schema lets.sound in
     let need = lets.needed in
-    let put = can_put Life life_table by_key life_shows (Int (pos device) ∷ Int (pos since) ∷ number_or_null until ∷ []) device (λ r. refl) refl (λ r. refl)
-    10 refl db lets.tables (life_row device need.since need.until) (life_stored device since until) small sound lets.holds (record { one = need.row; keyed = refl })
-    (life_suits device since until)
-    (λ r is. ap (λ (c : Columns). life_anew (column c 0) since until) is ∙ life_cast device since until)
+    let put = can_put Life life_table by_key life_shows (life_params device life) device (λ r. refl) refl (λ r. refl)
+    10 refl db lets.tables (life_row device need.life) (life_stored device life.since life.until) small sound lets.holds (record { one = need.row; keyed = refl })
+    (life_suits device life.since life.until)
+    (λ r is. ap (λ (c : Columns). life_anew (column c 0) life.since life.until) is ∙ life_cast device life.since life.until)
     (λ r there is numbered. refl)
     (λ r is next done. (inl (ap (λ (c : Columns). column c 0) is, tt), tt)) in
-    life_set_fails old new device since until lets.schema fails put.row put.passing put.entering put.parents
+    life_set_fails old new device life lets.schema fails put.row put.passing put.entering put.parents
 
 -- ---- a command's body
 abbrev command_it : sql.Table
@@ -314,9 +319,9 @@ lets_version old new version fails lets =
 abbrev entry_it : sql.Table
 entry_it = record entry_table { tree = 8 }
 
-abbrev entry_stored_row : ℕ → ℕ → ℕ → Pos → ℕ → ℕ → List ℕ → Bool → Row
-entry_stored_row id revision device position second cause crew kept =
-    Int (pos id) ∷ Null ∷ Int (pos revision) ∷ Int (pos device) ∷ Int (pos (position_number position)) ∷ Int (pos second) ∷ Int (pos cause) ∷ Text crew ∷ Int (pos (bit kept)) ∷ []
+abbrev entry_stored_row : SheetEntry → Row
+entry_stored_row e =
+    Int (pos e.no) ∷ Null ∷ Int (pos e.rev) ∷ Int (pos e.device) ∷ Int (pos (position_number e.pos)) ∷ Int (pos e.second) ∷ Int (pos e.cause) ∷ Text e.crew ∷ Int (pos (bit e.kept)) ∷ []
 
 entry_cast : (id revision device position second cause : ℕ) (crew : List ℕ) (kept : ℕ)
     → entry_anew (Int (pos id)) (Int (pos revision)) (Int (pos device)) (Int (pos position)) (Int (pos second)) (Int (pos cause)) (Text crew) (Int (pos kept))
@@ -324,63 +329,65 @@ entry_cast : (id revision device position second cause : ℕ) (crew : List ℕ) 
 entry_cast id revision device position second cause crew kept =
     rw (cast_int (pos id), cast_null, cast_int (pos revision), cast_int (pos device), cast_int (pos position), cast_int (pos second), cast_int (pos cause), cast_int (pos kept))
 
-entry_checked : (id revision device : ℕ) (position : Pos) (second cause : ℕ) (crew : List ℕ) (kept : Bool) → passes_checks entry_it (entry_stored_row id revision device position second cause crew kept) ≡ true
+entry_checks : (id revision device : ℕ) (position : Pos) (second cause : ℕ) (crew : List ℕ) (kept : Bool)
+    → passes_checks entry_it (Int (pos id) ∷ Null ∷ Int (pos revision) ∷ Int (pos device) ∷ Int (pos (position_number position)) ∷ Int (pos second) ∷ Int (pos cause) ∷ Text crew ∷ Int (pos (bit kept)) ∷ []) ≡ true
 unfolding binary value_cmp Ieee.lt Ieee.is_nan
-entry_checked id revision device Opened second cause crew false = refl
-entry_checked id revision device Opened second cause crew true = refl
-entry_checked id revision device Closed second cause crew false = refl
-entry_checked id revision device Closed second cause crew true = refl
+entry_checks id revision device Opened second cause crew false = refl
+entry_checks id revision device Opened second cause crew true = refl
+entry_checks id revision device Closed second cause crew false = refl
+entry_checks id revision device Closed second cause crew true = refl
 
-entry_suits : (id revision device : ℕ) (position : Pos) (second cause : ℕ) (crew : List ℕ) (kept : Bool) → IsShort crew → Suits entry_it id (entry_stored_row id revision device position second cause crew kept)
-entry_suits id revision device position second cause crew kept short =
-    let fresh = entry_stored_row id revision device position second cause crew kept in
+entry_checked : (e : SheetEntry) → passes_checks entry_it (entry_stored_row e) ≡ true
+entry_checked e = entry_checks e.no e.rev e.device e.pos e.second e.cause e.crew e.kept
+
+entry_suits : (e : SheetEntry) → IsShort e.crew → Suits entry_it e.no (entry_stored_row e)
+entry_suits e short =
+    let fresh = entry_stored_row e in
     record {
       keyed = refl;
       typed = λ db. refl;
       present = λ db. refl;
-      checked = λ db. entry_checked id revision device position second cause crew kept;
+      checked = λ db. entry_checked e;
       storable = storable_row fresh (omega arith) (omega arith) (tt, (tt, (tt, (tt, (tt, (tt, (tt, (short, (tt, tt)))))))));
       entries = unindexed entry_it fresh refl;
     }
 
-pub lets_corrected : (old new : State) (id revision : ℕ) (position : Pos) (second cause : ℕ) (crew : List ℕ) → id < 2 ^ 32
-    → Failed correct_update (Int (pos id) ∷ Int (pos revision) ∷ Int (pos (position_number position)) ∷ Int (pos second) ∷ Int (pos cause) ∷ Text crew ∷ []) old new
-    → LetsIn old (HasEntry id) (LetsCorrected cause crew) → HasFailed old new
-lets_corrected old new id revision position second cause crew small fails lets =
+pub lets_corrected : (old new : State) (e : SheetEntry) → e.no < 2 ^ 32 → IsShort e.crew → Failed correct_update (correct_params e) old new → LetsIn old (HasEntry e.no) (LetsCorrected e.cause) → HasFailed old new
+lets_corrected old new e small short fails lets =
     let db = old.now.trees in
     let sound = sound_book old lets.schema lets.sound in
-    let need = lets.needed in
-    let was = entry_row id need.revision need.device need.position need.second need.cause need.crew need.kept in
-    let fresh = entry_stored_row id revision need.device position second cause crew need.kept in
-    let params = Int (pos id) ∷ Int (pos revision) ∷ Int (pos (position_number position)) ∷ Int (pos second) ∷ Int (pos cause) ∷ Text crew ∷ [] in
-    let put = can_put Entry entry_table by_key correct_shows params id (λ r. refl) refl (λ r. refl)
-    5 refl db lets.tables was fresh small sound lets.holds (record { one = need.row; keyed = refl })
-    (entry_suits id revision need.device position second cause crew need.kept lets.allowed.1)
+    let was = lets.needed.entry in
+    let one = has_one Entry e.no was.no (entry_row was) lets.tables lets.needed.row refl in
+    let anew = record e { device = was.device; kept = was.kept } in
+    let put = can_put Entry entry_table by_key correct_shows (correct_params e) e.no (λ r. refl) refl (λ r. refl)
+    5 refl db lets.tables (entry_row was) (entry_stored_row anew) small sound lets.holds one
+    (entry_suits anew short)
     (λ r is.
-    ap (λ (c : Columns). entry_anew (column c 0) (Int (pos revision)) (column c 2) (Int (pos (position_number position))) (Int (pos second)) (Int (pos cause)) (Text crew) (column c 7)) is
-    ∙ entry_cast id revision need.device (position_number position) second cause crew (bit need.kept))
+    ap (λ (c : Columns). entry_anew (column c 0) (Int (pos e.rev)) (column c 2) (Int (pos (position_number e.pos))) (Int (pos e.second)) (Int (pos e.cause)) (Text e.crew) (column c 7)) is
+    ∙ ap (λ v. entry_anew v (Int (pos e.rev)) (Int (pos was.device)) (Int (pos (position_number e.pos))) (Int (pos e.second)) (Int (pos e.cause)) (Text e.crew) (Int (pos (bit was.kept)))) one.keyed
+    ∙ entry_cast e.no e.rev was.device (position_number e.pos) e.second e.cause e.crew (bit was.kept))
     (λ r there is numbered. refl)
     (λ r is next done. (
       inl (ap (λ (c : Columns). column c 2) is, tt),
-      (inr (finds_cause db next (update_edit db entry_it correct_shows params r) done lets.tables cause 6 fresh (λ e. omega (arith, e)) lets.holds lets.allowed.0 refl), tt),
+      (inr (finds_cause db next (update_edit db entry_it correct_shows (correct_params e) r) done lets.tables e.cause 6 (entry_stored_row anew) (λ e. omega (arith, e)) lets.holds lets.allowed refl), tt),
     )) in
-    corrected_fails old new id revision position second cause crew lets.schema fails put.row put.passing put.entering put.parents
+    corrected_fails old new e lets.schema fails put.row put.passing put.entering put.parents
 
 pub lets_withdrawn : (old new : State) (id revision : ℕ) → id < 2 ^ 32 → Failed withdraw_update (Int (pos id) ∷ Int (pos revision) ∷ []) old new → LetsIn old (HasEntry id) (LetsWithdrawn id) → HasFailed old new
 lets_withdrawn old new id revision small fails lets =
     let db = old.now.trees in
     let sound = sound_book old lets.schema lets.sound in
-    let need = lets.needed in
-    let was = entry_row id need.revision need.device need.position need.second need.cause need.crew need.kept in
-    let one : HasOne Entry id lets.tables was = record { one = need.row; keyed = refl } in
-    let shorts = short_of Entry id lets.tables was one lets.allowed in
-    let fresh = entry_stored_row id revision need.device need.position need.second need.cause need.crew false in
+    let was = lets.needed.entry in
+    let one = has_one Entry id was.no (entry_row was) lets.tables lets.needed.row refl in
+    let shorts = short_of Entry id lets.tables (entry_row was) one lets.allowed in
+    let anew = record was { no = id; rev = revision; kept = false } in
     let put = can_put Entry entry_table by_key withdraw_shows (Int (pos id) ∷ Int (pos revision) ∷ []) id (λ r. refl) refl (λ r. refl)
-    5 refl db lets.tables was fresh small sound lets.holds one
-    (entry_suits id revision need.device need.position need.second need.cause need.crew false shorts.1.1.1.1.1.1.0)
+    5 refl db lets.tables (entry_row was) (entry_stored_row anew) small sound lets.holds one
+    (entry_suits anew shorts.1.1.1.1.1.1.0)
     (λ r is.
     ap (λ (c : Columns). entry_anew (column c 0) (Int (pos revision)) (column c 2) (column c 3) (column c 4) (column c 5) (column c 6) (Int (pos 0))) is
-    ∙ entry_cast id revision need.device (position_number need.position) need.second need.cause need.crew 0)
+    ∙ ap (λ v. entry_anew v (Int (pos revision)) (Int (pos was.device)) (Int (pos (position_number was.pos))) (Int (pos was.second)) (Int (pos was.cause)) (Text was.crew) (Int (pos 0))) one.keyed
+    ∙ entry_cast id revision was.device (position_number was.pos) was.second was.cause was.crew 0)
     (λ r there is numbered. refl)
     (λ r is next done. (inl (ap (λ (c : Columns). column c 2) is, tt), (inl (ap (λ (c : Columns). column c 5) is, tt), tt))) in
     withdrawn_fails old new id revision lets.schema fails put.row put.passing put.entering put.parents

@@ -1,13 +1,15 @@
 -- The one row of a key is written anew or taken out.
-use Rattle.std.proofs.Common.{◌≡◌, ◌≢◌, ℕ, pos, ℤ, List, [], ◌∷◌, ◌++◌, map, filter, drop, codes, Bool, true, false, cond, not, ◌&&◌, Option, Some, None, refl, sym, ap, subst, ◌∙◌, arith, slice_get, inl, inr}
+use Rattle.std.proofs.Common.{◌≡◌, ◌≢◌, ℕ, ◌==◌, pos, ℤ, List, [], ◌∷◌, ◌++◌, map, filter, drop, codes, Bool, true, false, cond, not, ◌&&◌, Option, Some, None, refl, sym, ap, subst, ◌∙◌, arith, slice_get, inl, inr}
 use Rattle.std.specs.Prelude.{if◌then◌else◌}
 use Rattle.std.specs.List.{AllByRecursion, list_all}
 use Rattle.std.specs.List.Sorted.{IsPermutation}
-use Rattle.std.specs.Ordering.{is_eq}
+use Rattle.std.specs.Ordering.{is_eq, int_cmp}
 use Rattle.std.proofs.lemmas.Bool.{cases_Bool}
+use Rattle.std.proofs.lemmas.Bool.Decides.{nat_tests}
 use Rattle.std.proofs.lemmas.List.Sorted.{IsPermutation-refl, IsPermutation-map, IsPermutation-trans, IsPermutation-sym, IsPermutation-cons, IsPermutation-middle}
 use Rattle.sqlite_trees.proofs.ListLemmas.{IsPermutation-filter, filter-map}
 use Rattle.sqlite_value.specs.Order.{value_cmp}
+use Rattle.sqlite_value.proofs.OrderLemmas.{value_cmp-Int}
 use Rattle.sqlite_schema.specs.Rules.{equal}
 use Rattle.sqlite_sql.specs.Ops.{from_truth}
 use Rattle.sqlite.specs.Ops.{is_true, binary}
@@ -27,16 +29,21 @@ use Rattle.sqlite_sql.specs.declared.ops.BinaryOp.TheVariants.{Compare}
 use Rattle.sqlite_sql.specs.declared.ops.CompareOp.TheVariants.{Eq}
 use Rattle.sqlite_schema.specs.declared.schema.Keys.TheVariants.{Enforced}
 use Rattle.sqlite_rules.specs.Action.{works}
+use Rattle.sqlite_rules.specs.Lists.{Has}
+use Rattle.sqlite_rules.proofs.ListLemmas.{has_filtered}
 use Rattle.sqlite_rules.specs.Edit.{are_fresh, id_in}
 use Rattle.sqlite_rules.specs.Cast.{cast_row}
 use Rattle.sqlite_tied.specs.Compute.{everything}
 use Rattle.sqlite.proofs.Callers.{IsPlain, command_of, runs_as}
-use Rattle.ob_base.specs.declared.Pos.{Pos}
+use Rattle.ob_base.specs.declared.life.Life.{Life as ALife}
+use Rattle.ob_sheet.specs.declared.Entry.{Entry as SheetEntry}
+use Rattle.ob_cust.specs.declared.Customer.{Customer as RollCustomer}
 use Rattle.ob_tables.specs.Schema.{book_schema, meta_table, customer_table, entry_table, mark_table, command_table, life_table}
-use Rattle.ob_tables.specs.Rows.{Columns, Tables, tree_of, shown, AreApart, number, number_or_null, position_number, bit, is_key, change_where, with_change, without_key, meta_row, customer_row, life_row, entry_row, mark_row, command_row, serve, relive, rebody, reversion, correct, withdraw, HasCustomer, HasLife, HasCommand, HasHeading, HasEntry, HasMark}
+use Rattle.ob_tables.specs.Rows.{Columns, Tables, tree_of, shown, AreApart, number, number_or_null, position_number, bit, is_key, change_where, with_change, without_key, meta_row, customer_row, life_row, entry_row, mark_row, command_row, serve, relive, rebody, reversion, correct, withdraw, HasRow, HasCustomer, HasLife, HasCommand, HasHeading, HasEntry, HasMark}
 use Rattle.ob_tables.specs.Steps.{Ran, Makes}
 use Rattle.ob_tables.specs.declared.table.Table.{Table}
 use Rattle.ob_tables.specs.declared.table.Table.TheVariants.{Meta, Life, Customer, Entry, Mark, Command, Posting}
+use Rattle.ob_tables.proofs.Adding.{life_params}
 use Rattle.ob_tables.proofs.Queries.{whole}
 use Rattle.ob_tables.proofs.Statements.{updated, updated_schema, deleted, deleted_schema}
 use Rattle.ob_tables.proofs.Posting.{single}
@@ -79,6 +86,21 @@ change_parts p f (x ∷ xs) = elim (cases_Bool (p x)) [
 pub record HasOne (table : Table) (key : ℕ) (tables : Tables) (was : Columns) : Type 0 where
   pub one : filter (is_key key) (tables table) ≡ was ∷ []
   pub keyed : column was 0 ≡ number key
+
+same_pos : (m n : ℕ) → is_eq (int_cmp (pos m) (pos n)) ≡ (m == n)
+same_pos m n = grind (arith, nat_tests)
+
+-- the one row of a key begins with it
+pub key_of : (table : Table) (key n : ℕ) (row : Columns) (tables : Tables) → HasRow table key row tables → column row 0 ≡ number n → n ≡ key
+key_of table key n row tables one first =
+    let had = has_filtered (is_key key) (tables table) row (subst (λ l. Has l row) (sym one) (inl refl)) in
+    let tests : is_key key row ≡ (n == key) =
+    ap (λ v. equal Binary v (number key) && true) first ∙ and_true (equal Binary (number n) (number key)) ∙ same_test (number n) (pos key) ∙ ap is_eq (value_cmp-Int (pos n) (pos key)) ∙ same_pos n key in
+    let same : (n == key) ≡ true = sym tests ∙ had.1 in
+    grind (arith, nat_tests)
+
+pub has_one : (table : Table) (key n : ℕ) (row : Columns) (tables : Tables) → HasRow table key row tables → column row 0 ≡ number n → HasOne table key tables row
+has_one table key n row tables one first = record { one = one; keyed = first ∙ ap number (key_of table key n row tables one first) }
 
 module _ (table : Table) (fronted : (r : Row) → column (shown table r) 0 ≡ rowid r) (key : ℕ) where
   abbrev pub passes : Row → Bool
@@ -231,14 +253,17 @@ customer_anew id section since until = cast_row (record customer_table { tree = 
 pub customer_served : (id section since : ℕ) (until : Option ℕ) → shown Customer (customer_anew (Int (pos id)) (Int (pos section)) since until) ≡ Int (pos id) ∷ Int (pos section) ∷ Int (pos since) ∷ number_or_null until ∷ []
 customer_served id section since until = rw (cast_int (pos id), cast_int (pos section), cast_int (pos since), cast_optional until)
 
-pub sets_service : (old new : State) (id since : ℕ) (until : Option ℕ) → Ran service_update (Int (pos id) ∷ Int (pos since) ∷ number_or_null until ∷ []) old new → Makes old new (HasCustomer id) (with_change Customer id (serve since until))
-sets_service old new id since until ran =
-    makes_change Customer 4 customer_table by_key service_shows service_update _ id (HasCustomer id) refl service_update_plain (λ r. refl) refl (λ r. refl) (λ e. omega (arith, e)) (λ e. omega (arith, e)) refl (serve since until) service_update_is (λ olds it. refl)
+abbrev pub service_params : RollCustomer → Row
+service_params c = Int (pos c.no) ∷ Int (pos c.since) ∷ number_or_null c.until ∷ []
+
+pub sets_service : (old new : State) (c : RollCustomer) → Ran service_update (service_params c) old new → Makes old new (HasCustomer c.no) (with_change Customer c.no (serve c))
+sets_service old new c ran =
+    makes_change Customer 4 customer_table by_key service_shows service_update (service_params c) c.no (HasCustomer c.no) refl service_update_plain (λ r. refl) refl (λ r. refl) (λ e. omega (arith, e)) (λ e. omega (arith, e)) refl (serve c) service_update_is (λ olds it. refl)
     (λ t need. (
-      customer_row id need.section need.since need.until,
-      record { one = need.row; keyed = refl },
+      customer_row need.customer,
+      has_one Customer c.no need.customer.no (customer_row need.customer) t need.row refl,
       λ r is.
-          ap (λ (c : Columns). shown Customer (customer_anew (column c 0) (column c 1) since until)) is ∙ customer_served id need.section since until,
+          ap (λ (x : Columns). shown Customer (customer_anew (column x 0) (column x 1) c.since c.until)) is ∙ customer_served need.customer.no need.customer.section c.since c.until,
     ))
     old new ran
 
@@ -265,17 +290,18 @@ pub entry_stored : (id revision device position second cause : ℕ) (crew : List
 entry_stored id revision device position second cause crew kept =
     rw (cast_int (pos id), cast_int (pos revision), cast_int (pos device), cast_int (pos position), cast_int (pos second), cast_int (pos cause), cast_int (pos kept))
 
-pub corrects_entry : (old new : State) (id revision : ℕ) (position : Pos) (second cause : ℕ) (crew : List ℕ)
-    → Ran correct_update (Int (pos id) ∷ Int (pos revision) ∷ Int (pos (position_number position)) ∷ Int (pos second) ∷ Int (pos cause) ∷ Text crew ∷ []) old new
-    → Makes old new (HasEntry id) (with_change Entry id (correct revision position second cause crew))
-corrects_entry old new id revision position second cause crew ran =
-    makes_change Entry 5 entry_table by_key correct_shows correct_update _ id (HasEntry id) refl correct_update_plain (λ r. refl) refl (λ r. refl) (λ e. omega (arith, e)) (λ e. omega (arith, e)) refl (correct revision position second cause crew) correct_update_is (λ olds it. refl)
+abbrev pub correct_params : SheetEntry → Row
+correct_params e = Int (pos e.no) ∷ Int (pos e.rev) ∷ Int (pos (position_number e.pos)) ∷ Int (pos e.second) ∷ Int (pos e.cause) ∷ Text e.crew ∷ []
+
+pub corrects_entry : (old new : State) (e : SheetEntry) → Ran correct_update (correct_params e) old new → Makes old new (HasEntry e.no) (with_change Entry e.no (correct e))
+corrects_entry old new e ran =
+    makes_change Entry 5 entry_table by_key correct_shows correct_update (correct_params e) e.no (HasEntry e.no) refl correct_update_plain (λ r. refl) refl (λ r. refl) (λ e. omega (arith, e)) (λ e. omega (arith, e)) refl (correct e) correct_update_is (λ olds it. refl)
     (λ t need. (
-      entry_row id need.revision need.device need.position need.second need.cause need.crew need.kept,
-      record { one = need.row; keyed = refl },
+      entry_row need.entry,
+      has_one Entry e.no need.entry.no (entry_row need.entry) t need.row refl,
       λ r is.
-          ap (λ (c : Columns). shown Entry (entry_anew (column c 0) (Int (pos revision)) (column c 2) (Int (pos (position_number position))) (Int (pos second)) (Int (pos cause)) (Text crew) (column c 7))) is
-          ∙ entry_stored id revision need.device (position_number position) second cause crew (bit need.kept),
+          ap (λ (c : Columns). shown Entry (entry_anew (column c 0) (Int (pos e.rev)) (column c 2) (Int (pos (position_number e.pos))) (Int (pos e.second)) (Int (pos e.cause)) (Text e.crew) (column c 7))) is
+          ∙ entry_stored need.entry.no e.rev need.entry.device (position_number e.pos) e.second e.cause e.crew (bit need.entry.kept),
     ))
     old new ran
 
@@ -297,11 +323,11 @@ pub withdraws_entry : (old new : State) (id revision : ℕ) → Ran withdraw_upd
 withdraws_entry old new id revision ran =
     makes_change Entry 5 entry_table by_key withdraw_shows withdraw_update _ id (HasEntry id) refl withdraw_update_plain (λ r. refl) refl (λ r. refl) (λ e. omega (arith, e)) (λ e. omega (arith, e)) refl (withdraw revision) withdraw_update_is (λ olds it. refl)
     (λ t need. (
-      entry_row id need.revision need.device need.position need.second need.cause need.crew need.kept,
-      record { one = need.row; keyed = refl },
+      entry_row need.entry,
+      has_one Entry id need.entry.no (entry_row need.entry) t need.row refl,
       λ r is.
           ap (λ (c : Columns). shown Entry (entry_anew (column c 0) (Int (pos revision)) (column c 2) (column c 3) (column c 4) (column c 5) (column c 6) (Int (pos 0)))) is
-          ∙ entry_stored id revision need.device (position_number need.position) need.second need.cause need.crew 0,
+          ∙ entry_stored need.entry.no revision need.entry.device (position_number need.entry.pos) need.entry.second need.entry.cause need.entry.crew 0,
     ))
     old new ran
 
@@ -341,13 +367,13 @@ life_anew device since until = cast_row (record life_table { tree = 16 }) (devic
 pub life_relived : (device since : ℕ) (until : Option ℕ) → shown Life (life_anew (Int (pos device)) since until) ≡ Int (pos device) ∷ Int (pos since) ∷ number_or_null until ∷ []
 life_relived device since until = rw (cast_int (pos device), cast_int (pos since), cast_optional until)
 
-pub relives : (old new : State) (device since : ℕ) (until : Option ℕ) → Ran life_update (Int (pos device) ∷ Int (pos since) ∷ number_or_null until ∷ []) old new → Makes old new (HasLife device) (with_change Life device (relive since until))
-relives old new device since until ran =
-    makes_change Life 10 life_table by_key life_shows life_update _ device (HasLife device) refl life_update_plain (λ r. refl) refl (λ r. refl) (λ e. omega (arith, e)) (λ e. omega (arith, e)) refl (relive since until) life_update_is (λ olds it. refl)
+pub relives : (old new : State) (device : ℕ) (life : ALife) → Ran life_update (life_params device life) old new → Makes old new (HasLife device) (with_change Life device (relive life))
+relives old new device life ran =
+    makes_change Life 10 life_table by_key life_shows life_update (life_params device life) device (HasLife device) refl life_update_plain (λ r. refl) refl (λ r. refl) (λ e. omega (arith, e)) (λ e. omega (arith, e)) refl (relive life) life_update_is (λ olds it. refl)
     (λ t need. (
-      life_row device need.since need.until,
+      life_row device need.life,
       record { one = need.row; keyed = refl },
-      λ r is. ap (λ (c : Columns). shown Life (life_anew (column c 0) since until)) is ∙ life_relived device since until,
+      λ r is. ap (λ (c : Columns). shown Life (life_anew (column c 0) life.since life.until)) is ∙ life_relived device life.since life.until,
     ))
     old new ran
 

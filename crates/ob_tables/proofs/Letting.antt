@@ -1,5 +1,6 @@
 -- An INSERT into a table that refers to no other fails only where the store does, where the rules of the tables let the row in.
 use Rattle.std.proofs.Common.{◌≡◌, ℕ, ◌^◌, ◌<◌, pos, List, [], ◌∷◌, true, false, not, ◌&&◌, refl, sym, ap, subst, arith}
+use Rattle.std.specs.Prelude.{unwrap_or}
 use Rattle.std.proofs.lemmas.Cmp.{tied_itself}
 use Rattle.sqlite_value.proofs.OrderLemmas.{value_cmp_total}
 use Rattle.sqlite_value.specs.Keys.{plain}
@@ -20,12 +21,13 @@ use Rattle.sqlite_rules.specs.Lists.{Has}
 use Rattle.sqlite_rules.specs.Edit.{with_rowid, Applies}
 use Rattle.sqlite_rules.specs.Cast.{cast_row}
 use Rattle.sqlite_rules.proofs.ListLemmas.{has_got}
+use Rattle.ob_net.specs.declared.net.Node.{Node as NetNode}
 use Rattle.ob_tables.specs.Schema.{book_schema, meta_table, cause_table, node_table, mark_table, command_table}
-use Rattle.ob_tables.specs.Rows.{Always, is_reference}
-use Rattle.ob_tables.specs.Rules.{LetsMeta, LetsCause, LetsNode, LetsMark, LetsCommand}
+use Rattle.ob_tables.specs.Rows.{Always, is_reference, node_kind}
+use Rattle.ob_tables.specs.Rules.{IsShort, LetsMeta, LetsCause, LetsNode, LetsMark, LetsCommand}
 use Rattle.ob_tables.specs.Steps.{Failed, HasFailed, LetsIn}
 use Rattle.ob_tables.specs.declared.table.Table.TheVariants.{Meta, Cause, Node, Mark, Command}
-use Rattle.ob_tables.proofs.Adding.{meta_insert, meta_terms, cause_insert, cause_terms, node_insert, node_terms, mark_insert, mark_terms, command_insert, command_terms}
+use Rattle.ob_tables.proofs.Adding.{meta_insert, meta_terms, cause_insert, cause_terms, node_insert, node_params, node_terms, mark_insert, mark_terms, command_insert, command_terms}
 use Rattle.ob_tables.proofs.Casts.{cast_int, cast_null}
 use Rattle.ob_tables.proofs.Entering.{Enters}
 use Rattle.ob_tables.proofs.Keys.{key_free, clash_free, obeyed, enters, storable, storable_row}
@@ -49,21 +51,21 @@ cause_at code name = Int (pos code) ∷ Null ∷ Text name ∷ []
 cause_put : (code : ℕ) (name : List ℕ) (rows : List Row) → with_rowid Chosen rows (cast_row a_cause (eval_all cause_terms ((Int (pos code) ∷ Text name ∷ []) ∷ []))) ≡ cause_at code name
 cause_put code name rows = rw (cast_int (pos code), cast_null)
 
-cause_enters : (s : State) (code : ℕ) (name : List ℕ) → code < 2 ^ 32 → LetsIn s Always (LetsCause code name) → Enters book_schema s.now.trees a_cause (s.now.trees 1) (cause_at code name)
-cause_enters s code name small lets =
+cause_enters : (s : State) (code : ℕ) (name : List ℕ) → code < 2 ^ 32 → IsShort name → LetsIn s Always (LetsCause code name) → Enters book_schema s.now.trees a_cause (s.now.trees 1) (cause_at code name)
+cause_enters s code name small short lets =
     let db = s.now.trees in
     let new : clashes plain (2 ∷ []) (db 1) (cause_at code name) ≡ false = clash_free Cause (is_reference name) (2 ∷ []) (cause_at code name) (λ r h. h) db lets.tables lets.holds lets.allowed.1 in
     enters a_cause 1 db (db 1) (cause_at code name) code refl (λ r there. there) ((obeyed s.now lets.schema lets.sound).rules Unique) refl (omega (arith, small))
     (key_free Cause (λ r. refl) code db lets.tables lets.holds lets.allowed.0 (cause_at code name) refl) (ap (λ b. not b && true) new) refl refl refl
-    (storable_row (cause_at code name) (omega arith) (omega arith) (tt, (tt, (lets.allowed.2, tt)))) (
-      λ _. storable (Text name ∷ Int (pos code) ∷ []) (omega arith) (omega arith) (lets.allowed.2, (tt, tt)),
+    (storable_row (cause_at code name) (omega arith) (omega arith) (tt, (tt, (short, tt)))) (
+      λ _. storable (Text name ∷ Int (pos code) ∷ []) (omega arith) (omega arith) (short, (tt, tt)),
       (λ e. absurd (omega (arith, e)), (λ e. absurd (omega (arith, e)), (λ e. absurd (omega (arith, e)), (λ e. absurd (omega (arith, e)), (λ e. absurd (omega (arith, e)), tt))))),
     )
 
-pub lets_cause : (old new : State) (code : ℕ) (name : List ℕ) → code < 2 ^ 32 → Failed cause_insert (Int (pos code) ∷ Text name ∷ []) old new → LetsIn old Always (LetsCause code name) → HasFailed old new
-lets_cause old new code name small failed lets =
+pub lets_cause : (old new : State) (code : ℕ) (name : List ℕ) → code < 2 ^ 32 → IsShort name → Failed cause_insert (Int (pos code) ∷ Text name ∷ []) old new → LetsIn old Always (LetsCause code name) → HasFailed old new
+lets_cause old new code name small short failed lets =
     cause_fails old new code name lets.schema failed
-    (subst (Enters book_schema old.now.trees a_cause (old.now.trees 1)) (sym (cause_put code name (old.now.trees 1))) (cause_enters old code name small lets))
+    (subst (Enters book_schema old.now.trees a_cause (old.now.trees 1)) (sym (cause_put code name (old.now.trees 1))) (cause_enters old code name small short lets))
     (stands_alone old.now.trees a_cause cause_terms (Int (pos code) ∷ Text name ∷ []) (sound_book old lets.schema lets.sound) (has_got book_schema.tables 1 a_cause refl) refl)
 
 -- ---- the heading
@@ -109,25 +111,27 @@ node_put : (id : ℕ) (name : List ℕ) (kind feeder : ℕ) (rows : List Row)
     → with_rowid Chosen rows (cast_row a_node (eval_all node_terms ((Int (pos id) ∷ Text name ∷ Int (pos kind) ∷ Int (pos feeder) ∷ []) ∷ []))) ≡ node_at id name kind feeder
 node_put id name kind feeder rows = rw (cast_int (pos id), cast_null, cast_int (pos kind), cast_int (pos feeder))
 
-node_enters : (s : State) (id : ℕ) (name : List ℕ) (kind feeder : ℕ) → id < 2 ^ 32 → LetsIn s Always (LetsNode id name) → Enters book_schema s.now.trees a_node (s.now.trees 3) (node_at id name kind feeder)
-node_enters s id name kind feeder small lets =
+node_enters : (s : State) (id : ℕ) (name : List ℕ) (kind feeder : ℕ) → id < 2 ^ 32 → IsShort name → LetsIn s Always (LetsNode id name) → Enters book_schema s.now.trees a_node (s.now.trees 3) (node_at id name kind feeder)
+node_enters s id name kind feeder small short lets =
     let db = s.now.trees in
     let new : clashes plain (2 ∷ []) (db 3) (node_at id name kind feeder) ≡ false = clash_free Node (is_reference name) (2 ∷ []) (node_at id name kind feeder) (λ r h. h) db lets.tables lets.holds lets.allowed.1 in
     enters a_node 2 db (db 3) (node_at id name kind feeder) id refl (λ r there. there) ((obeyed s.now lets.schema lets.sound).rules Unique) refl (omega (arith, small))
     (key_free Node (λ r. refl) id db lets.tables lets.holds lets.allowed.0 (node_at id name kind feeder) refl) (ap (λ b. not b && true) new) refl refl refl
-    (storable_row (node_at id name kind feeder) (omega arith) (omega arith) (tt, (tt, (lets.allowed.2, (tt, (tt, tt)))))) (
+    (storable_row (node_at id name kind feeder) (omega arith) (omega arith) (tt, (tt, (short, (tt, (tt, tt)))))) (
       λ e. absurd (omega (arith, e)),
       (
-        λ _. storable (Text name ∷ Int (pos id) ∷ []) (omega arith) (omega arith) (lets.allowed.2, (tt, tt)),
+        λ _. storable (Text name ∷ Int (pos id) ∷ []) (omega arith) (omega arith) (short, (tt, tt)),
         (λ e. absurd (omega (arith, e)), (λ e. absurd (omega (arith, e)), (λ e. absurd (omega (arith, e)), (λ e. absurd (omega (arith, e)), tt)))),
       ),
     )
 
-pub lets_node : (old new : State) (id : ℕ) (name : List ℕ) (kind : ℕ) (feeder : ℕ) → id < 2 ^ 32 → Failed node_insert (Int (pos id) ∷ Text name ∷ Int (pos kind) ∷ Int (pos feeder) ∷ []) old new → LetsIn old Always (LetsNode id name) → HasFailed old new
-lets_node old new id name kind feeder small failed lets =
-    node_fails old new id name kind feeder lets.schema failed
-    (subst (Enters book_schema old.now.trees a_node (old.now.trees 3)) (sym (node_put id name kind feeder (old.now.trees 3))) (node_enters old id name kind feeder small lets))
-    (stands_alone old.now.trees a_node node_terms (Int (pos id) ∷ Text name ∷ Int (pos kind) ∷ Int (pos feeder) ∷ []) (sound_book old lets.schema lets.sound) (has_got book_schema.tables 2 a_node refl) refl)
+pub lets_node : (old new : State) (id : ℕ) (node : NetNode) → id < 2 ^ 32 → IsShort node.name → Failed node_insert (node_params id node) old new → LetsIn old Always (LetsNode id node.name) → HasFailed old new
+lets_node old new id node small short failed lets =
+    let kind = node_kind id node in
+    let feeder = unwrap_or node.feeder 0 in
+    node_fails old new id node lets.schema failed
+    (subst (Enters book_schema old.now.trees a_node (old.now.trees 3)) (sym (node_put id node.name kind feeder (old.now.trees 3))) (node_enters old id node.name kind feeder small short lets))
+    (stands_alone old.now.trees a_node node_terms (node_params id node) (sound_book old lets.schema lets.sound) (has_got book_schema.tables 2 a_node refl) refl)
 
 -- ---- a mark
 abbrev a_mark : sql.Table
@@ -139,20 +143,20 @@ mark_at day engineer = Int (pos day) ∷ Null ∷ Text engineer ∷ []
 mark_put : (day : ℕ) (engineer : List ℕ) (rows : List Row) → with_rowid Chosen rows (cast_row a_mark (eval_all mark_terms ((Int (pos day) ∷ Text engineer ∷ []) ∷ []))) ≡ mark_at day engineer
 mark_put day engineer rows = rw (cast_int (pos day), cast_null)
 
-mark_enters : (s : State) (day : ℕ) (engineer : List ℕ) → day < 2 ^ 32 → LetsIn s Always (LetsMark day engineer) → Enters book_schema s.now.trees a_mark (s.now.trees 9) (mark_at day engineer)
-mark_enters s day engineer small lets =
+mark_enters : (s : State) (day : ℕ) (engineer : List ℕ) → day < 2 ^ 32 → IsShort engineer → LetsIn s Always (LetsMark day) → Enters book_schema s.now.trees a_mark (s.now.trees 9) (mark_at day engineer)
+mark_enters s day engineer small short lets =
     let db = s.now.trees in
     enters a_mark 6 db (db 9) (mark_at day engineer) day refl (λ r there. there) ((obeyed s.now lets.schema lets.sound).rules Unique) refl (omega (arith, small))
-    (key_free Mark (λ r. refl) day db lets.tables lets.holds lets.allowed.0 (mark_at day engineer) refl) refl refl refl refl
-    (storable_row (mark_at day engineer) (omega arith) (omega arith) (tt, (tt, (lets.allowed.1, tt)))) (
+    (key_free Mark (λ r. refl) day db lets.tables lets.holds lets.allowed (mark_at day engineer) refl) refl refl refl refl
+    (storable_row (mark_at day engineer) (omega arith) (omega arith) (tt, (tt, (short, tt)))) (
       λ e. absurd (omega (arith, e)),
       (λ e. absurd (omega (arith, e)), (λ e. absurd (omega (arith, e)), (λ e. absurd (omega (arith, e)), (λ e. absurd (omega (arith, e)), (λ e. absurd (omega (arith, e)), tt))))),
     )
 
-pub lets_mark : (old new : State) (day : ℕ) (engineer : List ℕ) → day < 2 ^ 32 → Failed mark_insert (Int (pos day) ∷ Text engineer ∷ []) old new → LetsIn old Always (LetsMark day engineer) → HasFailed old new
-lets_mark old new day engineer small failed lets =
+pub lets_mark : (old new : State) (day : ℕ) (engineer : List ℕ) → day < 2 ^ 32 → IsShort engineer → Failed mark_insert (Int (pos day) ∷ Text engineer ∷ []) old new → LetsIn old Always (LetsMark day) → HasFailed old new
+lets_mark old new day engineer small short failed lets =
     mark_fails old new day engineer lets.schema failed
-    (subst (Enters book_schema old.now.trees a_mark (old.now.trees 9)) (sym (mark_put day engineer (old.now.trees 9))) (mark_enters old day engineer small lets))
+    (subst (Enters book_schema old.now.trees a_mark (old.now.trees 9)) (sym (mark_put day engineer (old.now.trees 9))) (mark_enters old day engineer small short lets))
     (stands_alone old.now.trees a_mark mark_terms (Int (pos day) ∷ Text engineer ∷ []) (sound_book old lets.schema lets.sound) (has_got book_schema.tables 6 a_mark refl) refl)
 
 -- ---- a command

@@ -8,6 +8,7 @@ pub mod Entering
 pub mod Failing
 pub mod Finding
 pub mod Hiding
+pub mod Identifiers
 pub mod Keyed
 pub mod Keys
 pub mod Letting

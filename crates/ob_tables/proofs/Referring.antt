@@ -1,5 +1,5 @@
 -- An INSERT of a row that refers to others fails only where the store does, where the rules of the tables let the row in.
-use Rattle.std.proofs.Common.{◌≡◌, ℕ, zero, suc, ◌^◌, ◌<◌, ◌≤◌, pos, List, [], ◌∷◌, true, false, not, ◌&&◌, Option, Some, None, refl, sym, ap, subst, ◌∙◌, arith}
+use Rattle.std.proofs.Common.{◌≡◌, ℕ, zero, suc, ◌^◌, ◌<◌, ◌≤◌, pos, List, [], ◌∷◌, Bool, true, false, not, ◌&&◌, Option, Some, None, refl, sym, ap, subst, ◌∙◌, arith}
 use Rattle.std.specs.Float.Ieee
 use Rattle.std.proofs.lemmas.Bool.{and_from}
 use Rattle.sqlite_value.specs.Order.{value_cmp}
@@ -22,12 +22,16 @@ use Rattle.sqlite_rules.specs.Cast.{cast_row}
 use Rattle.sqlite_rules.proofs.ListLemmas.{has_got}
 use Rattle.ob_base.specs.declared.Pos.{Pos}
 use Rattle.ob_base.specs.declared.Pos.TheVariants.{Opened, Closed}
+use Rattle.ob_base.specs.declared.life.Life.{Life as ALife}
+use Rattle.ob_net.specs.declared.net.Device.{Device as NetDevice}
+use Rattle.ob_sheet.specs.declared.Entry.{Entry as SheetEntry}
+use Rattle.ob_cust.specs.declared.Customer.{Customer as RollCustomer}
 use Rattle.ob_tables.specs.Schema.{book_schema, is_bit, device_table, customer_table, entry_table, life_table}
-use Rattle.ob_tables.specs.Rows.{Always, number_or_null, position_number, is_reference}
-use Rattle.ob_tables.specs.Rules.{LetsDevice, LetsLife, LetsCustomer, LetsEntry}
+use Rattle.ob_tables.specs.Rows.{Always, number_or_null, position_number, bit, is_reference}
+use Rattle.ob_tables.specs.Rules.{IsShort, LetsDevice, LetsLife, LetsCustomer, LetsEntry}
 use Rattle.ob_tables.specs.Steps.{Failed, HasFailed, LetsIn}
 use Rattle.ob_tables.specs.declared.table.Table.TheVariants.{Device, Life, Customer, Entry}
-use Rattle.ob_tables.proofs.Adding.{device_insert, device_terms, customer_insert, customer_terms, entry_insert, entry_terms, life_insert, life_terms}
+use Rattle.ob_tables.proofs.Adding.{device_insert, device_params, device_terms, customer_insert, customer_params, customer_terms, entry_insert, entry_params, entry_terms, life_insert, life_params, life_terms}
 use Rattle.ob_tables.proofs.Casts.{cast_int, cast_null, cast_optional}
 use Rattle.ob_tables.proofs.Entering.{Enters}
 use Rattle.ob_tables.proofs.Keys.{IsSmall, key_free, clash_free, obeyed, enters, storable, storable_row}
@@ -53,6 +57,10 @@ bit_passes place row n is low = ap (λ v. not (is_false (binary And (binary (Com
 position_low : (position : Pos) → position_number position ≤ 1
 position_low Opened = omega arith
 position_low Closed = omega arith
+
+bit_low : (b : Bool) → bit b ≤ 1
+bit_low false = omega arith
+bit_low true = omega arith
 
 -- ---- a customer
 abbrev a_customer : sql.Table
@@ -81,16 +89,15 @@ customer_enters s id section since until small lets =
       (λ e. absurd (omega (arith, e)), (λ e. absurd (omega (arith, e)), (λ e. absurd (omega (arith, e)), (λ e. absurd (omega (arith, e)), (λ e. absurd (omega (arith, e)), tt))))),
     )
 
-pub lets_customer : (old new : State) (id section since : ℕ) (until : Option ℕ) → id < 2 ^ 32 → Failed customer_insert (Int (pos id) ∷ Int (pos section) ∷ Int (pos since) ∷ number_or_null until ∷ []) old new
-    → LetsIn old Always (LetsCustomer id section) → HasFailed old new
-lets_customer old new id section since until small failed lets =
+pub lets_customer : (old new : State) (c : RollCustomer) → c.no < 2 ^ 32 → Failed customer_insert (customer_params c) old new → LetsIn old Always (LetsCustomer c.no c.section) → HasFailed old new
+lets_customer old new c small failed lets =
     let db = old.now.trees in
-    let row = customer_at id section since until in
-    let put = customer_put id section since until (db 7) in
-    let edit = insert_edit db a_customer customer_terms (Int (pos id) ∷ Int (pos section) ∷ Int (pos since) ∷ number_or_null until ∷ []) in
-    customer_fails old new id section since until lets.schema failed (subst (Enters book_schema db a_customer (db 7)) (sym put) (customer_enters old id section since until small lets))
+    let row = customer_at c.no c.section c.since c.until in
+    let put = customer_put c.no c.section c.since c.until (db 7) in
+    let edit = insert_edit db a_customer customer_terms (customer_params c) in
+    customer_fails old new c lets.schema failed (subst (Enters book_schema db a_customer (db 7)) (sym put) (customer_enters old c.no c.section c.since c.until small lets))
     (inserted_refers db edit (has_got book_schema.tables 4 a_customer refl) (sound_book old lets.schema lets.sound) refl row (ap (λ r. r ∷ []) put)
-    (λ next done. (finds_node db next edit done lets.tables section 2 row (λ e. omega (arith, e)) lets.holds lets.allowed.1 refl, tt)))
+    (λ next done. (finds_node db next edit done lets.tables c.section 2 row (λ e. omega (arith, e)) lets.holds lets.allowed.1 refl, tt)))
 
 -- ---- the life of a device
 abbrev a_life : sql.Table
@@ -118,14 +125,13 @@ life_enters s device since until small lets =
       (λ e. absurd (omega (arith, e)), (λ e. absurd (omega (arith, e)), (λ e. absurd (omega (arith, e)), (λ e. absurd (omega (arith, e)), (λ e. absurd (omega (arith, e)), tt))))),
     )
 
-pub lets_life : (old new : State) (device since : ℕ) (until : Option ℕ) → device < 2 ^ 32 → Failed life_insert (Int (pos device) ∷ Int (pos since) ∷ number_or_null until ∷ []) old new
-    → LetsIn old Always (LetsLife device) → HasFailed old new
-lets_life old new device since until small failed lets =
+pub lets_life : (old new : State) (device : ℕ) (life : ALife) → device < 2 ^ 32 → Failed life_insert (life_params device life) old new → LetsIn old Always (LetsLife device) → HasFailed old new
+lets_life old new device life small failed lets =
     let db = old.now.trees in
-    let row = life_at device since until in
-    let put = life_put device since until (db 16) in
-    let edit = insert_edit db a_life life_terms (Int (pos device) ∷ Int (pos since) ∷ number_or_null until ∷ []) in
-    life_fails old new device since until lets.schema failed (subst (Enters book_schema db a_life (db 16)) (sym put) (life_enters old device since until small lets))
+    let row = life_at device life.since life.until in
+    let put = life_put device life.since life.until (db 16) in
+    let edit = insert_edit db a_life life_terms (life_params device life) in
+    life_fails old new device life lets.schema failed (subst (Enters book_schema db a_life (db 16)) (sym put) (life_enters old device life.since life.until small lets))
     (inserted_refers db edit (has_got book_schema.tables 10 a_life refl) (sound_book old lets.schema lets.sound) refl row (ap (λ r. r ∷ []) put)
     (λ next done. (finds_device db next edit done lets.tables device 0 row (λ e. omega (arith, e)) lets.holds lets.allowed.1 refl, tt)))
 
@@ -133,78 +139,71 @@ lets_life old new device since until small failed lets =
 abbrev a_device : sql.Table
 a_device = record device_table { tree = 5 }
 
-abbrev device_at : ℕ → List ℕ → ℕ → ℕ → Pos → Row
-device_at id name a b normal = Int (pos id) ∷ Null ∷ Text name ∷ Int (pos a) ∷ Int (pos b) ∷ Int (pos (position_number normal)) ∷ []
+abbrev device_at : ℕ → NetDevice → Row
+device_at id d = Int (pos id) ∷ Null ∷ Text d.name ∷ Int (pos d.a) ∷ Int (pos d.b) ∷ Int (pos (position_number d.normal)) ∷ []
 
-device_put : (id : ℕ) (name : List ℕ) (a b : ℕ) (normal : Pos) (rows : List Row)
-    → with_rowid Chosen rows (cast_row a_device (eval_all device_terms ((Int (pos id) ∷ Text name ∷ Int (pos a) ∷ Int (pos b) ∷ Int (pos (position_number normal)) ∷ []) ∷ []))) ≡ device_at id name a b normal
-device_put id name a b normal rows = rw (cast_int (pos id), cast_null, cast_int (pos a), cast_int (pos b), cast_int (pos (position_number normal)))
+device_put : (id : ℕ) (d : NetDevice) (rows : List Row) → with_rowid Chosen rows (cast_row a_device (eval_all device_terms (device_params id d ∷ []))) ≡ device_at id d
+device_put id d rows = rw (cast_int (pos id), cast_null, cast_int (pos d.a), cast_int (pos d.b), cast_int (pos (position_number d.normal)))
 
-device_enters : (s : State) (id : ℕ) (name : List ℕ) (a b : ℕ) (normal : Pos) → id < 2 ^ 32 → LetsIn s Always (LetsDevice id name a b)
-    → Enters book_schema s.now.trees a_device (s.now.trees 5) (device_at id name a b normal)
-device_enters s id name a b normal small lets =
+device_enters : (s : State) (id : ℕ) (d : NetDevice) → id < 2 ^ 32 → IsShort d.name → LetsIn s Always (LetsDevice id d.name d.a d.b) → Enters book_schema s.now.trees a_device (s.now.trees 5) (device_at id d)
+device_enters s id d small short lets =
     let db = s.now.trees in
-    let row = device_at id name a b normal in
-    let new : clashes plain (2 ∷ []) (db 5) row ≡ false = clash_free Device (is_reference name) (2 ∷ []) row (λ r h. h) db lets.tables lets.holds lets.allowed.1 in
-    let named = storable (Text name ∷ Int (pos id) ∷ []) (omega arith) (omega arith) (lets.allowed.2, (tt, tt)) in
-    let checked : passes Check book_schema db a_device row ≡ true = and_from _ _ (bit_passes 5 row (position_number normal) refl (position_low normal)) refl in
+    let row = device_at id d in
+    let new : clashes plain (2 ∷ []) (db 5) row ≡ false = clash_free Device (is_reference d.name) (2 ∷ []) row (λ r h. h) db lets.tables lets.holds lets.allowed.1 in
+    let named = storable (Text d.name ∷ Int (pos id) ∷ []) (omega arith) (omega arith) (short, (tt, tt)) in
+    let checked : passes Check book_schema db a_device row ≡ true = and_from _ _ (bit_passes 5 row (position_number d.normal) refl (position_low d.normal)) refl in
     enters a_device 3 db (db 5) row id refl (λ r there. there) ((obeyed s.now lets.schema lets.sound).rules Unique) refl (omega (arith, small))
     (key_free Device (λ r. refl) id db lets.tables lets.holds lets.allowed.0 row refl) (ap (λ b. not b && true) new) refl refl checked
-    (storable_row row (omega arith) (omega arith) (tt, (tt, (lets.allowed.2, (tt, (tt, (tt, tt)))))))
+    (storable_row row (omega arith) (omega arith) (tt, (tt, (short, (tt, (tt, (tt, tt)))))))
     (λ e. absurd (omega (arith, e)), (λ e. absurd (omega (arith, e)), (λ _. named, (λ e. absurd (omega (arith, e)), (λ e. absurd (omega (arith, e)), (λ e. absurd (omega (arith, e)), tt))))))
 
-pub lets_device : (old new : State) (id : ℕ) (name : List ℕ) (a b : ℕ) (normal : Pos) → id < 2 ^ 32
-    → Failed device_insert (Int (pos id) ∷ Text name ∷ Int (pos a) ∷ Int (pos b) ∷ Int (pos (position_number normal)) ∷ []) old new → LetsIn old Always (LetsDevice id name a b) → HasFailed old new
-lets_device old new id name a b normal small failed lets =
+pub lets_device : (old new : State) (id : ℕ) (d : NetDevice) → id < 2 ^ 32 → IsShort d.name → Failed device_insert (device_params id d) old new → LetsIn old Always (LetsDevice id d.name d.a d.b) → HasFailed old new
+lets_device old new id d small short failed lets =
     let db = old.now.trees in
-    let row = device_at id name a b normal in
-    let put = device_put id name a b normal (db 5) in
-    let edit = insert_edit db a_device device_terms (Int (pos id) ∷ Text name ∷ Int (pos a) ∷ Int (pos b) ∷ Int (pos (position_number normal)) ∷ []) in
-    device_fails old new id name a b normal lets.schema failed (subst (Enters book_schema db a_device (db 5)) (sym put) (device_enters old id name a b normal small lets))
+    let row = device_at id d in
+    let put = device_put id d (db 5) in
+    let edit = insert_edit db a_device device_terms (device_params id d) in
+    device_fails old new id d lets.schema failed (subst (Enters book_schema db a_device (db 5)) (sym put) (device_enters old id d small short lets))
     (inserted_refers db edit (has_got book_schema.tables 3 a_device refl) (sound_book old lets.schema lets.sound) refl row (ap (λ r. r ∷ []) put)
     (λ next done. (
-      finds_node db next edit done lets.tables a 3 row (λ e. omega (arith, e)) lets.holds lets.allowed.3 refl,
-      (finds_node db next edit done lets.tables b 4 row (λ e. omega (arith, e)) lets.holds lets.allowed.4 refl, tt),
+      finds_node db next edit done lets.tables d.a 3 row (λ e. omega (arith, e)) lets.holds lets.allowed.2 refl,
+      (finds_node db next edit done lets.tables d.b 4 row (λ e. omega (arith, e)) lets.holds lets.allowed.3 refl, tt),
     )))
 
 -- ---- an entry
 abbrev an_entry : sql.Table
 an_entry = record entry_table { tree = 8 }
 
-abbrev entry_at : ℕ → ℕ → Pos → ℕ → ℕ → List ℕ → Row
-entry_at id device position second cause crew =
-    Int (pos id) ∷ Null ∷ Int (pos 1) ∷ Int (pos device) ∷ Int (pos (position_number position)) ∷ Int (pos second) ∷ Int (pos cause) ∷ Text crew ∷ Int (pos 1) ∷ []
+abbrev entry_at : SheetEntry → Row
+entry_at e =
+    Int (pos e.no) ∷ Null ∷ Int (pos e.rev) ∷ Int (pos e.device) ∷ Int (pos (position_number e.pos)) ∷ Int (pos e.second) ∷ Int (pos e.cause) ∷ Text e.crew ∷ Int (pos (bit e.kept)) ∷ []
 
-entry_put : (id device : ℕ) (position : Pos) (second cause : ℕ) (crew : List ℕ) (rows : List Row)
-    → with_rowid Chosen rows (cast_row an_entry (eval_all entry_terms ((Int (pos id) ∷ Int (pos device) ∷ Int (pos (position_number position)) ∷ Int (pos second) ∷ Int (pos cause) ∷ Text crew ∷ []) ∷ [])))
-    ≡ entry_at id device position second cause crew
-entry_put id device position second cause crew rows = rw (cast_int (pos id), cast_null, cast_int (pos 1), cast_int (pos device), cast_int (pos (position_number position)), cast_int (pos second), cast_int (pos cause))
+entry_put : (e : SheetEntry) (rows : List Row) → with_rowid Chosen rows (cast_row an_entry (eval_all entry_terms (entry_params e ∷ []))) ≡ entry_at e
+entry_put e rows =
+    rw (cast_int (pos e.no), cast_null, cast_int (pos e.rev), cast_int (pos e.device), cast_int (pos (position_number e.pos)), cast_int (pos e.second), cast_int (pos e.cause), cast_int (pos (bit e.kept)))
 
-entry_enters : (s : State) (id device : ℕ) (position : Pos) (second cause : ℕ) (crew : List ℕ) → id < 2 ^ 32 → LetsIn s Always (LetsEntry id device cause crew)
-    → Enters book_schema s.now.trees an_entry (s.now.trees 8) (entry_at id device position second cause crew)
-entry_enters s id device position second cause crew small lets =
+entry_enters : (s : State) (e : SheetEntry) → e.no < 2 ^ 32 → IsShort e.crew → LetsIn s Always (LetsEntry e.no e.device e.cause) → Enters book_schema s.now.trees an_entry (s.now.trees 8) (entry_at e)
+entry_enters s e small short lets =
     let db = s.now.trees in
-    let row = entry_at id device position second cause crew in
+    let row = entry_at e in
     let checked : passes Check book_schema db an_entry row ≡ true =
-    and_from _ _ (bit_passes 4 row (position_number position) refl (position_low position)) (and_from _ _ (bit_passes 8 row 1 refl (omega arith)) refl) in
-    enters an_entry 5 db (db 8) row id refl (λ r there. there) ((obeyed s.now lets.schema lets.sound).rules Unique) refl (omega (arith, small))
-    (key_free Entry (λ r. refl) id db lets.tables lets.holds lets.allowed.0 row refl) refl refl refl checked
-    (storable_row row (omega arith) (omega arith) (tt, (tt, (tt, (tt, (tt, (tt, (tt, (lets.allowed.3, (tt, tt)))))))))) (
+    and_from _ _ (bit_passes 4 row (position_number e.pos) refl (position_low e.pos)) (and_from _ _ (bit_passes 8 row (bit e.kept) refl (bit_low e.kept)) refl) in
+    enters an_entry 5 db (db 8) row e.no refl (λ r there. there) ((obeyed s.now lets.schema lets.sound).rules Unique) refl (omega (arith, small))
+    (key_free Entry (λ r. refl) e.no db lets.tables lets.holds lets.allowed.0 row refl) refl refl refl checked
+    (storable_row row (omega arith) (omega arith) (tt, (tt, (tt, (tt, (tt, (tt, (tt, (short, (tt, tt)))))))))) (
       λ e. absurd (omega (arith, e)),
       (λ e. absurd (omega (arith, e)), (λ e. absurd (omega (arith, e)), (λ e. absurd (omega (arith, e)), (λ e. absurd (omega (arith, e)), (λ e. absurd (omega (arith, e)), tt))))),
     )
 
-pub lets_entry : (old new : State) (id device : ℕ) (position : Pos) (second cause : ℕ) (crew : List ℕ) → id < 2 ^ 32
-    → Failed entry_insert (Int (pos id) ∷ Int (pos device) ∷ Int (pos (position_number position)) ∷ Int (pos second) ∷ Int (pos cause) ∷ Text crew ∷ []) old new
-    → LetsIn old Always (LetsEntry id device cause crew) → HasFailed old new
-lets_entry old new id device position second cause crew small failed lets =
+pub lets_entry : (old new : State) (e : SheetEntry) → e.no < 2 ^ 32 → IsShort e.crew → Failed entry_insert (entry_params e) old new → LetsIn old Always (LetsEntry e.no e.device e.cause) → HasFailed old new
+lets_entry old new e small short failed lets =
     let db = old.now.trees in
-    let row = entry_at id device position second cause crew in
-    let put = entry_put id device position second cause crew (db 8) in
-    let edit = insert_edit db an_entry entry_terms (Int (pos id) ∷ Int (pos device) ∷ Int (pos (position_number position)) ∷ Int (pos second) ∷ Int (pos cause) ∷ Text crew ∷ []) in
-    entry_fails old new id device position second cause crew lets.schema failed (subst (Enters book_schema db an_entry (db 8)) (sym put) (entry_enters old id device position second cause crew small lets))
+    let row = entry_at e in
+    let put = entry_put e (db 8) in
+    let edit = insert_edit db an_entry entry_terms (entry_params e) in
+    entry_fails old new e lets.schema failed (subst (Enters book_schema db an_entry (db 8)) (sym put) (entry_enters old e small short lets))
     (inserted_refers db edit (has_got book_schema.tables 5 an_entry refl) (sound_book old lets.schema lets.sound) refl row (ap (λ r. r ∷ []) put)
     (λ next done. (
-      finds_device db next edit done lets.tables device 3 row (λ e. omega (arith, e)) lets.holds lets.allowed.1 refl,
-      (finds_cause db next edit done lets.tables cause 6 row (λ e. omega (arith, e)) lets.holds lets.allowed.2 refl, tt),
+      finds_device db next edit done lets.tables e.device 3 row (λ e. omega (arith, e)) lets.holds lets.allowed.1 refl,
+      (finds_cause db next edit done lets.tables e.cause 6 row (λ e. omega (arith, e)) lets.holds lets.allowed.2 refl, tt),
     )))

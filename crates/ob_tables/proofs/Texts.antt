@@ -19,16 +19,20 @@ use Rattle.sqlite.specs.Command.TheVariants.{Insert, Update, Delete}
 use Rattle.sqlite.specs.Listing.{understood}
 use Rattle.sqlite.specs.State.{State}
 use Rattle.sqlite.specs.declared.types.Value.TheVariants.{Int, Text}
-use Rattle.ob_base.specs.declared.Pos.{Pos}
+use Rattle.ob_base.specs.declared.life.Life.{Life as ALife}
+use Rattle.ob_net.specs.declared.net.Node.{Node as NetNode}
+use Rattle.ob_net.specs.declared.net.Device.{Device as NetDevice}
+use Rattle.ob_sheet.specs.declared.Entry.{Entry as SheetEntry}
+use Rattle.ob_cust.specs.declared.Customer.{Customer as RollCustomer}
 use Rattle.ob_tables.specs.Schema.{book_schema, meta_table, cause_table, node_table, device_table, customer_table, entry_table, mark_table, command_table, moved_table, posting_table, life_table}
-use Rattle.ob_tables.specs.Rows.{number_or_null, position_number}
+use Rattle.ob_tables.specs.Rows.{number_or_null}
 use Rattle.ob_tables.specs.Steps.{Failed, HasFailed}
 use Rattle.ob_tables.proofs.Queries.{whole}
 use Rattle.ob_tables.proofs.Entering.{Enters}
 use Rattle.ob_tables.proofs.Failing.{IsUntyped}
 use Rattle.ob_tables.proofs.Refusing.{IsWrittenAs, no_rows, program_of, insert_edit, update_edit, delete_edit, insert_row, update_row, update_left, insert_lets, update_lets, delete_lets}
-use Rattle.ob_tables.proofs.Adding.{meta_insert, meta_terms, cause_insert, cause_terms, node_insert, node_terms, device_insert, device_terms, customer_insert, customer_terms, entry_insert, entry_terms, mark_insert, mark_terms, command_insert, command_terms, moved_insert, moved_terms, posting_insert, posting_terms, life_insert, life_terms}
-use Rattle.ob_tables.proofs.Keyed.{by_key, service_update, service_shows, correct_update, correct_shows, withdraw_update, withdraw_shows, life_update, life_shows, body_update, body_shows, version_update, version_shows, mark_delete}
+use Rattle.ob_tables.proofs.Adding.{meta_insert, meta_terms, cause_insert, cause_terms, node_insert, node_params, node_terms, device_insert, device_params, device_terms, customer_insert, customer_params, customer_terms, entry_insert, entry_params, entry_terms, mark_insert, mark_terms, command_insert, command_terms, moved_insert, moved_terms, posting_insert, posting_terms, life_insert, life_params, life_terms}
+use Rattle.ob_tables.proofs.Keyed.{by_key, service_update, service_params, service_shows, correct_update, correct_params, correct_shows, withdraw_update, withdraw_shows, life_update, life_shows, body_update, body_shows, version_update, version_shows, mark_delete}
 use Rattle.ob_tables.proofs.Posting.{posting_update, posting_tests, posting_shows}
 
 -- an INSERT that fails has a cause, where its row passes the rules
@@ -80,35 +84,35 @@ cause_fails old new code name =
     insert_lets book_schema 1 (record cause_table { tree = 1 }) refl cause_terms 3 cause_insert (Int (pos code) ∷ Text name ∷ []) (cause_written code name) refl refl (refl, refl) (λ it. refl) cause_fits old new
 
 -- ---- node
-pub node_written : (id : ℕ) (name : List ℕ) (kind feeder : ℕ) → IsWrittenAs book_schema node_insert (Int (pos id) ∷ Text name ∷ Int (pos kind) ∷ Int (pos feeder) ∷ []) (Insert 2 (Values node_terms 5)) (understood book_schema node_insert)
+pub node_written : (id : ℕ) (node : NetNode) → IsWrittenAs book_schema node_insert (node_params id node) (Insert 2 (Values node_terms 5)) (understood book_schema node_insert)
 unfolding understood everything
-node_written id name kind feeder = record { whole = omega arith; given = refl; timeless = refl; plain = refl; is = refl }
+node_written id node = record { whole = omega arith; given = refl; timeless = refl; plain = refl; is = refl }
 
 node_fits : references_fit book_schema (record node_table { tree = 3 }) true false ≡ true
 unfolding same_name joined
 node_fits = refl
 
-pub node_fails : (old new : State) (id : ℕ) (name : List ℕ) (kind feeder : ℕ) → InsertFails (record node_table { tree = 3 }) node_terms node_insert (Int (pos id) ∷ Text name ∷ Int (pos kind) ∷ Int (pos feeder) ∷ []) old new
-node_fails old new id name kind feeder =
-    insert_lets book_schema 2 (record node_table { tree = 3 }) refl node_terms 5 node_insert (Int (pos id) ∷ Text name ∷ Int (pos kind) ∷ Int (pos feeder) ∷ []) (node_written id name kind feeder) refl refl (refl, refl) (λ it. refl) node_fits old new
+pub node_fails : (old new : State) (id : ℕ) (node : NetNode) → InsertFails (record node_table { tree = 3 }) node_terms node_insert (node_params id node) old new
+node_fails old new id node =
+    insert_lets book_schema 2 (record node_table { tree = 3 }) refl node_terms 5 node_insert (node_params id node) (node_written id node) refl refl (refl, refl) (λ it. refl) node_fits old new
 
 -- ---- device
-pub device_written : (id : ℕ) (name : List ℕ) (a b : ℕ) (normal : Pos) → IsWrittenAs book_schema device_insert (Int (pos id) ∷ Text name ∷ Int (pos a) ∷ Int (pos b) ∷ Int (pos (position_number normal)) ∷ []) (Insert 3 (Values device_terms 6)) (understood book_schema device_insert)
+pub device_written : (id : ℕ) (d : NetDevice) → IsWrittenAs book_schema device_insert (device_params id d) (Insert 3 (Values device_terms 6)) (understood book_schema device_insert)
 unfolding understood everything
-device_written id name a b normal = record { whole = omega arith; given = refl; timeless = refl; plain = refl; is = refl }
+device_written id d = record { whole = omega arith; given = refl; timeless = refl; plain = refl; is = refl }
 
 device_fits : references_fit book_schema (record device_table { tree = 5 }) true false ≡ true
 unfolding same_name joined
 device_fits = refl
 
-pub device_fails : (old new : State) (id : ℕ) (name : List ℕ) (a b : ℕ) (normal : Pos) → InsertFails (record device_table { tree = 5 }) device_terms device_insert (Int (pos id) ∷ Text name ∷ Int (pos a) ∷ Int (pos b) ∷ Int (pos (position_number normal)) ∷ []) old new
-device_fails old new id name a b normal =
-    insert_lets book_schema 3 (record device_table { tree = 5 }) refl device_terms 6 device_insert (Int (pos id) ∷ Text name ∷ Int (pos a) ∷ Int (pos b) ∷ Int (pos (position_number normal)) ∷ []) (device_written id name a b normal) refl refl (refl, refl) (λ it. refl) device_fits old new
+pub device_fails : (old new : State) (id : ℕ) (d : NetDevice) → InsertFails (record device_table { tree = 5 }) device_terms device_insert (device_params id d) old new
+device_fails old new id d =
+    insert_lets book_schema 3 (record device_table { tree = 5 }) refl device_terms 6 device_insert (device_params id d) (device_written id d) refl refl (refl, refl) (λ it. refl) device_fits old new
 
 -- ---- customer
-pub customer_written : (id section since : ℕ) (until : Option ℕ) → IsWrittenAs book_schema customer_insert (Int (pos id) ∷ Int (pos section) ∷ Int (pos since) ∷ number_or_null until ∷ []) (Insert 4 (Values customer_terms 5)) (understood book_schema customer_insert)
+pub customer_written : (c : RollCustomer) → IsWrittenAs book_schema customer_insert (customer_params c) (Insert 4 (Values customer_terms 5)) (understood book_schema customer_insert)
 unfolding understood everything
-customer_written id section since until = record { whole = omega arith; given = refl; timeless = refl; plain = refl; is = refl }
+customer_written c = record { whole = omega arith; given = refl; timeless = refl; plain = refl; is = refl }
 
 customer_fits : references_fit book_schema (record customer_table { tree = 7 }) true false ≡ true
 unfolding same_name joined
@@ -118,22 +122,22 @@ customer_typed : (id section since : ℕ) (until : Option ℕ) → IsSource no_r
 customer_typed id section since None = (refl, refl)
 customer_typed id section since (Some n) = (refl, refl)
 
-pub customer_fails : (old new : State) (id section since : ℕ) (until : Option ℕ) → InsertFails (record customer_table { tree = 7 }) customer_terms customer_insert (Int (pos id) ∷ Int (pos section) ∷ Int (pos since) ∷ number_or_null until ∷ []) old new
-customer_fails old new id section since until =
-    insert_lets book_schema 4 (record customer_table { tree = 7 }) refl customer_terms 5 customer_insert (Int (pos id) ∷ Int (pos section) ∷ Int (pos since) ∷ number_or_null until ∷ []) (customer_written id section since until) refl refl (customer_typed id section since until) (λ it. refl) customer_fits old new
+pub customer_fails : (old new : State) (c : RollCustomer) → InsertFails (record customer_table { tree = 7 }) customer_terms customer_insert (customer_params c) old new
+customer_fails old new c =
+    insert_lets book_schema 4 (record customer_table { tree = 7 }) refl customer_terms 5 customer_insert (customer_params c) (customer_written c) refl refl (customer_typed c.no c.section c.since c.until) (λ it. refl) customer_fits old new
 
 -- ---- entry
-pub entry_written : (id device : ℕ) (position : Pos) (second cause : ℕ) (crew : List ℕ) → IsWrittenAs book_schema entry_insert (Int (pos id) ∷ Int (pos device) ∷ Int (pos (position_number position)) ∷ Int (pos second) ∷ Int (pos cause) ∷ Text crew ∷ []) (Insert 5 (Values entry_terms 9)) (understood book_schema entry_insert)
+pub entry_written : (e : SheetEntry) → IsWrittenAs book_schema entry_insert (entry_params e) (Insert 5 (Values entry_terms 9)) (understood book_schema entry_insert)
 unfolding understood everything
-entry_written id device position second cause crew = record { whole = omega arith; given = refl; timeless = refl; plain = refl; is = refl }
+entry_written e = record { whole = omega arith; given = refl; timeless = refl; plain = refl; is = refl }
 
 entry_fits : references_fit book_schema (record entry_table { tree = 8 }) true false ≡ true
 unfolding same_name joined
 entry_fits = refl
 
-pub entry_fails : (old new : State) (id device : ℕ) (position : Pos) (second cause : ℕ) (crew : List ℕ) → InsertFails (record entry_table { tree = 8 }) entry_terms entry_insert (Int (pos id) ∷ Int (pos device) ∷ Int (pos (position_number position)) ∷ Int (pos second) ∷ Int (pos cause) ∷ Text crew ∷ []) old new
-entry_fails old new id device position second cause crew =
-    insert_lets book_schema 5 (record entry_table { tree = 8 }) refl entry_terms 9 entry_insert (Int (pos id) ∷ Int (pos device) ∷ Int (pos (position_number position)) ∷ Int (pos second) ∷ Int (pos cause) ∷ Text crew ∷ []) (entry_written id device position second cause crew) refl refl (refl, refl) (λ it. refl) entry_fits old new
+pub entry_fails : (old new : State) (e : SheetEntry) → InsertFails (record entry_table { tree = 8 }) entry_terms entry_insert (entry_params e) old new
+entry_fails old new e =
+    insert_lets book_schema 5 (record entry_table { tree = 8 }) refl entry_terms 9 entry_insert (entry_params e) (entry_written e) refl refl (refl, refl) (λ it. refl) entry_fits old new
 
 -- ---- mark
 pub mark_written : (day : ℕ) (engineer : List ℕ) → IsWrittenAs book_schema mark_insert (Int (pos day) ∷ Text engineer ∷ []) (Insert 6 (Values mark_terms 3)) (understood book_schema mark_insert)
@@ -188,9 +192,9 @@ posting_fails old new dim key =
     insert_lets book_schema 9 (record posting_table { tree = 14 }) refl posting_terms 4 posting_insert (Int (pos dim) ∷ Int (pos key) ∷ []) (posting_written dim key) refl refl (refl, refl) (λ it. refl) posting_fits old new
 
 -- ---- life
-pub life_written : (device since : ℕ) (until : Option ℕ) → IsWrittenAs book_schema life_insert (Int (pos device) ∷ Int (pos since) ∷ number_or_null until ∷ []) (Insert 10 (Values life_terms 4)) (understood book_schema life_insert)
+pub life_written : (device : ℕ) (life : ALife) → IsWrittenAs book_schema life_insert (life_params device life) (Insert 10 (Values life_terms 4)) (understood book_schema life_insert)
 unfolding understood everything
-life_written device since until = record { whole = omega arith; given = refl; timeless = refl; plain = refl; is = refl }
+life_written device life = record { whole = omega arith; given = refl; timeless = refl; plain = refl; is = refl }
 
 life_fits : references_fit book_schema (record life_table { tree = 16 }) true false ≡ true
 unfolding same_name joined
@@ -200,14 +204,14 @@ life_typed : (device since : ℕ) (until : Option ℕ) → IsSource no_rows (Int
 life_typed device since None = (refl, refl)
 life_typed device since (Some n) = (refl, refl)
 
-pub life_fails : (old new : State) (device since : ℕ) (until : Option ℕ) → InsertFails (record life_table { tree = 16 }) life_terms life_insert (Int (pos device) ∷ Int (pos since) ∷ number_or_null until ∷ []) old new
-life_fails old new device since until =
-    insert_lets book_schema 10 (record life_table { tree = 16 }) refl life_terms 4 life_insert (Int (pos device) ∷ Int (pos since) ∷ number_or_null until ∷ []) (life_written device since until) refl refl (life_typed device since until) (λ it. refl) life_fits old new
+pub life_fails : (old new : State) (device : ℕ) (life : ALife) → InsertFails (record life_table { tree = 16 }) life_terms life_insert (life_params device life) old new
+life_fails old new device life =
+    insert_lets book_schema 10 (record life_table { tree = 16 }) refl life_terms 4 life_insert (life_params device life) (life_written device life) refl refl (life_typed device life.since life.until) (λ it. refl) life_fits old new
 
 -- ---- service
-pub service_written : (id since : ℕ) (until : Option ℕ) → IsWrittenAs book_schema service_update (Int (pos id) ∷ Int (pos since) ∷ number_or_null until ∷ []) (Update 4 (record { lets = []; body = whole by_key service_shows 7 })) (understood book_schema service_update)
+pub service_written : (c : RollCustomer) → IsWrittenAs book_schema service_update (service_params c) (Update 4 (record { lets = []; body = whole by_key service_shows 7 })) (understood book_schema service_update)
 unfolding understood everything
-service_written id since until = record { whole = omega arith; given = refl; timeless = refl; plain = refl; is = refl }
+service_written c = record { whole = omega arith; given = refl; timeless = refl; plain = refl; is = refl }
 
 service_fits : references_fit book_schema (record customer_table { tree = 7 }) true true ≡ true
 unfolding same_name joined
@@ -217,22 +221,22 @@ service_typed : (id since : ℕ) (until : Option ℕ) → ¬ IsUntyped book_sche
 service_typed id since None = true≢false
 service_typed id since (Some n) = true≢false
 
-pub service_fails : (old new : State) (id since : ℕ) (until : Option ℕ) → UpdateFails (record customer_table { tree = 7 }) by_key service_shows service_update (Int (pos id) ∷ Int (pos since) ∷ number_or_null until ∷ []) old new
-service_fails old new id since until =
-    update_lets book_schema 4 (record customer_table { tree = 7 }) refl by_key service_shows service_update (Int (pos id) ∷ Int (pos since) ∷ number_or_null until ∷ []) (service_written id since until) refl (service_typed id since until) (λ olds it. refl) service_fits old new
+pub service_fails : (old new : State) (c : RollCustomer) → UpdateFails (record customer_table { tree = 7 }) by_key service_shows service_update (service_params c) old new
+service_fails old new c =
+    update_lets book_schema 4 (record customer_table { tree = 7 }) refl by_key service_shows service_update (service_params c) (service_written c) refl (service_typed c.no c.since c.until) (λ olds it. refl) service_fits old new
 
 -- ---- corrected
-pub corrected_written : (id revision : ℕ) (position : Pos) (second cause : ℕ) (crew : List ℕ) → IsWrittenAs book_schema correct_update (Int (pos id) ∷ Int (pos revision) ∷ Int (pos (position_number position)) ∷ Int (pos second) ∷ Int (pos cause) ∷ Text crew ∷ []) (Update 5 (record { lets = []; body = whole by_key correct_shows 8 })) (understood book_schema correct_update)
+pub corrected_written : (e : SheetEntry) → IsWrittenAs book_schema correct_update (correct_params e) (Update 5 (record { lets = []; body = whole by_key correct_shows 8 })) (understood book_schema correct_update)
 unfolding understood everything
-corrected_written id revision position second cause crew = record { whole = omega arith; given = refl; timeless = refl; plain = refl; is = refl }
+corrected_written e = record { whole = omega arith; given = refl; timeless = refl; plain = refl; is = refl }
 
 corrected_fits : references_fit book_schema (record entry_table { tree = 8 }) true true ≡ true
 unfolding same_name joined
 corrected_fits = refl
 
-pub corrected_fails : (old new : State) (id revision : ℕ) (position : Pos) (second cause : ℕ) (crew : List ℕ) → UpdateFails (record entry_table { tree = 8 }) by_key correct_shows correct_update (Int (pos id) ∷ Int (pos revision) ∷ Int (pos (position_number position)) ∷ Int (pos second) ∷ Int (pos cause) ∷ Text crew ∷ []) old new
-corrected_fails old new id revision position second cause crew =
-    update_lets book_schema 5 (record entry_table { tree = 8 }) refl by_key correct_shows correct_update (Int (pos id) ∷ Int (pos revision) ∷ Int (pos (position_number position)) ∷ Int (pos second) ∷ Int (pos cause) ∷ Text crew ∷ []) (corrected_written id revision position second cause crew) refl true≢false (λ olds it. refl) corrected_fits old new
+pub corrected_fails : (old new : State) (e : SheetEntry) → UpdateFails (record entry_table { tree = 8 }) by_key correct_shows correct_update (correct_params e) old new
+corrected_fails old new e =
+    update_lets book_schema 5 (record entry_table { tree = 8 }) refl by_key correct_shows correct_update (correct_params e) (corrected_written e) refl true≢false (λ olds it. refl) corrected_fits old new
 
 -- ---- withdrawn
 pub withdrawn_written : (id revision : ℕ) → IsWrittenAs book_schema withdraw_update (Int (pos id) ∷ Int (pos revision) ∷ []) (Update 5 (record { lets = []; body = whole by_key withdraw_shows 8 })) (understood book_schema withdraw_update)
@@ -248,9 +252,9 @@ withdrawn_fails old new id revision =
     update_lets book_schema 5 (record entry_table { tree = 8 }) refl by_key withdraw_shows withdraw_update (Int (pos id) ∷ Int (pos revision) ∷ []) (withdrawn_written id revision) refl true≢false (λ olds it. refl) withdrawn_fits old new
 
 -- ---- life_set
-pub life_set_written : (device since : ℕ) (until : Option ℕ) → IsWrittenAs book_schema life_update (Int (pos device) ∷ Int (pos since) ∷ number_or_null until ∷ []) (Update 10 (record { lets = []; body = whole by_key life_shows 16 })) (understood book_schema life_update)
+pub life_set_written : (device : ℕ) (life : ALife) → IsWrittenAs book_schema life_update (life_params device life) (Update 10 (record { lets = []; body = whole by_key life_shows 16 })) (understood book_schema life_update)
 unfolding understood everything
-life_set_written device since until = record { whole = omega arith; given = refl; timeless = refl; plain = refl; is = refl }
+life_set_written device life = record { whole = omega arith; given = refl; timeless = refl; plain = refl; is = refl }
 
 life_set_fits : references_fit book_schema (record life_table { tree = 16 }) true true ≡ true
 unfolding same_name joined
@@ -260,9 +264,9 @@ life_set_typed : (device since : ℕ) (until : Option ℕ) → ¬ IsUntyped book
 life_set_typed device since None = true≢false
 life_set_typed device since (Some n) = true≢false
 
-pub life_set_fails : (old new : State) (device since : ℕ) (until : Option ℕ) → UpdateFails (record life_table { tree = 16 }) by_key life_shows life_update (Int (pos device) ∷ Int (pos since) ∷ number_or_null until ∷ []) old new
-life_set_fails old new device since until =
-    update_lets book_schema 10 (record life_table { tree = 16 }) refl by_key life_shows life_update (Int (pos device) ∷ Int (pos since) ∷ number_or_null until ∷ []) (life_set_written device since until) refl (life_set_typed device since until) (λ olds it. refl) life_set_fits old new
+pub life_set_fails : (old new : State) (device : ℕ) (life : ALife) → UpdateFails (record life_table { tree = 16 }) by_key life_shows life_update (life_params device life) old new
+life_set_fails old new device life =
+    update_lets book_schema 10 (record life_table { tree = 16 }) refl by_key life_shows life_update (life_params device life) (life_set_written device life) refl (life_set_typed device life.since life.until) (λ olds it. refl) life_set_fits old new
 
 -- ---- body
 pub body_written : (id : ℕ) (body : List ℕ) → IsWrittenAs book_schema body_update (Int (pos id) ∷ Text body ∷ []) (Update 7 (record { lets = []; body = whole by_key body_shows 10 })) (understood book_schema body_update)

@@ -1,5 +1,5 @@
 -- The rows of the eleven tables as a query shows them, and what holds them.
-use Rattle.std.specs.Prelude.{◌≡◌, ℕ, ◌==◌, ◌&&◌, ◌≤◌, ℤ, pos, Bool, true, false, not, List, [], ◌∷◌, ◌++◌, Option, Some, None, IsTrue, ⊤, length, map, filter, if◌then◌else◌, codes}
+use Rattle.std.specs.Prelude.{◌≡◌, ℕ, ◌==◌, ◌&&◌, ◌≤◌, ℤ, pos, Bool, true, false, not, List, [], ◌∷◌, ◌++◌, Option, Some, None, is_some, unwrap_or, IsTrue, ⊤, length, map, filter, if◌then◌else◌, codes}
 use Rattle.std.specs.List.{AllByRecursion}
 use Rattle.std.specs.List.Sorted.{IsPermutation}
 use Rattle.sqlite.specs.Order.{Row, column}
@@ -11,6 +11,11 @@ use Rattle.sqlite.specs.declared.types.Value.{Value}
 use Rattle.sqlite.specs.declared.types.Value.TheVariants.{Null, Int, Text}
 use Rattle.ob_base.specs.declared.Pos.{Pos}
 use Rattle.ob_base.specs.declared.Pos.TheVariants.{Opened, Closed}
+use Rattle.ob_base.specs.declared.life.Life.{Life as ALife}
+use Rattle.ob_net.specs.declared.net.Node.{Node as NetNode}
+use Rattle.ob_net.specs.declared.net.Device.{Device as NetDevice}
+use Rattle.ob_sheet.specs.declared.Entry.{Entry as SheetEntry}
+use Rattle.ob_cust.specs.declared.Customer.{Customer as RollCustomer}
 use Rattle.ob_tables.specs.declared.table.Table.{Table}
 use Rattle.ob_tables.specs.declared.table.Table.TheVariants.{Meta, Cause, Node, Device, Life, Customer, Entry, Mark, Command, Moved, Posting}
 
@@ -101,26 +106,31 @@ meta_row version first_day days zone = number 1 ∷ number version ∷ Text firs
 abbrev pub cause_row : ℕ → List ℕ → Columns
 cause_row code name = number code ∷ Text name ∷ []
 
--- a node of a kind (0 GRID, 1 bus, 2 section), with its feeder, 0 where it is no section
-abbrev pub node_row : ℕ → List ℕ → ℕ → ℕ → Columns
-node_row id name kind feeder = number id ∷ Text name ∷ number kind ∷ number feeder ∷ []
+-- 2 for a section, 0 for GRID, which is the node numbered 0, and 1 for a bus
+abbrev pub node_kind : ℕ → NetNode → ℕ
+node_kind id node = if is_some node.feeder then 2 else if id == 0 then 0 else 1
 
--- a device between two nodes, with its normal position
-abbrev pub device_row : ℕ → List ℕ → ℕ → ℕ → Pos → Columns
-device_row id name a b normal = number id ∷ Text name ∷ number a ∷ number b ∷ number (position_number normal) ∷ []
+-- the node of a number, with its kind and its feeder, 0 where it is no section
+abbrev pub node_row : ℕ → NetNode → Columns
+node_row id node = number id ∷ Text node.name ∷ number (node_kind id node) ∷ number (unwrap_or node.feeder 0) ∷ []
 
--- the life of a device, from `since` until before `until`, or without end
-abbrev pub life_row : ℕ → ℕ → Option ℕ → Columns
-life_row device since until = number device ∷ number since ∷ number_or_null until ∷ []
+-- the device of a number, between two nodes, with its normal position
+abbrev pub device_row : ℕ → NetDevice → Columns
+device_row id d = number id ∷ Text d.name ∷ number d.a ∷ number d.b ∷ number (position_number d.normal) ∷ []
 
--- a customer of a section, in service from `since` until before `until`, or without end
-abbrev pub customer_row : ℕ → ℕ → ℕ → Option ℕ → Columns
-customer_row id section since until = number id ∷ number section ∷ number since ∷ number_or_null until ∷ []
+-- the life of the device of a number
+abbrev pub life_row : ℕ → ALife → Columns
+life_row device life = number device ∷ number life.since ∷ number_or_null life.until ∷ []
 
-abbrev pub entry_row : ℕ → ℕ → ℕ → Pos → ℕ → ℕ → List ℕ → Bool → Columns
-entry_row id revision device position second cause crew kept =
-    number id ∷ number revision ∷ number device ∷ number (position_number position) ∷ number second ∷ number cause
-    ∷ Text crew ∷ number (bit kept) ∷ []
+-- a customer of a section, with its service
+abbrev pub customer_row : RollCustomer → Columns
+customer_row c = number c.no ∷ number c.section ∷ number c.since ∷ number_or_null c.until ∷ []
+
+-- an entry of the sheet
+abbrev pub entry_row : SheetEntry → Columns
+entry_row e =
+    number e.no ∷ number e.rev ∷ number e.device ∷ number (position_number e.pos) ∷ number e.second ∷ number e.cause
+    ∷ Text e.crew ∷ number (bit e.kept) ∷ []
 
 -- a marked day, with the engineer who marked it
 abbrev pub mark_row : ℕ → List ℕ → Columns
@@ -181,15 +191,15 @@ with_amount dim key amount = change_where (is_posting dim key) (λ r. posting_ro
 abbrev pub with_posting : ℕ → ℕ → ℕ → Tables → Tables
 with_posting dim key amount = with_table Posting (with_amount dim key amount)
 
--- a customer's row with another service
-abbrev pub serve : ℕ → Option ℕ → Columns → Columns
-serve since until row = column row 0 ∷ column row 1 ∷ number since ∷ number_or_null until ∷ []
+-- a customer's row with the service of this one
+abbrev pub serve : RollCustomer → Columns → Columns
+serve c row = column row 0 ∷ column row 1 ∷ number c.since ∷ number_or_null c.until ∷ []
 
--- an entry's row with another revision, position, second, cause and crew
-abbrev pub correct : ℕ → Pos → ℕ → ℕ → List ℕ → Columns → Columns
-correct revision position second cause crew row =
-    column row 0 ∷ number revision ∷ column row 2 ∷ number (position_number position) ∷ number second ∷ number cause
-    ∷ Text crew ∷ column row 7 ∷ []
+-- an entry's row with the revision, position, second, cause and crew of this one
+abbrev pub correct : SheetEntry → Columns → Columns
+correct e row =
+    column row 0 ∷ number e.rev ∷ column row 2 ∷ number (position_number e.pos) ∷ number e.second ∷ number e.cause
+    ∷ Text e.crew ∷ column row 7 ∷ []
 
 -- an entry's row with another revision, not kept
 abbrev pub withdraw : ℕ → Columns → Columns
@@ -197,9 +207,9 @@ withdraw revision row =
     column row 0 ∷ number revision ∷ column row 2 ∷ column row 3 ∷ column row 4 ∷ column row 5 ∷ column row 6
     ∷ number (bit false) ∷ []
 
--- a life's row with other ends
-abbrev pub relive : ℕ → Option ℕ → Columns → Columns
-relive since until row = column row 0 ∷ number since ∷ number_or_null until ∷ []
+-- a life's row with the ends of this life
+abbrev pub relive : ALife → Columns → Columns
+relive life row = column row 0 ∷ number life.since ∷ number_or_null life.until ∷ []
 
 -- a command's row with another body
 abbrev pub rebody : List ℕ → Columns → Columns
@@ -219,16 +229,13 @@ HasRow table id row tables = filter (is_key id) (tables table) ≡ row ∷ []
 
 -- there is one row of this customer
 pub record HasCustomer (id : ℕ) (tables : Tables) : Type 0 where
-  pub section : ℕ
-  pub since : ℕ
-  pub until : Option ℕ
-  pub row : HasRow Customer id (customer_row id section since until) tables
+  pub customer : RollCustomer
+  pub row : HasRow Customer id (customer_row customer) tables
 
 -- there is one row of the life of this device
 pub record HasLife (device : ℕ) (tables : Tables) : Type 0 where
-  pub since : ℕ
-  pub until : Option ℕ
-  pub row : HasRow Life device (life_row device since until) tables
+  pub life : ALife
+  pub row : HasRow Life device (life_row device life) tables
 
 -- there is one row of the command of this number
 pub record HasCommand (id : ℕ) (tables : Tables) : Type 0 where
@@ -246,14 +253,8 @@ pub record HasHeading (tables : Tables) : Type 0 where
 
 -- there is one row of this entry
 pub record HasEntry (id : ℕ) (tables : Tables) : Type 0 where
-  pub revision : ℕ
-  pub device : ℕ
-  pub position : Pos
-  pub second : ℕ
-  pub cause : ℕ
-  pub crew : List ℕ
-  pub kept : Bool
-  pub row : HasRow Entry id (entry_row id revision device position second cause crew kept) tables
+  pub entry : SheetEntry
+  pub row : HasRow Entry id (entry_row entry) tables
 
 -- there is one row of this marked day
 abbrev pub HasMark : ℕ → Tables → Type 0

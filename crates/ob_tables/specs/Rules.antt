@@ -1,4 +1,4 @@
--- What the rules of the tables let in: keys and names that are free, rows that a row refers to, texts that fit.
+-- What the rules of the tables let in: keys and names that are free, rows that a row refers to, texts that fit where no type bounds them.
 use Rattle.std.specs.Prelude.{◌≡◌, ◌≢◌, ◌≤◌, ◌<◌, ◌^◌, ◌+◌, ◌&&◌, ℕ, ℤ, pos, Bool, true, false, List, length, map, ⊤}
 use Rattle.std.specs.List.{AllByRecursion, list_any, range_with_len}
 use Rattle.sqlite.specs.Order.{Row}
@@ -49,14 +49,14 @@ abbrev pub LetsMeta : List ℕ → List ℕ → Tables → Type 0
 LetsMeta first_day zone tables = LacksKey Meta 1 tables × IsShort first_day × IsShort zone
 
 abbrev pub LetsCause : ℕ → List ℕ → Tables → Type 0
-LetsCause code name tables = LacksKey Cause code tables × LacksName Cause name tables × IsShort name
+LetsCause code name tables = LacksKey Cause code tables × LacksName Cause name tables
 
 abbrev pub LetsNode : ℕ → List ℕ → Tables → Type 0
-LetsNode id name tables = LacksKey Node id tables × LacksName Node name tables × IsShort name
+LetsNode id name tables = LacksKey Node id tables × LacksName Node name tables
 
 abbrev pub LetsDevice : ℕ → List ℕ → ℕ → ℕ → Tables → Type 0
 LetsDevice id name a b tables =
-    LacksKey Device id tables × LacksName Device name tables × IsShort name × HasKey Node a tables × HasKey Node b tables
+    LacksKey Device id tables × LacksName Device name tables × HasKey Node a tables × HasKey Node b tables
 
 abbrev pub LetsLife : ℕ → Tables → Type 0
 LetsLife device tables = LacksKey Life device tables × HasKey Device device tables
@@ -64,12 +64,11 @@ LetsLife device tables = LacksKey Life device tables × HasKey Device device tab
 abbrev pub LetsCustomer : ℕ → ℕ → Tables → Type 0
 LetsCustomer id section tables = LacksKey Customer id tables × HasKey Node section tables
 
-abbrev pub LetsEntry : ℕ → ℕ → ℕ → List ℕ → Tables → Type 0
-LetsEntry id device cause crew tables =
-    LacksKey Entry id tables × HasKey Device device tables × HasKey Cause cause tables × IsShort crew
+abbrev pub LetsEntry : ℕ → ℕ → ℕ → Tables → Type 0
+LetsEntry id device cause tables = LacksKey Entry id tables × HasKey Device device tables × HasKey Cause cause tables
 
-abbrev pub LetsMark : ℕ → List ℕ → Tables → Type 0
-LetsMark day engineer tables = LacksKey Mark day tables × IsShort engineer
+abbrev pub LetsMark : ℕ → Tables → Type 0
+LetsMark day tables = LacksKey Mark day tables
 
 abbrev pub LetsCommand : ℕ → List ℕ → List ℕ → Tables → Type 0
 LetsCommand id reference body tables =
@@ -83,7 +82,7 @@ LetsMoved id dim key delta tables =
 abbrev pub LetsPosting : ℕ → ℕ → Tables → Type 0
 LetsPosting dim key tables = (list_any (is_posting dim key) (tables Posting) ≡ false) × HasRoom Posting tables
 
--- ---- of a row that is changed: what it keeps and what it gets are short, and its cause is there
+-- ---- of a row that is changed: the texts that it keeps and gets are short, and its cause is there
 
 abbrev pub LetsBody : ℕ → List ℕ → Tables → Type 0
 LetsBody id body tables = HasShort Command id tables × IsShort body
@@ -91,8 +90,8 @@ LetsBody id body tables = HasShort Command id tables × IsShort body
 abbrev pub LetsVersion : Tables → Type 0
 LetsVersion tables = HasShort Meta 1 tables
 
-abbrev pub LetsCorrected : ℕ → List ℕ → Tables → Type 0
-LetsCorrected cause crew tables = HasKey Cause cause tables × IsShort crew
+abbrev pub LetsCorrected : ℕ → Tables → Type 0
+LetsCorrected cause tables = HasKey Cause cause tables
 
 abbrev pub LetsWithdrawn : ℕ → Tables → Type 0
 LetsWithdrawn id tables = HasShort Entry id tables

@@ -5,46 +5,46 @@ ghost use Rattle.ob_tables.specs.Rows.{Always, with_change, serve, HasCustomer, 
 ghost use Rattle.ob_tables.specs.Rules.{HasRoom, LetsBody, LetsVersion, LetsCorrected, LetsWithdrawn};
 ghost use Rattle.ob_tables.specs.declared.table.Table.{Table as ATable};
 
-use crate::run::{int, large, large_or_null, position, run};
-use ob_base::{Pos, Stop};
+use crate::run::{int, key, large, large_or_null, position, run};
+use ob_base::{Life, Stop};
+use ob_cust::Customer;
+use ob_sheet::Entry;
 use sqlite::{Alter, Transaction};
 use sqlite_value::value::ValueRef;
 
-/// Gives a customer another service.
-pub fn set_service<S: Alter>(
-    tx: &mut Transaction<'_, S>,
-    no: u32,
-    since: u64,
-    until: Option<u64>,
-) -> Result<(), Stop>
-    requires since { since < 2 ^ 63 }
-    requires until { IfSome until (λ end. end < 2 ^ 63) }
-    ensures { Changes S.Store tx.old.conn tx.new.conn result (HasCustomer no) Always
-        (with_change ATable.Customer no (serve since until)) }
+/// Gives the customer of this number the service of this one.
+pub fn set_service<S: Alter>(tx: &mut Transaction<'_, S>, customer: Customer) -> Result<(), Stop>
+    requires since { customer.since < 2 ^ 63 }
+    requires until { IfSome customer.until (λ end. end < 2 ^ 63) }
+    ensures { Changes S.Store tx.old.conn tx.new.conn result (HasCustomer customer.no) Always
+        (with_change ATable.Customer customer.no (serve customer)) }
 {
     run(
         tx,
         "UPDATE customer SET since = ?2, until = ?3 WHERE id = ?1",
-        &[int(no), large(since), large_or_null(until)],
+        &[
+            int(customer.no),
+            large(customer.since),
+            large_or_null(customer.until),
+        ],
     )
 }
 
 /// Gives a device another life.
-pub fn set_life<S: Alter>(
-    tx: &mut Transaction<'_, S>,
-    device: u32,
-    since: u64,
-    until: Option<u64>,
-) -> Result<(), Stop>
-    requires since { since < 2 ^ 63 }
-    requires until { IfSome until (λ end. end < 2 ^ 63) }
+pub fn set_life<S: Alter>(tx: &mut Transaction<'_, S>, device: u16, life: Life) -> Result<(), Stop>
+    requires since { life.since < 2 ^ 63 }
+    requires until { IfSome life.until (λ end. end < 2 ^ 63) }
     ensures { Changes S.Store tx.old.conn tx.new.conn result (HasLife device) Always
-        (with_change ATable.Life device (relive since until)) }
+        (with_change ATable.Life device (relive life)) }
 {
     run(
         tx,
         "UPDATE life SET since = ?2, until = ?3 WHERE device = ?1",
-        &[int(device), large(since), large_or_null(until)],
+        &[
+            int(u32::from(device)),
+            large(life.since),
+            large_or_null(life.until),
+        ],
     )
 }
 
@@ -73,31 +73,24 @@ pub fn set_version<S: Alter>(tx: &mut Transaction<'_, S>, version: u32) -> Resul
     )
 }
 
-/// Gives an entry another revision, position, second, cause and crew. It fails where there is no such cause.
-pub fn correct_entry<S: Alter>(
-    tx: &mut Transaction<'_, S>,
-    no: u32,
-    revision: u32,
-    act: Pos,
-    second: u64,
-    cause: u32,
-    crew: &[u8],
-) -> Result<(), Stop>
-    requires second { second < 2 ^ 63 }
-    ensures { Changes S.Store tx.old.conn tx.new.conn result (HasEntry no)
-        (LetsCorrected cause crew.now)
-        (with_change ATable.Entry no (correct revision act second cause crew.now)) }
+/// Gives the entry of this number the revision, position, second, cause and crew of this one. It fails where
+/// there is no such cause.
+pub fn correct_entry<S: Alter>(tx: &mut Transaction<'_, S>, entry: &Entry) -> Result<(), Stop>
+    requires second { entry.now.second < 2 ^ 63 }
+    ensures { Changes S.Store tx.old.conn tx.new.conn result (HasEntry entry.now.no)
+        (LetsCorrected entry.now.cause)
+        (with_change ATable.Entry entry.now.no (correct entry.now)) }
 {
     run(
         tx,
         "UPDATE entry SET rev = ?2, pos = ?3, second = ?4, cause = ?5, crew = ?6 WHERE id = ?1",
         &[
-            int(no),
-            int(revision),
-            position(act),
-            large(second),
-            int(cause),
-            ValueRef::Text(crew),
+            key(entry.no),
+            int(entry.rev),
+            position(entry.pos),
+            large(entry.second),
+            int(u32::from(entry.cause)),
+            ValueRef::Text(entry.crew.bytes()),
         ],
     )
 }
@@ -119,11 +112,15 @@ pub fn withdraw_entry<S: Alter>(
 }
 
 /// Takes the mark off a day.
-pub fn drop_mark<S: Alter>(tx: &mut Transaction<'_, S>, day: u32) -> Result<(), Stop>
+pub fn drop_mark<S: Alter>(tx: &mut Transaction<'_, S>, day: u16) -> Result<(), Stop>
     ensures { Changes S.Store tx.old.conn tx.new.conn result (HasMark day) Always
         (without_key ATable.Mark day) }
 {
-    run(tx, "DELETE FROM mark WHERE day = ?1", &[int(day)])
+    run(
+        tx,
+        "DELETE FROM mark WHERE day = ?1",
+        &[int(u32::from(day))],
+    )
 }
 
 /// Gives the amount of a dimension and a key another value.

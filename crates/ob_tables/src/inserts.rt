@@ -1,12 +1,16 @@
 //! The statements that add a row, each in a function of its own.
-ghost use Rattle.std.specs.Prelude.{◌≡◌, ◌<◌, ◌^◌, true, IfSome};
+ghost use Rattle.std.specs.Prelude.{◌≡◌, ◌<◌, ◌^◌, IfSome};
 ghost use Rattle.ob_tables.specs.Steps.{Changes};
 ghost use Rattle.ob_tables.specs.Rows.{Always, with_row, meta_row, cause_row, node_row, device_row, life_row, customer_row, entry_row, mark_row, command_row, moved_row, posting_row};
 ghost use Rattle.ob_tables.specs.Rules.{LetsMeta, LetsCause, LetsNode, LetsDevice, LetsCustomer, LetsLife, LetsEntry, LetsMark, LetsCommand, LetsMoved, LetsPosting};
 ghost use Rattle.ob_tables.specs.declared.table.Table.{Table as ATable};
 
-use crate::run::{int, large, large_or_null, position, run, signed_value};
-use ob_base::{Pos, Stop};
+use crate::fields::kind_of;
+use crate::run::{flag, int, key, large, large_or_null, position, run, signed_value};
+use ob_base::{Crew, Life, Name, Stop};
+use ob_cust::Customer;
+use ob_net::{Device, Node};
+use ob_sheet::Entry;
 use sqlite::{Alter, Transaction};
 use sqlite_value::value::ValueRef;
 
@@ -29,7 +33,7 @@ pub fn add_meta<'t, S: Alter>(
 }
 
 /// Adds a cause. It fails where its code or its name stands already.
-pub fn add_cause<S: Alter>(tx: &mut Transaction<'_, S>, code: u32, name: &[u8]) -> Result<(), Stop>
+pub fn add_cause<S: Alter>(tx: &mut Transaction<'_, S>, code: u8, name: &Name) -> Result<(), Stop>
     ensures { Changes S.Store tx.old.conn tx.new.conn result Always
         (LetsCause code name.now)
         (with_row ATable.Cause (cause_row code name.now)) }
@@ -37,125 +41,115 @@ pub fn add_cause<S: Alter>(tx: &mut Transaction<'_, S>, code: u32, name: &[u8]) 
     run(
         tx,
         "INSERT INTO cause (code, name) VALUES (?1, ?2)",
-        &[int(code), ValueRef::Text(name)],
+        &[int(u32::from(code)), ValueRef::Text(name.bytes())],
     )
 }
 
-/// Adds a node of a kind (0 GRID, 1 bus, 2 section), with its feeder, 0 where it is no section. It fails
-/// where its number or its name stands already.
-pub fn add_node<S: Alter>(
-    tx: &mut Transaction<'_, S>,
-    no: u32,
-    name: &[u8],
-    kind: u32,
-    feeder: u32,
-) -> Result<(), Stop>
+/// Adds the node of a number. It fails where its number or its name stands already.
+pub fn add_node<S: Alter>(tx: &mut Transaction<'_, S>, number: u16, node: &Node) -> Result<(), Stop>
     ensures { Changes S.Store tx.old.conn tx.new.conn result Always
-        (LetsNode no name.now)
-        (with_row ATable.Node (node_row no name.now kind feeder)) }
+        (LetsNode number node.now.name)
+        (with_row ATable.Node (node_row number node.now)) }
 {
+    let kind = kind_of(u64::from(number), node);
+    // GRID and a bus have no feeder.
+    let feeder = node.feeder.unwrap_or(0);
     run(
         tx,
         "INSERT INTO node (id, name, kind, feeder) VALUES (?1, ?2, ?3, ?4)",
-        &[int(no), ValueRef::Text(name), int(kind), int(feeder)],
+        &[
+            int(u32::from(number)),
+            ValueRef::Text(node.name.bytes()),
+            int(kind),
+            int(u32::from(feeder)),
+        ],
     )
 }
 
-/// Adds a device between the nodes of two numbers. It fails where its number or its name stands already, and
-/// where a node of it doesn't.
+/// Adds the device of a number. It fails where its number or its name stands already, and where a node of it
+/// doesn't.
 pub fn add_device<S: Alter>(
     tx: &mut Transaction<'_, S>,
-    no: u32,
-    name: &[u8],
-    a: u32,
-    b: u32,
-    normal: Pos,
+    number: u16,
+    device: &Device,
 ) -> Result<(), Stop>
     ensures { Changes S.Store tx.old.conn tx.new.conn result Always
-        (LetsDevice no name.now a b)
-        (with_row ATable.Device (device_row no name.now a b normal)) }
+        (LetsDevice number device.now.name device.now.a device.now.b)
+        (with_row ATable.Device (device_row number device.now)) }
 {
     run(
         tx,
         "INSERT INTO device (id, name, a, b, normal) VALUES (?1, ?2, ?3, ?4, ?5)",
         &[
-            int(no),
-            ValueRef::Text(name),
-            int(a),
-            int(b),
-            position(normal),
+            int(u32::from(number)),
+            ValueRef::Text(device.name.bytes()),
+            int(u32::from(device.a)),
+            int(u32::from(device.b)),
+            position(device.normal),
         ],
     )
 }
 
-/// Adds a customer of the section of a number. It fails where the customer's number stands already, and where
-/// the section doesn't.
-pub fn add_customer<S: Alter>(
-    tx: &mut Transaction<'_, S>,
-    no: u32,
-    section: u32,
-    since: u64,
-    until: Option<u64>,
-) -> Result<(), Stop>
-    requires since { since < 2 ^ 63 }
-    requires until { IfSome until (λ end. end < 2 ^ 63) }
+/// Adds a customer of a section. It fails where the customer's number stands already, and where the section
+/// doesn't.
+pub fn add_customer<S: Alter>(tx: &mut Transaction<'_, S>, customer: Customer) -> Result<(), Stop>
+    requires since { customer.since < 2 ^ 63 }
+    requires until { IfSome customer.until (λ end. end < 2 ^ 63) }
     ensures { Changes S.Store tx.old.conn tx.new.conn result Always
-        (LetsCustomer no section)
-        (with_row ATable.Customer (customer_row no section since until)) }
+        (LetsCustomer customer.no customer.section)
+        (with_row ATable.Customer (customer_row customer)) }
 {
     run(
         tx,
         "INSERT INTO customer (id, section, since, until) VALUES (?1, ?2, ?3, ?4)",
-        &[int(no), int(section), large(since), large_or_null(until)],
+        &[
+            int(customer.no),
+            int(u32::from(customer.section)),
+            large(customer.since),
+            large_or_null(customer.until),
+        ],
     )
 }
 
 /// Adds the life of a device. It fails where it stands already, and where there is no such device.
-pub fn add_life<S: Alter>(
-    tx: &mut Transaction<'_, S>,
-    device: u32,
-    since: u64,
-    until: Option<u64>,
-) -> Result<(), Stop>
-    requires since { since < 2 ^ 63 }
-    requires until { IfSome until (λ end. end < 2 ^ 63) }
+pub fn add_life<S: Alter>(tx: &mut Transaction<'_, S>, device: u16, life: Life) -> Result<(), Stop>
+    requires since { life.since < 2 ^ 63 }
+    requires until { IfSome life.until (λ end. end < 2 ^ 63) }
     ensures { Changes S.Store tx.old.conn tx.new.conn result Always
         (LetsLife device)
-        (with_row ATable.Life (life_row device since until)) }
+        (with_row ATable.Life (life_row device life)) }
 {
     run(
         tx,
         "INSERT INTO life (device, since, until) VALUES (?1, ?2, ?3)",
-        &[int(device), large(since), large_or_null(until)],
+        &[
+            int(u32::from(device)),
+            large(life.since),
+            large_or_null(life.until),
+        ],
     )
 }
 
-/// Adds an entry of the sheet, of revision 1 and kept. It fails where its number stands already, and where its
-/// device or its cause doesn't.
-pub fn add_entry<S: Alter>(
-    tx: &mut Transaction<'_, S>,
-    no: u32,
-    device: u32,
-    act: Pos,
-    second: u64,
-    cause: u32,
-    crew: &[u8],
-) -> Result<(), Stop>
-    requires second { second < 2 ^ 63 }
+/// Adds an entry of the sheet. It fails where its number stands already, and where its device or its cause
+/// doesn't.
+pub fn add_entry<S: Alter>(tx: &mut Transaction<'_, S>, entry: &Entry) -> Result<(), Stop>
+    requires second { entry.now.second < 2 ^ 63 }
     ensures { Changes S.Store tx.old.conn tx.new.conn result Always
-        (LetsEntry no device cause crew.now)
-        (with_row ATable.Entry (entry_row no 1 device act second cause crew.now true)) }
+        (LetsEntry entry.now.no entry.now.device entry.now.cause)
+        (with_row ATable.Entry (entry_row entry.now)) }
 {
     run(
         tx,
-        "INSERT INTO entry (id, rev, device, pos, second, cause, crew, kept) VALUES (?1, 1, ?2, ?3, ?4, ?5, ?6, 1)",
+        "INSERT INTO entry (id, rev, device, pos, second, cause, crew, kept) VALUES (?1, ?2, ?3, ?4, ?5, ?6, ?7, ?8)",
         &[
-            int(no),
-            int(device),
-            position(act),
-            large(second),
-            int(cause),
-            ValueRef::Text(crew),
+            key(entry.no),
+            int(entry.rev),
+            int(u32::from(entry.device)),
+            position(entry.pos),
+            large(entry.second),
+            int(u32::from(entry.cause)),
+            ValueRef::Text(entry.crew.bytes()),
+            flag(entry.kept),
         ],
     )
 }
@@ -163,17 +157,17 @@ pub fn add_entry<S: Alter>(
 /// Adds the mark of a day. It fails where the day is marked already.
 pub fn add_mark<S: Alter>(
     tx: &mut Transaction<'_, S>,
-    day: u32,
-    engineer: &[u8],
+    day: u16,
+    engineer: &Crew,
 ) -> Result<(), Stop>
     ensures { Changes S.Store tx.old.conn tx.new.conn result Always
-        (LetsMark day engineer.now)
+        (LetsMark day)
         (with_row ATable.Mark (mark_row day engineer.now)) }
 {
     run(
         tx,
         "INSERT INTO mark (day, engineer) VALUES (?1, ?2)",
-        &[int(day), ValueRef::Text(engineer)],
+        &[int(u32::from(day)), ValueRef::Text(engineer.bytes())],
     )
 }
 

@@ -5,7 +5,7 @@ ghost use Rattle.sqlite_value.specs.Value.{owned};
 ghost use Rattle.sqlite.specs.declared.types.Value.TheVariants.{Int};
 ghost use Rattle.ob_base.specs.Stop.{out_of_memory};
 ghost use Rattle.ob_tables.specs.Steps.{Runs, IsStoreFault};
-ghost use Rattle.ob_tables.specs.Rows.{number, number_or_null, position_number};
+ghost use Rattle.ob_tables.specs.Rows.{bit, number, number_or_null, position_number};
 
 use ob_base::{Fault, Pos, Stop};
 use sqlite::{Alter, Error, ErrorCode, Transaction};
@@ -43,6 +43,14 @@ pub fn int(n: u32) -> ValueRef<'static>
     ValueRef::Int(i64::from(n))
 }
 
+/// The number of a row as a parameter, which is far below the largest row number.
+pub(crate) fn key(n: u32) -> ValueRef<'static>
+    ensures value { owned result ≡ number n }
+    ensures small { n < 2 ^ 32 }
+{
+    int(n)
+}
+
 /// A number that may be below 0 as a value.
 pub fn signed_value(n: i64) -> ValueRef<'static>
     ensures { owned result ≡ Int n }
@@ -77,4 +85,11 @@ pub(crate) fn position(pos: Pos) -> ValueRef<'static>
         Pos::Opened => ValueRef::Int(0),
         Pos::Closed => ValueRef::Int(1),
     }
+}
+
+/// 1 for true, 0 for false, as a parameter.
+pub(crate) fn flag(is: bool) -> ValueRef<'static>
+    ensures { owned result ≡ number (bit is) }
+{
+    ValueRef::Int(if is { 1 } else { 0 })
 }

@@ -7,7 +7,7 @@ use Rattle.ob_tables.specs.Versions.{schema_of}
 use Rattle.ob_tables.specs.declared.version.Version.{Version}
 use Rattle.ob_tables.specs.Rows.{Tables}
 use Rattle.ob_commit.specs.Keeps.{KeepsIn}
-use Rattle.ob_compare.specs.Moves.{moved_listing, ends_of}
+use Rattle.ob_compare.specs.Moves.{moved_listing}
 use Rattle.ob_compare.proofs.Rowing.{leads, expected}
 use Rattle.ob_compare.proofs.moves.follows.Given as goal
 
@@ -19,7 +19,7 @@ invariant-commands g l =
     (l.rows.conn.ghost_name ≡ l.fn.rows.conn.ghost_name) × Survives old now (λ _. ⊥) × (l.fn.rows.conn.now.in_transaction ≡ false → l.rows.conn.now.in_transaction ≡ false)
     × (l.book.state.accepted ≡ l.fn.book.state.accepted + l.at)
     × (leads l.version l.book.state (drop l.at l.commands) ≡ leads l.version l.fn.book.state l.commands)
-    × (l.fn.noted.items ≡ ends_of l.fn.book.state.network → l.noted.items ≡ ends_of l.book.state.network)
+    × (l.fn.noted ≡ l.fn.book.state.network → l.noted ≡ l.book.state.network)
     × (HasCleanDisk now → (IsTrue old.is_open → IsUnchanged old now)
     × (IsTrue old.is_open → (v : Version) → old.now.schema ≡ schema_of v → HasGiven g.S.Store moved_listing.text [] l.fn.rows.conn.now []
     → (front : List Row) × HasGiven g.S.Store moved_listing.text [] l.rows.conn.now front × (front ++ expected l.book.state (l.at + 1) (drop l.at l.commands) ≡ expected l.fn.book.state 1 l.commands)))

@@ -10,7 +10,7 @@ use Rattle.ob_state.specs.Next.{next}
 use Rattle.ob_state.specs.Amounts.{moves}
 use Rattle.ob_record.specs.Tables.{rows_of_moves}
 use Rattle.ob_compare.specs.Listing.{IsOff}
-use Rattle.ob_compare.specs.Moves.{moved_listing, ends_of}
+use Rattle.ob_compare.specs.Moves.{moved_listing}
 use Rattle.ob_compare.proofs.Listing.{still, goes_off, goes_given}
 use Rattle.ob_compare.proofs.Passing.{no_is_no}
 use Rattle.ob_compare.proofs.Texts.{same_state}
@@ -51,7 +51,7 @@ returns-then-not-branch-clause-goes g c late live v has given it so =
     let x = c.args.command.now in
     let new = c.matches.new.rows.conn.now in
     let is = rw c.in-Some.is at c.in_ok-plan.ensures in
-    let moved_is : c.moves.result.now ≡ moves b (next b x) = moved_by c.moves.result.now c.in-Some.plan b x c.decide_noting_ends.new.book.state c.moves.ensures is.plan.moved c.decide_noting_ends.ensures.state is.command in
+    let moved_is : c.moves.result.now ≡ moves b (next b x) = moved_by c.moves.result.now c.in-Some.plan b x c.decide_noting.new.book.state c.moves.ensures is.plan.moved c.decide_noting.ensures.state is.command in
     let off = goes_off g.S.Store moved_listing new given (rows_of_moves c.args.no c.moves.result.now) c.in_ok-matches.field-0 (c.in_ok-matches.ensures.goes late live v has given it) c.if-not-branch.true in
     subst (λ ms. IsOff moved_listing (state g.S.Store new).now given (rows_of_moves c.args.no ms)) moved_is off
 
@@ -97,7 +97,7 @@ returns-clause-goes g c late live v has given it so =
     let x = c.args.command.now in
     let new = c.matches.new.rows.conn.now in
     let is = rw c.in-Some.is at c.in_ok-plan.ensures in
-    let moved_is : c.moves.result.now ≡ moves b (next b x) = moved_by c.moves.result.now c.in-Some.plan b x c.decide_noting_ends.new.book.state c.moves.ensures is.plan.moved c.decide_noting_ends.ensures.state is.command in
+    let moved_is : c.moves.result.now ≡ moves b (next b x) = moved_by c.moves.result.now c.in-Some.plan b x c.decide_noting.new.book.state c.moves.ensures is.plan.moved c.decide_noting.ensures.state is.command in
     let rows = rows_of_moves c.args.no c.moves.result.now in
     let on = goes_given g.S.Store moved_listing new given rows c.in_ok-matches.field-0 (c.in_ok-matches.ensures.goes late live v has given it) c.if-not-branch.false in
     subst (λ ms. HasGiven g.S.Store moved_listing.text [] new (given ++ rows_of_moves c.args.no ms)) moved_is on
@@ -105,7 +105,7 @@ returns-clause-goes g c late live v has given it so =
 pub returns-clause-book : goal.returns-clause-book
 returns-clause-book g c e =
     let is = rw c.in-Some.is at c.in_ok-plan.ensures in
-    let state = c.decide_noting_ends.ensures.state in (
+    let state = c.decide_noting.ensures.state in (
       accepted _ c.fits.result (refusal c.args.book.now.state c.args.command.now) c.fits.ensures c.if-not-fits.false (sym (ap₂ refusal state is.command) ∙ is.plan.accepted),
       c.adopt.ensures.state ∙ ap₂ next state is.command,
     )
@@ -113,7 +113,7 @@ returns-clause-book g c e =
 pub returns-clause-noted : goal.returns-clause-noted
 returns-clause-noted g c e noted =
     let is = rw c.in-Some.is at c.in_ok-plan.ensures in
-    is.noted noted ∙ ap (λ (s : BookState). ends_of s.network) (sym (c.adopt.ensures.state ∙ ap₂ next c.decide_noting_ends.ensures.state is.command))
+    is.noted noted ∙ ap (λ (s : BookState). s.network) (sym (c.adopt.ensures.state ∙ ap₂ next c.decide_noting.ensures.state is.command))
 
 pub adopt-requires-clause-room : goal.adopt-requires-clause-room
 adopt-requires-clause-room g c = (rw c.in-Some.is at c.in_ok-plan.ensures).room
@@ -124,7 +124,7 @@ adopt-requires-clause-plan g c = (rw c.in-Some.is at c.in_ok-plan.ensures).plan
 -- a command that the book refuses
 pub returns-in_default-clause-goes : goal.returns-in_default-clause-goes
 returns-in_default-clause-goes g c late live v has given it so =
-    let some = c.decide_noting_ends.ensures.refused (c.in_ok-plan.was ∙ ap Ok c.in_default.is) in
+    let some = c.decide_noting.ensures.refused (c.in_ok-plan.was ∙ ap Ok c.in_default.is) in
     let none = unrefused _ c.fits.result (refusal c.args.book.now.state c.args.command.now) c.fits.ensures so in
     absurd (true≢false (sym some ∙ ap is_some none))
 

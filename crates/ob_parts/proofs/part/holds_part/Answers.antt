@@ -1,13 +1,32 @@
-use Rattle.std.proofs.Common.{rules, subst, sym}
+use Rattle.std.proofs.Common.{ℕ, [], ◌∷◌, rules, subst, sym}
+use Rattle.std.specs.Prelude.{unwrap_or}
+use Rattle.sqlite.specs.declared.types.Value.TheVariants.{Text}
+use Rattle.ob_net.specs.declared.net.Device.{Device as NetDevice}
+use Rattle.ob_net.specs.declared.net.Node.{Node as NetNode}
 use Rattle.ob_time.specs.Calendar.{day_count}
 use Rattle.ob_state.specs.Amounts.{amount}
 use Rattle.ob_state.specs.State.{BookState}
+use Rattle.ob_tables.specs.Rows.{node_kind, number, number_or_null, position_number}
 use Rattle.ob_tables.specs.Versions.{Has}
 use Rattle.ob_tables.specs.declared.table.Table.TheVariants.{Posting}
 use Rattle.ob_commit.specs.Amounts.{amount_rows}
 use Rattle.ob_compare.specs.Parts.{Compares}
 use Rattle.ob_parts.specs.Parts.{parts_in}
+use Rattle.ob_parts.proofs.Rising.{rise_numbered}
 use Rattle.ob_parts.proofs.part.holds_part.Goals as goal
+
+-- rows under numbers rise
+pub holds_numbered-requires : goal.holds_numbered-requires
+holds_numbered-requires g c =
+    record { rises = rise_numbered (λ (id : ℕ) (n : NetNode). Text n.name ∷ number (node_kind id n) ∷ number (unwrap_or n.feeder 0) ∷ []) c.nodes.result.now }
+
+pub holds_numbered-requires-in-Device : goal.holds_numbered-requires-in-Device
+holds_numbered-requires-in-Device g c =
+    record { rises = rise_numbered (λ (id : ℕ) (d : NetDevice). Text d.name ∷ number d.a ∷ number d.b ∷ number (position_number d.normal) ∷ []) c.devices.result.now }
+
+pub holds_numbered-requires-in-Life : goal.holds_numbered-requires-in-Life
+holds_numbered-requires-in-Life g c =
+    record { rises = rise_numbered (λ (id : ℕ) (d : NetDevice). number d.life.since ∷ number_or_null d.life.until ∷ []) c.devices.result.now }
 
 pub returns-in-Mark : goal.returns-in-Mark
 returns-in-Mark g c = search rules

@@ -1,9 +1,14 @@
-use Rattle.std.proofs.Common.{◌+◌, ◌∙◌, ap, refl, subst, sym}
+use Rattle.std.proofs.Common.{◌≡◌, ◌+◌, ◌∙◌, ap, refl, subst, sym}
 use Rattle.ob_post.specs.Postings.{PostedAmounts}
+use Rattle.ob_state.specs.State.{BookState}
+use Rattle.ob_state.specs.Next.{next}
+use Rattle.ob_state.specs.Resolved.{next_by}
 use Rattle.ob_book.specs.Acts.{Referenced}
 use Rattle.ob_book.specs.Books.{ArePosted}
 use Rattle.ob_commit.specs.declared.act.Act.{Act}
+use Rattle.ob_record.specs.Leading.{LeadsParts}
 use Rattle.ob_record.proofs.Acted.{AreRowsOf, can_write, records}
+use Rattle.ob_record.proofs.Leads.{leads}
 use Rattle.ob_record.proofs.act.act_of.Given as given
 use Rattle.ob_record.proofs.act.act_of.Goals as goal
 
@@ -15,9 +20,19 @@ act g c = record {
   no = c.accepted.result + 1;
   reference = c.args.reference;
   body = c.args.body;
-  change = c.args.change;
+  resolved = c.resolved-resolved.result;
   moves = c.moves.result;
 }
+
+-- what the command comes to leads to the rows of the state after it
+lead : (g : given.Over) (c : goal.After-moves g) → LeadsParts c.args.book.now.state (next c.args.book.now.state c.args.plan.now.command) c.resolved-resolved.result.now
+lead g c =
+    let b = c.args.book.now.state in
+    let it = c.requires.plan.resolves in
+    let is : c.args.plan.now.resolved ≡ c.resolved-resolved.result.now = sym c.resolved-resolved.ensures in
+    let led : LeadsParts b (next_by b c.args.plan.now.resolved) c.args.plan.now.resolved =
+    leads b c.args.plan.now.resolved c.accepted.ensures.sound it.takes (rw c.resolved-resolved.ensures at c.crew_law.ensures) in
+    subst (LeadsParts b (next b c.args.plan.now.command)) is (subst (λ (s : BookState). LeadsParts b s c.args.plan.now.resolved) it.next led)
 
 are_rows : (g : given.Over) (c : goal.After-moves g) (p : PostedAmounts) → ArePosted c.args.book.now.state p
     → AreRowsOf c.args.book.now.state (command g c) p (act g c)
@@ -25,7 +40,7 @@ are_rows g c p posted = record {
   id = ap (λ n. n + 1) c.accepted.ensures.accepted;
   reference = refl;
   body = c.requires.body;
-  change = c.requires.change;
+  leads = lead g c;
   moves = c.moves.ensures ∙ c.requires.plan.moved;
   posted = posted;
   small = c.requires.small.0;

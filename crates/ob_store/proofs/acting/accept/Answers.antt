@@ -1,10 +1,9 @@
 use Rattle.std.proofs.Common.{◌≡◌, ◌+◌, None, Ok, Err, sym, ap, ap₂, subst, ◌∙◌}
 use Rattle.ob_post.specs.MoveLaws.{AreSmall}
 use Rattle.ob_state.specs.Amounts.{amount, moves}
-use Rattle.ob_state.specs.State.{BookState}
 use Rattle.ob_state.specs.Next.{next}
 use Rattle.ob_state.specs.Refusals.{refusal}
-use Rattle.ob_record.specs.Leading.{LeadsParts, Records}
+use Rattle.ob_record.specs.Leading.{Records}
 use Rattle.ob_record.specs.Naming.{IsReferenced}
 use Rattle.ob_store.specs.Acting.{under}
 use Rattle.ob_record.specs.Tables.{tables_of}
@@ -17,14 +16,6 @@ returns-in-Err-clause-acts g c clean b keeps same fresh =
     decided g.S.Store c.args.conn.now c.args.book.now.state c.decide.new.self.state b (under c.args.reference.now command) c.decide.ensures.state keeps fresh c.in-Err.stop
     (λ r e. sym (ap (λ s. refusal s command) same) ∙ (c.in-Err.ensures.refused r).0 (ap Err e))
     (λ f e. c.in-Err.ensures.err f (ap Err e))
-
--- the rows of what the command comes to lead to the state after it
-pub act_of-act-requires-clause-change : goal.act_of-act-requires-clause-change
-act_of-act-requires-clause-change g c =
-    let b = c.decide.new.self.state in
-    let it = c.in-Ok.ensures.plan.resolves in
-    let leads = rw c.resolved.ensures at c.change_of-change.ensures in
-    subst (λ (s : BookState). LeadsParts b s c.change_of-change.result) it.next (leads b c.accepted.ensures.sound it.takes)
 
 pub act_of-act-requires-clause-small : goal.act_of-act-requires-clause-small
 act_of-act-requires-clause-small g c =

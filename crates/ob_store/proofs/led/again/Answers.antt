@@ -1,6 +1,6 @@
-use Rattle.std.proofs.Common.{Ok, inl, refl, ap, ◌∙◌}
+use Rattle.std.proofs.Common.{Ok, inl, ap, ◌∙◌}
 use Rattle.ob_tables.specs.declared.version.Version.TheVariants.{Two}
-use Rattle.ob_store.proofs.Leading.{has_parts, led_by, stuck}
+use Rattle.ob_store.proofs.Leading.{led_by, stuck}
 use Rattle.ob_store.proofs.led.again.Goals as goal
 
 pub returns-in-Err-clause-nowhere : goal.returns-in-Err-clause-nowhere
@@ -12,10 +12,9 @@ returns-in-Ok-true-clause-led g c =
     let begun = c.in-Ok.ensures.begun in
     let first = c.in-Ok.led.book.state in
     let s = c.lead.new.book.state in
-    let led = c.lead.ensures.book (c.in-Ok-true.is ∙ ap Ok c.in-Ok-true.field-0-test) in (
-      led_by Two it first begun.new c.deref.result.now c.deref.ensures.value s led,
-      has_parts Two it first begun.new c.deref.result.now c.deref.ensures.value (λ p l e is. is) s led c.in-Ok.led.names.items it.commands.items refl begun.named
-          c.in-Ok.led.ends.items c.lead.new.noted.items begun.no_ends (c.lead.ensures.noted (c.in-Ok-true.is ∙ ap Ok c.in-Ok-true.field-0-test)),
+    let accepted = c.in-Ok-true.is ∙ ap Ok c.in-Ok-true.field-0-test in (
+      led_by Two it first begun.new c.deref.result.now c.deref.ensures.value s (c.lead.ensures.book accepted),
+      c.lead.ensures.noted accepted begun.laid_out,
       c.in-Ok.ensures.moved,
       c.in-Ok.ensures.counted,
     )

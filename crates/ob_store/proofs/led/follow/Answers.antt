@@ -2,9 +2,8 @@ use Rattle.std.proofs.Common.{Bool, Some, None, Ok, is_some, true, refl, ap, sub
 use Rattle.sqlite.specs.Held.{state}
 use Rattle.ob_store.specs.Finding.{Finds}
 use Rattle.ob_store.specs.Leading.{HasNoPeriodOf, MovesAre}
-use Rattle.ob_store.proofs.Laws.{led_today}
 use Rattle.ob_store.proofs.Reading.{none_read, read_err, read_ok, then_good}
-use Rattle.ob_store.proofs.Leading.{has_parts, led_by, moves_found}
+use Rattle.ob_store.proofs.Leading.{led_by, moves_found}
 use Rattle.ob_store.proofs.led.follow.Goals as goal
 
 pub returns-in-Err-clause-finds : goal.returns-in-Err-clause-finds
@@ -14,12 +13,12 @@ returns-in-Err-clause-finds g c =
 pub returns-in-Ok-true-clause-led : goal.returns-in-Ok-true-clause-led
 returns-in-Ok-true-clause-led g c =
     let it = c.args.named.now in
+    let begun = c.in-Ok.ensures.begun in
     let first = c.in-Ok.led.book.state in
     let s = c.holds_moves.new.book.state in
-    let led = c.holds_moves.ensures.book (c.in-Ok-true.is ∙ ap Ok c.in-Ok-true.field-0-test) in (
-      led_by c.args.version it first c.in-Ok.ensures.begun.new c.deref.result.now c.deref.ensures.value s led,
-      has_parts c.args.version it first c.in-Ok.ensures.begun.new c.deref.result.now c.deref.ensures.value (led_today c.version_law.ensures.accepted c.args.version) s led c.in-Ok.led.names.items it.commands.items refl c.in-Ok.ensures.begun.named
-          c.in-Ok.led.ends.items c.holds_moves.new.noted.items c.in-Ok.ensures.begun.no_ends (c.holds_moves.ensures.noted (c.in-Ok-true.is ∙ ap Ok c.in-Ok-true.field-0-test)),
+    let accepted = c.in-Ok-true.is ∙ ap Ok c.in-Ok-true.field-0-test in (
+      led_by c.args.version it first begun.new c.deref.result.now c.deref.ensures.value s (c.holds_moves.ensures.book accepted),
+      c.holds_moves.ensures.noted accepted begun.laid_out,
       refl,
       c.in-Ok.ensures.counted,
     )
@@ -34,7 +33,7 @@ returns-in-Ok-true-clause-finds g c =
     read_ok g.S.Store c.args.version (λ trees (found : Bool). MovesAre c.args.version it trees found) (λ _. HasNoPeriodOf it.heading) old new c.in-Ok-true.field-0 e.mode e.survives e.clean (e.kept c.args.version) (λ clean. e.same clean c.args.version) (λ clean schema.
     moves_found c.args.version it c.in-Ok.led.book.state c.in-Ok.ensures.begun.new c.deref.result.now c.deref.ensures.value (state g.S.Store old).now.trees c.in-Ok-true.field-0 c.in-Ok-true.field-0 refl (e.moved clean c.args.version schema)) in
     then_good g.S.Store c.args.version (λ trees (found : Bool). MovesAre c.args.version it trees found) (λ _. HasNoPeriodOf it.heading) (λ trees found. MovesAre c.args.version it trees (is_some found)) (λ _. HasNoPeriodOf it.heading) old new c.in-Ok-true.field-0 read
-    (Some (record { book = c.holds_moves.new.book; names = c.in-Ok.led.names; ends = c.holds_moves.new.noted; counted = c.in-Ok.led.counted; moved = true })) (λ trees are. subst (MovesAre c.args.version it trees) c.in-Ok-true.field-0-test are)
+    (Some (record { book = c.holds_moves.new.book; layout = c.holds_moves.new.noted; counted = c.in-Ok.led.counted; moved = true })) (λ trees are. subst (MovesAre c.args.version it trees) c.in-Ok-true.field-0-test are)
 
 pub returns-in-Ok-false-clause-finds : goal.returns-in-Ok-false-clause-finds
 returns-in-Ok-false-clause-finds g c =

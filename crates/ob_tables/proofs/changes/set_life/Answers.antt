@@ -1,4 +1,4 @@
-use Rattle.std.proofs.Common.{◌<◌, ◌^◌, rules}
+use Rattle.std.proofs.Common.{◌<◌, ◌^◌, arith, rules}
 use Rattle.ob_tables.proofs.Casts.{bound_optional}
 use Rattle.ob_tables.proofs.Running.{changes}
 use Rattle.ob_tables.proofs.Keyed.{relives}
@@ -7,7 +7,8 @@ use Rattle.ob_tables.proofs.changes.set_life.Goals as goal
 
 pub returns : goal.returns
 returns g c =
-    let small : c.args.device < 2 ^ 32 = search rules in
+    let low : c.args.device < 2 ^ 16 = search rules in
+    let small : c.args.device < 2 ^ 32 = omega (arith, low) in
     changes g.S.Store _ _ _ _ _ c.run.ensures
-    (λ ran. relives _ _ c.args.device c.args.since c.args.until (rw (c.int.ensures, c.large.ensures, c.large_or_null.ensures, bound_optional c.args.until) at ran))
-    (λ failed lets. lets_life_ends _ _ c.args.device c.args.since c.args.until small (rw (c.int.ensures, c.large.ensures, c.large_or_null.ensures, bound_optional c.args.until) at failed) lets)
+    (λ ran. relives _ _ c.args.device c.args.life (rw (c.int.ensures, c.from.ensures, c.large.ensures, c.large_or_null.ensures, bound_optional c.args.life.until) at ran))
+    (λ failed lets. lets_life_ends _ _ c.args.device c.args.life small (rw (c.int.ensures, c.from.ensures, c.large.ensures, c.large_or_null.ensures, bound_optional c.args.life.until) at failed) lets)

@@ -7,7 +7,7 @@ use Rattle.ob_tables.proofs.changes.set_service.Goals as goal
 
 pub returns : goal.returns
 returns g c =
-    let small : c.args.no < 2 ^ 32 = search rules in
+    let small : c.args.customer.no < 2 ^ 32 = search rules in
     changes g.S.Store _ _ _ _ _ c.run.ensures
-    (λ ran. sets_service _ _ c.args.no c.args.since c.args.until (rw (c.int.ensures, c.large.ensures, c.large_or_null.ensures, bound_optional c.args.until) at ran))
-    (λ failed lets. lets_service _ _ c.args.no c.args.since c.args.until small (rw (c.int.ensures, c.large.ensures, c.large_or_null.ensures, bound_optional c.args.until) at failed) lets)
+    (λ ran. sets_service _ _ c.args.customer (rw (c.int.ensures, c.large.ensures, c.large_or_null.ensures, bound_optional c.args.customer.until) at ran))
+    (λ failed lets. lets_service _ _ c.args.customer small (rw (c.int.ensures, c.large.ensures, c.large_or_null.ensures, bound_optional c.args.customer.until) at failed) lets)

@@ -7,7 +7,7 @@ use Rattle.ob_tables.proofs.inserts.add_customer.Goals as goal
 
 pub returns : goal.returns
 returns g c =
-    let small : c.args.no < 2 ^ 32 = search rules in
+    let small : c.args.customer.no < 2 ^ 32 = search rules in
     changes g.S.Store _ _ _ _ _ c.run.ensures
-    (λ ran. adds_customer _ _ c.args.no c.args.section c.args.since c.args.until (rw (c.int.ensures, c.int-2.ensures, c.large.ensures, c.large_or_null.ensures, bound_optional c.args.until) at ran))
-    (λ failed lets. lets_customer _ _ c.args.no c.args.section c.args.since c.args.until small (rw (c.int.ensures, c.int-2.ensures, c.large.ensures, c.large_or_null.ensures, bound_optional c.args.until) at failed) lets)
+    (λ ran. adds_customer _ _ c.args.customer (rw (c.int.ensures, c.int-2.ensures, c.from.ensures, c.large.ensures, c.large_or_null.ensures, bound_optional c.args.customer.until) at ran))
+    (λ failed lets. lets_customer _ _ c.args.customer small (rw (c.int.ensures, c.int-2.ensures, c.from.ensures, c.large.ensures, c.large_or_null.ensures, bound_optional c.args.customer.until) at failed) lets)

@@ -1,4 +1,5 @@
-use Rattle.std.proofs.Common.{◌<◌, ◌^◌, rules}
+use Rattle.std.proofs.Common.{◌<◌, ◌^◌, arith, rules}
+use Rattle.ob_tables.proofs.Identifiers.{short_crew}
 use Rattle.ob_tables.proofs.Running.{changes}
 use Rattle.ob_tables.proofs.Adding.{adds_mark}
 use Rattle.ob_tables.proofs.Letting.{lets_mark}
@@ -6,7 +7,8 @@ use Rattle.ob_tables.proofs.inserts.add_mark.Goals as goal
 
 pub returns : goal.returns
 returns g c =
-    let small : c.args.day < 2 ^ 32 = search rules in
+    let low : c.args.day < 2 ^ 16 = search rules in
+    let small : c.args.day < 2 ^ 32 = omega (arith, low) in
     changes g.S.Store _ _ _ _ _ c.run.ensures
-    (λ ran. adds_mark _ _ c.args.day c.args.engineer.now (rw (c.int.ensures) at ran))
-    (λ failed lets. lets_mark _ _ c.args.day c.args.engineer.now small (rw (c.int.ensures) at failed) lets)
+    (λ ran. adds_mark _ _ c.args.day c.args.engineer.now (rw (c.int.ensures, c.from.ensures, c.bytes.ensures.value) at ran))
+    (λ failed lets. lets_mark _ _ c.args.day c.args.engineer.now small (short_crew c.args.engineer.now c.bytes.ensures.identifier) (rw (c.int.ensures, c.from.ensures, c.bytes.ensures.value) at failed) lets)

@@ -17,5 +17,5 @@ returns c =
     let amount = amount_of c.args.self.now.postings.now in
     let key : Key = (c.key_at-dim.result.0, c.key_at-dim.result.1) in
     let columns = amount_columns amount key c.from.result c.from-2.result c.amount.result (c.from.ensures ∙ c.number.ensures) c.from-2.ensures c.amount.ensures.value in
-    decides _ _ c.args.row.now (amount_row amount key) (subst (λ e. IsTrue c.has_fields.result ↔ (c.args.row.now ≡ e)) columns c.has_fields.ensures)
+    decides _ _ c.args.row.now (amount_row amount key) (subst (λ e. IsTrue c.is_posting_row.result ↔ (c.args.row.now ≡ e)) columns c.is_posting_row.ensures)
     (place_of (amount_row amount) (all_keys days) c.args.at key c.key_at-dim.ensures.key)

@@ -18,5 +18,5 @@ pub returns : goal.returns
 returns g c =
     let causes = c.args.self.now.book.now.state.causes in
     let here : slice_index_or causes c.args.at None ≡ Some c.in-Some.name = sym c.cause_name.ensures ∙ c.in-Some.is in
-    decides _ _ c.args.row.now (cause_row c.args.at c.in-Some.name) (rw c.bytes.ensures.value at c.has_fields.ensures)
+    decides _ _ c.args.row.now (cause_row c.args.at c.in-Some.name) c.is_cause_row.ensures
     (at_placed cause_row 0 causes c.args.at c.in-Some.name here c.args.at (omega arith))

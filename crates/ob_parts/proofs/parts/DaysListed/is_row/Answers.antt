@@ -24,5 +24,5 @@ pub returns : goal.returns
 returns c =
     let marks = c.args.self.now.marks.now in
     let here : slice_index_or marks c.args.at None ≡ Some c.in-Some.engineer = ap (λ k. slice_index_or marks k None) (sym c.day_at.ensures) ∙ sym c.engineer.ensures ∙ c.in-Some.is in
-    decides _ _ c.args.row.now (mark_row c.args.at c.in-Some.engineer) (rw c.bytes.ensures.value at c.has_fields.ensures)
+    decides _ _ c.args.row.now (mark_row c.args.at c.in-Some.engineer) c.is_mark_row.ensures
     (at_placed mark_row 0 marks c.args.at c.in-Some.engineer here c.args.at (omega arith))
