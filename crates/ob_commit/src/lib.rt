@@ -15,7 +15,6 @@ mod act;
 mod change;
 mod columns;
 mod creation;
-mod first;
 mod known;
 mod moves;
 mod stored;
@@ -24,7 +23,6 @@ mod writing;
 
 pub use act::{Act, commit_act};
 pub use creation::commit_new;
-pub use first::grid;
 pub use known::{Known, look_up};
 pub use stored::stored_moves;
 pub use upgrade::{NewBody, commit_upgrade};

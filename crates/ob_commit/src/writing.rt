@@ -7,9 +7,10 @@ ghost use Rattle.ob_commit.specs.Amounts.{all_keys};
 ghost use Rattle.ob_commit.specs.Keeps.{ChangesOpen};
 ghost use Rattle.ob_commit.specs.NewBook.{LetsHeading, LetsNew, LetsZeros, new_tables, with_heading, with_zeros, keys_of, MakesNew};
 
-use crate::first::{grid, unassigned};
 use ob_base::Stop;
+use ob_net::grid;
 use ob_post::Dim;
+use ob_state::unassigned;
 use ob_tables::{add_cause, add_meta, add_node, add_posting, create_tables};
 use sqlite::{Alter, Transaction};
 

@@ -1,7 +1,6 @@
 //! The nodes and the devices of a book that is led along.
 use ob_base::{Life, Stop};
-use ob_commit::grid;
-use ob_net::{Device, Node};
+use ob_net::{Device, Node, grid};
 use ob_state::Resolved;
 use std::alloc::Global;
 use std::marker::Model;
