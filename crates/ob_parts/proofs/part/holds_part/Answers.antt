@@ -26,7 +26,7 @@ holds_numbered-requires-in-Device g c =
 
 pub holds_numbered-requires-in-Life : goal.holds_numbered-requires-in-Life
 holds_numbered-requires-in-Life g c =
-    record { rises = rise_numbered (λ (id : ℕ) (d : NetDevice). number d.life.since ∷ number_or_null d.life.until ∷ []) c.devices.result.now }
+    record { rises = rise_numbered (λ (id : ℕ) (d : NetDevice). number d.life.since ∷ number_or_null d.life.until ∷ []) c.devices-in-Life.result.now }
 
 pub returns-in-Mark : goal.returns-in-Mark
 returns-in-Mark g c = search rules
