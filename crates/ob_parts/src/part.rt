@@ -87,6 +87,7 @@ pub fn holds_part<S: Alter, T: Timeline>(
         Table::Entry => holds_entries(conn, book.sheet()),
         Table::Mark => holds_marks(conn, book.marks(), book.period().days()),
         Table::Posting => holds_posted(conn, book),
+        // No part of a book, by a premise.
         Table::Command | Table::Moved => unreachable!(),
     }
 }
