@@ -52,7 +52,7 @@ pub(crate) struct Upgrade {
     /// The body texts that commands have from now on.
     pub(crate) bodies: Vec<NewBody>,
     /// How many devices there are.
-    pub(crate) devices: u32,
+    pub(crate) devices: u16,
 }
 
 /// What the commands of a book of version 1 lead to, and what their rows tell. It does nothing when it runs.
@@ -185,7 +185,7 @@ fn upgrade_of<T: Timeline>(alloc: Global, named: &Named, led: &Led<T>) -> Result
     ensures devices { IfOk result (λ it. it.devices ≡ length led.now.book.state.network.devices) }
     ensures faults { IfErr result (λ stop. stop ≡ out_of_memory) }
 {
-    let devices = u32::from(led.book.net().devices());
+    let devices = led.book.net().devices();
     match new_bodies(alloc, &named.commands) {
         Ok(bodies) => Ok(Upgrade { bodies, devices }),
         Err(stop) => Err(stop),
