@@ -29,7 +29,7 @@ use Rattle.ob_commit.specs.Upgrade.{CanUpgrade, KeepsOldOr, LeavesUpgraded, Lets
 use Rattle.ob_commit.proofs.Commits.{numbers_survive}
 use Rattle.ob_record.specs.Tables.{tables_of}
 use Rattle.ob_compare.specs.Reading.{IsReadFault}
-use Rattle.ob_compare.specs.Version.{HasVersion, IsOfBook}
+use Rattle.ob_compare.specs.Version.{HasVersion}
 use Rattle.ob_parts.specs.Laws.{OldIsReached}
 use Rattle.ob_parts.specs.OldTables.{HasOldBook, old_tables_of}
 use Rattle.ob_store.specs.declared.migrating.Upgrade.{Upgrade}
