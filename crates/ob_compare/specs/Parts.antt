@@ -1,5 +1,5 @@
 -- The rows of each table by rising key, and a table compared with the rows that are expected of it.
-use Rattle.std.specs.Prelude.{◌≡◌, ◌≢◌, ℕ, Bool, false, List, [], ◌∷◌, Option, Some, None, Result, IsTrue, IfOk, IfErr, OnOk, ◌↔◌}
+use Rattle.std.specs.Prelude.{◌≡◌, ◌≢◌, Bool, false, List, [], ◌∷◌, Option, Some, None, Result, IsTrue, IfOk, IfErr, OnOk, ◌↔◌}
 use Rattle.std.specs.List.Sorted.{IsPermutation}
 use Rattle.std.specs.declared.cmp.Ordering.{Ordering}
 use Rattle.sqlite.specs.Query.{output_cmp}
