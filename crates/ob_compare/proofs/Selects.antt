@@ -2,6 +2,7 @@
 use Rattle.std.proofs.Common.{[], lit≤, refl, true≢false}
 use Rattle.sqlite.specs.Listing.{understood}
 use Rattle.sqlite_tied.specs.Compute.{everything}
+use Rattle.ob_tables.specs.Listings.{select_of}
 use Rattle.ob_tables.specs.Queries.{IsAlwaysAnswered}
 use Rattle.ob_tables.specs.Versions.{Has, schema_of}
 use Rattle.ob_tables.specs.declared.table.Table.{Table}
@@ -9,7 +10,7 @@ use Rattle.ob_tables.specs.declared.table.Table.TheVariants.{Meta, Cause, Node, 
 use Rattle.ob_tables.specs.declared.version.Version.{Version}
 use Rattle.ob_tables.specs.declared.version.Version.TheVariants.{One, Two}
 use Rattle.ob_compare.specs.Listing.{IsListingOver, ShowsNoWrite}
-use Rattle.ob_compare.specs.Parts.{listing_of, select_of}
+use Rattle.ob_compare.specs.Parts.{listing_of}
 use Rattle.ob_compare.proofs.Failing.{list_accepted}
 use Rattle.ob_compare.proofs.NoWrite.{shows_no_write}
 

@@ -3,6 +3,7 @@ ghost use Rattle.std.specs.Prelude.{◌≡◌, ◌≢◌, false, List, IfOk, IfE
 ghost use Rattle.sqlite.specs.Held.{state};
 ghost use Rattle.sqlite.specs.State.{HasCleanDisk, IsUnchanged, Survives};
 ghost use Rattle.ob_base.specs.Stop.{out_of_memory};
+ghost use Rattle.ob_tables.specs.Listings.{select_of};
 ghost use Rattle.ob_tables.specs.Schema.{no_schema};
 ghost use Rattle.ob_tables.specs.Versions.{schema_of};
 ghost use Rattle.ob_tables.specs.declared.version.Version.{Version};
@@ -12,14 +13,12 @@ ghost use Rattle.ob_tables.specs.declared.table.Table.{Table as ATable};
 ghost use Rattle.ob_commit.specs.Keeps.{KeepsIn};
 ghost use Rattle.ob_record.specs.Tables.{Shows};
 ghost use Rattle.ob_compare.specs.Faults.{HasNoMeaning, IsMissed, IsReadFault, bad_book};
-ghost use Rattle.ob_compare.specs.Parts.{select_of};
 ghost use Rattle.ob_compare.specs.Reading.{IsHeading, IsHeadingRow};
 
 use crate::columns::{small_at, text_at};
-use crate::listed::select_of;
 use crate::query::list_all;
 use ob_base::Stop;
-use ob_tables::Table;
+use ob_tables::{Table, select_of};
 use sqlite::{Alter, Connection, Row};
 use std::alloc::Global;
 

@@ -6,6 +6,7 @@ ghost use Rattle.sqlite.specs.Order.{Row as ARow};
 ghost use Rattle.sqlite.specs.Held.{state};
 ghost use Rattle.sqlite.specs.Given.{HasGiven};
 ghost use Rattle.sqlite.specs.State.{HasCleanDisk, IsUnchanged, Survives};
+ghost use Rattle.ob_tables.specs.Listings.{select_of};
 ghost use Rattle.ob_tables.specs.Versions.{Has, schema_of};
 ghost use Rattle.ob_tables.specs.declared.version.Version.{Version};
 ghost use Rattle.ob_tables.specs.Rows.{Columns, Tables};
@@ -14,12 +15,12 @@ ghost use Rattle.ob_tables.specs.declared.table.Table.{Table as ATable};
 ghost use Rattle.ob_commit.specs.Keeps.{KeepsIn};
 ghost use Rattle.ob_record.specs.Tables.{Shows};
 ghost use Rattle.ob_compare.specs.Listing.{Goes};
-ghost use Rattle.ob_compare.specs.Parts.{Compares, listing_of, row_cmp, select_of, standing};
+ghost use Rattle.ob_compare.specs.Parts.{Compares, listing_of, row_cmp, standing};
 
 use crate::query::prepare;
 use crate::rows::{advance, is_over};
 use ob_base::Stop;
-use ob_tables::{Table, stop_of};
+use ob_tables::{Table, select_of, stop_of};
 use sqlite::{Alter, Connection, Row, Rows};
 
 /// A part of a book as rows of a table: each of its places has one or none. They rise by key.
@@ -47,27 +48,6 @@ pub trait Listed {
     fn is_row(&self, at: usize, row: &Row) -> bool
         requires { at < length (places self.now) }
         ensures { IsTrue result ↔ (slice_index_or (places self.now) at None ≡ Some row.now) };
-}
-
-/// The query of all rows of a table, by key.
-pub(crate) fn select_of(table: Table) -> &'static str
-    ensures { result.now ≡ select_of table }
-{
-    match table {
-        Table::Meta => "SELECT id, version, day0, days, zone FROM meta ORDER BY id",
-        Table::Cause => "SELECT code, name FROM cause ORDER BY code",
-        Table::Node => "SELECT id, name, kind, feeder FROM node ORDER BY id",
-        Table::Device => "SELECT id, name, a, b, normal FROM device ORDER BY id",
-        Table::Life => "SELECT device, since, until FROM life ORDER BY device",
-        Table::Customer => "SELECT id, section, since, until FROM customer ORDER BY id",
-        Table::Entry => {
-            "SELECT id, rev, device, pos, second, cause, crew, kept FROM entry ORDER BY id"
-        }
-        Table::Mark => "SELECT day, engineer FROM mark ORDER BY day",
-        Table::Command => "SELECT id, ref, body FROM cmd ORDER BY id",
-        Table::Moved => "SELECT cmd, dim, k, delta FROM moved ORDER BY cmd, dim, k",
-        Table::Posting => "SELECT dim, k, amount FROM posting ORDER BY dim, k",
-    }
 }
 
 /// Whether the rows go on with that of a place, if it has one.

@@ -24,7 +24,6 @@ ghost use Rattle.ob_compare.specs.Versioned.{accepts_in, next_all_in};
 use crate::filed::Filed;
 use crate::layout::Layout;
 use crate::leading::decide_noting;
-use crate::listed::select_of;
 use crate::progress::{Progress, Work};
 use crate::query::prepare;
 use crate::rows::{advance, is_over, is_row};
@@ -33,7 +32,7 @@ use ob_book::Book;
 use ob_command::Command;
 use ob_post::Moved;
 use ob_sweep::Timeline;
-use ob_tables::{Table, Version, int, signed_value, stop_of};
+use ob_tables::{Table, Version, int, select_of, signed_value, stop_of};
 use ob_upgrade::fits_version_one;
 use sqlite::{Alter, Connection, Row, Rows};
 

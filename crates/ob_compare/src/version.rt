@@ -2,6 +2,7 @@
 ghost use Rattle.std.specs.Prelude.{◌≡◌, ◌↔◌, false, List, [], IsTrue, IfOk, IfErr, OnOk};
 ghost use Rattle.sqlite.specs.Held.{state};
 ghost use Rattle.sqlite.specs.State.{HasCleanDisk, IsUnchanged, Shown, Survives};
+ghost use Rattle.ob_tables.specs.Listings.{select_of};
 ghost use Rattle.ob_tables.specs.Schema.{no_schema};
 ghost use Rattle.ob_tables.specs.Versions.{schema_of};
 ghost use Rattle.ob_tables.specs.declared.version.Version.{Version};
@@ -10,14 +11,12 @@ ghost use Rattle.ob_tables.specs.Steps.{HasFaultCause};
 ghost use Rattle.ob_tables.specs.declared.table.Table.{Table as ATable};
 ghost use Rattle.ob_commit.specs.Keeps.{KeepsIn};
 ghost use Rattle.ob_compare.specs.Faults.{HasNoMeaning, IsMissed, IsReadFault, bad_book};
-ghost use Rattle.ob_compare.specs.Parts.{select_of};
 ghost use Rattle.ob_compare.specs.Version.{HasVersion, IsOfBook, IsVersionRow};
 
 use crate::columns::has_number;
-use crate::listed::select_of;
 use crate::query::list_all;
 use ob_base::Stop;
-use ob_tables::Table;
+use ob_tables::{Table, select_of};
 use sqlite::{Alter, Connection, Row};
 
 /// Whether there is one row, with this version.

@@ -11,7 +11,7 @@ ghost use Rattle.ob_book.specs.Acts.{ActState};
 ghost use Rattle.ob_book.specs.Books.{ArePosted};
 ghost use Rattle.ob_book.specs.Plans.{IsPlan};
 ghost use Rattle.ob_commit.specs.Acts.{CanWrite};
-ghost use Rattle.ob_record.specs.Leading.{Records};
+ghost use Rattle.ob_record.specs.Leading.{LeadsParts, Records};
 ghost use Rattle.ob_record.specs.Reached.{AcceptedIsReached, IsReached, ReachedCounts, ReachedIsOfCommands};
 ghost use Rattle.ob_record.specs.Reached.{StartHasFirstRows, StartIsReached};
 
@@ -34,6 +34,8 @@ pub fn act_of<'t, T: Timeline>(
         × AreSmall (amount (next book.now.state plan.now.command)) }
     ensures no { result.no ≡ book.now.state.accepted + 1 }
     ensures can { (p : PostedAmounts) → ArePosted book.now.state p → CanWrite p result }
+    ensures leads { LeadsParts book.now.state (next book.now.state plan.now.command)
+        result.resolved.now }
     ensures records { (b : ActState) → IsReached b → b.book ≡ book.now.state
         → (p : PostedAmounts) → ArePosted book.now.state p
         → Records b (record { reference = reference.now; command = plan.now.command }) p result }

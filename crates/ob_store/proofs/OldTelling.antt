@@ -11,6 +11,7 @@ use Rattle.ob_base.specs.declared.stop.Stop.{Stop}
 use Rattle.ob_tables.specs.Creation.{old_schema}
 use Rattle.ob_tables.specs.Schema.{book_schema}
 use Rattle.sqlite_tied.specs.Compute.{everything}
+use Rattle.ob_tables.specs.Listings.{select_of}
 use Rattle.ob_tables.specs.Rows.{Columns, Tables}
 use Rattle.ob_tables.specs.Steps.{HasFaultCause}
 use Rattle.ob_tables.specs.Versions.{schema_of}
@@ -18,7 +19,6 @@ use Rattle.ob_tables.specs.declared.table.Table.TheVariants.{Meta}
 use Rattle.ob_tables.specs.declared.version.Version.{Version}
 use Rattle.ob_tables.specs.declared.version.Version.TheVariants.{One, Two}
 use Rattle.ob_commit.specs.Keeps.{KeepsIn}
-use Rattle.ob_compare.specs.Parts.{select_of}
 use Rattle.ob_compare.specs.Reading.{IsReadFault, bad_book}
 use Rattle.ob_compare.specs.Version.{HasVersion, IsOfBook, IsVersionRow}
 use Rattle.ob_compare.proofs.Asking.{shown_before}

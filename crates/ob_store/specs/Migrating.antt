@@ -10,6 +10,7 @@ use Rattle.ob_base.specs.declared.stop.Refusal.TheVariants.{BadBook}
 use Rattle.ob_base.specs.declared.stop.Fault.TheVariants.{OutOfMemory, Store}
 use Rattle.ob_book.specs.Acts.{ActState}
 use Rattle.ob_tables.specs.Creation.{old_schema}
+use Rattle.ob_tables.specs.Listings.{select_of}
 use Rattle.ob_tables.specs.Rows.{Columns}
 use Rattle.ob_tables.specs.Schema.{no_schema}
 use Rattle.ob_tables.specs.Steps.{HasFailed}
@@ -19,7 +20,6 @@ use Rattle.ob_tables.specs.declared.version.Version.{Version}
 use Rattle.ob_tables.specs.declared.version.Version.TheVariants.{One}
 use Rattle.ob_commit.specs.Keeps.{HasCommitCause, KeepsNumbers, Leaves}
 use Rattle.ob_record.specs.Tables.{tables_of}
-use Rattle.ob_compare.specs.Parts.{select_of}
 use Rattle.ob_compare.specs.Reading.{IsMissed}
 use Rattle.ob_compare.specs.Version.{HasVersion, IsOfBook, IsVersionRow}
 use Rattle.ob_parts.specs.OldTables.{HasOldBook}

@@ -6,7 +6,8 @@ use Rattle.sqlite.specs.Effect.{Database}
 use Rattle.sqlite.specs.State.{HasCleanDisk}
 use Rattle.sqlite.specs.Held.{state}
 use Rattle.sqlite.proofs.Callers.{unchanged_then}
-use Rattle.ob_compare.specs.Parts.{listing_of, select_of, standing}
+use Rattle.ob_tables.specs.Listings.{select_of}
+use Rattle.ob_compare.specs.Parts.{listing_of, standing}
 use Rattle.ob_compare.proofs.Listing.{still_then}
 use Rattle.ob_compare.proofs.Places.{place_on, place_off}
 use Rattle.ob_compare.proofs.Failing.{cause_of_error}

@@ -3,11 +3,12 @@ use Rattle.sqlite.specs.Order.{Row}
 use Rattle.sqlite.specs.State.{HasCleanDisk, IsUnchanged, Survives}
 use Rattle.sqlite.specs.Held.{state}
 use Rattle.sqlite.specs.Given.{HasGiven}
+use Rattle.ob_tables.specs.Listings.{select_of}
 use Rattle.ob_tables.specs.Versions.{Has, schema_of}
 use Rattle.ob_tables.specs.declared.version.Version.{Version}
 use Rattle.ob_tables.specs.Rows.{Tables}
 use Rattle.ob_commit.specs.Keeps.{KeepsIn}
-use Rattle.ob_compare.specs.Parts.{select_of, standing}
+use Rattle.ob_compare.specs.Parts.{standing}
 use Rattle.ob_compare.proofs.listed.follows.Given as goal
 
 -- the rows so far were as expected

@@ -1,6 +1,7 @@
 use Rattle.std.proofs.Common.{◌≡◌, [], None, Some, slice_index_or, sym, subst, ◌∙◌}
 use Rattle.sqlite.specs.Given.{GivesOn, row_if}
-use Rattle.ob_compare.specs.Parts.{listing_of, select_of}
+use Rattle.ob_tables.specs.Listings.{select_of}
+use Rattle.ob_compare.specs.Parts.{listing_of}
 use Rattle.ob_compare.proofs.Places.{goes_on, ends_off}
 use Rattle.sqlite.specs.Held.{state}
 use Rattle.ob_compare.proofs.Failing.{answered_over, cause_of_error}

@@ -3,8 +3,9 @@ use Rattle.sqlite.specs.Effect.{Database}
 use Rattle.sqlite.specs.State.{HasCleanDisk, IsUnchanged}
 use Rattle.sqlite.specs.Held.{state}
 use Rattle.sqlite.proofs.Callers.{begun_plain, unchanged_then}
+use Rattle.ob_tables.specs.Listings.{select_of}
 use Rattle.ob_compare.specs.Faults.{HasNoMeaning}
-use Rattle.ob_compare.specs.Parts.{Compares, listing_of, standing, select_of}
+use Rattle.ob_compare.specs.Parts.{Compares, listing_of, standing}
 use Rattle.ob_compare.proofs.Asking.{faults_alone, faults_read, foreign_tables, never_clean}
 use Rattle.ob_tables.specs.Queries.{IsAlwaysAnswered}
 use Rattle.ob_tables.proofs.Failing.{cause_after}

@@ -2,8 +2,9 @@ use Rattle.std.proofs.Common.{[], true≢false, sym, ap, ◌∙◌, arith}
 use Rattle.sqlite.specs.Effect.{Database}
 use Rattle.sqlite.specs.State.{HasCleanDisk}
 use Rattle.sqlite.specs.Held.{state}
+use Rattle.ob_tables.specs.Listings.{select_of}
 use Rattle.ob_tables.specs.Versions.{schema_of}
-use Rattle.ob_compare.specs.Parts.{listing_of, select_of, standing}
+use Rattle.ob_compare.specs.Parts.{listing_of, standing}
 use Rattle.ob_compare.proofs.Listing.{goes_given}
 use Rattle.ob_compare.proofs.Places.{went_off, ended, if_both}
 use Rattle.ob_compare.proofs.Selects.{is_listing}

@@ -51,6 +51,9 @@ pub returns-clause-can : goal.returns-clause-can
 returns-clause-can g c p posted =
     can_write c.move_laws.ensures.keys c.args.book.now.state (command g c) p (act g c) (are_rows g c p posted)
 
+pub returns-clause-leads : goal.returns-clause-leads
+returns-clause-leads g c = lead g c
+
 pub returns-clause-records : goal.returns-clause-records
 returns-clause-records g c b reached same p posted =
     records c.move_laws.ensures.keys c.move_laws.ensures.change c.move_laws.ensures.order c.next_law.ensures.period c.acts_law.ensures.state b (command g c) p (act g c) reached
