@@ -3,7 +3,7 @@ ghost use Rattle.std.specs.Prelude.{◌≡◌, false, OnOk, IfErr};
 ghost use Rattle.sqlite.specs.Held.{state};
 ghost use Rattle.sqlite.specs.State.{HasCleanDisk, Survives};
 ghost use Rattle.ob_base.specs.Stop.{out_of_memory};
-ghost use Rattle.ob_tables.specs.Steps.{Changes, IsStoreFault};
+ghost use Rattle.ob_tables.specs.Steps.{IsStoreFault};
 ghost use Rattle.ob_tables.specs.Rows.{Tables};
 ghost use Rattle.ob_commit.specs.Acts.{CanWrite, LetsAct, NeedsRows, with_act};
 ghost use Rattle.ob_commit.specs.Keeps.{HasCommitCause, Keeps, KeepsEither, KeepsNumbers, LeavesChanged};
@@ -14,7 +14,7 @@ use ob_base::{Fault, Stop};
 use ob_post::{Moved, Postings};
 use ob_state::Resolved;
 use ob_tables::add_command;
-use sqlite::{Alter, Connection, Transaction};
+use sqlite::{Alter, Connection};
 
 /// An accepted command, as the rows show it.
 #[derive(Clone, Copy)]
@@ -31,23 +31,8 @@ pub struct Act<'t> {
     pub moves: &'t [Moved],
 }
 
-/// Writes the rows of an accepted command: those that it changes, its own, and those of the amounts that it moves.
-pub(crate) fn write_act<S: Alter>(
-    tx: &mut Transaction<'_, S>,
-    act: &Act<'_>,
-    postings: &Postings,
-) -> Result<(), Stop>
-    requires can { CanWrite postings.now act.now }
-    ensures { Changes S.Store tx.old.conn tx.new.conn result
-        (NeedsRows postings.now act.now) (LetsAct act.now)
-        (with_act postings.now act.now) }
-{
-    write_rows(tx, act.resolved)?;
-    add_command(tx, act.no, act.reference, act.body)?;
-    write_moves(tx, act.no, postings, act.moves)
-}
-
-/// Commits the rows of an accepted command: all or none.
+/// Commits the rows of an accepted command, all or none: those that it changes, its own, and those of the amounts that it
+/// moves.
 pub fn commit_act<S: Alter>(
     conn: &mut Connection<S>,
     act: &Act<'_>,
@@ -82,7 +67,9 @@ pub fn commit_act<S: Alter>(
     // what is open is a whole database
     let _schema = conn.schema();
     let mut tx = conn.transaction();
-    write_act(&mut tx, act, postings)?;
+    write_rows(&mut tx, act.resolved)?;
+    add_command(&mut tx, act.no, act.reference, act.body)?;
+    write_moves(&mut tx, act.no, postings, act.moves)?;
     match tx.commit() {
         Ok(()) => Ok(()),
         Err(_) => Err(Stop::Fault(Fault::Store)),
