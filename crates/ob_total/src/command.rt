@@ -1,14 +1,14 @@
 //! What the rows of a text say. The leftmost bad column is refused.
-ghost use Rattle.std.specs.Prelude.{◌≡◌, ◌≢◌, ◌≤◌, ◌<◌, ◌+◌, [], ◌∷◌, length, map, IfOk, IfSome};
+ghost use Rattle.std.specs.Prelude.{◌≡◌, ◌≢◌, ◌≤◌, map, IfOk, IfSome};
 ghost use Rattle.ob_base.specs.Fields.{unix_second_in, until_in};
-ghost use Rattle.ob_csv.specs.RowFields.{fields_in};
-ghost use Rattle.ob_total.specs.Commands.{IsCommand, IsSpan, with_unused, span_end_in, span_of, cause_of, bus_of, section_of, device_of, other_node_in, since_in, life_of, connect_of, switch_of, kind_in, command_by, command_of};
+ghost use Rattle.ob_csv.specs.Header.{columns};
+ghost use Rattle.ob_total.specs.Commands.{IsCommand, IsSpan, column, with_unused, span_end_in, span_of, cause_of, bus_of, section_of, device_of, other_node_in, since_in, life_of, connect_of, switch_of, kind_in, command_of};
 
 use ob_base::{
     Crew, LAST_SECOND, Life, Name, Pos, Ref, Refusal, Second, read_act, read_cause, read_feeder,
     read_normal, read_serial, read_unix_second, read_until,
 };
-use ob_csv::{Row, RowFields};
+use ob_csv::{COLUMNS, Row, RowFields};
 
 /// The seconds from `first` up to `end`, `end` excluded.
 #[derive(Clone, Copy)]
@@ -57,7 +57,7 @@ pub fn span_in(row: &Row) -> Result<Span, Refusal>
     ensures valid { IfOk result IsSpan }
 {
     match row.fields() {
-        Some(fields) => span_of_fields(&fields),
+        Some(fields) => read_span(&fields),
         None => Err(Refusal::BadField(0)),
     }
 }
@@ -68,30 +68,30 @@ pub fn command_in(row: &Row) -> Result<Command, Refusal>
     ensures valid { IfOk result IsCommand }
 {
     match row.fields() {
-        Some(fields) => command_of_fields(&fields),
+        Some(fields) => read_command(&fields),
         None => Err(Refusal::BadField(0)),
     }
 }
 
-fn span_of_fields(row: &RowFields<'_>) -> Result<Span, Refusal>
-    ensures span { result ≡ span_of (fields_in row.now) }
+fn read_span(row: &RowFields<'_>) -> Result<Span, Refusal>
+    ensures span { result ≡ span_of (map (λ f. f.now) row.now) }
     ensures valid { IfOk result IsSpan }
 {
-    if row.kind != b"span".as_slice() {
+    if column(row, 1) != b"span".as_slice() {
         return Err(Refusal::BadField(1));
     }
-    Ref::read(row.reference).ok_or(Refusal::BadField(2))?;
-    let first = read_unix_second(row.f1).ok_or(Refusal::BadField(3))?;
-    let end = read_span_end(first, row.f2).ok_or(Refusal::BadField(4))?;
-    complete(Span { first, end }, 5, &[row.f3, row.f4, row.f5, row.f6])
+    Ref::read(column(row, 2)).ok_or(Refusal::BadField(2))?;
+    let first = read_unix_second(column(row, 3)).ok_or(Refusal::BadField(3))?;
+    let end = read_span_end(first, column(row, 4)).ok_or(Refusal::BadField(4))?;
+    complete(Span { first, end }, row, 5)
 }
 
-fn command_of_fields(row: &RowFields<'_>) -> Result<Command, Refusal>
-    ensures command { result ≡ command_of (fields_in row.now) }
+fn read_command(row: &RowFields<'_>) -> Result<Command, Refusal>
+    ensures command { result ≡ command_of (map (λ f. f.now) row.now) }
     ensures valid { IfOk result IsCommand }
 {
-    let kind = read_kind(row.kind).ok_or(Refusal::BadField(1))?;
-    Ref::read(row.reference).ok_or(Refusal::BadField(2))?;
+    let kind = read_kind(column(row, 1)).ok_or(Refusal::BadField(1))?;
+    Ref::read(column(row, 2)).ok_or(Refusal::BadField(2))?;
     match kind {
         Kind::Cause => read_cause_row(row),
         Kind::Bus => read_bus(row),
@@ -140,53 +140,41 @@ fn read_span_end(first: Second, text: &[u8]) -> Option<Second>
 }
 
 fn read_cause_row(row: &RowFields<'_>) -> Result<Command, Refusal>
-    ensures command { result ≡ cause_of row.now.f1.now row.now.f2.now
-        (row.now.f3.now ∷ row.now.f4.now ∷ row.now.f5.now ∷ row.now.f6.now ∷ []) }
+    ensures command { result ≡ cause_of (map (λ f. f.now) row.now) }
     ensures valid { IfOk result IsCommand }
 {
-    read_cause(row.f1).ok_or(Refusal::BadField(3))?;
-    Name::read(row.f2).ok_or(Refusal::BadField(4))?;
-    complete(Command::Cause, 5, &[row.f3, row.f4, row.f5, row.f6])
+    read_cause(column(row, 3)).ok_or(Refusal::BadField(3))?;
+    Name::read(column(row, 4)).ok_or(Refusal::BadField(4))?;
+    complete(Command::Cause, row, 5)
 }
 
 fn read_bus(row: &RowFields<'_>) -> Result<Command, Refusal>
-    ensures command { result ≡ bus_of row.now.f1.now
-        (row.now.f2.now ∷ row.now.f3.now ∷ row.now.f4.now ∷ row.now.f5.now ∷ row.now.f6.now ∷ []) }
+    ensures command { result ≡ bus_of (map (λ f. f.now) row.now) }
     ensures valid { IfOk result IsCommand }
 {
-    let name = Name::read(row.f1).ok_or(Refusal::BadField(3))?;
-    complete(
-        Command::Bus(name),
-        4,
-        &[row.f2, row.f3, row.f4, row.f5, row.f6],
-    )
+    let name = Name::read(column(row, 3)).ok_or(Refusal::BadField(3))?;
+    complete(Command::Bus(name), row, 4)
 }
 
 fn read_section(row: &RowFields<'_>) -> Result<Command, Refusal>
-    ensures command { result ≡ section_of row.now.f1.now row.now.f2.now
-        (row.now.f3.now ∷ row.now.f4.now ∷ row.now.f5.now ∷ row.now.f6.now ∷ []) }
+    ensures command { result ≡ section_of (map (λ f. f.now) row.now) }
     ensures valid { IfOk result IsCommand }
 {
-    let name = Name::read(row.f1).ok_or(Refusal::BadField(3))?;
-    let feeder = read_feeder(row.f2).ok_or(Refusal::BadField(4))?;
-    complete(
-        Command::Section(name, feeder),
-        5,
-        &[row.f3, row.f4, row.f5, row.f6],
-    )
+    let name = Name::read(column(row, 3)).ok_or(Refusal::BadField(3))?;
+    let feeder = read_feeder(column(row, 4)).ok_or(Refusal::BadField(4))?;
+    complete(Command::Section(name, feeder), row, 5)
 }
 
 fn read_device(row: &RowFields<'_>) -> Result<Command, Refusal>
-    ensures command { result ≡ device_of row.now.f1.now row.now.f2.now row.now.f3.now row.now.f4.now
-        row.now.f5.now row.now.f6.now }
+    ensures command { result ≡ device_of (map (λ f. f.now) row.now) }
     ensures valid { IfOk result IsCommand }
 {
-    let name = Name::read(row.f1).ok_or(Refusal::BadField(3))?;
-    let a = Name::read(row.f2).ok_or(Refusal::BadField(4))?;
-    let b = read_other_node(&a, row.f3).ok_or(Refusal::BadField(5))?;
-    let normal = read_normal(row.f4).ok_or(Refusal::BadField(6))?;
-    let since = read_since(row.f5).ok_or(Refusal::BadField(7))?;
-    let until = read_end(row.f6).ok_or(Refusal::BadField(8))?;
+    let name = Name::read(column(row, 3)).ok_or(Refusal::BadField(3))?;
+    let a = Name::read(column(row, 4)).ok_or(Refusal::BadField(4))?;
+    let b = read_other_node(&a, column(row, 5)).ok_or(Refusal::BadField(5))?;
+    let normal = read_normal(column(row, 6)).ok_or(Refusal::BadField(6))?;
+    let since = read_since(column(row, 7)).ok_or(Refusal::BadField(7))?;
+    let until = read_end(column(row, 8)).ok_or(Refusal::BadField(8))?;
     Ok(Command::Device(name, a, b, normal, Life { since, until }))
 }
 
@@ -204,18 +192,13 @@ fn read_other_node(a: &Name, text: &[u8]) -> Option<Name>
 }
 
 fn read_life(row: &RowFields<'_>) -> Result<Command, Refusal>
-    ensures command { result ≡ life_of row.now.f1.now row.now.f2.now row.now.f3.now
-        (row.now.f4.now ∷ row.now.f5.now ∷ row.now.f6.now ∷ []) }
+    ensures command { result ≡ life_of (map (λ f. f.now) row.now) }
     ensures valid { IfOk result IsCommand }
 {
-    let name = Name::read(row.f1).ok_or(Refusal::BadField(3))?;
-    let since = read_since(row.f2).ok_or(Refusal::BadField(4))?;
-    let until = read_end(row.f3).ok_or(Refusal::BadField(5))?;
-    complete(
-        Command::Life(name, Life { since, until }),
-        6,
-        &[row.f4, row.f5, row.f6],
-    )
+    let name = Name::read(column(row, 3)).ok_or(Refusal::BadField(3))?;
+    let since = read_since(column(row, 4)).ok_or(Refusal::BadField(4))?;
+    let until = read_end(column(row, 5)).ok_or(Refusal::BadField(5))?;
+    complete(Command::Life(name, Life { since, until }), row, 6)
 }
 
 /// The beginning of a life as Unix seconds, 0 where it isn't named.
@@ -230,19 +213,14 @@ fn read_since(text: &[u8]) -> Option<Second>
 }
 
 fn read_connect(row: &RowFields<'_>) -> Result<Command, Refusal>
-    ensures command { result ≡ connect_of row.now.f1.now row.now.f2.now row.now.f3.now
-        row.now.f4.now (row.now.f5.now ∷ row.now.f6.now ∷ []) }
+    ensures command { result ≡ connect_of (map (λ f. f.now) row.now) }
     ensures valid { IfOk result IsCommand }
 {
-    let customer = read_serial(row.f1).ok_or(Refusal::BadField(3))?;
-    let section = Name::read(row.f2).ok_or(Refusal::BadField(4))?;
-    let since = read_unix_second(row.f3).ok_or(Refusal::BadField(5))?;
-    let until = read_end(row.f4).ok_or(Refusal::BadField(6))?;
-    complete(
-        Command::Connect(customer, section, since, until),
-        7,
-        &[row.f5, row.f6],
-    )
+    let customer = read_serial(column(row, 3)).ok_or(Refusal::BadField(3))?;
+    let section = Name::read(column(row, 4)).ok_or(Refusal::BadField(4))?;
+    let since = read_unix_second(column(row, 5)).ok_or(Refusal::BadField(5))?;
+    let until = read_end(column(row, 6)).ok_or(Refusal::BadField(6))?;
+    complete(Command::Connect(customer, section, since, until), row, 7)
 }
 
 /// An end of a life or a service as Unix seconds, or none.
@@ -253,32 +231,37 @@ fn read_end(text: &[u8]) -> Option<Option<Second>>
 }
 
 fn read_switch(row: &RowFields<'_>) -> Result<Command, Refusal>
-    ensures command { result ≡ switch_of row.now.f1.now row.now.f2.now row.now.f3.now row.now.f4.now
-        row.now.f5.now (row.now.f6.now ∷ []) }
+    ensures command { result ≡ switch_of (map (λ f. f.now) row.now) }
     ensures valid { IfOk result IsCommand }
 {
-    let device = Name::read(row.f1).ok_or(Refusal::BadField(3))?;
-    let pos = read_act(row.f2).ok_or(Refusal::BadField(4))?;
-    let second = read_unix_second(row.f3).ok_or(Refusal::BadField(5))?;
-    let cause = read_cause(row.f4).ok_or(Refusal::BadField(6))?;
-    let crew = Crew::read(row.f5).ok_or(Refusal::BadField(7))?;
-    complete(
-        Command::Switch(device, pos, second, cause, crew),
-        8,
-        &[row.f6],
-    )
+    let device = Name::read(column(row, 3)).ok_or(Refusal::BadField(3))?;
+    let pos = read_act(column(row, 4)).ok_or(Refusal::BadField(4))?;
+    let second = read_unix_second(column(row, 5)).ok_or(Refusal::BadField(5))?;
+    let cause = read_cause(column(row, 6)).ok_or(Refusal::BadField(6))?;
+    let crew = Crew::read(column(row, 7)).ok_or(Refusal::BadField(7))?;
+    complete(Command::Switch(device, pos, second, cause, crew), row, 8)
 }
 
-/// The value, where the fields from a column on are empty.
-fn complete<T: Copy>(value: T, column: u8, fields: &[&[u8]]) -> Result<T, Refusal>
-    requires { column + length fields.now < 256 }
-    ensures value { result ≡ with_unused column (map (λ f. f.now) fields.now) (Ok value) }
+/// The value, where the columns from `first` on are empty.
+fn complete<T: Copy>(value: T, row: &RowFields<'_>, first: usize) -> Result<T, Refusal>
+    requires numbered { 1 ≤ first }
+    requires exists { first ≤ columns }
+    ensures value { result ≡ with_unused (map (λ f. f.now) row.now) first (Ok value) }
     ensures kept { IfOk result (λ v. v ≡ value) }
 {
-    for (place, field) in fields.iter().enumerate() {
-        if !field.is_empty() {
-            return Err(Refusal::BadField(column + place as u8));
+    for number in first..COLUMNS + 1 {
+        if !column(row, number).is_empty() {
+            return Err(Refusal::BadField(number as u8));
         }
     }
     Ok(value)
+}
+
+/// The field of a column; columns are numbered from 1.
+fn column<'a>(row: &RowFields<'a>, number: usize) -> &'a [u8]
+    requires numbered { 1 ≤ number }
+    requires exists { number ≤ columns }
+    ensures { result.now ≡ column (map (λ f. f.now) row.now) number }
+{
+    row[number - 1]
 }

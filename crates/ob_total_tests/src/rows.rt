@@ -32,22 +32,13 @@ fn show_rest<R: Read>(
     Ok(())
 }
 
-// A row of eight fields, each field in `<>`, an empty one as `.`; any other row as `-`.
+// A row with a field for each column, each field in `<>`, an empty one as `.`; any other row as `-`.
 fn show(row: &Row, out: &mut Vec<u8>) -> Result<(), Stop> {
-    let Some(row) = row.fields() else {
+    let Some(fields) = row.fields() else {
         out.push(b'-')?;
         return Ok(());
     };
-    for field in [
-        row.kind,
-        row.reference,
-        row.f1,
-        row.f2,
-        row.f3,
-        row.f4,
-        row.f5,
-        row.f6,
-    ] {
+    for field in fields {
         show_field(field, out)?;
     }
     Ok(())
