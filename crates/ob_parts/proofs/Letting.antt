@@ -1,11 +1,12 @@
 -- The rules of today's tables let in the rows that make the tables of a book of version 1 today's.
-use Rattle.std.proofs.Common.{◌≡◌, ◌∙◌, ℕ, ℤ, ◌+◌, ◌<◌, true, List, [], ◌∷◌, ◌++◌, codes, length, length-append, if◌then◌else◌, refl, ap, inl, inr, arith}
+use Rattle.std.proofs.Common.{◌≡◌, ◌∙◌, ℕ, ℤ, ◌+◌, ◌<◌, true, List, [], ◌∷◌, ◌++◌, length, length-append, if◌then◌else◌, refl, ap, inl, inr, arith}
 use Rattle.std.specs.List.{AllByRecursion, list_any}
 use Rattle.std.proofs.lemmas.Bool.{cases_Bool}
 use Rattle.std.proofs.lemmas.List.Elements.{All-from_recursion}
 use Rattle.ob_net.specs.declared.net.Device.{Device as NetDevice}
 use Rattle.ob_time.specs.Dates.{day_text}
 use Rattle.ob_command.specs.Commands.{body_text}
+use Rattle.ob_command.specs.Devices.{plain_end}
 use Rattle.ob_book.specs.Acts.{Referenced}
 use Rattle.ob_upgrade.specs.Laws.{BodiesGrow}
 use Rattle.ob_upgrade.specs.Old.{is_device, old_body_text}
@@ -28,7 +29,7 @@ no_longer body was more is short = let long : length body ≡ length was + lengt
 
 old_short : BodiesGrow → (a : Referenced) → IsReferenced a → IsOldCommand a → IsShort (old_body_text a.command)
 old_short grow a named old =
-    no_longer (body_text a.command) (old_body_text a.command) (if is_device a.command then codes " 0 -" else []) (grow a.command old) (short_body a.command named.1)
+    no_longer (body_text a.command) (old_body_text a.command) (if is_device a.command then plain_end else []) (grow a.command old) (short_body a.command named.1)
 
 rows_short : BodiesGrow → (key n : ℕ) (xs : List Referenced) → AllByRecursion IsReferenced xs → AllByRecursion IsOldCommand xs
     → AllByRecursion (λ row. is_key key row ≡ true → AllByRecursion IsShortValue row) (numbered row_of_old_command n xs)

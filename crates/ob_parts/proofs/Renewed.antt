@@ -1,5 +1,5 @@
 -- The ten tables of a book of version 1 are those of no other: today's body texts are told from those that commands had.
-use Rattle.std.proofs.Common.{◌≡◌, ◌∙◌, ℕ, ◌+◌, List, [], ◌∷◌, ◌++◌, codes, map, if◌then◌else◌, refl, sym, ap, ap₂, subst, subst₂}
+use Rattle.std.proofs.Common.{◌≡◌, ◌∙◌, ℕ, ◌+◌, List, [], ◌∷◌, ◌++◌, map, if◌then◌else◌, refl, sym, ap, ap₂, subst, subst₂}
 use Rattle.std.specs.List.{AllByRecursion}
 use Rattle.std.specs.List.Sorted.{IsPermutation}
 use Rattle.std.proofs.lemmas.List.Sorted.{IsPermutation-map, IsPermutation-sym, IsPermutation-trans}
@@ -12,6 +12,7 @@ use Rattle.ob_time.specs.Calendar.{Calendar, day_count}
 use Rattle.ob_time.specs.Dates.{day_text}
 use Rattle.ob_time.specs.Period.{IsPeriodText}
 use Rattle.ob_command.specs.Commands.{body_text}
+use Rattle.ob_command.specs.Devices.{plain_end}
 use Rattle.ob_book.specs.Acts.{ActState, Referenced, start}
 use Rattle.ob_upgrade.specs.Laws.{BodiesGrow}
 use Rattle.ob_upgrade.specs.Old.{old_acts, old_body_text}
@@ -26,7 +27,7 @@ use Rattle.ob_parts.specs.OldTables.{HasOldBook, old_tables_of, row_of_old_comma
 
 -- ---- today's text, of one that a command had
 abbrev renewed_text : List ℕ → List ℕ
-renewed_text text = text ++ (if is_of_device text then codes " 0 -" else [])
+renewed_text text = text ++ (if is_of_device text then plain_end else [])
 
 abbrev renewed_value : Value → Value
 renewed_value (Text text) = Text (renewed_text text)
@@ -39,7 +40,7 @@ rows_renewed : BodiesGrow → (n : ℕ) (list : List Referenced) → AllByRecurs
 rows_renewed grow n [] old = refl
 rows_renewed grow n (a ∷ list) old =
     let text : renewed_text (old_body_text a.command) ≡ body_text a.command =
-    ap (λ b. old_body_text a.command ++ (if b then codes " 0 -" else [])) (begins a.command old.0) ∙ sym (grow a.command old.0) in
+    ap (λ b. old_body_text a.command ++ (if b then plain_end else [])) (begins a.command old.0) ∙ sym (grow a.command old.0) in
     ap₂ (λ t rows. command_row n a.reference t ∷ rows) text (rows_renewed grow (n + 1) list old.1)
 
 -- ---- two books of the same tables

@@ -1,5 +1,5 @@
 -- A book of version 1 is one of today, and what it counted and moved is the same.
-use Rattle.std.proofs.Common.{◌≡◌, ◌∙◌, ℕ, ◌+◌, Bool, true, false, List, [], ◌∷◌, ◌++◌, append-nil, codes, length, map, Option, Some, None, is_none, if◌then◌else◌, refl, sym, ap, ap₂, arith}
+use Rattle.std.proofs.Common.{◌≡◌, ◌∙◌, ℕ, ◌+◌, Bool, true, false, List, [], ◌∷◌, ◌++◌, append-nil, length, map, Option, Some, None, is_none, if◌then◌else◌, refl, sym, ap, ap₂, arith}
 use Rattle.std.specs.List.{AllByRecursion}
 use Rattle.std.proofs.lemmas.Bool.{and_parts}
 use Rattle.std.proofs.lemmas.List.Elements.{All-head, All-tail}
@@ -10,6 +10,7 @@ use Rattle.ob_net.specs.declared.net.Device.{Device as NetDevice}
 use Rattle.ob_post.specs.declared.Moved.{Moved as MovedAmount}
 use Rattle.ob_time.specs.Calendar.{day_count}
 use Rattle.ob_command.specs.Commands.{body_text}
+use Rattle.ob_command.specs.Devices.{plain_end}
 use Rattle.ob_command.specs.declared.command.Command.{Command as AnyCommand}
 use Rattle.ob_state.specs.Amounts.{moves}
 use Rattle.ob_state.specs.Next.{next}
@@ -86,7 +87,7 @@ tables_are_alike both accepted step figures b h Posting alike =
 -- a command of version 1 that adds no device keeps its body text
 keeps_text : BodiesGrow → (command : AnyCommand) → is_old command ≡ true → is_device command ≡ false → old_body_text command ≡ body_text command
 keeps_text grow command old other =
-    sym (grow command old ∙ ap (λ b. old_body_text command ++ (if b then codes " 0 -" else [])) other ∙ append-nil (old_body_text command))
+    sym (grow command old ∙ ap (λ b. old_body_text command ++ (if b then plain_end else [])) other ∙ append-nil (old_body_text command))
 
 pub keep_texts : BodiesGrow → (list : List Referenced) → AllByRecursion IsOldCommand list
     → AllByRecursion (λ (a : Referenced). is_device a.command ≡ false → old_body_text a.command ≡ body_text a.command) list
