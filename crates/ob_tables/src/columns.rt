@@ -1,4 +1,5 @@
-//! The columns of each table's rows, in the order of its listing: what is written, and what a row that was read is held against.
+//! The columns of each row, in the order of its table's listing: an INSERT binds them, and a row that was read is held
+//! against them. Those of `cmd` and `moved` are bound alone, and stand at their INSERT.
 ghost use Rattle.std.specs.Prelude.{◌≡◌, ◌<◌, ◌^◌, map, IfSome};
 ghost use Rattle.std.specs.List.{AllByRecursion};
 ghost use Rattle.ob_tables.specs.Fields.{held, Fits};

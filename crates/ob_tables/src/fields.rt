@@ -72,7 +72,7 @@ fn value_of(field: Field<'_>) -> ValueRef<'_>
     }
 }
 
-/// Fields as parameters, and no value after them: no table has more than eight columns.
+/// Fields as parameters, and NULL after them up to the eighth: no table has more columns.
 pub(crate) fn values<'a>(fields: &[Field<'a>]) -> [ValueRef<'a>; 8]
     requires few { length fields.now ≤ 8 }
     requires fits { AllByRecursion Fits fields.now }
