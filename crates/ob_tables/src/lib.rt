@@ -9,6 +9,7 @@
 #![tactic(auto)]
 
 mod changes;
+mod columns;
 mod comparing;
 mod creation;
 mod fields;
