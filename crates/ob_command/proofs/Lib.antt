@@ -3,6 +3,7 @@ mod Cuts
 mod Examples
 mod Joins
 mod Numbers
+pub mod Plain
 mod Readings
 mod RowExamples
 mod RowLaws

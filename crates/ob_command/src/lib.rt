@@ -27,7 +27,7 @@ mod word;
 pub use body::body_text;
 pub use civil::CivilDate;
 pub use command::Command;
-pub use device::NewDevice;
+pub use device::{NewDevice, plain_end, plain_law};
 pub use ends::Ends;
 pub use moment::Moment;
 pub use number::{CauseCode, FeederNumber, Serial};

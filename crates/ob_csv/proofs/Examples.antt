@@ -1,8 +1,8 @@
 -- Rows of texts, computed.
-use Rattle.std.proofs.Common.{◌≡◌, ◌++◌, [], ◌∷◌, refl}
+use Rattle.std.proofs.Common.{◌≡◌, ◌++◌, [], ◌∷◌, length, refl}
 use Rattle.std.specs.Prelude.{codes}
 use Rattle.csv.proofs.OnLiterals.{csv_on_literals}
-use Rattle.ob_csv.specs.Header.{header}
+use Rattle.ob_csv.specs.Header.{columns, header}
 use Rattle.ob_csv.specs.Rows.{rows_from, rows_of}
 use Rattle.ob_csv.specs.WholeRows.{whole_rows}
 
@@ -17,6 +17,9 @@ pub quotes : rows_of (codes "\"a,b\",\"c" ++ (10 ∷ (codes "d\"\"e\"" ++ (10 �
     ≡ (codes "a,b" ∷ (codes "c" ++ (10 ∷ codes "d\"e")) ∷ []) ∷ ([] ∷ []) ∷ (codes "f" ∷ codes "g" ∷ []) ∷ []
 unfolding csv_on_literals rows_from
 quotes = refl
+
+pub its_columns : length header ≡ columns
+its_columns = refl
 
 -- the header as it is mostly written
 pub the_header : rows_of (codes "kind,ref,f1,f2,f3,f4,f5,f6" ++ (10 ∷ [])) ≡ header ∷ []

@@ -1,3 +1,4 @@
 pub mod Examples
+pub mod Filling
 pub mod RowLaws
 pub mod WholeLaws

@@ -1,5 +1,5 @@
 -- The rows that end in a text, and those that it has.
-use Rattle.std.proofs.Common.{◌≡◌, ◌≢◌, ◌<◌, ◌≤◌, ◌∙◌, sym, ap, subst, refl, ℕ, zero, suc, ◌+◌, ◌-◌, List, [], ◌∷◌, ◌++◌, length, drop, take, Bool, true, false, true≢false, Option, Some, None, arith, get_or, length-append, append-nil}
+use Rattle.std.proofs.Common.{◌≡◌, ◌≢◌, ◌<◌, ◌≤◌, ◌∙◌, sym, ap, subst, refl, ℕ, zero, suc, ◌+◌, ◌-◌, List, [], ◌∷◌, ◌++◌, length, drop, take, Bool, true, false, true≢false, Option, Some, None, arith, get_or, length-append}
 use Rattle.std.specs.Prelude.{◌==◌, ◌||◌, ◌&&◌, if◌then◌else◌}
 use Rattle.std.proofs.Math.Seq.{take-append-add, take-append_seam, take-length, take-suc}
 use Rattle.std.proofs.lemmas.Bool.{eqb-true}
@@ -15,7 +15,7 @@ use Rattle.ob_csv.specs.Scanning.{Ends, IsPlace, behind_first, behind_plain, end
 use Rattle.ob_csv.specs.WholeRows.{WholeRowsStand, all_but_last, whole_rows}
 use Rattle.ob_csv.specs.declared.whole.Place.{Place}
 use Rattle.ob_csv.specs.declared.whole.Place.TheVariants as pl
-use Rattle.ob_csv.proofs.RowLaws.{LeavesBetween, fewer, next_goes, rows_more, rows_none, step_leaves}
+use Rattle.ob_csv.proofs.RowLaws.{fewer, next_goes, rows_more, rows_none, step_leaves}
 
 -- ---- all rows of a text, byte by byte
 

@@ -1,6 +1,5 @@
 pub mod CsvSetup
 pub mod Header
-pub mod RowFields
 pub mod RowReading
 pub mod Rows
 pub mod Scanning

@@ -1,5 +1,5 @@
 -- Where a text stands between two bytes.
-use Rattle.std.specs.Prelude.{ℕ, ◌+◌, ◌≡◌, ◌≤◌, ⊤, false, Bool, List, [], ◌∷◌, ◌++◌, length, take, ◌==◌, ◌||◌, if◌then◌else◌}
+use Rattle.std.specs.Prelude.{ℕ, ◌≡◌, ◌≤◌, ⊤, false, List, [], ◌∷◌, length, take, ◌==◌, ◌||◌, if◌then◌else◌}
 use Rattle.csv.specs.Machine.{ends_at_end, field_after, fields_after, is_end, step}
 use Rattle.csv.specs.Reading.{default_config, is_bom}
 use Rattle.csv.specs.declared.parser.State.{State}

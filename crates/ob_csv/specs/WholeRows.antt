@@ -1,5 +1,5 @@
 -- The whole rows of a text that broke off.
-use Rattle.std.specs.Prelude.{ℕ, ◌≡◌, ◌-◌, List, [], ◌∷◌, ◌++◌, length, take, codes}
+use Rattle.std.specs.Prelude.{ℕ, ◌≡◌, ◌-◌, List, ◌++◌, length, take, codes}
 use Rattle.ob_csv.specs.Rows.{Fields, rows_of}
 
 -- all but the last

@@ -5,12 +5,14 @@
 //! stands in the text. Above it stand the total, the import and the desk; none of them names `csv`.
 #![tactic(auto)]
 
+mod header;
 mod reader;
 mod row;
 mod whole;
 
+pub use header::{COLUMNS, RowFields, column_names};
 pub use reader::RowReader;
-pub use row::{Row, RowFields};
+pub use row::Row;
 pub use whole::{whole_rows_end, whole_rows_law};
 
 /// How many rows a text may have after its header.

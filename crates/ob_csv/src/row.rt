@@ -1,33 +1,12 @@
 //! One row of a CSV text.
-ghost use Rattle.std.specs.Prelude.{◌≡◌, ◌≢◌, [], MatchOption, get_or, length};
+ghost use Rattle.std.specs.Prelude.{◌≡◌, ◌≢◌, [], MatchOption, get_or, length, map};
 ghost use Rattle.csv.specs.Records.{fields_of};
-ghost use Rattle.ob_csv.specs.Header.{is_header};
-ghost use Rattle.ob_csv.specs.RowFields.{fields_in};
+ghost use Rattle.ob_csv.specs.Header.{columns, is_header};
 
+use crate::{COLUMNS, RowFields, column_names};
 use csv::ByteRecord;
 use std::alloc::Global;
 use std::marker::Model;
-
-/// The fields of a row that has eight, each the bytes that stand in the text.
-#[derive(Clone, Copy)]
-pub struct RowFields<'a> {
-    /// What the row is, as `switch`: column 1.
-    pub kind: &'a [u8],
-    /// The reference of the command: column 2.
-    pub reference: &'a [u8],
-    /// Column 3.
-    pub f1: &'a [u8],
-    /// Column 4.
-    pub f2: &'a [u8],
-    /// Column 5.
-    pub f3: &'a [u8],
-    /// Column 6.
-    pub f4: &'a [u8],
-    /// Column 7.
-    pub f5: &'a [u8],
-    /// Column 8.
-    pub f6: &'a [u8],
-}
 
 /// A row of any number of fields: to contracts, the list of their bytes.
 #[derive(Drop)]
@@ -54,54 +33,48 @@ impl Row {
         }
     }
 
-    /// Its fields, where it has eight.
+    /// Its fields, where it has one for each column.
     pub fn fields(&self) -> Option<RowFields<'_>>
-        ensures { MatchOption result (length self.now ≢ 8) (λ fields. self.now ≡ fields_in fields) }
+        ensures { MatchOption result (length self.now ≢ columns) (λ fields. self.now
+            ≡ map (λ f. f.now) fields) }
     {
-        eight_fields(&self.fields)
+        let fields = first_fields(&self.fields);
+        (self.fields.len() == COLUMNS).then_some(fields)
     }
 
-    /// Whether its fields are `kind`, `ref`, `f1`, `f2`, `f3`, `f4`, `f5` and `f6`, in this order.
+    /// Whether its fields are the names of the columns, in their order.
     pub fn is_header(&self) -> bool
         ensures { result ≡ is_header self.now }
     {
         match self.fields() {
-            Some(fields) => names_columns(&fields),
+            Some(fields) => are_names(&fields),
             None => false,
         }
     }
 }
 
-fn names_columns(row: &RowFields<'_>) -> bool
-    ensures { result ≡ is_header (fields_in row.now) }
+// Whether these are the names of the columns, in their order.
+fn are_names(fields: &RowFields<'_>) -> bool
+    ensures { result ≡ is_header (map (λ f. f.now) fields.now) }
 {
-    row.kind == b"kind".as_slice()
-        && row.reference == b"ref".as_slice()
-        && row.f1 == b"f1".as_slice()
-        && row.f2 == b"f2".as_slice()
-        && row.f3 == b"f3".as_slice()
-        && row.f4 == b"f4".as_slice()
-        && row.f5 == b"f5".as_slice()
-        && row.f6 == b"f6".as_slice()
+    let names = column_names();
+    for place in 0..COLUMNS {
+        if fields[place] != names[place].as_bytes() {
+            return false;
+        }
+    }
+    true
 }
 
-fn eight_fields(row: &ByteRecord) -> Option<RowFields<'_>>
-    ensures { MatchOption result (length (fields_of row.now) ≢ 8) (λ fields. fields_of row.now
-        ≡ fields_in fields) }
+// The fields of a row that has one for each column.
+fn first_fields(row: &ByteRecord) -> RowFields<'_>
+    ensures { length (fields_of row.now) ≡ columns → fields_of row.now ≡ map (λ f. f.now) result }
 {
-    if row.len() != 8 {
-        return None;
+    let mut fields: RowFields<'_> = [b""; COLUMNS];
+    for place in 0..COLUMNS {
+        fields[place] = field_at(row, place);
     }
-    Some(RowFields {
-        kind: field_at(row, 0),
-        reference: field_at(row, 1),
-        f1: field_at(row, 2),
-        f2: field_at(row, 3),
-        f3: field_at(row, 4),
-        f4: field_at(row, 5),
-        f5: field_at(row, 6),
-        f6: field_at(row, 7),
-    })
+    fields
 }
 
 // The field at a place; an empty one where there is none.

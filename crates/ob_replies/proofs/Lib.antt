@@ -1,4 +1,3 @@
-pub mod Eight
 pub mod Examples
 pub mod Floats
 pub mod Identifiers

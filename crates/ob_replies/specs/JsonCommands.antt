@@ -1,5 +1,5 @@
 -- Commands as JSON, RFC 8259: an object whose members are texts under the names of a row's columns.
-use Rattle.std.specs.Prelude.{◌≡◌, ℕ, ◌+◌, ◌&&◌, Bool, true, List, [], ◌∷◌, map, min, Option, Some, None, Result, Ok, Err, unwrap_or, codes, if◌then◌else◌, MatchBool}
+use Rattle.std.specs.Prelude.{◌≡◌, ℕ, ◌+◌, ◌&&◌, Bool, true, List, [], ◌∷◌, map, min, Option, Some, None, Result, Ok, Err, unwrap_or, if◌then◌else◌, MatchBool}
 use Rattle.std.specs.List.{list_any}
 use Rattle.std.specs.Str.{bytes_eq, is_utf8}
 use Rattle.serde_json.specs.Data.{Data, Members, no_members, member}
@@ -10,6 +10,7 @@ use Rattle.ob_base.specs.declared.stop.Refusal.{Refusal}
 use Rattle.ob_base.specs.declared.stop.Refusal.TheVariants.{BadField}
 use Rattle.ob_base.specs.declared.stop.Stop.{Stop}
 use Rattle.ob_base.specs.declared.stop.Stop.TheVariants as stops
+use Rattle.ob_csv.specs.Header.{header}
 use Rattle.ob_command.specs.Fields.{IsRow}
 use Rattle.ob_command.specs.declared.command.Command.{Command}
 
@@ -17,14 +18,9 @@ use Rattle.ob_command.specs.declared.command.Command.{Command}
 abbrev pub json_in : List ℕ → Option Data
 json_in body = if is_utf8 body then read body else None
 
--- the columns of a row, from 1
-abbrev pub column_names : List (List ℕ)
-column_names =
-    codes "kind" ∷ codes "ref" ∷ codes "f1" ∷ codes "f2" ∷ codes "f3" ∷ codes "f4" ∷ codes "f5" ∷ codes "f6" ∷ []
-
 -- the name is a column's
 abbrev pub is_column_name : List ℕ → Bool
-is_column_name name = list_any (bytes_eq name) column_names
+is_column_name name = list_any (bytes_eq name) header
 
 -- each member is a column
 abbrev pub are_columns : Members → Bool
@@ -38,7 +34,7 @@ text_of (Some d) = as_str d
 
 -- the texts of the columns of a value
 abbrev pub texts_of : Data → List (Option (List ℕ))
-texts_of d = map (λ name. text_of (get name d)) column_names
+texts_of d = map (λ name. text_of (get name d)) header
 
 -- the first column, counted from this one, that holds no text
 abbrev pub first_textless : ℕ → List (Option (List ℕ)) → Option ℕ
@@ -52,7 +48,7 @@ leftmost None row = row
 leftmost (Some column) (Err (BadField other)) = Err (BadField (min column other))
 leftmost (Some column) row = Err (BadField column)
 
--- this is what eight columns say: what their row does, where a column without a text is empty in it and bad
+-- this is what the columns say: what their row does, where a column without a text is empty in it and bad
 abbrev pub AreTextsOf : List (Option (List ℕ)) → Result (List ℕ × Command) Refusal → Type 0
 AreTextsOf texts r =
     (row : Result (List ℕ × Command) Refusal) × IsRow (map (λ text. unwrap_or text []) texts) row × (r ≡ leftmost (first_textless 1 texts) row)

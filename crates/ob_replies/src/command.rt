@@ -1,5 +1,5 @@
 //! Commands as JSON, RFC 8259.
-ghost use Rattle.std.specs.Prelude.{◌≡◌, ◌<◌, [], IfErr, IfOk, length, map, option_copied, option_map, unwrap_or};
+ghost use Rattle.std.specs.Prelude.{◌≡◌, [], IfErr, IfOk, map, option_map, unwrap_or};
 ghost use Rattle.serde_json.specs.Find.{as_object, get};
 ghost use Rattle.serde_json.specs.View.{members_view, view};
 ghost use Rattle.ob_base.specs.Stop.{out_of_memory};
@@ -7,13 +7,14 @@ ghost use Rattle.ob_replies.specs.JsonCommands.{are_columns, first_textless, is_
 
 use ob_base::{Fault, Ref, Refusal, Stop};
 use ob_command::{Command, read_row, rows_law};
+use ob_csv::{COLUMNS, RowFields, column_names};
 use serde_json::{Map, Value};
 use std::alloc::Global;
 
-/// Reads a reference and a command from an object with the text members `kind`, `ref` and `f1` to `f6`, where absent
-/// ones are empty, as `read_row` does. The refusal is `BadField` of the leftmost bad column, also where its member is
-/// no text, and of 0 where the body is no JSON, no object, or has another member. The fault is that memory was
-/// refused.
+/// Reads a reference and a command from an object whose members are texts under the names of a row's columns, where
+/// absent ones are empty, as `read_row` does. The refusal is `BadField` of the leftmost bad column, also where its
+/// member is no text, and of 0 where the body is no JSON, no object, or has another member. The fault is that memory
+/// was refused.
 pub fn read_command(alloc: Global, body: &[u8]) -> Result<(Ref, Command), Stop>
     ensures { ReadsJsonCommand body.now result }
 {
@@ -75,39 +76,32 @@ fn has_columns_alone(members: &Map<String, Value>) -> bool
 fn is_column(name: &str) -> bool
     ensures { result ≡ is_column_name name.now }
 {
-    name == "kind"
-        || name == "ref"
-        || name == "f1"
-        || name == "f2"
-        || name == "f3"
-        || name == "f4"
-        || name == "f5"
-        || name == "f6"
+    for column in column_names() {
+        if name == column {
+            return true;
+        }
+    }
+    false
 }
 
 fn command_of_texts(value: &Value) -> Result<(Ref, Command), Refusal>
     ensures { AreTextsOf (texts_of (view value.now)) result }
 {
-    let kind = text(value, "kind");
-    let reference = text(value, "ref");
-    let f1 = text(value, "f1");
-    let f2 = text(value, "f2");
-    let f3 = text(value, "f3");
-    let f4 = text(value, "f4");
-    let f5 = text(value, "f5");
-    let f6 = text(value, "f6");
-    let column = textless(&[kind, reference, f1, f2, f3, f4, f5, f6]);
-    let row = read_row(&[
-        or_empty(kind),
-        or_empty(reference),
-        or_empty(f1),
-        or_empty(f2),
-        or_empty(f3),
-        or_empty(f4),
-        or_empty(f5),
-        or_empty(f6),
-    ]);
-    take_leftmost(column, row)
+    let texts = texts_in(value);
+    let row = read_row(&row_of(&texts));
+    take_leftmost(textless(&texts), row)
+}
+
+// The text of each column.
+fn texts_in(value: &Value) -> [Option<&[u8]>; COLUMNS]
+    ensures { map (λ t. option_map (λ s. s.now) t) result ≡ texts_of (view value.now) }
+{
+    let columns = column_names();
+    let mut texts: [Option<&[u8]>; COLUMNS] = [None; COLUMNS];
+    for place in 0..COLUMNS {
+        texts[place] = text(value, columns[place]);
+    }
+    texts
 }
 
 // The text of a member, empty where it is absent; None where it is no text.
@@ -123,8 +117,19 @@ fn text<'v>(value: &'v Value, name: &str) -> Option<&'v [u8]>
     }
 }
 
+// The row of these texts, empty where a column holds none.
+fn row_of<'t>(texts: &[Option<&'t [u8]>; COLUMNS]) -> RowFields<'t>
+    ensures { map (λ f. f.now) result ≡ map (λ t. unwrap_or (option_map (λ s. s.now) t) []) texts.now }
+{
+    let mut row: RowFields<'t> = [b""; COLUMNS];
+    for place in 0..COLUMNS {
+        row[place] = or_empty(texts[place]);
+    }
+    row
+}
+
 fn or_empty(text: Option<&[u8]>) -> &[u8]
-    ensures { result.now ≡ unwrap_or (option_copied text.entry) [] }
+    ensures { result.now ≡ unwrap_or (option_map (λ s. s.now) text.entry) [] }
 {
     match text {
         Some(text) => text,
@@ -133,8 +138,7 @@ fn or_empty(text: Option<&[u8]>) -> &[u8]
 }
 
 // The first column, from 1, that holds no text.
-fn textless(texts: &[Option<&[u8]>]) -> Option<u8>
-    requires { length texts.now < 255 }
+fn textless(texts: &[Option<&[u8]>; COLUMNS]) -> Option<u8>
     ensures { result ≡ first_textless 1 (map (λ t. option_map (λ s. s.now) t) texts.now) }
 {
     let mut column = 1;

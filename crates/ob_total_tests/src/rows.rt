@@ -1,5 +1,5 @@
 //! The rows of texts, against RFC 4180 and the rules of `RowReader`, by hand.
-use ob_csv::{Row, RowReader};
+use ob_csv::{Row, RowReader, column_names};
 use ob_net::{Fault, Stop};
 use std::alloc::Global;
 use std::io;
@@ -34,20 +34,11 @@ fn show_rest<R: Read>(
 
 // A row of eight fields, each field in `<>`, an empty one as `.`; any other row as `-`.
 fn show(row: &Row, out: &mut Vec<u8>) -> Result<(), Stop> {
-    let Some(row) = row.fields() else {
+    let Some(fields) = row.fields() else {
         out.push(b'-')?;
         return Ok(());
     };
-    for field in [
-        row.kind,
-        row.reference,
-        row.f1,
-        row.f2,
-        row.f3,
-        row.f4,
-        row.f5,
-        row.f6,
-    ] {
+    for field in fields {
         show_field(field, out)?;
     }
     Ok(())
@@ -241,6 +232,14 @@ fn other_rows_than_headers(rt: HostRuntime) -> Result<(), Fail> {
             b"kind, ref,f1,f2,f3,f4,f5,f6\n",
         ],
     )
+}
+
+#[test]
+fn columns_have_their_names(rt: HostRuntime) {
+    let wanted = ["kind", "ref", "f1", "f2", "f3", "f4", "f5", "f6"];
+    for (name, wanted) in column_names().iter().zip(&wanted) {
+        assert!(rt; name == wanted);
+    }
 }
 
 // A reader that gives its bytes one by one, and then fails.
