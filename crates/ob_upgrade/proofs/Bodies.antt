@@ -1,11 +1,10 @@
 -- A body text of version 1 is read as its command.
-use Rattle.std.proofs.Common.{◌≡◌, ◌∙◌, ◌↔◌, sym, ap, subst, refl, ℕ, ◌==◌, ◌&&◌, Bool, true, false, true≢false, not, List, [], ◌∷◌, ◌++◌, append_assoc, append-nil, Option, Some, None, is_none, codes, decimal, if◌then◌else◌, arith}
-use Rattle.std.specs.List.{join_with_byte}
-use Rattle.std.specs.Fmt.{digits}
+use Rattle.std.proofs.Common.{◌≡◌, ◌∙◌, ◌↔◌, sym, ap, subst, refl, ℕ, ◌&&◌, Bool, true, false, true≢false, not, List, [], ◌++◌, append-nil, Option, Some, None, if◌then◌else◌}
 use Rattle.std.proofs.lemmas.List.{append_cancel_right}
 use Rattle.std.proofs.lemmas.Bool.{and_parts}
-use Rattle.std.proofs.lemmas.Bool.Decides.{nat_tests}
-use Rattle.ob_command.specs.Commands.{body_text, normal_text, until_text, BodiesDiffer, IsCommand}
+use Rattle.ob_command.proofs.Plain.{plain_lives, plain_text}
+use Rattle.ob_command.specs.Commands.{body_text, BodiesDiffer, IsCommand}
+use Rattle.ob_command.specs.Devices.{plain_end}
 use Rattle.ob_command.specs.declared.command.Command.{Command}
 use Rattle.ob_command.specs.declared.command.Command.TheVariants.{Cause, Bus, Section, Device, Life, Connect, Revise, Switch, Correct, Withdraw, Mark, Unmark}
 use Rattle.ob_command.specs.declared.device.NewDevice.{NewDevice}
@@ -13,45 +12,15 @@ use Rattle.ob_upgrade.specs.Laws.{BodiesGrow, OldBodiesDiffer}
 use Rattle.ob_upgrade.specs.Old.{is_device, is_old, old_body_text}
 use Rattle.ob_upgrade.specs.Reading.{is_of_device, is_old_device, is_old_other, kept_if}
 
-abbrev pub tail : List ℕ
-tail = codes " 0 -"
-
--- two words more
-two_more : (w : List ℕ) (ws : List (List ℕ)) (x y : List ℕ) → join_with_byte 32 (w ∷ (ws ++ x ∷ y ∷ [])) ≡ join_with_byte 32 (w ∷ ws) ++ (32 ∷ x ++ 32 ∷ y)
-two_more w [] x y = refl
-two_more w (v ∷ ws) x y = ap (λ t. w ++ 32 ∷ t) (two_more v ws x y) ∙ sym (append_assoc w (32 ∷ join_with_byte 32 (v ∷ ws)) (32 ∷ x ++ 32 ∷ y))
-
-zero_text : decimal 0 ≡ codes "0"
-unfolding digits
-zero_text = refl
-
-is_zero : (n : ℕ) → (n == 0) ≡ true → n ≡ 0
-is_zero n h = grind (arith, nat_tests)
-
-is_none_so : (o : Option ℕ) → is_none o ≡ true → o ≡ None
-is_none_so None h = refl
-is_none_so (Some s) h = absurd (true≢false (sym h))
-
 -- a device of version 1 lives always
 pub old_device : (d : NewDevice) → is_old (Device d) ≡ true → (d.life.since ≡ 0) × (d.life.until ≡ None)
-old_device d h =
-    let parts = and_parts (d.life.since == 0) (is_none d.life.until) h in
-    (is_zero d.life.since parts.0, is_none_so d.life.until parts.1)
-
-device_text : (d : NewDevice) → is_old (Device d) ≡ true → body_text (Device d) ≡ old_body_text (Device d) ++ tail
-device_text d h =
-    let whole = old_device d h in
-    let old = old_body_text (Device d) in
-    two_more (codes "device") (d.name ∷ d.ends.a ∷ d.ends.b ∷ normal_text d.normal ∷ []) (decimal d.life.since) (until_text d.life.until)
-    ∙ ap (λ (n : ℕ). old ++ (32 ∷ decimal n ++ 32 ∷ until_text d.life.until)) whole.0
-    ∙ ap (λ (u : Option ℕ). old ++ (32 ∷ decimal 0 ++ 32 ∷ until_text u)) whole.1
-    ∙ ap (λ (z : List ℕ). old ++ (32 ∷ z ++ 32 ∷ codes "-")) zero_text
+old_device d h = plain_lives d h
 
 not_false : {X : Type 0} (b : Bool) → b ≡ true → b ≡ false → X
 not_false b is not_so = absurd (true≢false (sym is ∙ not_so))
 
 pub bodies_grow : BodiesGrow
-bodies_grow (Device d) h = device_text d h
+bodies_grow (Device d) h = plain_text d h
 bodies_grow (Life device life) h = not_false false h refl
 bodies_grow (Cause code name) h = sym (append-nil (body_text (Cause code name)))
 bodies_grow (Bus name) h = sym (append-nil (body_text (Bus name)))
@@ -85,8 +54,8 @@ old_bodies_differ law c d valid_c valid_d old_c old_d same =
     let kinds : is_device c ≡ is_device d = sym (begins c old_c) ∙ ap is_of_device same ∙ begins d old_d in
     law c d valid_c valid_d (
     bodies_grow c old_c
-    ∙ ap (λ t. t ++ (if is_device c then tail else [])) same
-    ∙ ap (λ b. old_body_text d ++ (if b then tail else [])) kinds
+    ∙ ap (λ t. t ++ (if is_device c then plain_end else [])) same
+    ∙ ap (λ b. old_body_text d ++ (if b then plain_end else [])) kinds
     ∙ sym (bodies_grow d old_d)
     )
 
@@ -104,10 +73,10 @@ kept_is test (Some d) c e = kept_so test d c (test d) refl e
 keeps : (test : Command → Bool) (c : Command) → test c ≡ true → kept_if test (Some c) ≡ Some c
 keeps test c h = ap (λ b. if b then Some c else None) h
 
-text_of_device : (c : Command) → is_old_device c ≡ true → body_text c ≡ old_body_text c ++ tail
+text_of_device : (c : Command) → is_old_device c ≡ true → body_text c ≡ old_body_text c ++ plain_end
 text_of_device c h =
     let parts = and_parts (is_device c) (is_old c) h in
-    bodies_grow c parts.1 ∙ ap (λ b. old_body_text c ++ (if b then tail else [])) parts.0
+    bodies_grow c parts.1 ∙ ap (λ b. old_body_text c ++ (if b then plain_end else [])) parts.0
 
 other_not : (d o : Bool) → (not d && o) ≡ true → (d ≡ false) × (o ≡ true)
 other_not true o h = absurd (true≢false (sym h))
@@ -116,7 +85,7 @@ other_not false o h = (refl, h)
 text_of_other : (c : Command) → is_old_other c ≡ true → body_text c ≡ old_body_text c
 text_of_other c h =
     let parts = other_not (is_device c) (is_old c) h in
-    bodies_grow c parts.1 ∙ ap (λ b. old_body_text c ++ (if b then tail else [])) parts.0 ∙ append-nil (old_body_text c)
+    bodies_grow c parts.1 ∙ ap (λ b. old_body_text c ++ (if b then plain_end else [])) parts.0 ∙ append-nil (old_body_text c)
 
 abbrev pub ReadsAs : List ℕ → Option Command → Type 0
 ReadsAs text found = (c : Command) → (found ≡ Some c) ↔ (IsCommand c × (text ≡ body_text c))
@@ -124,16 +93,16 @@ ReadsAs text found = (c : Command) → (found ≡ Some c) ↔ (IsCommand c × (t
 abbrev pub ReadsAsOld : List ℕ → Option Command → Type 0
 ReadsAsOld text found = (c : Command) → (found ≡ Some c) ↔ (IsCommand c × (is_old c ≡ true) × (text ≡ old_body_text c))
 
-pub of_device : (text : List ℕ) (found : Option Command) → is_of_device text ≡ true → ReadsAs (text ++ tail) found → ReadsAsOld text (kept_if is_old_device found)
+pub of_device : (text : List ℕ) (found : Option Command) → is_of_device text ≡ true → ReadsAs (text ++ plain_end) found → ReadsAsOld text (kept_if is_old_device found)
 of_device text found here read c = (
   λ e.
       let it = kept_is is_old_device found c e in
       let said = (read c).0 it.0 in
-      (said.0, (and_parts (is_device c) (is_old c) it.1).1, append_cancel_right text (old_body_text c) tail (said.1 ∙ text_of_device c it.1)),
+      (said.0, (and_parts (is_device c) (is_old c) it.1).1, append_cancel_right text (old_body_text c) plain_end (said.1 ∙ text_of_device c it.1)),
   λ h.
       let device : is_device c ≡ true = sym (begins c h.1) ∙ ap is_of_device (sym h.2) ∙ here in
       let is : is_old_device c ≡ true = ap (λ b. b && is_old c) device ∙ h.1 in
-      ap (kept_if is_old_device) ((read c).1 (h.0, ap (λ t. t ++ tail) h.2 ∙ sym (text_of_device c is))) ∙ keeps is_old_device c is,
+      ap (kept_if is_old_device) ((read c).1 (h.0, ap (λ t. t ++ plain_end) h.2 ∙ sym (text_of_device c is))) ∙ keeps is_old_device c is,
 )
 
 pub of_other : (text : List ℕ) (found : Option Command) → is_of_device text ≡ false → ReadsAs text found → ReadsAsOld text (kept_if is_old_other found)

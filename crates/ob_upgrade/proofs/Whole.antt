@@ -29,6 +29,7 @@ use Rattle.ob_index.specs.declared.figures.Counts.{Counts}
 use Rattle.ob_index.specs.declared.figures.Which.{Which}
 use Rattle.ob_command.specs.declared.command.Command.{Command}
 use Rattle.ob_command.specs.declared.command.Command.TheVariants.{Cause, Bus, Section, Device, Life as LifeOf, Connect, Revise, Switch, Correct, Withdraw, Mark, Unmark}
+use Rattle.ob_command.specs.declared.device.NewDevice.{NewDevice}
 use Rattle.ob_state.specs.Amounts.{amount, days_of_book, moves}
 use Rattle.ob_state.specs.Next.{next, next_all}
 use Rattle.ob_state.specs.Refusals.{refusal, refusals, first, if_full}
@@ -103,26 +104,30 @@ part_same false (Some r) f = refl
 part_same false None None = refl
 part_same false None (Some r) = refl
 
--- a device, whose life without an end is never refused
-device_same : (z : Bool) (since : ℕ) (until : Option ℕ) (s u t f : Bool) (o : Option Refusal)
-    → ((z && is_none until) && (not s && is_none (if u then Some UnknownName else if t then Some NameTaken else if f then Some (Full 2048) else None)) && is_none o)
-    ≡ (((z && is_none until) && not (true && s))
-    && is_none (first ((if u then Some UnknownName else if t then Some NameTaken else if not (ends_later (life since until)) then Some BadLife else if f then Some (Full 2048) else None) ∷ o ∷ [])))
-device_same false since until s u t f o = refl
-device_same true since (Some end) s u t f o = refl
-device_same true since None true u t f o = refl
-device_same true since None false true t f o = refl
-device_same true since None false false true f o = refl
-device_same true since None false false false true o = refl
-device_same true since None false false false false None = refl
-device_same true since None false false false false (Some r) = refl
+-- a device of version 1 lives always, and so is never refused for its life
+lives_on : (d : NewDevice) → is_old (Device d) ≡ true → ends_later (life d.life.since d.life.until) ≡ true
+lives_on d h = ap (λ until. ends_later (life d.life.since until)) (old_device d h).1
+
+device_same : (old l s u t f : Bool) (o : Option Refusal) → (old ≡ true → l ≡ true)
+    → (old && (not s && is_none (if u then Some UnknownName else if t then Some NameTaken else if f then Some (Full 2048) else None)) && is_none o)
+    ≡ ((old && not (true && s))
+    && is_none (first ((if u then Some UnknownName else if t then Some NameTaken else if not l then Some BadLife else if f then Some (Full 2048) else None) ∷ o ∷ [])))
+device_same false l s u t f o h = refl
+device_same true l true u t f o h = refl
+device_same true l false true t f o h = refl
+device_same true l false false true f o h = refl
+device_same true false false false false f o h = absurd (true≢false (sym (h refl)))
+device_same true true false false false true o h = refl
+device_same true true false false false false None h = refl
+device_same true true false false false false (Some r) h = refl
 
 pub accepted_but_for_parts : AcceptedButForParts
 accepted_but_for_parts b (Bus name) = part_same (is_sealed b.entries) (node_refusal b.network name) (if_full b)
 accepted_but_for_parts b (Section name feeder) = part_same (is_sealed b.entries) (node_refusal b.network name) (if_full b)
 accepted_but_for_parts b (Device d) =
-    device_same (d.life.since == 0) d.life.since d.life.until (is_sealed b.entries)
+    device_same (is_old (Device d)) (ends_later (life d.life.since d.life.until)) (is_sealed b.entries)
     (is_none (node_of b.network d.ends.a) || is_none (node_of b.network d.ends.b)) (is_some (device_of b.network d.name)) (length b.network.devices == 2048) (if_full b)
+    (lives_on d)
 accepted_but_for_parts b (LifeOf device service) = refl
 accepted_but_for_parts b (Cause code name) = first_append (refusals b (Cause code name)) (if_full b)
 accepted_but_for_parts b (Connect customer section service) = first_append (refusals b (Connect customer section service)) (if_full b)

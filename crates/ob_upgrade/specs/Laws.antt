@@ -1,11 +1,12 @@
 -- The laws that join version 1 of the book and today's.
-use Rattle.std.specs.Prelude.{◌≡◌, ◌↔◌, ℕ, ◌&&◌, true, List, [], ◌∷◌, ◌++◌, Some, is_none, map, if◌then◌else◌, codes}
+use Rattle.std.specs.Prelude.{◌≡◌, ◌↔◌, ℕ, ◌&&◌, true, List, [], ◌∷◌, ◌++◌, Some, is_none, map, if◌then◌else◌}
 use Rattle.ob_net.specs.Network.{AreWhole}
 use Rattle.ob_post.specs.declared.Dim.{Dim}
 use Rattle.ob_post.specs.declared.Moved.{Moved}
 use Rattle.ob_time.specs.Calendar.{Calendar}
 use Rattle.ob_index.specs.declared.figures.Which.{Which}
 use Rattle.ob_command.specs.Commands.{IsCommand, body_text}
+use Rattle.ob_command.specs.Devices.{plain_end}
 use Rattle.ob_command.specs.declared.command.Command.{Command}
 use Rattle.ob_state.specs.Amounts.{amount, moves}
 use Rattle.ob_state.specs.Next.{next, next_all}
@@ -54,11 +55,11 @@ ReachedByBoth =
     (p : Calendar) (b : ActState) → (old_acts (start p) b.accepted ≡ b)
     ↔ ((acts (start p) b.accepted ≡ b) × (old_next_all (empty_book p) (map (λ a. a.command) b.accepted) ≡ Some b.book))
 
--- the body text of a command of version 1 is the one that it had, for a device with two words more
+-- the body text of a command of version 1 is the one that it had, for a device with the end that a plain one has
 abbrev pub BodiesGrow : Type 0
 BodiesGrow =
     (command : Command) → is_old command ≡ true
-    → body_text command ≡ old_body_text command ++ (if is_device command then codes " 0 -" else [])
+    → body_text command ≡ old_body_text command ++ (if is_device command then plain_end else [])
 
 -- two commands of version 1 had two body texts
 abbrev pub OldBodiesDiffer : Type 0

@@ -6,6 +6,7 @@ use Rattle.ob_base.specs.declared.stop.Refusal.TheVariants.{UnknownName, NameTak
 use Rattle.ob_net.specs.Network.{Network, node_of, device_of, node_refusal}
 use Rattle.ob_sheet.specs.declared.Entry.{Entry}
 use Rattle.ob_command.specs.Commands.{normal_text, words}
+use Rattle.ob_command.specs.Devices.{is_plain}
 use Rattle.ob_command.specs.declared.command.Command.{Command}
 use Rattle.ob_command.specs.declared.command.Command.TheVariants.{Bus, Section, Device, Life}
 use Rattle.ob_state.specs.State.{BookState}
@@ -13,13 +14,13 @@ use Rattle.ob_state.specs.Refusals.{refusals, first, if_full}
 use Rattle.ob_state.specs.Next.{next}
 use Rattle.ob_book.specs.Acts.{ActState, Referenced, number_of, take_on}
 
--- a device had no life, and no life could be set: a whole one stands for it
+-- of a device only its ends and its normal position were told, and no life could be set: a plain one stands for it
 abbrev pub is_old : Command → Bool
-is_old (Device d) = d.life.since == 0 && is_none d.life.until
+is_old (Device d) = is_plain d
 is_old (Life device life) = false
 is_old command = true
 
--- the words of its body text: a device's without its life
+-- the words of its body text: a device's up to its normal position
 abbrev pub old_words : Command → List (List ℕ)
 old_words (Device d) = codes "device" ∷ d.name ∷ d.ends.a ∷ d.ends.b ∷ normal_text d.normal ∷ []
 old_words command = words command

@@ -1,4 +1,4 @@
-//! Reading the body texts of version 1, in which a device has no life.
+//! Reading the body texts of version 1, in which nothing was told of a device behind its normal position.
 ghost use Rattle.std.specs.Prelude.{◌≡◌, ◌↔◌, Some, true, take, IfOk, IfErr};
 ghost use Rattle.ob_base.specs.Stop.{out_of_memory};
 ghost use Rattle.ob_command.specs.Commands.{IsCommand};
@@ -8,10 +8,10 @@ ghost use Rattle.ob_upgrade.specs.Reading.{is_of_device, is_old_device, is_old_o
 
 use crate::fits::is_old;
 use ob_base::Stop;
-use ob_command::{Command, read_body};
+use ob_command::{Command, plain_end, read_body};
 use std::alloc::Global;
 
-/// Reads a body text of version 1. That of a device is today's without its last two words, and gives a device that lives
+/// Reads a body text of version 1. That of a device is today's without `plain_end`, and gives a plain device, which lives
 /// without end from the first second on. None for every text that isn't the body text of a command of version 1. The error is
 /// that memory was refused.
 pub fn read_old_body(alloc: Global, text: &[u8]) -> Result<Option<Command>, Stop>
@@ -32,7 +32,7 @@ fn read_old_device(alloc: Global, text: &[u8]) -> Result<Option<Command>, Stop>
     ensures err { IfErr result (λ stop. stop ≡ out_of_memory) }
 {
     let mut whole = Vec::from_slice(alloc, text)?;
-    whole.extend_from_slice(b" 0 -")?;
+    whole.extend_from_slice(plain_end())?;
     Ok(device_alone(read_body(&whole)))
 }
 

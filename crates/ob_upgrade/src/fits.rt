@@ -25,7 +25,7 @@ pub(crate) fn is_old(command: &Command) -> bool
     ensures { result ≡ is_old command.now }
 {
     match command {
-        Command::Device(device) => device.life.since.second() == 0 && device.life.until.is_none(),
+        Command::Device(device) => device.is_plain(),
         Command::Life { .. } => false,
         _ => true,
     }

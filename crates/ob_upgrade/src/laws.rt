@@ -7,7 +7,7 @@ use ob_command::bodies_law;
 /// that version 1 accepted is accepted today, leads to the same book, in which each device lives so, and moves the same. Version
 /// 1 accepted a command exactly where it is accepted today, is one of version 1, and is no part of a network whose sheet was
 /// begun. A book is one of version 1 exactly where it is one of today and version 1 accepted each of its commands in its turn.
-/// The body text of a command of version 1 is the one that it had, for a device with two words more, and two of its commands
+/// The body text of a command of version 1 is the one that it had, for a device with `plain_end` more, and two of its commands
 /// had two. It does nothing when it runs.
 pub fn version_law()
     ensures figures { SameFigures }
