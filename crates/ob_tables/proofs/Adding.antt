@@ -1,5 +1,5 @@
 -- What an INSERT makes of the tables.
-use Rattle.std.proofs.Common.{◌≡◌, ◌≢◌, ℕ, inl, inr, ◌/◌, ◌≤◌, pos, ℤ, List, [], ◌∷◌, filter, length, codes, Bool, true, false, Option, Some, Ordering, Less, Equal, Greater, true≢false, refl, sym, ap, subst, ◌∙◌, arith, slice_get}
+use Rattle.std.proofs.Common.{◌≡◌, ◌≢◌, ℕ, inl, inr, ◌/◌, ◌≤◌, pos, ℤ, List, [], ◌∷◌, filter, length, codes, Bool, true, false, Some, Ordering, Less, Equal, Greater, true≢false, refl, sym, ap, subst, ◌∙◌, arith, slice_get}
 use Rattle.std.specs.Prelude.{IsTrue, unwrap_or}
 use Rattle.std.specs.List.{AllByRecursion, list_any}
 use Rattle.std.specs.Ordering.{is_eq}
@@ -97,10 +97,10 @@ makes_row table at it terms width text params columns found tree is plain uncoun
     (λ old new row row_is others put are. numbered_beside table old new others beside_moved beside_amounts are)
 
 abbrev pub meta_insert : List ℕ
-meta_insert = codes "INSERT INTO meta (id, version, day0, days, zone) VALUES (1, 2, ?1, ?2, ?3)"
+meta_insert = codes "INSERT INTO meta (id, version, day0, days, zone) VALUES (?1, ?2, ?3, ?4, ?5)"
 
 abbrev pub meta_terms : List Term
-meta_terms = lit (Int (pos 1)) ∷ lit Null ∷ lit (Int (pos 2)) ∷ col 0 0 ∷ col 0 1 ∷ col 0 2 ∷ []
+meta_terms = col 0 0 ∷ lit Null ∷ col 0 1 ∷ col 0 2 ∷ col 0 3 ∷ col 0 4 ∷ []
 
 pub meta_insert_is : command_of (understood book_schema meta_insert) ≡ Insert 0 (Values meta_terms 6)
 unfolding understood everything
@@ -111,10 +111,10 @@ unfolding understood everything
 meta_insert_plain = (refl, refl)
 
 pub stored_meta : (first_day : List ℕ) (days : ℕ) (zone : List ℕ) (rows : List Row)
-    → shown Meta (with_rowid Chosen rows (cast_row (record meta_table { tree = 0 }) (eval_all meta_terms ((Text first_day ∷ Int (pos days) ∷ Text zone ∷ []) ∷ [])))) ≡ meta_row 2 first_day days zone
+    → shown Meta (with_rowid Chosen rows (cast_row (record meta_table { tree = 0 }) (eval_all meta_terms (meta_row 2 first_day days zone ∷ [])))) ≡ meta_row 2 first_day days zone
 stored_meta first_day days zone rows = rw (cast_int (pos 1), cast_int (pos 2), cast_int (pos days))
 
-pub adds_meta : (old new : State) (first_day : List ℕ) (days : ℕ) (zone : List ℕ) → Ran meta_insert (Text first_day ∷ Int (pos days) ∷ Text zone ∷ []) old new → Makes old new Always (with_row Meta (meta_row 2 first_day days zone))
+pub adds_meta : (old new : State) (first_day : List ℕ) (days : ℕ) (zone : List ℕ) → Ran meta_insert (meta_row 2 first_day days zone) old new → Makes old new Always (with_row Meta (meta_row 2 first_day days zone))
 adds_meta old new first_day days zone ran =
     makes_row Meta 0 (record meta_table { tree = 0 }) meta_terms 6 meta_insert _ (meta_row 2 first_day days zone) refl refl meta_insert_is meta_insert_plain refl refl refl (λ new. refl)
     (stored_meta first_day days zone) (λ e. omega (arith, e)) (λ e. omega (arith, e)) old new ran
@@ -373,10 +373,10 @@ none_passing p (x ∷ xs) none =
     rw (first, rest)
 
 abbrev pub posting_insert : List ℕ
-posting_insert = codes "INSERT INTO posting (dim, k, amount) VALUES (?1, ?2, 0)"
+posting_insert = codes "INSERT INTO posting (dim, k, amount) VALUES (?1, ?2, ?3)"
 
 abbrev pub posting_terms : List Term
-posting_terms = lit Null ∷ col 0 0 ∷ col 0 1 ∷ lit (Int (pos 0)) ∷ []
+posting_terms = lit Null ∷ col 0 0 ∷ col 0 1 ∷ col 0 2 ∷ []
 
 pub posting_insert_is : command_of (understood book_schema posting_insert) ≡ Insert 9 (Values posting_terms 4)
 unfolding understood everything
@@ -387,7 +387,7 @@ unfolding understood everything
 posting_insert_plain = (refl, refl)
 
 abbrev pub chosen_posting : ℕ → ℕ → List Row → Row
-chosen_posting dim key rows = with_rowid Chosen rows (cast_row (record posting_table { tree = 14 }) (eval_all posting_terms ((Int (pos dim) ∷ Int (pos key) ∷ []) ∷ [])))
+chosen_posting dim key rows = with_rowid Chosen rows (cast_row (record posting_table { tree = 14 }) (eval_all posting_terms (posting_row dim key 0 ∷ [])))
 
 pub stored_posting : (dim key : ℕ) (rows : List Row) → shown Posting (chosen_posting dim key rows) ≡ posting_row dim key 0
 stored_posting dim key rows = rw (cast_null, cast_int (pos dim), cast_int (pos key), cast_int (pos 0))
@@ -414,7 +414,7 @@ apart_more rows row id numbered fresh apart =
       | inr apart_from ↦ rw apart_from (apart.apart other)
     ]
 
-pub adds_posting : (old new : State) (dim key : ℕ) → Ran posting_insert (Int (pos dim) ∷ Int (pos key) ∷ []) old new → Makes old new Always (with_row Posting (posting_row dim key 0))
+pub adds_posting : (old new : State) (dim key : ℕ) → Ran posting_insert (posting_row dim key 0) old new → Makes old new Always (with_row Posting (posting_row dim key 0))
 adds_posting old new dim key ran =
     makes_row_so Posting 9 (record posting_table { tree = 14 }) posting_terms 4 posting_insert _ (posting_row dim key 0) refl refl posting_insert_is posting_insert_plain refl refl refl (λ new. refl)
     (stored_posting dim key)

@@ -21,7 +21,7 @@ use Rattle.sqlite_rules.specs.Lists.{Has}
 use Rattle.sqlite_rules.specs.Edit.{id_in, is_taken, next_rowid}
 use Rattle.sqlite_rules.proofs.ListLemmas.{has_got}
 use Rattle.ob_tables.specs.Schema.{book_schema, moved_table, posting_table}
-use Rattle.ob_tables.specs.Rows.{Always, shown, is_posting, HasPosting}
+use Rattle.ob_tables.specs.Rows.{Always, shown, is_posting, posting_row, HasPosting}
 use Rattle.ob_tables.specs.Rules.{LetsMoved, LetsPosting, HasRoom, is_moved}
 use Rattle.ob_tables.specs.Steps.{Failed, HasFailed, LetsIn}
 use Rattle.ob_tables.specs.declared.table.Table.TheVariants.{Moved, Posting}
@@ -115,7 +115,7 @@ amount_enters s left hidden dim key amount has sound was room free new =
     (storable_row row (omega arith) (omega arith) (tt, (tt, (tt, (tt, tt)))))
     (λ e. absurd (omega (arith, e)), (λ e. absurd (omega (arith, e)), (λ e. absurd (omega (arith, e)), (λ e. absurd (omega (arith, e)), (λ e. absurd (omega (arith, e)), (λ _. entry, tt))))))
 
-pub lets_posting : (old new : State) (dim key : ℕ) → Failed posting_insert (Int (pos dim) ∷ Int (pos key) ∷ []) old new → LetsIn old Always (LetsPosting dim key) → HasFailed old new
+pub lets_posting : (old new : State) (dim key : ℕ) → Failed posting_insert (posting_row dim key 0) old new → LetsIn old Always (LetsPosting dim key) → HasFailed old new
 lets_posting old new dim key failed lets =
     let db = old.now.trees in
     let rows = db 14 in
@@ -127,7 +127,7 @@ lets_posting old new dim key failed lets =
     posting_fails old new dim key lets.schema failed
     (subst (Enters book_schema db a_posting rows) (sym put)
     (amount_enters old rows (1 + length rows) dim key 0 lets.schema lets.sound (λ r there. there) room (free_number rows row lets.numbered.amounts refl) new_key))
-    (inserted_refers db (insert_edit db a_posting posting_terms (Int (pos dim) ∷ Int (pos key) ∷ [])) (has_got book_schema.tables 9 a_posting refl) (sound_book old lets.schema lets.sound) refl
+    (inserted_refers db (insert_edit db a_posting posting_terms (posting_row dim key 0)) (has_got book_schema.tables 9 a_posting refl) (sound_book old lets.schema lets.sound) refl
     (chosen_posting dim key rows) refl (λ next done. tt))
 
 none_in : {X : Type 0} (p : X → Bool) (xs : List X) → length (filter p xs) ≤ 0 → list_any p xs ≡ false

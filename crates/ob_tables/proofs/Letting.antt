@@ -23,7 +23,7 @@ use Rattle.sqlite_rules.specs.Cast.{cast_row}
 use Rattle.sqlite_rules.proofs.ListLemmas.{has_got}
 use Rattle.ob_net.specs.declared.net.Node.{Node as NetNode}
 use Rattle.ob_tables.specs.Schema.{book_schema, meta_table, cause_table, node_table, mark_table, command_table}
-use Rattle.ob_tables.specs.Rows.{Always, is_reference, node_kind}
+use Rattle.ob_tables.specs.Rows.{Always, is_reference, node_kind, meta_row}
 use Rattle.ob_tables.specs.Rules.{IsShort, LetsMeta, LetsCause, LetsNode, LetsMark, LetsCommand}
 use Rattle.ob_tables.specs.Steps.{Failed, HasFailed, LetsIn}
 use Rattle.ob_tables.specs.declared.table.Table.TheVariants.{Meta, Cause, Node, Mark, Command}
@@ -76,7 +76,7 @@ abbrev meta_at : List ℕ → ℕ → List ℕ → Row
 meta_at first_day days zone = Int (pos 1) ∷ Null ∷ Int (pos 2) ∷ Text first_day ∷ Int (pos days) ∷ Text zone ∷ []
 
 meta_put : (first_day : List ℕ) (days : ℕ) (zone : List ℕ) (rows : List Row)
-    → with_rowid Chosen rows (cast_row a_meta (eval_all meta_terms ((Text first_day ∷ Int (pos days) ∷ Text zone ∷ []) ∷ []))) ≡ meta_at first_day days zone
+    → with_rowid Chosen rows (cast_row a_meta (eval_all meta_terms (meta_row 2 first_day days zone ∷ []))) ≡ meta_at first_day days zone
 meta_put first_day days zone rows = rw (cast_int (pos 1), cast_null, cast_int (pos 2), cast_int (pos days))
 
 -- its number is 1
@@ -94,11 +94,11 @@ meta_enters s first_day days zone lets =
       (λ e. absurd (omega (arith, e)), (λ e. absurd (omega (arith, e)), (λ e. absurd (omega (arith, e)), (λ e. absurd (omega (arith, e)), (λ e. absurd (omega (arith, e)), tt))))),
     )
 
-pub lets_meta : (old new : State) (first_day : List ℕ) (days : ℕ) (zone : List ℕ) → Failed meta_insert (Text first_day ∷ Int (pos days) ∷ Text zone ∷ []) old new → LetsIn old Always (LetsMeta first_day zone) → HasFailed old new
+pub lets_meta : (old new : State) (first_day : List ℕ) (days : ℕ) (zone : List ℕ) → Failed meta_insert (meta_row 2 first_day days zone) old new → LetsIn old Always (LetsMeta first_day zone) → HasFailed old new
 lets_meta old new first_day days zone failed lets =
     meta_fails old new first_day days zone lets.schema failed
     (subst (Enters book_schema old.now.trees a_meta (old.now.trees 0)) (sym (meta_put first_day days zone (old.now.trees 0))) (meta_enters old first_day days zone lets))
-    (stands_alone old.now.trees a_meta meta_terms (Text first_day ∷ Int (pos days) ∷ Text zone ∷ []) (sound_book old lets.schema lets.sound) (has_got book_schema.tables 0 a_meta refl) refl)
+    (stands_alone old.now.trees a_meta meta_terms (meta_row 2 first_day days zone) (sound_book old lets.schema lets.sound) (has_got book_schema.tables 0 a_meta refl) refl)
 
 -- ---- a node
 abbrev a_node : sql.Table

@@ -25,7 +25,7 @@ use Rattle.ob_net.specs.declared.net.Device.{Device as NetDevice}
 use Rattle.ob_sheet.specs.declared.Entry.{Entry as SheetEntry}
 use Rattle.ob_cust.specs.declared.Customer.{Customer as RollCustomer}
 use Rattle.ob_tables.specs.Schema.{book_schema, meta_table, cause_table, node_table, device_table, customer_table, entry_table, mark_table, command_table, moved_table, posting_table, life_table}
-use Rattle.ob_tables.specs.Rows.{number_or_null}
+use Rattle.ob_tables.specs.Rows.{number_or_null, meta_row, posting_row}
 use Rattle.ob_tables.specs.Steps.{Failed, HasFailed}
 use Rattle.ob_tables.proofs.Queries.{whole}
 use Rattle.ob_tables.proofs.Entering.{Enters}
@@ -58,7 +58,7 @@ DeleteFails table tests shows text params old new =
     → ((next : Trees) → Applies book_schema Enforced old.now.trees (delete_edit old.now.trees table shows params row) next → Refers All book_schema next) → HasFailed old new
 
 -- ---- meta
-pub meta_written : (first_day : List ℕ) (days : ℕ) (zone : List ℕ) → IsWrittenAs book_schema meta_insert (Text first_day ∷ Int (pos days) ∷ Text zone ∷ []) (Insert 0 (Values meta_terms 6)) (understood book_schema meta_insert)
+pub meta_written : (first_day : List ℕ) (days : ℕ) (zone : List ℕ) → IsWrittenAs book_schema meta_insert (meta_row 2 first_day days zone) (Insert 0 (Values meta_terms 6)) (understood book_schema meta_insert)
 unfolding understood everything
 meta_written first_day days zone = record { whole = omega arith; given = refl; timeless = refl; plain = refl; is = refl }
 
@@ -66,9 +66,9 @@ meta_fits : references_fit book_schema (record meta_table { tree = 0 }) true fal
 unfolding same_name joined
 meta_fits = refl
 
-pub meta_fails : (old new : State) (first_day : List ℕ) (days : ℕ) (zone : List ℕ) → InsertFails (record meta_table { tree = 0 }) meta_terms meta_insert (Text first_day ∷ Int (pos days) ∷ Text zone ∷ []) old new
+pub meta_fails : (old new : State) (first_day : List ℕ) (days : ℕ) (zone : List ℕ) → InsertFails (record meta_table { tree = 0 }) meta_terms meta_insert (meta_row 2 first_day days zone) old new
 meta_fails old new first_day days zone =
-    insert_lets book_schema 0 (record meta_table { tree = 0 }) refl meta_terms 6 meta_insert (Text first_day ∷ Int (pos days) ∷ Text zone ∷ []) (meta_written first_day days zone) refl refl (refl, refl) (λ it. refl) meta_fits old new
+    insert_lets book_schema 0 (record meta_table { tree = 0 }) refl meta_terms 6 meta_insert (meta_row 2 first_day days zone) (meta_written first_day days zone) refl refl (refl, refl) (λ it. refl) meta_fits old new
 
 -- ---- cause
 pub cause_written : (code : ℕ) (name : List ℕ) → IsWrittenAs book_schema cause_insert (Int (pos code) ∷ Text name ∷ []) (Insert 1 (Values cause_terms 3)) (understood book_schema cause_insert)
@@ -179,7 +179,7 @@ moved_fails old new id dim key delta =
     insert_lets book_schema 8 (record moved_table { tree = 12 }) refl moved_terms 5 moved_insert (Int (pos id) ∷ Int (pos dim) ∷ Int (pos key) ∷ Int delta ∷ []) (moved_written id dim key delta) refl refl (refl, refl) (λ it. refl) moved_fits old new
 
 -- ---- posting
-pub posting_written : (dim key : ℕ) → IsWrittenAs book_schema posting_insert (Int (pos dim) ∷ Int (pos key) ∷ []) (Insert 9 (Values posting_terms 4)) (understood book_schema posting_insert)
+pub posting_written : (dim key : ℕ) → IsWrittenAs book_schema posting_insert (posting_row dim key 0) (Insert 9 (Values posting_terms 4)) (understood book_schema posting_insert)
 unfolding understood everything
 posting_written dim key = record { whole = omega arith; given = refl; timeless = refl; plain = refl; is = refl }
 
@@ -187,9 +187,9 @@ posting_fits : references_fit book_schema (record posting_table { tree = 14 }) t
 unfolding same_name joined
 posting_fits = refl
 
-pub posting_fails : (old new : State) (dim key : ℕ) → InsertFails (record posting_table { tree = 14 }) posting_terms posting_insert (Int (pos dim) ∷ Int (pos key) ∷ []) old new
+pub posting_fails : (old new : State) (dim key : ℕ) → InsertFails (record posting_table { tree = 14 }) posting_terms posting_insert (posting_row dim key 0) old new
 posting_fails old new dim key =
-    insert_lets book_schema 9 (record posting_table { tree = 14 }) refl posting_terms 4 posting_insert (Int (pos dim) ∷ Int (pos key) ∷ []) (posting_written dim key) refl refl (refl, refl) (λ it. refl) posting_fits old new
+    insert_lets book_schema 9 (record posting_table { tree = 14 }) refl posting_terms 4 posting_insert (posting_row dim key 0) (posting_written dim key) refl refl (refl, refl) (λ it. refl) posting_fits old new
 
 -- ---- life
 pub life_written : (device : ℕ) (life : ALife) → IsWrittenAs book_schema life_insert (life_params device life) (Insert 10 (Values life_terms 4)) (understood book_schema life_insert)

@@ -5,12 +5,13 @@ ghost use Rattle.ob_tables.specs.Rows.{Always, with_change, serve, HasCustomer, 
 ghost use Rattle.ob_tables.specs.Rules.{HasRoom, LetsBody, LetsVersion, LetsCorrected, LetsWithdrawn};
 ghost use Rattle.ob_tables.specs.declared.table.Table.{Table as ATable};
 
-use crate::run::{int, key, large, large_or_null, position, run};
+use crate::columns::posting_columns;
+use crate::fields::{Field, key, large_or_nothing, position_number};
+use crate::run::run;
 use ob_base::{Life, Stop};
 use ob_cust::Customer;
 use ob_sheet::Entry;
 use sqlite::{Alter, Transaction};
-use sqlite_value::value::ValueRef;
 
 /// Gives the customer of this number the service of this one.
 pub fn set_service<S: Alter>(tx: &mut Transaction<'_, S>, customer: Customer) -> Result<(), Stop>
@@ -23,9 +24,9 @@ pub fn set_service<S: Alter>(tx: &mut Transaction<'_, S>, customer: Customer) ->
         tx,
         "UPDATE customer SET since = ?2, until = ?3 WHERE id = ?1",
         &[
-            int(customer.no),
-            large(customer.since),
-            large_or_null(customer.until),
+            Field::Small(customer.no),
+            Field::Large(customer.since),
+            large_or_nothing(customer.until),
         ],
     )
 }
@@ -41,9 +42,9 @@ pub fn set_life<S: Alter>(tx: &mut Transaction<'_, S>, device: u16, life: Life) 
         tx,
         "UPDATE life SET since = ?2, until = ?3 WHERE device = ?1",
         &[
-            int(u32::from(device)),
-            large(life.since),
-            large_or_null(life.until),
+            Field::Small(u32::from(device)),
+            Field::Large(life.since),
+            large_or_nothing(life.until),
         ],
     )
 }
@@ -57,7 +58,7 @@ pub fn set_body<S: Alter>(tx: &mut Transaction<'_, S>, no: u32, body: &[u8]) -> 
     run(
         tx,
         "UPDATE cmd SET body = ?2 WHERE id = ?1",
-        &[int(no), ValueRef::Text(body)],
+        &[Field::Small(no), Field::Words(body)],
     )
 }
 
@@ -69,7 +70,7 @@ pub fn set_version<S: Alter>(tx: &mut Transaction<'_, S>, version: u32) -> Resul
     run(
         tx,
         "UPDATE meta SET version = ?2 WHERE id = ?1",
-        &[int(1), int(version)],
+        &[Field::Small(1), Field::Small(version)],
     )
 }
 
@@ -86,11 +87,11 @@ pub fn correct_entry<S: Alter>(tx: &mut Transaction<'_, S>, entry: &Entry) -> Re
         "UPDATE entry SET rev = ?2, pos = ?3, second = ?4, cause = ?5, crew = ?6 WHERE id = ?1",
         &[
             key(entry.no),
-            int(entry.rev),
-            position(entry.pos),
-            large(entry.second),
-            int(u32::from(entry.cause)),
-            ValueRef::Text(entry.crew.bytes()),
+            Field::Small(entry.rev),
+            Field::Small(position_number(entry.pos)),
+            Field::Large(entry.second),
+            Field::Small(u32::from(entry.cause)),
+            Field::Words(entry.crew.bytes()),
         ],
     )
 }
@@ -107,7 +108,7 @@ pub fn withdraw_entry<S: Alter>(
     run(
         tx,
         "UPDATE entry SET rev = ?2, kept = 0 WHERE id = ?1",
-        &[int(no), int(revision)],
+        &[Field::Small(no), Field::Small(revision)],
     )
 }
 
@@ -119,7 +120,7 @@ pub fn drop_mark<S: Alter>(tx: &mut Transaction<'_, S>, day: u16) -> Result<(), 
     run(
         tx,
         "DELETE FROM mark WHERE day = ?1",
-        &[int(u32::from(day))],
+        &[Field::Small(u32::from(day))],
     )
 }
 
@@ -137,6 +138,6 @@ pub fn set_posting<S: Alter>(
     run(
         tx,
         "UPDATE posting SET amount = ?3 WHERE dim = ?1 AND k = ?2",
-        &[int(dim), int(key), large(amount)],
+        &posting_columns(u64::from(dim), u64::from(key), amount),
     )
 }

@@ -2,7 +2,11 @@
 ghost use Rattle.std.specs.Prelude.{◌≡◌, ◌↔◌, IsTrue};
 ghost use Rattle.ob_tables.specs.Rows.{meta_row, cause_row, node_row, device_row, life_row, customer_row, entry_row, mark_row, posting_row};
 
-use crate::fields::{Field, bit, has_fields, kind_of, number_or_nothing, position_number};
+use crate::columns::{
+    cause_columns, customer_columns, device_columns, entry_columns, life_columns, mark_columns,
+    meta_columns, node_columns, posting_columns,
+};
+use crate::fields::has_fields;
 use ob_base::{Crew, Life, Name};
 use ob_cust::Customer;
 use ob_net::{Device, Node};
@@ -21,13 +25,7 @@ pub fn is_meta_row<'t>(
 {
     has_fields(
         row,
-        &[
-            Field::Number(1),
-            Field::Number(u64::from(version)),
-            Field::Words(first_day),
-            Field::Number(u64::from(days)),
-            Field::Words(zone),
-        ],
+        &meta_columns(version, first_day, u32::from(days), zone),
     )
 }
 
@@ -35,107 +33,54 @@ pub fn is_meta_row<'t>(
 pub fn is_cause_row(row: &Row, code: u64, name: &Name) -> bool
     ensures { IsTrue result ↔ (row.now ≡ cause_row code name.now) }
 {
-    has_fields(row, &[Field::Number(code), Field::Words(name.bytes())])
+    has_fields(row, &cause_columns(code, name))
 }
 
 /// Whether a row is that of the node of a number.
 pub fn is_node_row(row: &Row, number: u64, node: &Node) -> bool
     ensures { IsTrue result ↔ (row.now ≡ node_row number node.now) }
 {
-    // The column of the feeder is 0 for GRID and for a bus, which have none.
-    let feeder = node.feeder.unwrap_or(0);
-    has_fields(
-        row,
-        &[
-            Field::Number(number),
-            Field::Words(node.name.bytes()),
-            Field::Number(u64::from(kind_of(number, node))),
-            Field::Number(u64::from(feeder)),
-        ],
-    )
+    has_fields(row, &node_columns(number, node))
 }
 
 /// Whether a row is that of the device of a number.
 pub fn is_device_row(row: &Row, number: u64, device: &Device) -> bool
     ensures { IsTrue result ↔ (row.now ≡ device_row number device.now) }
 {
-    has_fields(
-        row,
-        &[
-            Field::Number(number),
-            Field::Words(device.name.bytes()),
-            Field::Number(u64::from(device.a)),
-            Field::Number(u64::from(device.b)),
-            Field::Number(position_number(device.normal)),
-        ],
-    )
+    has_fields(row, &device_columns(number, device))
 }
 
 /// Whether a row is that of the life of a device.
 pub fn is_life_row(row: &Row, device: u64, life: Life) -> bool
     ensures { IsTrue result ↔ (row.now ≡ life_row device life) }
 {
-    has_fields(
-        row,
-        &[
-            Field::Number(device),
-            Field::Number(life.since),
-            number_or_nothing(life.until),
-        ],
-    )
+    has_fields(row, &life_columns(device, life))
 }
 
 /// Whether a row is that of a customer.
 pub fn is_customer_row(row: &Row, customer: Customer) -> bool
     ensures { IsTrue result ↔ (row.now ≡ customer_row customer) }
 {
-    has_fields(
-        row,
-        &[
-            Field::Number(u64::from(customer.no)),
-            Field::Number(u64::from(customer.section)),
-            Field::Number(customer.since),
-            number_or_nothing(customer.until),
-        ],
-    )
+    has_fields(row, &customer_columns(customer))
 }
 
 /// Whether a row is that of an entry of the sheet.
 pub fn is_entry_row(row: &Row, entry: &Entry) -> bool
     ensures { IsTrue result ↔ (row.now ≡ entry_row entry.now) }
 {
-    has_fields(
-        row,
-        &[
-            Field::Number(u64::from(entry.no)),
-            Field::Number(u64::from(entry.rev)),
-            Field::Number(u64::from(entry.device)),
-            Field::Number(position_number(entry.pos)),
-            Field::Number(entry.second),
-            Field::Number(u64::from(entry.cause)),
-            Field::Words(entry.crew.bytes()),
-            Field::Number(bit(entry.kept)),
-        ],
-    )
+    has_fields(row, &entry_columns(entry))
 }
 
 /// Whether a row is that of the mark that an engineer put on a day.
 pub fn is_mark_row(row: &Row, day: u64, engineer: &Crew) -> bool
     ensures { IsTrue result ↔ (row.now ≡ mark_row day engineer.now) }
 {
-    has_fields(row, &[Field::Number(day), Field::Words(engineer.bytes())])
+    has_fields(row, &mark_columns(day, engineer))
 }
 
 /// Whether a row is that of an amount of a dimension and a key.
 pub fn is_posting_row(row: &Row, dim: u64, key: u64, amount: u64) -> bool
     ensures { IsTrue result ↔ (row.now ≡ posting_row dim key amount) }
 {
-    has_fields(
-        row,
-        &[
-            Field::Number(dim),
-            Field::Number(key),
-            Field::Number(amount),
-        ],
-    )
+    has_fields(row, &posting_columns(dim, key, amount))
 }

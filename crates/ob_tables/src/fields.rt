@@ -1,34 +1,48 @@
-//! The fields of a row against what they are expected to hold.
-ghost use Rattle.std.specs.Prelude.{◌≡◌, ◌↔◌, map, IsTrue};
+//! The fields of a row: what they are to hold, as parameters of a statement and against a row that was read.
+ghost use Rattle.std.specs.Prelude.{◌≡◌, ◌↔◌, ◌<◌, ◌≤◌, ◌^◌, length, map, take, IfSome, IsTrue};
+ghost use Rattle.std.specs.List.{AllByRecursion};
+ghost use Rattle.sqlite.specs.Values.{bound, bound_value};
 ghost use Rattle.sqlite_value.specs.Value.{owned};
-ghost use Rattle.ob_tables.specs.Rows.{number_or_null, node_kind, position_number, bit};
-ghost use Rattle.ob_tables.specs.Fields.{held};
+ghost use Rattle.ob_tables.specs.Rows.{number, number_or_null, position_number, bit};
+ghost use Rattle.ob_tables.specs.Fields.{held, Fits};
 
 use ob_base::Pos;
-use ob_net::Node;
 use sqlite::Row;
 use sqlite_value::value::ValueRef;
 
-/// What a field of a row is expected to hold.
+/// What a field of a row holds, or is to hold.
 #[derive(Clone, Copy)]
 pub(crate) enum Field<'a> {
     Nothing,
-    Number(u64),
+    Small(u32),
+    /// No row holds one from 2^63 on.
+    Large(u64),
+    Signed(i64),
     Words(&'a [u8]),
 }
 
-/// A number, or nothing.
-pub(crate) fn number_or_nothing(n: Option<u64>) -> Field<'static>
-    ensures { held result ≡ number_or_null n }
+/// The number of a row, which is far below the largest row number.
+pub(crate) fn key(n: u32) -> Field<'static>
+    ensures field { held result ≡ number n }
+    ensures fits { Fits result }
+    ensures small { n < 2 ^ 32 }
+{
+    Field::Small(n)
+}
+
+/// A large number, or nothing.
+pub(crate) fn large_or_nothing(n: Option<u64>) -> Field<'static>
+    ensures field { held result ≡ number_or_null n }
+    ensures fits { IfSome n (λ it. it < 2 ^ 63) → Fits result }
 {
     match n {
-        Some(n) => Field::Number(n),
+        Some(n) => Field::Large(n),
         None => Field::Nothing,
     }
 }
 
 /// The number of a position.
-pub(crate) fn position_number(pos: Pos) -> u64
+pub(crate) fn position_number(pos: Pos) -> u32
     ensures { result ≡ position_number pos }
 {
     match pos {
@@ -38,39 +52,50 @@ pub(crate) fn position_number(pos: Pos) -> u64
 }
 
 /// 1 for true, 0 for false.
-pub(crate) fn bit(is: bool) -> u64
+pub(crate) fn bit(is: bool) -> u32
     ensures { result ≡ bit is }
 {
     if is { 1 } else { 0 }
 }
 
-/// The kind of the node of a number: 2 for a section, 0 for GRID, which is the node numbered 0, and 1 for a bus.
-pub(crate) fn kind_of(number: u64, node: &Node) -> u32
-    ensures { result ≡ node_kind number node.now }
+/// A field as a parameter.
+fn value_of(field: Field<'_>) -> ValueRef<'_>
+    requires { Fits field }
+    ensures { bound_value (owned result) ≡ held field.entry }
 {
-    if node.feeder.is_some() {
-        2
-    } else if number == 0 {
-        0
-    } else {
-        1
+    match field {
+        Field::Nothing => ValueRef::Null,
+        Field::Small(n) => ValueRef::Int(i64::from(n)),
+        Field::Large(n) => ValueRef::Int(n as i64),
+        Field::Signed(n) => ValueRef::Int(n),
+        Field::Words(words) => ValueRef::Text(words),
     }
+}
+
+/// Fields as parameters, and NULL after them up to the eighth: no table has more columns.
+pub(crate) fn values<'a>(fields: &[Field<'a>]) -> [ValueRef<'a>; 8]
+    requires few { length fields.now ≤ 8 }
+    requires fits { AllByRecursion Fits fields.now }
+    ensures { bound (take (length fields.now) result) ≡ map held fields.now }
+{
+    let mut values = [ValueRef::Null; 8];
+    'fields: for at in 0..fields.len() {
+        values[at] = value_of(fields[at]);
+    }
+    values
 }
 
 /// Whether a value is what a field is expected to hold.
 fn is_held(value: ValueRef<'_>, field: Field<'_>) -> bool
     ensures { IsTrue result ↔ (owned value.entry ≡ held field.entry) }
 {
-    match field {
-        Field::Nothing => matches!(value, ValueRef::Null),
-        Field::Number(n) => match value {
-            ValueRef::Int(m) => m >= 0 && m as u64 == n,
-            _ => false,
-        },
-        Field::Words(words) => match value {
-            ValueRef::Text(text) => text == words,
-            _ => false,
-        },
+    match (value, field) {
+        (ValueRef::Null, Field::Nothing) => true,
+        (ValueRef::Int(m), Field::Small(n)) => m == i64::from(n),
+        (ValueRef::Int(m), Field::Large(n)) => m >= 0 && m as u64 == n,
+        (ValueRef::Int(m), Field::Signed(n)) => m == n,
+        (ValueRef::Text(text), Field::Words(words)) => text == words,
+        _ => false,
     }
 }
 

@@ -5,14 +5,17 @@ ghost use Rattle.ob_tables.specs.Rows.{Always, with_row, meta_row, cause_row, no
 ghost use Rattle.ob_tables.specs.Rules.{LetsMeta, LetsCause, LetsNode, LetsDevice, LetsCustomer, LetsLife, LetsEntry, LetsMark, LetsCommand, LetsMoved, LetsPosting};
 ghost use Rattle.ob_tables.specs.declared.table.Table.{Table as ATable};
 
-use crate::fields::kind_of;
-use crate::run::{flag, int, key, large, large_or_null, position, run, signed_value};
+use crate::columns::{
+    cause_columns, customer_columns, device_columns, entry_columns, life_columns, mark_columns,
+    meta_columns, node_columns, posting_columns,
+};
+use crate::fields::Field;
+use crate::run::run;
 use ob_base::{Crew, Life, Name, Stop};
 use ob_cust::Customer;
 use ob_net::{Device, Node};
 use ob_sheet::Entry;
 use sqlite::{Alter, Transaction};
-use sqlite_value::value::ValueRef;
 
 /// Adds the one row of `meta`, of version 2. It fails where the row stands already.
 pub fn add_meta<'t, S: Alter>(
@@ -27,8 +30,8 @@ pub fn add_meta<'t, S: Alter>(
 {
     run(
         tx,
-        "INSERT INTO meta (id, version, day0, days, zone) VALUES (1, 2, ?1, ?2, ?3)",
-        &[ValueRef::Text(first_day), int(days), ValueRef::Text(zone)],
+        "INSERT INTO meta (id, version, day0, days, zone) VALUES (?1, ?2, ?3, ?4, ?5)",
+        &meta_columns(2, first_day, days, zone),
     )
 }
 
@@ -41,7 +44,7 @@ pub fn add_cause<S: Alter>(tx: &mut Transaction<'_, S>, code: u8, name: &Name) -
     run(
         tx,
         "INSERT INTO cause (code, name) VALUES (?1, ?2)",
-        &[int(u32::from(code)), ValueRef::Text(name.bytes())],
+        &cause_columns(u64::from(code), name),
     )
 }
 
@@ -51,18 +54,10 @@ pub fn add_node<S: Alter>(tx: &mut Transaction<'_, S>, number: u16, node: &Node)
         (LetsNode number node.now.name)
         (with_row ATable.Node (node_row number node.now)) }
 {
-    let kind = kind_of(u64::from(number), node);
-    // GRID and a bus have no feeder.
-    let feeder = node.feeder.unwrap_or(0);
     run(
         tx,
         "INSERT INTO node (id, name, kind, feeder) VALUES (?1, ?2, ?3, ?4)",
-        &[
-            int(u32::from(number)),
-            ValueRef::Text(node.name.bytes()),
-            int(kind),
-            int(u32::from(feeder)),
-        ],
+        &node_columns(u64::from(number), node),
     )
 }
 
@@ -80,13 +75,7 @@ pub fn add_device<S: Alter>(
     run(
         tx,
         "INSERT INTO device (id, name, a, b, normal) VALUES (?1, ?2, ?3, ?4, ?5)",
-        &[
-            int(u32::from(number)),
-            ValueRef::Text(device.name.bytes()),
-            int(u32::from(device.a)),
-            int(u32::from(device.b)),
-            position(device.normal),
-        ],
+        &device_columns(u64::from(number), device),
     )
 }
 
@@ -102,12 +91,7 @@ pub fn add_customer<S: Alter>(tx: &mut Transaction<'_, S>, customer: Customer) -
     run(
         tx,
         "INSERT INTO customer (id, section, since, until) VALUES (?1, ?2, ?3, ?4)",
-        &[
-            int(customer.no),
-            int(u32::from(customer.section)),
-            large(customer.since),
-            large_or_null(customer.until),
-        ],
+        &customer_columns(customer),
     )
 }
 
@@ -122,11 +106,7 @@ pub fn add_life<S: Alter>(tx: &mut Transaction<'_, S>, device: u16, life: Life) 
     run(
         tx,
         "INSERT INTO life (device, since, until) VALUES (?1, ?2, ?3)",
-        &[
-            int(u32::from(device)),
-            large(life.since),
-            large_or_null(life.until),
-        ],
+        &life_columns(u64::from(device), life),
     )
 }
 
@@ -141,16 +121,7 @@ pub fn add_entry<S: Alter>(tx: &mut Transaction<'_, S>, entry: &Entry) -> Result
     run(
         tx,
         "INSERT INTO entry (id, rev, device, pos, second, cause, crew, kept) VALUES (?1, ?2, ?3, ?4, ?5, ?6, ?7, ?8)",
-        &[
-            key(entry.no),
-            int(entry.rev),
-            int(u32::from(entry.device)),
-            position(entry.pos),
-            large(entry.second),
-            int(u32::from(entry.cause)),
-            ValueRef::Text(entry.crew.bytes()),
-            flag(entry.kept),
-        ],
+        &entry_columns(entry),
     )
 }
 
@@ -167,7 +138,7 @@ pub fn add_mark<S: Alter>(
     run(
         tx,
         "INSERT INTO mark (day, engineer) VALUES (?1, ?2)",
-        &[int(u32::from(day)), ValueRef::Text(engineer.bytes())],
+        &mark_columns(u64::from(day), engineer),
     )
 }
 
@@ -185,7 +156,11 @@ pub fn add_command<'t, S: Alter>(
     run(
         tx,
         "INSERT INTO cmd (id, ref, body) VALUES (?1, ?2, ?3)",
-        &[int(no), ValueRef::Text(reference), ValueRef::Text(body)],
+        &[
+            Field::Small(no),
+            Field::Words(reference),
+            Field::Words(body),
+        ],
     )
 }
 
@@ -205,7 +180,12 @@ pub fn add_moved<S: Alter>(
     run(
         tx,
         "INSERT INTO moved (cmd, dim, k, delta) VALUES (?1, ?2, ?3, ?4)",
-        &[int(no), int(dim), int(key), signed_value(delta)],
+        &[
+            Field::Small(no),
+            Field::Small(dim),
+            Field::Small(key),
+            Field::Signed(delta),
+        ],
     )
 }
 
@@ -217,7 +197,7 @@ pub fn add_posting<S: Alter>(tx: &mut Transaction<'_, S>, dim: u32, key: u32) ->
 {
     run(
         tx,
-        "INSERT INTO posting (dim, k, amount) VALUES (?1, ?2, 0)",
-        &[int(dim), int(key)],
+        "INSERT INTO posting (dim, k, amount) VALUES (?1, ?2, ?3)",
+        &posting_columns(u64::from(dim), u64::from(key), 0),
     )
 }

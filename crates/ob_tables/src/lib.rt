@@ -9,10 +9,12 @@
 #![tactic(auto)]
 
 mod changes;
+mod columns;
 mod comparing;
 mod creation;
 mod fields;
 mod inserts;
+mod listing;
 mod reads;
 mod run;
 mod table;
@@ -31,6 +33,7 @@ pub use inserts::{
     add_cause, add_command, add_customer, add_device, add_entry, add_life, add_mark, add_meta,
     add_moved, add_node, add_posting,
 };
+pub use listing::select_of;
 pub use reads::find_commands;
 pub use run::{int, signed_value, stop_of};
 pub use table::Table;

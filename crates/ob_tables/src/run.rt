@@ -1,25 +1,30 @@
-//! Running one statement inside a transaction, its parameters, and what its failure is.
-ghost use Rattle.std.specs.Prelude.{◌≡◌, ◌<◌, ◌^◌, pos, IfSome};
-ghost use Rattle.sqlite.specs.Values.{bound};
+//! Running one statement inside a transaction, and what its failure is; numbers as values.
+ghost use Rattle.std.specs.Prelude.{◌≡◌, ◌≤◌, length, map};
+ghost use Rattle.std.specs.List.{AllByRecursion};
 ghost use Rattle.sqlite_value.specs.Value.{owned};
 ghost use Rattle.sqlite.specs.declared.types.Value.TheVariants.{Int};
 ghost use Rattle.ob_base.specs.Stop.{out_of_memory};
 ghost use Rattle.ob_tables.specs.Steps.{Runs, IsStoreFault};
-ghost use Rattle.ob_tables.specs.Rows.{bit, number, number_or_null, position_number};
+ghost use Rattle.ob_tables.specs.Fields.{held, Fits};
+ghost use Rattle.ob_tables.specs.Rows.{number};
 
-use ob_base::{Fault, Pos, Stop};
+use crate::fields::{Field, values};
+use ob_base::{Fault, Stop};
 use sqlite::{Alter, Error, ErrorCode, Transaction};
 use sqlite_value::value::ValueRef;
 
-/// Runs a statement that answers no rows.
+/// Runs a statement that answers no rows, with these fields as its parameters.
 pub(crate) fn run<S: Alter>(
     tx: &mut Transaction<'_, S>,
     sql: &str,
-    params: &[ValueRef<'_>],
+    fields: &[Field<'_>],
 ) -> Result<(), Stop>
-    ensures { Runs S.Store sql.now (bound params.now) tx.old.conn tx.new.conn result }
+    requires few { length fields.now ≤ 8 }
+    requires fits { AllByRecursion Fits fields.now }
+    ensures { Runs S.Store sql.now (map held fields.now) tx.old.conn tx.new.conn result }
 {
-    match tx.execute(sql, params) {
+    let params = values(fields);
+    match tx.execute(sql, &params[..fields.len()]) {
         Ok(_) => Ok(()),
         Err(error) => Err(stop_of(error)),
     }
@@ -43,53 +48,9 @@ pub fn int(n: u32) -> ValueRef<'static>
     ValueRef::Int(i64::from(n))
 }
 
-/// The number of a row as a parameter, which is far below the largest row number.
-pub(crate) fn key(n: u32) -> ValueRef<'static>
-    ensures value { owned result ≡ number n }
-    ensures small { n < 2 ^ 32 }
-{
-    int(n)
-}
-
 /// A number that may be below 0 as a value.
 pub fn signed_value(n: i64) -> ValueRef<'static>
     ensures { owned result ≡ Int n }
 {
     ValueRef::Int(n)
-}
-
-/// A large number as a parameter.
-pub(crate) fn large(n: u64) -> ValueRef<'static>
-    requires { n < 2 ^ 63 }
-    ensures { owned result ≡ number n }
-{
-    ValueRef::Int(n as i64)
-}
-
-/// A large number, or none, as a parameter.
-pub(crate) fn large_or_null(n: Option<u64>) -> ValueRef<'static>
-    requires { IfSome n (λ it. it < 2 ^ 63) }
-    ensures { owned result ≡ number_or_null n }
-{
-    match n {
-        Some(it) => large(it),
-        None => ValueRef::Null,
-    }
-}
-
-/// A position as a parameter.
-pub(crate) fn position(pos: Pos) -> ValueRef<'static>
-    ensures { owned result ≡ number (position_number pos) }
-{
-    match pos {
-        Pos::Opened => ValueRef::Int(0),
-        Pos::Closed => ValueRef::Int(1),
-    }
-}
-
-/// 1 for true, 0 for false, as a parameter.
-pub(crate) fn flag(is: bool) -> ValueRef<'static>
-    ensures { owned result ≡ number (bit is) }
-{
-    ValueRef::Int(if is { 1 } else { 0 })
 }

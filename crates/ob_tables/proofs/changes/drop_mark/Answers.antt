@@ -6,5 +6,5 @@ use Rattle.ob_tables.proofs.changes.drop_mark.Goals as goal
 pub returns : goal.returns
 returns g c =
     changes g.S.Store _ _ _ _ _ c.run.ensures
-    (λ ran. drops_mark _ _ c.args.day (rw (c.int.ensures, c.from.ensures) at ran))
-    (λ failed lets. lets_unmarked _ _ c.args.day (rw (c.int.ensures, c.from.ensures) at failed) lets)
+    (λ ran. drops_mark _ _ c.args.day (rw c.from.ensures at ran))
+    (λ failed lets. lets_unmarked _ _ c.args.day (rw c.from.ensures at failed) lets)

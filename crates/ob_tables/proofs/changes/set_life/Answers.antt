@@ -1,5 +1,4 @@
 use Rattle.std.proofs.Common.{◌<◌, ◌^◌, arith, rules}
-use Rattle.ob_tables.proofs.Casts.{bound_optional}
 use Rattle.ob_tables.proofs.Running.{changes}
 use Rattle.ob_tables.proofs.Keyed.{relives}
 use Rattle.ob_tables.proofs.Altering.{lets_life_ends}
@@ -10,5 +9,5 @@ returns g c =
     let low : c.args.device < 2 ^ 16 = search rules in
     let small : c.args.device < 2 ^ 32 = omega (arith, low) in
     changes g.S.Store _ _ _ _ _ c.run.ensures
-    (λ ran. relives _ _ c.args.device c.args.life (rw (c.int.ensures, c.from.ensures, c.large.ensures, c.large_or_null.ensures, bound_optional c.args.life.until) at ran))
-    (λ failed lets. lets_life_ends _ _ c.args.device c.args.life small (rw (c.int.ensures, c.from.ensures, c.large.ensures, c.large_or_null.ensures, bound_optional c.args.life.until) at failed) lets)
+    (λ ran. relives _ _ c.args.device c.args.life (rw (c.from.ensures, c.large_or_nothing.ensures.field) at ran))
+    (λ failed lets. lets_life_ends _ _ c.args.device c.args.life small (rw (c.from.ensures, c.large_or_nothing.ensures.field) at failed) lets)

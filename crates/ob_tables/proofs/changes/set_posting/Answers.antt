@@ -6,5 +6,5 @@ use Rattle.ob_tables.proofs.changes.set_posting.Goals as goal
 pub returns : goal.returns
 returns g c =
     changes g.S.Store _ _ _ _ _ c.run.ensures
-    (λ ran. sets_posting _ _ c.args.dim c.args.key c.args.amount (rw (c.int.ensures, c.int-2.ensures, c.large.ensures) at ran))
-    (λ failed lets. lets_amount _ _ c.args.dim c.args.key c.args.amount (rw (c.int.ensures, c.int-2.ensures, c.large.ensures) at failed) lets)
+    (λ ran. sets_posting _ _ c.args.dim c.args.key c.args.amount (rw (c.posting_columns.ensures.columns, c.from.ensures, c.from-2.ensures) at ran))
+    (λ failed lets. lets_amount _ _ c.args.dim c.args.key c.args.amount (rw (c.posting_columns.ensures.columns, c.from.ensures, c.from-2.ensures) at failed) lets)

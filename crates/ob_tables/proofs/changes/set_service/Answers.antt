@@ -1,5 +1,4 @@
 use Rattle.std.proofs.Common.{◌<◌, ◌^◌, rules}
-use Rattle.ob_tables.proofs.Casts.{bound_optional}
 use Rattle.ob_tables.proofs.Running.{changes}
 use Rattle.ob_tables.proofs.Keyed.{sets_service}
 use Rattle.ob_tables.proofs.Altering.{lets_service}
@@ -9,5 +8,5 @@ pub returns : goal.returns
 returns g c =
     let small : c.args.customer.no < 2 ^ 32 = search rules in
     changes g.S.Store _ _ _ _ _ c.run.ensures
-    (λ ran. sets_service _ _ c.args.customer (rw (c.int.ensures, c.large.ensures, c.large_or_null.ensures, bound_optional c.args.customer.until) at ran))
-    (λ failed lets. lets_service _ _ c.args.customer small (rw (c.int.ensures, c.large.ensures, c.large_or_null.ensures, bound_optional c.args.customer.until) at failed) lets)
+    (λ ran. sets_service _ _ c.args.customer (rw c.large_or_nothing.ensures.field at ran))
+    (λ failed lets. lets_service _ _ c.args.customer small (rw c.large_or_nothing.ensures.field at failed) lets)

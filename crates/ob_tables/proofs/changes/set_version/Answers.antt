@@ -6,5 +6,5 @@ use Rattle.ob_tables.proofs.changes.set_version.Goals as goal
 pub returns : goal.returns
 returns g c =
     changes g.S.Store _ _ _ _ _ c.run.ensures
-    (λ ran. reversions _ _ c.args.version (rw (c.int.ensures, c.int-2.ensures) at ran))
-    (λ failed lets. lets_version _ _ c.args.version (rw (c.int.ensures, c.int-2.ensures) at failed) lets)
+    (λ ran. reversions _ _ c.args.version ran)
+    (λ failed lets. lets_version _ _ c.args.version failed lets)

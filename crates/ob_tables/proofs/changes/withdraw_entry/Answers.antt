@@ -8,5 +8,5 @@ pub returns : goal.returns
 returns g c =
     let small : c.args.no < 2 ^ 32 = search rules in
     changes g.S.Store _ _ _ _ _ c.run.ensures
-    (λ ran. withdraws_entry _ _ c.args.no c.args.revision (rw (c.int.ensures, c.int-2.ensures) at ran))
-    (λ failed lets. lets_withdrawn _ _ c.args.no c.args.revision small (rw (c.int.ensures, c.int-2.ensures) at failed) lets)
+    (λ ran. withdraws_entry _ _ c.args.no c.args.revision ran)
+    (λ failed lets. lets_withdrawn _ _ c.args.no c.args.revision small failed lets)

@@ -8,5 +8,5 @@ pub returns : goal.returns
 returns g c =
     let small : c.args.no < 2 ^ 32 = search rules in
     changes g.S.Store _ _ _ _ _ c.run.ensures
-    (λ ran. adds_command _ _ c.args.no c.args.reference.now c.args.body.now (rw (c.int.ensures) at ran))
-    (λ failed lets. lets_command _ _ c.args.no c.args.reference.now c.args.body.now small (rw (c.int.ensures) at failed) lets)
+    (λ ran. adds_command _ _ c.args.no c.args.reference.now c.args.body.now ran)
+    (λ failed lets. lets_command _ _ c.args.no c.args.reference.now c.args.body.now small failed lets)

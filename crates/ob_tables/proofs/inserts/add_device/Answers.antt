@@ -1,5 +1,4 @@
 use Rattle.std.proofs.Common.{◌<◌, ◌^◌, arith, rules}
-use Rattle.ob_tables.proofs.Identifiers.{short_name}
 use Rattle.ob_tables.proofs.Running.{changes}
 use Rattle.ob_tables.proofs.Adding.{adds_device}
 use Rattle.ob_tables.proofs.Referring.{lets_device}
@@ -10,5 +9,5 @@ returns g c =
     let low : c.args.number < 2 ^ 16 = search rules in
     let small : c.args.number < 2 ^ 32 = omega (arith, low) in
     changes g.S.Store _ _ _ _ _ c.run.ensures
-    (λ ran. adds_device _ _ c.args.number c.args.device.now (rw (c.int.ensures, c.int-2.ensures, c.int-3.ensures, c.from.ensures, c.from-2.ensures, c.from-3.ensures, c.position.ensures, c.bytes.ensures.value) at ran))
-    (λ failed lets. lets_device _ _ c.args.number c.args.device.now small (short_name c.args.device.now.name c.bytes.ensures.identifier) (rw (c.int.ensures, c.int-2.ensures, c.int-3.ensures, c.from.ensures, c.from-2.ensures, c.from-3.ensures, c.position.ensures, c.bytes.ensures.value) at failed) lets)
+    (λ ran. adds_device _ _ c.args.number c.args.device.now (rw (c.device_columns.ensures.columns, c.from.ensures) at ran))
+    (λ failed lets. lets_device _ _ c.args.number c.args.device.now small c.device_columns.ensures.short (rw (c.device_columns.ensures.columns, c.from.ensures) at failed) lets)

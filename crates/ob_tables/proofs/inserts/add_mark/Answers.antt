@@ -1,5 +1,4 @@
 use Rattle.std.proofs.Common.{◌<◌, ◌^◌, arith, rules}
-use Rattle.ob_tables.proofs.Identifiers.{short_crew}
 use Rattle.ob_tables.proofs.Running.{changes}
 use Rattle.ob_tables.proofs.Adding.{adds_mark}
 use Rattle.ob_tables.proofs.Letting.{lets_mark}
@@ -10,5 +9,5 @@ returns g c =
     let low : c.args.day < 2 ^ 16 = search rules in
     let small : c.args.day < 2 ^ 32 = omega (arith, low) in
     changes g.S.Store _ _ _ _ _ c.run.ensures
-    (λ ran. adds_mark _ _ c.args.day c.args.engineer.now (rw (c.int.ensures, c.from.ensures, c.bytes.ensures.value) at ran))
-    (λ failed lets. lets_mark _ _ c.args.day c.args.engineer.now small (short_crew c.args.engineer.now c.bytes.ensures.identifier) (rw (c.int.ensures, c.from.ensures, c.bytes.ensures.value) at failed) lets)
+    (λ ran. adds_mark _ _ c.args.day c.args.engineer.now (rw (c.mark_columns.ensures.columns, c.from.ensures) at ran))
+    (λ failed lets. lets_mark _ _ c.args.day c.args.engineer.now small c.mark_columns.ensures.short (rw (c.mark_columns.ensures.columns, c.from.ensures) at failed) lets)

@@ -7,5 +7,5 @@ use Rattle.ob_tables.proofs.inserts.add_moved.Goals as goal
 pub returns : goal.returns
 returns g c =
     changes g.S.Store _ _ _ _ _ c.run.ensures
-    (λ ran. adds_moved _ _ c.args.no c.args.dim c.args.key c.args.delta (rw (c.int.ensures, c.int-2.ensures, c.int-3.ensures, c.signed_value.ensures, to_z-of_z c.ranges.delta) at ran))
-    (λ failed lets. lets_moved _ _ c.args.no c.args.dim c.args.key c.args.delta (rw (c.int.ensures, c.int-2.ensures, c.int-3.ensures, c.signed_value.ensures, to_z-of_z c.ranges.delta) at failed) lets)
+    (λ ran. adds_moved _ _ c.args.no c.args.dim c.args.key c.args.delta (rw (to_z-of_z c.ranges.delta) at ran))
+    (λ failed lets. lets_moved _ _ c.args.no c.args.dim c.args.key c.args.delta (rw (to_z-of_z c.ranges.delta) at failed) lets)

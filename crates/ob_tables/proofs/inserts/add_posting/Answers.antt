@@ -6,5 +6,5 @@ use Rattle.ob_tables.proofs.inserts.add_posting.Goals as goal
 pub returns : goal.returns
 returns g c =
     changes g.S.Store _ _ _ _ _ c.run.ensures
-    (λ ran. adds_posting _ _ c.args.dim c.args.key (rw (c.int.ensures, c.int-2.ensures) at ran))
-    (λ failed lets. lets_posting _ _ c.args.dim c.args.key (rw (c.int.ensures, c.int-2.ensures) at failed) lets)
+    (λ ran. adds_posting _ _ c.args.dim c.args.key (rw (c.posting_columns.ensures.columns, c.from.ensures, c.from-2.ensures) at ran))
+    (λ failed lets. lets_posting _ _ c.args.dim c.args.key (rw (c.posting_columns.ensures.columns, c.from.ensures, c.from-2.ensures) at failed) lets)

@@ -14,7 +14,7 @@ returns-in-Err g c =
       silent = record {
         survives = c.execute.ensures.survives;
         kept = λ clean. elim (cases_Bool old.in_transaction) [
-          | inl inside ↦ kept_failing _ _ old new _ ((rw c.in-Err.is at c.execute.ensures.runs) clean inside)
+          | inl inside ↦ kept_failing _ _ old new _ ((rw (c.in-Err.is, c.values-params.ensures) at c.execute.ensures.runs) clean inside)
           | inr outside ↦
               let same = (c.execute.ensures.ended outside).1 in
               subst (λ h. KeepsCommit old (state g.S.Store h)) (sym same) (record { was_open = λ live. live; committed = λ live. refl })
@@ -26,7 +26,7 @@ returns-in-Err g c =
       fails = λ clean store inside. (
         c.in-Err.error,
         λ memory. absurd (let it = sym (c.stop_of.ensures.memory memory) ∙ store in cc),
-        (rw c.in-Err.is at c.execute.ensures.runs) clean inside,
+        (rw (c.in-Err.is, c.values-params.ensures) at c.execute.ensures.runs) clean inside,
       );
     }
 
