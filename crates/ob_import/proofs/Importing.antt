@@ -432,7 +432,7 @@ module _ {S : Type 0} (g : Ghosts S) where
   -- ---- the header
 
   -- nothing was read, and nothing acted
-  pub runs_nothing : (old : KeeperValue S) (known : Option (List Fields)) (whole : Bool) (fault : Fault) → IsSome old.book → HasCause fault (whole ≡ false) → fault ≢ faults.Store
+  runs_nothing : (old : KeeperValue S) (known : Option (List Fields)) (whole : Bool) (fault : Fault) → IsSome old.book → HasCause fault (whole ≡ false) → fault ≢ faults.Store
       → (fault ≡ faults.Input → IfSome known (λ rows. rows ≡ [])) → Runs g after_header old old known whole (Err (record { fault = fault; added = 0; again = 0 }))
   runs_nothing old known whole fault is cause other none =
       let first : (b : ActState) → Ties g old b → (rows : List Fields) × AreRows known rows × HoldsFirst g old b (unwrap_or (after_header rows) []) 0 0 = λ b ties.
@@ -456,6 +456,11 @@ module _ {S : Type 0} (g : Ghosts S) where
             let no_rows : AreRows known [] = elim known as (λ k. IfSome k (λ rows. rows ≡ []) → AreRows k []) [ None ↦ λ h. tt | Some rows ↦ λ h. sym h ] (none broke) in
             ([], no_rows, (b, taken_none b, (ties, is)));
       }
+
+  pub runs_nothing_by : (old : KeeperValue S) (known : Option (List Fields)) (whole : Bool) (fault : Fault) (e : ImportFault) → IsSome old.book → HasCause fault (whole ≡ false) → fault ≢ faults.Store
+      → (fault ≡ faults.Input → IfSome known (λ rows. rows ≡ [])) → e ≡ record { fault = fault; added = 0; again = 0 } → Runs g after_header old old known whole (Err e)
+  runs_nothing_by old known whole fault e is cause other none told =
+      subst (λ f. Runs g after_header old old known whole (Err f)) (sym told) (runs_nothing old known whole fault is cause other none)
 
   -- memory was refused before anything was read
   pub leaves_nothing : (old : KeeperValue S) (known : Option (List Fields)) (b : ActState) → IsSome old.book → Ties g old b

@@ -17,7 +17,7 @@ use std::io::Read;
 
 /// Imports the rows of a text, its header among them. Where they aren't the whole text, the input breaks off behind the
 /// last of them.
-pub(crate) fn import_all<R: Read, S: Alter, T: Timeline, P: Progress>(
+pub(crate) fn import_rows<R: Read, S: Alter, T: Timeline, P: Progress>(
     alloc: Global,
     rows: &mut RowReader<R>,
     whole: bool,
@@ -29,47 +29,22 @@ pub(crate) fn import_all<R: Read, S: Alter, T: Timeline, P: Progress>(
         whole result }
     ensures some { whole ≡ false → IfOk result (λ _. rows_left R.remaining rows.old ≢ Some []) }
 {
+    let mut tally = Tally { added: 0, again: 0 };
     let mut row = Row::new(alloc);
     let found = match take_row(rows, &mut row, whole) {
         Ok(found) => found,
-        Err(fault) => {
-            return Err(ImportFault {
-                fault,
-                added: 0,
-                again: 0,
-            });
-        }
+        Err(fault) => return Err(fault_after(tally, fault)),
     };
     if !found || !row.is_header() {
-        return Ok(ImportReport {
-            added: 0,
-            again: 0,
-            stopped: Some((0, Refusal::BadField(0))),
-        });
+        return Ok(report(tally, Some((0, Refusal::BadField(0)))));
     }
-    import_rows(rows, &mut row, whole, keeper, progress)
-}
-
-/// Imports the rows after the header.
-fn import_rows<R: Read, S: Alter, T: Timeline, P: Progress>(
-    rows: &mut RowReader<R>,
-    row: &mut Row,
-    whole: bool,
-    keeper: &mut Keeper<S, T>,
-    progress: &mut P,
-) -> Result<ImportReport, ImportFault>
-    requires { IsSome keeper.old.book }
-    ensures runs { Runs S.Store (λ rows. Some rows) keeper.old keeper.new
-        (rows_left R.remaining rows.old) whole result }
-{
-    let mut tally = Tally { added: 0, again: 0 };
     for number in 1..MOST_ROWS + 1 {
-        match take_row(rows, row, whole) {
+        match take_row(rows, &mut row, whole) {
             Ok(true) => {}
             Ok(false) => return Ok(report(tally, None)),
             Err(fault) => return Err(fault_after(tally, fault)),
         }
-        match act_row(keeper, row) {
+        match act_row(keeper, &row) {
             Ok(is_new) => {
                 tally.count(is_new);
                 progress.step(number);
@@ -78,7 +53,7 @@ fn import_rows<R: Read, S: Alter, T: Timeline, P: Progress>(
             Err(Stop::Fault(fault)) => return Err(fault_after(tally, fault)),
         }
     }
-    match take_row(rows, row, whole) {
+    match take_row(rows, &mut row, whole) {
         Ok(true) => Ok(report(tally, Some((MOST_ROWS + 1, Refusal::Full(MOST_ROWS))))),
         Ok(false) => Ok(report(tally, None)),
         Err(fault) => Err(fault_after(tally, fault)),

@@ -1,17 +1,16 @@
 //! The imports: of a text, and of what a reader gives.
-ghost use Rattle.std.specs.Prelude.{◌≡◌, ◌≢◌, ◌↔◌, false, [], None, Some, Err, IsSome, IfOk, IfErr};
+ghost use Rattle.std.specs.Prelude.{◌≡◌, ◌↔◌, None, Some, Err, IsSome, IfErr};
 ghost use Rattle.sqlite.specs.Held.{state};
 ghost use Rattle.sqlite.specs.State.{HasCleanDisk};
 ghost use Rattle.ob_csv.specs.Rows.{rows_of};
 ghost use Rattle.ob_book.specs.Acts.{ActState};
 ghost use Rattle.ob_store.specs.Keeping.{Ties};
-ghost use Rattle.ob_import.specs.Gathering.{gathered_rows};
-ghost use Rattle.ob_import.specs.Imports.{ImportedAgain, ImportsMakeOneThing, after_header};
-ghost use Rattle.ob_import.specs.Reports.{HasCause, ImportOf, Imported, IsStoreFault, Runs, no_book};
+ghost use Rattle.ob_import.specs.Imports.{ImportedAgain, ImportsMakeOneThing};
+ghost use Rattle.ob_import.specs.Reports.{HasCause, ImportOf, Imported, IsStoreFault, no_book};
 
-use crate::gather::{Gathered, gather};
+use crate::gather::gather;
 use crate::report::{ImportFault, ImportReport};
-use crate::rows::import_all;
+use crate::rows::import_rows;
 use ob_base::Fault;
 use ob_command::rows_law;
 use ob_csv::{MOST_BYTES, RowReader, whole_rows_law};
@@ -25,7 +24,7 @@ use std::io::Read;
 /// Imports the commands of a CSV text, RFC 4180: its header is `kind,ref,f1,f2,f3,f4,f5,f6`, and each row after it
 /// acts on its own, in their order. The first refusal stops the import, and the rows before it stand.
 ///
-/// A text without the header stops at row 0 by `BadField(0)`, a row of other than eight fields stops by
+/// A text without the header stops at row 0 by `BadField(0)`, a row with another number of fields than the header stops by
 /// `BadField(0)` too, and the row 1,000,001 by `Full(1000000)`.
 ///
 /// # Errors
@@ -51,7 +50,7 @@ pub fn import_text<S: Alter, T: Timeline>(
         return Err(fault_without_book());
     }
     let mut rows = RowReader::new(alloc, text);
-    import_all(alloc, &mut rows, true, keeper, &mut Silent)
+    import_rows(alloc, &mut rows, true, keeper, &mut Silent)
 }
 
 /// Imports the commands of the CSV text that a reader gives, as `import_text` does. The text has at most
@@ -90,34 +89,18 @@ pub fn import_with_progress<R: Read, S: Alter, T: Timeline, P: Progress>(
     }
     let mut retries = Retries::new();
     whole_rows_law();
-    match gather(alloc, reader, &mut retries, MOST_BYTES) {
-        Ok(gathered) => import_gathered(alloc, &gathered, keeper, progress),
-        Err(_) => Err(ImportFault {
+    let Ok(gathered) = gather(alloc, reader, &mut retries, MOST_BYTES) else {
+        return Err(ImportFault {
             fault: Fault::OutOfMemory,
             added: 0,
             again: 0,
-        }),
-    }
-}
-
-/// Imports what was gathered from a reader.
-fn import_gathered<S: Alter, T: Timeline, P: Progress>(
-    alloc: Global,
-    gathered: &Gathered,
-    keeper: &mut Keeper<S, T>,
-    progress: &mut P,
-) -> Result<ImportReport, ImportFault>
-    requires { IsSome keeper.old.book }
-    ensures runs { Runs S.Store after_header keeper.old keeper.new
-        (Some (gathered_rows gathered.now.whole gathered.now.bytes.items)) gathered.now.whole result }
-    ensures some { gathered.now.whole ≡ false → IfOk result
-        (λ _. Some (gathered_rows gathered.now.whole gathered.now.bytes.items) ≢ Some []) }
-{
+        });
+    };
     let part = gathered.whole_part();
     // the first line is the header
     progress.begin(Work::Rows, lines_of(part).saturating_sub(1));
     let mut rows = RowReader::new(alloc, part);
-    let run = import_all(alloc, &mut rows, gathered.whole, keeper, progress);
+    let run = import_rows(alloc, &mut rows, gathered.whole, keeper, progress);
     progress.end();
     run
 }

@@ -1,5 +1,5 @@
 -- How a job that takes memory for its line ends.
-use Rattle.std.proofs.Common.{inl, inr, ℕ, List, Option, Result, Ok, Err}
+use Rattle.std.proofs.Common.{◌≡◌, inl, inr, subst, sym, ℕ, List, Option, Result, Ok, Err}
 use Rattle.ob_base.specs.declared.stop.Stop.{Stop}
 use Rattle.ob_base.specs.declared.stop.Stop.TheVariants.{Refused, Fault}
 use Rattle.ob_base.specs.declared.stop.Fault.TheVariants.{OutOfMemory, Store, Reopen, Input, Output}
@@ -25,3 +25,13 @@ module _ {X W : Type 0} (Works : Result X Stop → Type 0) (text : X → List �
   untold_after (Fault Reopen) x works told = absurd told
   untold_after (Fault Input) x works told = absurd told
   untold_after (Fault Output) x works told = inr (x, works, told)
+
+  -- the work was done, and then its line was told, or not
+  pub told_after : (x : X) → Works (Ok x) → (r : Result X Stop) → TellsAfter (λ done. done ≡ Ok x) text contents old new r → TellsAfter Works text contents old new r
+  told_after x works (Ok y) it = (subst Works (sym it.0) works, it.1)
+  told_after x works (Err (Refused refusal)) it = (subst Works (sym it.0) works, it.1)
+  told_after x works (Err (Fault OutOfMemory)) it = (elim it.0 [ inl is ↦ inl (subst Works (sym is) works) | inr is ↦ inr (is.0, subst Works (sym is.1) works) ], it.1)
+  told_after x works (Err (Fault Store)) it = (subst Works (sym it.0) works, it.1)
+  told_after x works (Err (Fault Reopen)) it = (subst Works (sym it.0) works, it.1)
+  told_after x works (Err (Fault Input)) it = (subst Works (sym it.0) works, it.1)
+  told_after x works (Err (Fault Output)) it = elim it [ inl is ↦ inl (subst Works (sym is.0) works, is.1) | inr is ↦ inr (is.0, subst Works (sym is.1) works, is.2) ]

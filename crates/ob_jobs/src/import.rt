@@ -1,7 +1,8 @@
 //! The job that acts the commands of a CSV file on a book.
-ghost use Rattle.std.specs.Prelude.{◌≡◌, IfOk, string_bytes};
+ghost use Rattle.std.specs.Prelude.{◌≡◌, Ok, IfOk, string_bytes};
+ghost use Rattle.ob_jobs.specs.After.{TellsAfter};
 ghost use Rattle.ob_jobs.specs.Books.{ImportsIntoBook};
-ghost use Rattle.ob_jobs.specs.Importing.{TellsImport, import_line};
+ghost use Rattle.ob_jobs.specs.Importing.{import_line};
 
 use crate::ending::end_of_import;
 use crate::opening::OpenInput;
@@ -14,9 +15,16 @@ use ob_stream::Watched;
 use ob_sweep::Timeline;
 use sqlite::Alter;
 use std::alloc::{AllocError, Global};
-use std::io::{Read, Write};
+use std::io::Write;
 
-/// Loads a book, then opens the input, and imports what it gives, as [`run_import`]. A row that is refused leaves it unfinished.
+/// Loads a book, then opens the input, and acts the commands of the CSV text that it gives, as
+/// [`ob_import::import_with_progress`]. It writes `added`, how many rows added a command, `again`, how many named one that the
+/// book had, and LF; also where a row was refused, which leaves it unfinished.
+///
+/// # Errors
+///
+/// Those of a load, `Fault::Input` where the input can't be opened, and the fault that ended the import; then nothing is
+/// written. `Fault::Output` where the writer fails, and then the import is done.
 pub fn import_into_book<O: OpenInput, S: Alter, T: Timeline, P: Progress, W: Write>(
     alloc: Global,
     keeper: &mut Keeper<S, T>,
@@ -32,31 +40,22 @@ pub fn import_into_book<O: OpenInput, S: Alter, T: Timeline, P: Progress, W: Wri
         return Err(Unfinished::from(Stop::Fault(Fault::Input)));
     };
     let mut reader = Watched::new(opened);
-    end_of_import(run_import(alloc, keeper, &mut reader, progress, writer))
+    match import_with_progress(alloc, &mut reader, keeper, progress) {
+        Ok(report) => end_of_import(tell_report(alloc, report, writer)),
+        // the counts up to a fault aren't told
+        Err(failed) => Err(Unfinished::from(Stop::Fault(failed.fault))),
+    }
 }
 
-/// Acts the commands of the CSV text that a reader gives, as [`ob_import::import_with_progress`], and writes `added`, how many
-/// rows added a command, `again`, how many named one that the book had, and LF; also where a row was refused, which is answered.
-///
-/// # Errors
-///
-/// The fault that ended the import, and then nothing is written; `Fault::Output` where the writer fails, and then the import
-/// is done.
-pub fn run_import<R: Read, S: Alter, T: Timeline, P: Progress, W: Write>(
+/// Tells how many rows were taken, and answers the report as it was.
+fn tell_report<W: Write>(
     alloc: Global,
-    keeper: &mut Keeper<S, T>,
-    reader: &mut Watched<R>,
-    progress: &mut P,
+    report: ImportReport,
     writer: &mut Watched<W>,
 ) -> Result<ImportReport, Stop>
-    ensures { TellsImport S.Store R.remaining W.contents keeper.old keeper.new reader.old reader.new
-        writer.old writer.new result }
+    ensures { TellsAfter (λ done. done ≡ Ok report) import_line W.contents writer.old writer.new
+        result }
 {
-    let report = match import_with_progress(alloc, reader, keeper, progress) {
-        Ok(report) => report,
-        // the counts up to a fault aren't told
-        Err(failed) => return Err(Stop::Fault(failed.fault)),
-    };
     let line = line_of(alloc, &report)?;
     tell(writer, line.as_bytes())?;
     Ok(report)

@@ -18,30 +18,33 @@ use ob_stream::Watched;
 pub use ob_total::{TotalStop, run_total};
 use std::alloc::{AllocError, Global};
 use std::env::{self, Env};
-use std::io;
+use std::io::{self, Write};
 use std::process::ExitCode;
 
 fn main(rt: HostRuntime) -> ExitCode {
-    let run = run(&rt);
+    let run = match job_of(&rt) {
+        Ok(job) => run_job(&rt, job),
+        Err(wrong) => Err(Unfinished::Words(wrong)),
+    };
     ExitCode::from(status_of_run(&tell_end(&rt, run)))
 }
 
-/// Runs the job that the words name.
-fn run(rt: &HostRuntime) -> Result<(), Unfinished> {
+/// The job that the words of the command line name.
+fn job_of<R: Env + AllocGlobal>(rt: &R) -> Result<Job, WrongWords> {
     let words = match words_of(rt) {
         Ok(words) => words,
-        Err(error) => return Err(Unfinished::Words(unread_words(rt.alloc(), &error))),
+        Err(error) => return Err(unread_words(rt.alloc(), &error)),
     };
-    let Ok(texts) = texts_of(rt.alloc(), &words) else {
-        return Err(faulty(Fault::OutOfMemory));
-    };
-    match read_words(rt.alloc(), &texts) {
-        Ok(job) => run_job(rt, job),
-        Err(wrong) => Err(Unfinished::Words(wrong)),
+    match texts_of(rt.alloc(), &words) {
+        Ok(texts) => read_words(rt.alloc(), &texts),
+        Err(_) => Err(WrongWords::Fault(Fault::OutOfMemory)),
     }
 }
 
+/// Runs a job, which tells what it did on standard output.
 fn run_job(rt: &HostRuntime, job: Job) -> Result<(), Unfinished> {
+    let mut writer = Watched::new(io::writer(rt));
+    let told = &mut writer;
     match job {
         Job::Total => total(rt),
         Job::Init {
@@ -49,35 +52,35 @@ fn run_job(rt: &HostRuntime, job: Job) -> Result<(), Unfinished> {
             first,
             days,
             zone,
-        } => init(rt, &book, &first, days, &zone),
+        } => init(rt, &book, (&first, days, &zone), told),
         Job::Import { book, input } => {
-            run_on_book(rt, &book, Task::Import(InputFile { rt, path: &input }))
+            run_on_book(rt, &book, Task::Import(InputFile { rt, path: &input }), told)
         }
         Job::Export { book, output } => {
-            run_on_book(rt, &book, Task::Export(OutputFile { rt, path: &output }))
+            run_on_book(rt, &book, Task::Export(OutputFile { rt, path: &output }), told)
         }
-        Job::Table { book } => run_on_book(rt, &book, Task::Table),
-        Job::Audit { book } => run_on_book(rt, &book, Task::Audit),
-        Job::Migrate { book } => run_on_book(rt, &book, Task::Migrate),
+        Job::Table { book } => run_on_book(rt, &book, Task::Table, told),
+        Job::Audit { book } => run_on_book(rt, &book, Task::Audit, told),
+        Job::Migrate { book } => run_on_book(rt, &book, Task::Migrate, told),
         Job::Serve {
             book,
             port,
             streams,
-        } => run_on_book(rt, &book, Task::Serve(Server { rt, port, streams })),
+        } => run_on_book(rt, &book, Task::Serve(Server { rt, port, streams }), told),
     }
 }
 
-/// Makes the book of a period.
-fn init(
+/// Makes the book of a period: of so many days from the first on, in a time zone.
+fn init<W: Write>(
     rt: &HostRuntime,
     book: &Word,
-    first: &Word,
-    days: u16,
-    zone: &Word,
+    period: (&Word, u16, &Word),
+    writer: &mut Watched<W>,
 ) -> Result<(), Unfinished> {
+    let (first, days, zone) = period;
     look_at_period(rt, first, days, zone)?;
     let (first, zone) = (first.as_str().as_bytes(), zone.as_str().as_bytes());
-    run_on_book(rt, book, Task::Init { first, days, zone })
+    run_on_book(rt, book, Task::Init { first, days, zone }, writer)
 }
 
 /// The words of the command line, the program's name first.

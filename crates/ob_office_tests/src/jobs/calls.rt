@@ -6,9 +6,10 @@ use crate::sources::{Source, WHOLE};
 use crate::texts::OUTAGE;
 use ob_base::{Fault, Stop};
 use ob_cli::{Unfinished, status_of_run};
+use ob_import::import_with_progress;
 use ob_jobs::{
     Silent, audit_book, export_from_book, import_into_book, make_book, migrate_book, print_book,
-    run_export, run_import, run_table, serve_book,
+    run_export, run_table, serve_book,
 };
 use ob_store::Keeper;
 use ob_stream::Watched;
@@ -138,15 +139,16 @@ pub fn serves<S: Alter, T: Timeline>(
     ended_as(&run, writer, server.tried)
 }
 
-/// Whether the work of an import is refused for want of a book, and nothing told.
+/// Whether an import is refused for want of a book.
 pub fn lacks_import<S: Alter, T: Timeline>(alloc: Global, keeper: &mut Keeper<S, T>) -> bool {
-    let mut told = Watched::new(Sink::new(alloc, 100, FULL));
     let mut input = Watched::new(Source::new(OUTAGE.as_bytes(), WHOLE));
-    let run = run_import(alloc, keeper, &mut input, &mut Silent, &mut told);
-    run == Err(REOPEN) && told.into_parts().0.taken.is_empty()
+    match import_with_progress(alloc, &mut input, keeper, &mut Silent) {
+        Ok(_) => false,
+        Err(failed) => failed.fault == Fault::Reopen,
+    }
 }
 
-/// Whether that of an export is, and nothing told or written.
+/// Whether the work of an export is, and nothing told or written.
 pub fn lacks_export<S: Alter, T: Timeline>(alloc: Global, keeper: &mut Keeper<S, T>) -> bool {
     let mut told = Watched::new(Sink::new(alloc, 100, FULL));
     let mut file = Watched::new(Sink::new(alloc, 100, FULL));

@@ -3,4 +3,4 @@ use Rattle.ob_import.proofs.Importing.{cause_by}
 use Rattle.ob_import.proofs.text.import_text.Goals as goal
 
 pub returns-clause-cause : goal.returns-clause-cause
-returns-clause-cause g c is = cause_by c.import_all.result (true ≡ false) ⊥ true≢false c.import_all.ensures.runs.cause
+returns-clause-cause g c is = cause_by c.import_rows.result (true ≡ false) ⊥ true≢false c.import_rows.ensures.runs.cause

@@ -1,35 +1,42 @@
-use Rattle.std.proofs.Common.{None, refl, rules}
-use Rattle.std.specs.Prelude.{◌≡◌, ◌⊎◌, false, option_map, IsSome}
+use Rattle.std.proofs.Common.{◌≢◌, ◌∙◌, [], None, Some, ap, refl, rules, subst}
+use Rattle.std.specs.Prelude.{◌≡◌, ◌⊎◌, false, option_map, IfOk, IsSome}
 use Rattle.ob_stream.specs.Streams.{Passes}
 use Rattle.ob_stream.specs.Watching.{HasJustFailed, watched_bytes}
 use Rattle.ob_csv.specs.Rows.{rows_of}
+use Rattle.ob_import.specs.Imports.{after_header}
+use Rattle.ob_import.specs.Reports.{Runs}
 use Rattle.ob_import.proofs.Importing.{bound_by, broken_gathered, cause_by, imported_gathered, leaves_nothing, not_bookless, not_lost, not_none}
 use Rattle.ob_import.proofs.text.import_with_progress.Goals as goal
 
-pub returns-in-Ok : goal.returns-in-Ok
-returns-in-Ok g c =
+pub returns : goal.returns
+returns g c =
     let bytes = watched_bytes g.R.Read.remaining in
     let it = c.in-Ok.gathered in
-    let runs = c.import_gathered.ensures.runs in
-    let some : IsSome c.args.keeper.now.book = search rules in
+    let k = c.args.keeper.now in
+    let new = c.import_rows-run.new.keeper in
+    let done = c.import_rows-run.result in
+    let known = c.new-rows.ensures.rows ∙ ap (λ l. Some l) c.whole_part-part.ensures in
+    let runs = subst (λ l. Runs g.S.Store after_header k new l it.whole done) known c.import_rows-run.ensures.runs in
+    let some_rows = subst (λ l. it.whole ≡ false → IfOk done (λ _. l ≢ Some [])) known c.import_rows-run.ensures.some in
+    let some : IsSome k.book = search rules in
     record {
-      reopen = not_bookless c.args.keeper.now.book c.import_gathered.result (it.whole ≡ false) some runs.cause;
-      unopened = λ none. absurd (not_none c.args.keeper.now.book some none);
+      reopen = not_bookless k.book done (it.whole ≡ false) some runs.cause;
+      unopened = λ none. absurd (not_none k.book some none);
       imported = λ clean b ties is.
-          imported_gathered g.S.Store c.import_gathered.new.keeper b (bytes c.args.reader.now) (bytes c.gather.new.reader) it.bytes.items it.whole c.import_gathered.result
-          c.whole_rows_law.ensures c.in-Ok.ensures.consumed (λ whole. (c.in-Ok.ensures.whole whole).0) runs.ended c.import_gathered.ensures.some (runs.left clean b ties);
+          imported_gathered g.S.Store new b (bytes c.args.reader.now) (bytes c.gather.new.reader) it.bytes.items it.whole done
+          c.whole_rows_law.ensures c.in-Ok.ensures.consumed (λ whole. (c.in-Ok.ensures.whole whole).0) runs.ended some_rows (runs.left clean b ties);
       clean = runs.clean;
       dropped = λ is. runs.dropped;
       cause = λ is.
-          cause_by c.import_gathered.result (it.whole ≡ false) (HasJustFailed c.gather.new.reader ⊎ Passes (bytes c.args.reader.now) 268435456) c.in-Ok.ensures.cut runs.cause;
+          cause_by done (it.whole ≡ false) (HasJustFailed c.gather.new.reader ⊎ Passes (bytes c.args.reader.now) 268435456) c.in-Ok.ensures.cut runs.cause;
       broken = λ clean b ties is.
-          broken_gathered g.S.Store c.import_gathered.new.keeper b (bytes c.args.reader.now) (bytes c.gather.new.reader) it.bytes.items it.whole c.import_gathered.result
+          broken_gathered g.S.Store new b (bytes c.args.reader.now) (bytes c.gather.new.reader) it.bytes.items it.whole done
           c.in-Ok.ensures.consumed runs.cause (runs.all clean b ties);
-      bound = bound_by c.import_gathered.result (bytes c.args.reader.now) (bytes c.gather.new.reader) it.bytes.items it.whole 268435456 c.in-Ok.ensures.consumed c.in-Ok.ensures.whole runs.ended;
+      bound = bound_by done (bytes c.args.reader.now) (bytes c.gather.new.reader) it.bytes.items it.whole 268435456 c.in-Ok.ensures.consumed c.in-Ok.ensures.whole runs.ended;
     }
 
-pub returns-in-Err : goal.returns-in-Err
-returns-in-Err g c =
+pub returns-in_default : goal.returns-in_default
+returns-in_default g c =
     let k = c.args.keeper.now in
     let some : IsSome k.book = search rules in
     record {
