@@ -21,7 +21,7 @@ use sqlite::Alter;
 use std::alloc::Global;
 use std::io::Read;
 
-/// Imports the commands of a CSV text, RFC 4180: its header is `kind,ref,f1,f2,f3,f4,f5,f6`, and each row after it
+/// Imports the commands of a CSV text, RFC 4180: its header is that of `ob_csv::column_names`, and each row after it
 /// acts on its own, in their order. The first refusal stops the import, and the rows before it stand.
 ///
 /// A text without the header stops at row 0 by `BadField(0)`, a row with another number of fields than the header stops by
