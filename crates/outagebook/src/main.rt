@@ -54,10 +54,20 @@ fn run_job(rt: &HostRuntime, job: Job) -> Result<(), Unfinished> {
             zone,
         } => init(rt, &book, (&first, days, &zone), told),
         Job::Import { book, input } => {
-            run_on_book(rt, &book, Task::Import(InputFile { rt, path: &input }), told)
+            run_on_book(
+                rt,
+                &book,
+                Task::Import(InputFile { rt, path: &input }),
+                told,
+            )
         }
         Job::Export { book, output } => {
-            run_on_book(rt, &book, Task::Export(OutputFile { rt, path: &output }), told)
+            run_on_book(
+                rt,
+                &book,
+                Task::Export(OutputFile { rt, path: &output }),
+                told,
+            )
         }
         Job::Table { book } => run_on_book(rt, &book, Task::Table, told),
         Job::Audit { book } => run_on_book(rt, &book, Task::Audit, told),

@@ -10,12 +10,12 @@ returns-clause-acted g c clean b ties =
     let a = under c.in-Ok.said.0 c.in-Ok.said.1 in
     let says : Says c.args.row.now a = c.in-Ok.ensures in
     let made = c.in_ok-act.ensures.acted clean b ties c.requires in (
-      inl (
-        a,
-        says,
-        adds_ok g.S.Store c.args.keeper.now c.act.new.self b a (reply_as c.in_ok-act.field-0) c.accepted_count-before.result c.accepted_count.result c.reached_law.ensures.counts c.requires ties
-            c.accepted_count-before.ensures c.accepted_count.ensures made,
-      )
+    inl (
+      a,
+      says,
+      adds_ok g.S.Store c.args.keeper.now c.act.new.self b a (reply_as c.in_ok-act.field-0) c.accepted_count-before.result c.accepted_count.result c.reached_law.ensures.counts c.requires ties
+          c.accepted_count-before.ensures c.accepted_count.ensures made,
+    )
     )
 
 pub returns-in_err-act-clause-acted : goal.returns-in_err-act-clause-acted
