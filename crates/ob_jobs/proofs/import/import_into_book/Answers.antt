@@ -35,8 +35,8 @@ returns-in-Ok g c =
       ),
     )
 
-pub returns-in-Err : goal.returns-in-Err
-returns-in-Err g c =
+pub returns : goal.returns
+returns g c =
     let contents = g.W.Write.contents in
     let failed = c.in-Err.failed in
     let stopped = stopped_after (ImportsAs (ImportOf g.S.Store g.O.Input.Read.remaining c.load_with_progress.new.self c.import_with_progress.new.keeper c.new-reader.result c.import_with_progress.new.reader))
