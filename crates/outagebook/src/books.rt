@@ -2,9 +2,8 @@
 //!
 //! A keeper of a file is a large type, and what holds one is proved with all of its parts. So one function opens the file and
 //! closes it, and the jobs are functions over any keeper.
-ghost use Rattle.std.specs.Prelude.{◌≡◌};
 ghost use Rattle.ob_jobs.specs.Tasks.{RunsTask};
-ghost use Rattle.outagebook.specs.Opening.{OpensFile, RunsOnFile};
+ghost use Rattle.outagebook.specs.Opening.{OpensFile};
 
 use crate::desk::Server;
 use crate::progress::Telling;
@@ -13,37 +12,24 @@ use ob_cli::{Unfinished, Word};
 use ob_jobs::{OpenInput, OpenOutput, ServeBook, Task, run_task};
 use ob_store::Keeper;
 use ob_stream::Watched;
-use ob_sweep::Windowed;
+use ob_sweep::{Timeline, Windowed};
 use ob_time::Period;
-use sqlite::{Connection, Error, ErrorCode, FileFrom, FileStore, Unknown};
-use sqlite_trees::store::Store;
+use sqlite::{Alter, Connection, Error, ErrorCode, FileFrom, FileStore, Unknown};
 use std::fs::File;
-use std::io::{Read, Write};
-
-/// What keeps a book in a file.
-type Kept = FileStore<FileFrom<Unknown>>;
+use std::io::{self, Read, Write};
 
 /// A keeper of the book in a file.
-type FileKeeper = Keeper<Kept, Windowed>;
+type FileKeeper = Keeper<FileStore<FileFrom<Unknown>>, Windowed>;
 
 /// A job on the book in a file.
 pub(crate) type FileTask<'w> = Task<'w, InputFile<'w>, OutputFile<'w>, Server<'w>>;
 
-/// Opens the file of a book, which only the job that makes a book makes where there is none, does a job on it, and tells it to
-/// a writer.
-pub(crate) fn run_on_book<W: Write>(
+/// Opens the file of a book, which only the job that makes a book makes where there is none, and does a job on it.
+pub(crate) fn run_on_book(
     rt: &HostRuntime,
     book: &Word,
     task: FileTask<'_>,
-    writer: &mut Watched<W>,
-) -> Result<(), Unfinished>
-    ensures { RunsOnFile (λ old new. RunsTask ⟦<Kept as Store>⟧
-        ⟦<InputFile<'static> as OpenInput>⟧.opens ⟦<File as Read>⟧.remaining
-        ⟦<OutputFile<'static> as OpenOutput>⟧.opens ⟦<File as Write>⟧.contents
-        ⟦<Server<'static> as ServeBook<Kept, Windowed>>⟧.takes
-        ⟦<Server<'static> as ServeBook<Kept, Windowed>>⟧.serves W.contents task.entry old new
-        writer.old writer.new result) (writer.new ≡ writer.old) result }
-{
+) -> Result<(), Unfinished> {
     if !task.makes_book() && !is_there(rt, book) {
         return Err(Unfinished::from(Stop::Fault(Fault::Store)));
     }
@@ -52,12 +38,29 @@ pub(crate) fn run_on_book<W: Write>(
         Ok(keeper) => keeper,
         Err(stop) => return Err(Unfinished::from(stop)),
     };
-    let mut telling = Telling::new(rt);
-    let run = run_task(rt.alloc(), &mut keeper, task, &mut telling, writer);
+    let mut writer = Watched::new(io::writer(rt));
+    let run = run_over(rt, &mut keeper, task, &mut writer);
     if may_write {
         fold(keeper);
     }
     run
+}
+
+/// Does a job over a keeper, and tells it to a writer.
+fn run_over<S: Alter, T: Timeline, W: Write>(
+    rt: &HostRuntime,
+    keeper: &mut Keeper<S, T>,
+    task: FileTask<'_>,
+    writer: &mut Watched<W>,
+) -> Result<(), Unfinished>
+    ensures { RunsTask S.Store ⟦<InputFile<'static> as OpenInput>⟧.opens ⟦<File as Read>⟧.remaining
+        ⟦<OutputFile<'static> as OpenOutput>⟧.opens ⟦<File as Write>⟧.contents
+        ⟦<Server<'static> as ServeBook<S, T>>⟧.takes
+        ⟦<Server<'static> as ServeBook<S, T>>⟧.serves W.contents task.entry keeper.old keeper.new
+        writer.old writer.new result }
+{
+    let mut telling = Telling::new(rt);
+    run_task(rt.alloc(), keeper, task, &mut telling, writer)
 }
 
 /// Whether there is such a file, which can be read. The store makes one where there is none.

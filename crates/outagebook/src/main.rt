@@ -18,15 +18,40 @@ use ob_stream::Watched;
 pub use ob_total::{TotalStop, run_total};
 use std::alloc::{AllocError, Global};
 use std::env::{self, Env};
-use std::io::{self, Write};
+use std::io;
 use std::process::ExitCode;
 
 fn main(rt: HostRuntime) -> ExitCode {
-    let run = match job_of(&rt) {
-        Ok(job) => run_job(&rt, job),
+    let rt = &rt;
+    let run = match job_of(rt) {
+        Ok(Job::Total) => total(rt),
+        Ok(
+            Job::Init {
+                book,
+                first,
+                days,
+                zone,
+            },
+        ) => init(rt, &book, &first, days, &zone),
+        Ok(Job::Import { book, input }) => {
+            run_on_book(rt, &book, Task::Import(InputFile { rt, path: &input }))
+        }
+        Ok(Job::Export { book, output }) => {
+            run_on_book(rt, &book, Task::Export(OutputFile { rt, path: &output }))
+        }
+        Ok(Job::Table { book }) => run_on_book(rt, &book, Task::Table),
+        Ok(Job::Audit { book }) => run_on_book(rt, &book, Task::Audit),
+        Ok(Job::Migrate { book }) => run_on_book(rt, &book, Task::Migrate),
+        Ok(
+            Job::Serve {
+                book,
+                port,
+                streams,
+            },
+        ) => { run_on_book(rt, &book, Task::Serve(Server { rt, port, streams })) }
         Err(wrong) => Err(Unfinished::Words(wrong)),
     };
-    ExitCode::from(status_of_run(&tell_end(&rt, run)))
+    ExitCode::from(status_of_run(&tell_end(rt, run)))
 }
 
 /// The job that the words of the command line name.
@@ -41,56 +66,17 @@ fn job_of<R: Env + AllocGlobal>(rt: &R) -> Result<Job, WrongWords> {
     }
 }
 
-/// Runs a job, which tells what it did on standard output.
-fn run_job(rt: &HostRuntime, job: Job) -> Result<(), Unfinished> {
-    let mut writer = Watched::new(io::writer(rt));
-    let told = &mut writer;
-    match job {
-        Job::Total => total(rt),
-        Job::Init {
-            book,
-            first,
-            days,
-            zone,
-        } => init(rt, &book, (&first, days, &zone), told),
-        Job::Import { book, input } => {
-            run_on_book(
-                rt,
-                &book,
-                Task::Import(InputFile { rt, path: &input }),
-                told,
-            )
-        }
-        Job::Export { book, output } => {
-            run_on_book(
-                rt,
-                &book,
-                Task::Export(OutputFile { rt, path: &output }),
-                told,
-            )
-        }
-        Job::Table { book } => run_on_book(rt, &book, Task::Table, told),
-        Job::Audit { book } => run_on_book(rt, &book, Task::Audit, told),
-        Job::Migrate { book } => run_on_book(rt, &book, Task::Migrate, told),
-        Job::Serve {
-            book,
-            port,
-            streams,
-        } => run_on_book(rt, &book, Task::Serve(Server { rt, port, streams }), told),
-    }
-}
-
-/// Makes the book of a period: of so many days from the first on, in a time zone.
-fn init<W: Write>(
+/// Makes the book of a period.
+fn init(
     rt: &HostRuntime,
     book: &Word,
-    period: (&Word, u16, &Word),
-    writer: &mut Watched<W>,
+    first: &Word,
+    days: u16,
+    zone: &Word,
 ) -> Result<(), Unfinished> {
-    let (first, days, zone) = period;
     look_at_period(rt, first, days, zone)?;
     let (first, zone) = (first.as_str().as_bytes(), zone.as_str().as_bytes());
-    run_on_book(rt, book, Task::Init { first, days, zone }, writer)
+    run_on_book(rt, book, Task::Init { first, days, zone })
 }
 
 /// The words of the command line, the program's name first.
