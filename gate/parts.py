@@ -23,9 +23,6 @@ class Ran:
     processor: float
 
 
-NOTHING = Ran(0, "", 0.0, 0.0)
-
-
 @dataclass(frozen=True)
 class Part:
     """A part of the gate: how much of it passed and failed, and why where something failed."""

@@ -19,10 +19,10 @@ from concurrent.futures import ThreadPoolExecutor
 from dataclasses import dataclass, field
 from pathlib import Path
 
-from ahead import prove_ahead
+from ahead import prove_behind_trunk
 from edits import Planned, Why, kit_of, plan, turn_of, write_seen
 from packages import FOR_ALL, Missing, install_with, provided
-from parts import NOTHING, Part, run, say
+from parts import Part, Ran, run, say
 from rt_output import counts_of, tried_edits, unrefused
 from suites import before_proofs, run_suite, screen, with_program
 from sums import edit_sums
@@ -98,12 +98,14 @@ def judge(planned: list[Planned], said: str, report: Report) -> dict[str, list[s
 
 def prove(place: Path, planned: list[Planned], report: Report, records: bool) -> dict[str, list[str]]:
     """`rt ci` over a tree; answers what of the planned edits it hasn't refused."""
-    ahead = prove_ahead(place, lanes()) if not lanes_said() and lanes() > 2 else NOTHING
-    ran = run(["rt", "ci"], place, {"RT_JOBS": str(lanes())}, shows=True)
+
+    def whole() -> Ran:
+        return run(["rt", "ci"], place, {"RT_JOBS": str(lanes())}, shows=True)
+
+    ran = prove_behind_trunk(place, lanes(), whole) if not lanes_said() and lanes() > 2 else whole()
     passed, failed = counts_of(ran.said) or (0, 1)
     why = f"status {ran.status}" if ran.status else ""
-    clock, processor = ran.clock + ahead.clock, ran.processor + ahead.processor
-    report.parts.append(Part("rt ci", passed, max(failed, 1 if ran.status else 0), clock, processor, why))
+    report.parts.append(Part("rt ci", passed, max(failed, 1 if ran.status else 0), ran.clock, ran.processor, why))
     report.notes.append(of_plan(planned))
     unseen = judge(planned, ran.said, report)
     seen = [it.name for it in planned if it.is_changed and not unseen[it.name]]

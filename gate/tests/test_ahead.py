@@ -7,6 +7,7 @@ import tempfile
 import unittest
 from collections.abc import Callable, Mapping, Sequence
 from pathlib import Path
+from threading import Event
 from unittest import mock
 
 import made_repository  # noqa: F401, the modules of gate/
@@ -20,9 +21,18 @@ CRATES = f"""# The crates, lowest first.
 low: std
 middle: low
 high: low middle sqlite
-low_tests: low
+other: low
+other_tests: other middle
 program: high sqlite
 {TESTS}"""
+TRUNK = (["rt", "ci", "low", "middle", "high"], None)
+WHOLE = (["rt", "ci"], "4")
+SOON = 20.0  # seconds
+
+
+def beside(name: str) -> tuple[list[str], str | None]:
+    """The call of a crate beside the trunk."""
+    return [*ahead.BEHIND, "rt", "ci", name], "1"
 
 
 class Order(unittest.TestCase):
@@ -35,6 +45,8 @@ class Order(unittest.TestCase):
         (self.place / "crates/low/must-fail/turned.edit").touch()
         self.calls: list[tuple[list[str], str | None]] = []
         self.told = ["low proved", "middle is kept: an earlier run proved the same", "high NOT PROVED"]
+        self.failing: list[str] = []
+        self.awaited, self.ended = "other_tests", Event()
 
     def rt(
         self,
@@ -44,15 +56,20 @@ class Order(unittest.TestCase):
         shows: bool = False,
         heard: Callable[[str], None] = unheard,
     ) -> Ran:
-        """Stands in for a command: it notes the words and the lanes, and tells of crates."""
-        is_beside = words[0] == ahead.BEHIND[0]
-        self.assertEqual(folder == self.place, not is_beside)
-        self.assertEqual((Path(folder) / "crates/low/must-fail/turned.edit").exists(), not is_beside)
+        """Stands in for a command: it notes the words and the lanes, and the trunk's tells of crates and goes on until the
+        crate that is awaited has ended beside it."""
+        self.assertEqual((Path(folder) / "crates/low/must-fail/turned.edit").exists(), folder == self.place)
         self.assertEqual((Path(folder) / "crates.txt").read_text(encoding="ascii"), CRATES)
-        self.calls.append(([*map(str, words)], (more or {}).get("RT_JOBS")))
-        for line in self.told:
-            heard(f"rt: {line}\n")
-        return Ran(0, "7 passed, 0 failed\n", 5.0, 60.0)
+        call = [*map(str, words)], (more or {}).get("RT_JOBS")
+        self.assertEqual(folder == self.place, call == WHOLE or call == (WHOLE[0], "2"))
+        self.calls.append(call)
+        if call == TRUNK:
+            for line in self.told:
+                heard(f"rt: {line}\n")
+            self.assertTrue(not self.awaited or self.ended.wait(SOON))
+        if call[0][-1] == self.awaited:
+            self.ended.set()
+        return Ran(1 if call[0][-1] in self.failing else 0, "7 passed, 0 failed\n", 5.0, 60.0)
 
     def prove(self, lanes: int, said: str) -> gate.Report:
         report = gate.Report()
@@ -65,17 +82,21 @@ class Order(unittest.TestCase):
             gate.prove(self.place, [], report, False)
         return report
 
-    def test_with_four_lanes_the_trunk_comes_first_and_beside_it_what_has_no_database(self) -> None:
+    def test_the_trunk_comes_first_and_beside_it_each_crate_without_the_database_once_it_can(self) -> None:
         part = self.prove(4, "").parts[0]
-        trunk = (["rt", "ci", "low", "middle", "high"], None)
-        beside = ([*ahead.BEHIND, "rt", "ci", "low_tests"], "2")
-        self.assertEqual(self.calls, [trunk, beside, (["rt", "ci"], "4")])
-        self.assertEqual((part.passed, part.failed, part.processor), (7, 0, 180.0))
+        self.assertEqual(self.calls, [TRUNK, beside("other"), beside("other_tests"), WHOLE])
+        self.assertEqual((part.passed, part.failed, part.processor), (7, 0, 240.0))
 
-    def test_nothing_goes_beside_over_crates_that_were_not_proved(self) -> None:
-        self.told = ["low NOT PROVED"]
+    def test_nothing_goes_beside_over_crates_of_the_trunk_that_were_not_proved(self) -> None:
+        self.told = ["low NOT PROVED", "middle proved"]
+        self.awaited = ""
         self.prove(4, "")
-        self.assertEqual(self.calls, [(["rt", "ci", "low", "middle", "high"], None), (["rt", "ci"], "4")])
+        self.assertEqual(self.calls, [TRUNK, WHOLE])
+
+    def test_nothing_goes_beside_over_a_crate_that_failed_there(self) -> None:
+        self.failing, self.awaited = ["other"], "other"
+        self.prove(4, "")
+        self.assertEqual(self.calls, [TRUNK, beside("other"), WHOLE])
 
     def test_with_two_lanes_all_is_one_run(self) -> None:
         part = self.prove(2, "").parts[0]
@@ -84,12 +105,12 @@ class Order(unittest.TestCase):
 
     def test_lanes_that_are_asked_for_are_those(self) -> None:
         self.prove(4, "4")
-        self.assertEqual(self.calls, [(["rt", "ci"], "4")])
+        self.assertEqual(self.calls, [WHOLE])
 
     def test_the_keeper_is_of_the_trunk_and_what_tests_it_doesnt_go_beside(self) -> None:
         calls = ahead.calls_of(read_crates(gate.ROOT))
         self.assertIn("ob_store", calls.trunk)
-        self.assertIn("ob_book_tests", calls.beside)
+        self.assertIn("ob_book", calls.beside["ob_book_tests"])
         self.assertNotIn("ob_store_tests", calls.beside)
 
 
