@@ -11,6 +11,7 @@ from __future__ import annotations
 
 import argparse
 import os
+import re
 import shutil
 import sys
 import tempfile
@@ -18,6 +19,7 @@ from collections import Counter
 from concurrent.futures import ThreadPoolExecutor
 from dataclasses import dataclass, field
 from pathlib import Path
+from threading import Event
 
 from ahead import prove_behind_trunk
 from edits import Planned, Why, kit_of, plan, turn_of, write_seen
@@ -30,6 +32,7 @@ from tree import copy_tree
 
 ROOT = Path(__file__).resolve().parent.parent
 PROGRAM = Path("crates/outagebook/out/outagebook")
+PROGRAM_BUILT = re.compile(r"^rt: outagebook (?:proved$|is kept: )")
 KILOBYTES_A_LANE = 4_500_000
 COUNTED_BY_RT = ("NOT REFUSED", "NOT TRIED")
 
@@ -96,11 +99,15 @@ def judge(planned: list[Planned], said: str, report: Report) -> dict[str, list[s
     return unseen
 
 
-def prove(place: Path, planned: list[Planned], report: Report, records: bool) -> dict[str, list[str]]:
-    """`rt ci` over a tree; answers what of the planned edits it hasn't refused."""
+def prove(place: Path, planned: list[Planned], report: Report, records: bool, built: Event) -> dict[str, list[str]]:
+    """`rt ci` over a tree; answers what of the planned edits it hasn't refused. It tells when the program is built there."""
+
+    def hear(line: str) -> None:
+        if PROGRAM_BUILT.match(line):
+            built.set()
 
     def whole() -> Ran:
-        return run(["rt", "ci"], place, {"RT_JOBS": str(lanes())}, shows=True)
+        return run(["rt", "ci"], place, {"RT_JOBS": str(lanes())}, shows=True, heard=hear)
 
     ran = prove_behind_trunk(place, lanes(), whole) if not lanes_said() and lanes() > 2 else whole()
     passed, failed = counts_of(ran.said) or (0, 1)
@@ -121,13 +128,14 @@ def leave_out(place: Path, planned: list[Planned]) -> None:
             shutil.rmtree(place / "crates" / it.name / "must-fail")
 
 
-def suites_with_program(place: Path, lost: list[Missing], report: Report) -> None:
-    """The suites that want the program, side by side as far as there are lanes; then the screen's, alone."""
+def suites_with_program(place: Path, lost: list[Missing], report: Report, built: Event) -> None:
+    """The suites that want the program, once it is built: some side by side, then the screen's. `rt ci` may still be at work."""
+    built.wait()
     program = place / PROGRAM
     if not program.exists():
         report.parts.append(Part("with the program", 0, 1, why="rt ci left no program"))
         return
-    with ThreadPoolExecutor(lanes()) as pool:
+    with ThreadPoolExecutor(max(2, lanes() // 2)) as pool:
         report.parts += pool.map(lambda suite: run_suite(suite, place, program), with_program(place))
     found, lacking = screen(place), [it for it in lost if it.part == "screen"]
     if found and not lacking:
@@ -162,8 +170,14 @@ def gate(place: Path, said: argparse.Namespace, report: Report) -> None:
     planned = plan(place, sums, turn_of(ROOT), said.all)
     if place != ROOT:
         leave_out(place, planned)
-    unseen = prove(place, planned, report, said.record)
-    suites_with_program(place, lost, report)
+    built = Event()
+    with ThreadPoolExecutor(1) as pool:
+        suites = pool.submit(suites_with_program, place, lost, report, built)
+        try:
+            unseen = prove(place, planned, report, said.record, built)
+        finally:
+            built.set()
+        suites.result()
     if said.record and place == ROOT and edit_sums(place, kit) != sums:
         report.notes.append("files changed while rt ci ran: gate/edits.txt is as it was")
     elif said.record:

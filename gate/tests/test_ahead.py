@@ -4,16 +4,16 @@ from __future__ import annotations
 
 import os
 import tempfile
+import time
 import unittest
 from collections.abc import Callable, Mapping, Sequence
 from pathlib import Path
-from threading import Event
+from threading import Condition, Event
 from unittest import mock
 
 import made_repository  # noqa: F401, the modules of gate/
 import ahead
 import run as gate
-from crates import read_crates
 from parts import Ran, unheard
 
 TESTS = "".join(f"tests_{number}: high low middle sqlite\n" for number in range(ahead.MANY))
@@ -27,12 +27,8 @@ program: high sqlite
 {TESTS}"""
 TRUNK = (["rt", "ci", "low", "middle", "high"], None)
 WHOLE = (["rt", "ci"], "4")
+WITH_EDITS = ["high", "low"]
 SOON = 20.0  # seconds
-
-
-def beside(name: str) -> tuple[list[str], str | None]:
-    """The call of a crate beside the trunk."""
-    return [*ahead.BEHIND, "rt", "ci", name], "1"
 
 
 class Order(unittest.TestCase):
@@ -41,12 +37,17 @@ class Order(unittest.TestCase):
         self.addCleanup(folder.cleanup)
         self.place = Path(folder.name)
         (self.place / "crates.txt").write_text(CRATES, encoding="ascii")
-        (self.place / "crates/low/must-fail").mkdir(parents=True)
-        (self.place / "crates/low/must-fail/turned.edit").touch()
+        for name in WITH_EDITS:
+            self.edit(self.place, name).parent.mkdir(parents=True)
+            self.edit(self.place, name).touch()
         self.calls: list[tuple[list[str], str | None]] = []
         self.told = ["low proved", "middle is kept: an earlier run proved the same", "high NOT PROVED"]
         self.failing: list[str] = []
-        self.awaited, self.ended = "other_tests", Event()
+        self.awaited = {"low", "other", "other_tests"}
+        self.ended, self.built, self.are_idle = Condition(), Event(), True
+
+    def edit(self, folder: Path, name: str) -> Path:
+        return folder / f"crates/{name}/must-fail/turned.edit"
 
     def rt(
         self,
@@ -56,20 +57,29 @@ class Order(unittest.TestCase):
         shows: bool = False,
         heard: Callable[[str], None] = unheard,
     ) -> Ran:
-        """Stands in for a command: it notes the words and the lanes, and the trunk's tells of crates and goes on until the
-        crate that is awaited has ended beside it."""
-        self.assertEqual((Path(folder) / "crates/low/must-fail/turned.edit").exists(), folder == self.place)
+        """Stands in for a command: it notes the words and the lanes, and the trunk's tells of crates and goes on until those
+        that are awaited have ended beside it."""
+        call, name = ([*map(str, words)], (more or {}).get("RT_JOBS")), str(words[-1])
         self.assertEqual((Path(folder) / "crates.txt").read_text(encoding="ascii"), CRATES)
-        call = [*map(str, words)], (more or {}).get("RT_JOBS")
-        self.assertEqual(folder == self.place, call == WHOLE or call == (WHOLE[0], "2"))
-        self.calls.append(call)
+        is_beside = words[0] == ahead.BEHIND[0]
+        tried = [it for it in WITH_EDITS if self.edit(Path(folder), it).exists()]
+        self.assertEqual(
+            tried, [it for it in WITH_EDITS if it == name] if is_beside else [] if call == TRUNK else WITH_EDITS
+        )
+        with self.ended:
+            self.calls.append(call)
+        if call[0] == WHOLE[0]:
+            self.assertFalse(self.built.is_set())
+            heard("rt: outagebook proved\n")
         if call == TRUNK:
             for line in self.told:
                 heard(f"rt: {line}\n")
-            self.assertTrue(not self.awaited or self.ended.wait(SOON))
-        if call[0][-1] == self.awaited:
-            self.ended.set()
-        return Ran(1 if call[0][-1] in self.failing else 0, "7 passed, 0 failed\n", 5.0, 60.0)
+            with self.ended:
+                self.assertTrue(self.ended.wait_for(lambda: not self.awaited, SOON))
+        with self.ended:
+            self.awaited.discard(name)
+            self.ended.notify_all()
+        return Ran(1 if name in self.failing else 0, "7 passed, 0 failed\n", 5.0, 60.0)
 
     def prove(self, lanes: int, said: str) -> gate.Report:
         report = gate.Report()
@@ -77,41 +87,64 @@ class Order(unittest.TestCase):
             mock.patch.dict(os.environ, {"RT_JOBS": said}),
             mock.patch.object(gate, "run", self.rt),
             mock.patch.object(ahead, "run", self.rt),
+            mock.patch.object(ahead, "LOOK", 0.01),
+            mock.patch.object(ahead, "seconds_idle", self.idle),
             mock.patch.object(gate, "lanes", lambda: lanes),
         ):
-            gate.prove(self.place, [], report, False)
+            gate.prove(self.place, [], report, False, self.built)
         return report
 
-    def test_the_trunk_comes_first_and_beside_it_each_crate_without_the_database_once_it_can(self) -> None:
+    def idle(self) -> float:
+        """The seconds that processors have had nothing to do: two of them since ever, or none."""
+        return 2 * time.monotonic() if self.are_idle else 0.0
+
+    def beside(self, *names: str) -> None:
+        """Sees that these calls, and no others, were made beside the trunk and before the whole."""
+        self.assertEqual((self.calls[0], self.calls[-1]), (TRUNK, WHOLE))
+        self.assertEqual(sorted(self.calls[1:-1]), sorted(([*ahead.BEHIND, "rt", "ci", name], "1") for name in names))
+
+    def test_beside_the_trunk_goes_what_has_no_database_each_crate_once_it_can(self) -> None:
         part = self.prove(4, "").parts[0]
-        self.assertEqual(self.calls, [TRUNK, beside("other"), beside("other_tests"), WHOLE])
-        self.assertEqual((part.passed, part.failed, part.processor), (7, 0, 240.0))
+        self.beside("low", "other", "other_tests")
+        order = [call[0][-1] for call in self.calls]
+        self.assertLess(order.index("other"), order.index("other_tests"))
+        self.assertEqual((part.passed, part.failed, part.processor), (7, 0, 300.0))
 
     def test_nothing_goes_beside_over_crates_of_the_trunk_that_were_not_proved(self) -> None:
-        self.told = ["low NOT PROVED", "middle proved"]
-        self.awaited = ""
+        self.told, self.awaited = ["low NOT PROVED", "middle proved"], set()
         self.prove(4, "")
-        self.assertEqual(self.calls, [TRUNK, WHOLE])
+        self.beside()
 
     def test_nothing_goes_beside_over_a_crate_that_failed_there(self) -> None:
-        self.failing, self.awaited = ["other"], "other"
+        self.failing, self.awaited = ["other"], {"low", "other"}
         self.prove(4, "")
-        self.assertEqual(self.calls, [TRUNK, beside("other"), WHOLE])
+        self.beside("low", "other")
+
+    def test_nothing_goes_beside_where_all_processors_are_at_work(self) -> None:
+        self.are_idle, self.awaited = False, set()
+        self.prove(4, "")
+        self.beside()
 
     def test_with_two_lanes_all_is_one_run(self) -> None:
         part = self.prove(2, "").parts[0]
         self.assertEqual(self.calls, [(["rt", "ci"], "2")])
         self.assertEqual((part.passed, part.failed, part.clock, part.processor), (7, 0, 5.0, 60.0))
 
+    def test_it_is_told_when_the_program_is_built(self) -> None:
+        self.prove(2, "")
+        self.assertTrue(self.built.is_set())
+
     def test_lanes_that_are_asked_for_are_those(self) -> None:
         self.prove(4, "4")
         self.assertEqual(self.calls, [WHOLE])
 
     def test_the_keeper_is_of_the_trunk_and_what_tests_it_doesnt_go_beside(self) -> None:
-        calls = ahead.calls_of(read_crates(gate.ROOT))
+        calls = ahead.calls_of(gate.ROOT)
         self.assertIn("ob_store", calls.trunk)
         self.assertIn("ob_book", calls.beside["ob_book_tests"])
-        self.assertNotIn("ob_store_tests", calls.beside)
+        self.assertIn("ob_net", calls.beside["ob_net"])
+        self.assertNotIn("ob_office_tests", calls.beside)
+        self.assertNotIn("ob_tables", calls.beside)
 
 
 if __name__ == "__main__":
