@@ -29,34 +29,27 @@ put() { # MODE FILE PLACE
 }
 
 put 755 "$program" bin/outagebook
-(cd "$here/tools" && find outagebook -name '*.py' -o -name '*.sql') | sort | while read -r module; do
+(cd "$here/tools" && find outage_tools -name '*.py' -o -name '*.sql') | sort | while read -r module; do
     put 644 "$here/tools/$module" "lib/outagebook/$module"
 done
-for tool in book figures report years next_year commands from_oms check agree trial sum districts major_days warehouse; do
-    case $tool in
-        book) name=compare ;;
-        trial) name=try ;;
-        *) name=$(echo "$tool" | tr _ -) ;;
-    esac
-    put 755 "$here/tools/$tool.py" "lib/outagebook/$tool.py"
-    ln -sf "../lib/outagebook/$tool.py" "$to/bin/outagebook-$name"
+for file in "$here"/tools/*.py; do
+    tool=$(basename "$file" .py)
+    put 755 "$file" "lib/outagebook/$tool.py"
+    ln -sf "../lib/outagebook/$tool.py" "$to/bin/outagebook-$(echo "$tool" | tr _ -)"
 done
-(cd "$here/screen" && find outagebook_screen static -type f ! -name '*.pyc') | sort | while read -r file; do
+(cd "$here/screen" && find server static -type f ! -name '*.pyc') | sort | while read -r file; do
     put 644 "$here/screen/$file" "lib/outagebook/screen/$file"
 done
 put 755 "$here/screen/outagebook-screen" lib/outagebook/screen/outagebook-screen
 ln -sf ../lib/outagebook/screen/outagebook-screen "$to/bin/outagebook-screen"
-put 644 "$here/tools/installed/outagebook.1" share/man/man1/outagebook.1
-put 644 "$here/tools/installed/outagebook.bash" share/bash-completion/completions/outagebook
-put 644 "$here/tools/installed/_outagebook" share/zsh/site-functions/_outagebook
-put 644 "$here/tools/installed/outagebook.fish" share/fish/vendor_completions.d/outagebook.fish
-put 644 "$here/examples/outagebook.service" share/doc/outagebook/examples/outagebook.service
-put 644 "$here/examples/outagebook@.service" share/doc/outagebook/examples/outagebook@.service
-put 644 "$here/examples/outagebook-screen.service" share/doc/outagebook/examples/outagebook-screen.service
-put 644 "$here/examples/outagebook-screen@.service" share/doc/outagebook/examples/outagebook-screen@.service
-put 644 "$here/examples/nginx.conf" share/doc/outagebook/examples/nginx.conf
-put 644 "$here/examples/nginx-districts.conf" share/doc/outagebook/examples/nginx-districts.conf
-for page in "$here"/docs/*.md; do
-    put 644 "$page" "share/doc/outagebook/$(basename "$page")"
+put 644 "$here/packaging/outagebook.1" share/man/man1/outagebook.1
+put 644 "$here/packaging/outagebook.bash" share/bash-completion/completions/outagebook
+put 644 "$here/packaging/_outagebook" share/zsh/site-functions/_outagebook
+put 644 "$here/packaging/outagebook.fish" share/fish/vendor_completions.d/outagebook.fish
+for file in "$here"/deploy/*.service "$here"/deploy/*.conf; do
+    put 644 "$file" "share/doc/outagebook/deploy/$(basename "$file")"
+done
+(cd "$here/docs" && find . -name '*.md' -o -name '*.webp') | sort | while read -r page; do
+    put 644 "$here/docs/$page" "share/doc/outagebook/docs/${page#./}"
 done
 echo "installed under $prefix"

@@ -4,7 +4,7 @@
 
 It makes a new book in the file, imports the text, prints `listening 127.0.0.1:<port>` and serves GET /totals and
 POST /commands, one connection after another, with kept connections, until it is ended. The bodies are those of the
-program (docs/DESK.md). Standard library alone: amounts in dictionaries, one transaction of SQLite a command.
+program (docs/reference/HTTP-API.md). Standard library alone: amounts in dictionaries, one transaction of SQLite a command.
 """
 
 import argparse

@@ -1,4 +1,4 @@
-"""A plain office in Python and SQLite, to compare `outagebook import` with: it keeps the eleven tables of docs/BOOK.md.
+"""A plain office in Python and SQLite, to compare `outagebook import` with: it keeps the eleven tables of docs/reference/BOOK-FILE.md.
 
     python3 benches/make_year.py 10000 1 --csv > bench-data/year.csv
     python3 benches/plain_office.py bench-data/year.csv --book bench-data/plain.db

@@ -1,4 +1,4 @@
-"""What the rows of a CSV of commands say: the forms of docs/FORMATS.md, for the plain programs beside this one."""
+"""What the rows of a CSV of commands say: the forms of docs/reference/FORMATS.md, for the plain programs beside this one."""
 
 import csv
 import io

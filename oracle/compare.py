@@ -23,7 +23,7 @@ from state import Period
 ROOT = Path(__file__).resolve().parent.parent
 PROGRAM = Path(os.environ.get("OUTAGEBOOK", ROOT / "crates/outagebook/out/outagebook"))
 DATA = ROOT / "bench-data"
-EXAMPLES = ROOT / "examples"
+EXAMPLES = ROOT / "examples/fortnight"
 FORTNIGHT = ("2025-03-24", 14, "CET-1CEST,M3.5.0,M10.5.0/3")
 
 

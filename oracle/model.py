@@ -1,6 +1,6 @@
 """A plain model of the book: what commands make of it, by the definitions, standard library alone.
 
-    python3 oracle/model.py examples/fortnight.csv --first 2025-03-24 --days 14 --zone CET-1CEST,M3.5.0,M10.5.0/3
+    python3 oracle/model.py examples/fortnight/fortnight.csv --first 2025-03-24 --days 14 --zone CET-1CEST,M3.5.0,M10.5.0/3
 
 It imports CSV texts, one after another, into a new book and prints the annual table, as the program does; --moves
 prints the moves as CSV, --totals the totals as JSON, --imports what each import says, --compare FILE the first table

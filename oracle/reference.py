@@ -7,7 +7,7 @@ one goes from change to change and walks from GRID breadth first.
 
 A text that `total` refuses is no input of the model: it may then fail in any way.
 
-    python3 oracle/reference.py < examples/first-run.csv
+    python3 oracle/reference.py < examples/first-run/first-run.csv
 """
 
 import csv

@@ -1,4 +1,4 @@
-"""The statements that make the eleven tables of a book, as docs/BOOK.md shows them."""
+"""The statements that make the eleven tables of a book, as docs/reference/BOOK-FILE.md shows them."""
 
 TABLES = """
 CREATE TABLE meta (id INTEGER PRIMARY KEY CHECK (id = 1), version INTEGER NOT NULL, day0 TEXT NOT NULL,

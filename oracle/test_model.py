@@ -346,7 +346,7 @@ class Imports(unittest.TestCase):
 class Examples(unittest.TestCase):
     def test_files_of_the_fortnight(self) -> None:
         """The table and the moves that stand beside the sample fortnight, and its amounts by hand."""
-        examples = Path(__file__).resolve().parent.parent / "examples"
+        examples = Path(__file__).resolve().parent.parent / "examples/fortnight"
         book = Book(Period("2025-03-24", 14, "CET-1CEST,M3.5.0,M10.5.0/3"))
         for name, added in [("fortnight", 102), ("corrections", 3)]:
             self.assertEqual(book.import_text((examples / f"{name}.csv").read_bytes()), (added, 0, None))
@@ -357,31 +357,31 @@ class Examples(unittest.TestCase):
                 self.assertEqual([counts["MOMENTARY"] for _, counts in map(book.indices, [False, True])], [16, 16])
 
     def test_texts_of_the_tests(self) -> None:
-        """The crates' tests have the files of the sample fortnight as they stand in `examples/`."""
+        """The crates' tests have the files of the sample fortnight as they stand in `examples/fortnight/`."""
         root = Path(__file__).resolve().parent.parent
         sources = [root / f"crates/ob_office_tests/src/fortnight_{name}.rt" for name in ["texts", "moves"]]
         source = "".join(file.read_text(encoding="ascii") for file in sources)
         for name in ["fortnight", "corrections"]:
             for file in [f"{name}.{end}" for end in ["csv", "table.txt", "moves.csv"]]:
-                text = (root / "examples" / file).read_text(encoding="ascii")
+                text = (root / "examples/fortnight" / file).read_text(encoding="ascii")
                 self.assertIn(f'"\\\n{text}";', source, file)
         source = (root / "crates/ob_office_tests/src/old_fortnight.rt").read_text(encoding="ascii")
         source = re.sub(r" \\\n +", " ", source)
-        for file in ["fortnight-version-1.sql", "fortnight-version-1.table.txt"]:
-            text = (root / "examples" / file).read_text(encoding="ascii")
+        for file in ["version-1.sql", "version-1.table.txt"]:
+            text = (root / "examples/fortnight" / file).read_text(encoding="ascii")
             self.assertIn(f'"\\\n{text}";', source, file)
 
     def test_file_of_version_1(self) -> None:
         """The fortnight as the program of version 1 left it: its commands have its table and its moves."""
-        examples = Path(__file__).resolve().parent.parent / "examples"
+        examples = Path(__file__).resolve().parent.parent / "examples/fortnight"
         with contextlib.closing(sqlite3.connect(":memory:")) as database:
-            database.executescript((examples / "fortnight-version-1.sql").read_text(encoding="ascii"))
+            database.executescript((examples / "version-1.sql").read_text(encoding="ascii"))
             commands = database.execute("SELECT body, ref FROM cmd ORDER BY id").fetchall()
             moves = database.execute("SELECT cmd, dim, k, delta FROM moved ORDER BY cmd, dim, k").fetchall()
         book = Book(Period("2025-03-24", 14, "CET-1CEST,M3.5.0,M10.5.0/3"))
         for number, (body, ref) in enumerate(commands, 1):
             self.assertEqual(book.act(row_of(body.removesuffix(" -"), ref)), number)
-        table = (examples / "fortnight-version-1.table.txt").read_text(encoding="ascii")
+        table = (examples / "version-1.table.txt").read_text(encoding="ascii")
         self.assertEqual("".join(f"{line}\n" for line in book.table_lines()), table)
         self.assertEqual(sorted(book.moves), moves)
 

@@ -1,5 +1,5 @@
 #!/usr/bin/python3
-"""Makes the pictures of docs/SCREEN.md: a screen over the sample fortnight in headless Chromium.
+"""Makes the pictures of docs/use/SCREEN.md: a screen over the sample fortnight in headless Chromium.
 
     OUTAGEBOOK=FILE python3 screen/make_pictures.py          # writes docs/pictures/
 

@@ -1,9 +1,9 @@
 #!/usr/bin/env python3
-"""An OMS's own counts beside a book's: outagebook/agree.py."""
+"""An OMS's own counts beside a book's: outage_tools/agree.py."""
 
 import sys
 
-from outagebook.agree import main
+from outage_tools.agree import main
 
 if __name__ == "__main__":
     sys.exit(main())

@@ -1,9 +1,9 @@
 #!/usr/bin/env python3
-"""Exports looked at before a book is made: outagebook/check.py."""
+"""Exports looked at before a book is made: outage_tools/check.py."""
 
 import sys
 
-from outagebook.check import main
+from outage_tools.check import main
 
 if __name__ == "__main__":
     sys.exit(main())

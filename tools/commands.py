@@ -1,9 +1,9 @@
 #!/usr/bin/env python3
-"""A book's commands as CSV: outagebook/commands.py."""
+"""A book's commands as CSV: outage_tools/commands.py."""
 
 import sys
 
-from outagebook.commands import main
+from outage_tools.commands import main
 
 if __name__ == "__main__":
     sys.exit(main())

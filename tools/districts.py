@@ -3,7 +3,7 @@
 
 import sys
 
-from outagebook.districts import main
+from outage_tools.districts import main
 
 if __name__ == "__main__":
     sys.exit(main())

@@ -1,9 +1,9 @@
 #!/usr/bin/env python3
-"""Figures of a book: outagebook/figures.py."""
+"""Figures of a book: outage_tools/figures.py."""
 
 import sys
 
-from outagebook.figures import main
+from outage_tools.figures import main
 
 if __name__ == "__main__":
     sys.exit(main())

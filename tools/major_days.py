@@ -3,7 +3,7 @@
 
 import sys
 
-from outagebook.major_days import main
+from outage_tools.major_days import main
 
 if __name__ == "__main__":
     sys.exit(main())

@@ -1,9 +1,9 @@
 #!/usr/bin/env python3
-"""A page of a book's period: outagebook/report.py."""
+"""A page of a book's period: outage_tools/report.py."""
 
 import sys
 
-from outagebook.report import main
+from outage_tools.report import main
 
 if __name__ == "__main__":
     sys.exit(main())

@@ -3,7 +3,7 @@
 
 import sys
 
-from outagebook.sums import main
+from outage_tools.sums import main
 
 if __name__ == "__main__":
     sys.exit(main())

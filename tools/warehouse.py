@@ -3,7 +3,7 @@
 
 import sys
 
-from outagebook.warehouse import main
+from outage_tools.warehouse import main
 
 if __name__ == "__main__":
     sys.exit(main())

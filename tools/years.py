@@ -1,9 +1,9 @@
 #!/usr/bin/env python3
-"""Years side by side: outagebook/years.py."""
+"""Years side by side: outage_tools/years.py."""
 
 import sys
 
-from outagebook.years import main
+from outage_tools.years import main
 
 if __name__ == "__main__":
     sys.exit(main())

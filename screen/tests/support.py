@@ -19,7 +19,8 @@ from typing import Any
 
 SCREEN = Path(__file__).resolve().parent.parent
 ROOT = SCREEN.parent
-EXAMPLES = ROOT / "examples"
+FORTNIGHT_FILES = ROOT / "examples/fortnight"
+DEPLOY = ROOT / "deploy"
 PROGRAM = Path(os.environ.get("OUTAGEBOOK", ROOT / "crates/outagebook/out/outagebook"))
 sys.path.insert(0, str(SCREEN))
 FORTNIGHT = ("2025-03-24", "14", "CET-1CEST,M3.5.0,M10.5.0/3")
@@ -52,7 +53,7 @@ def new_book(name: str, text: Path | None = None, period: tuple[str, str, str] =
 
 
 def fortnight(name: str) -> Path:
-    return new_book(name, EXAMPLES / "fortnight.csv")
+    return new_book(name, FORTNIGHT_FILES / "fortnight.csv")
 
 
 def until(seen: Callable[[], Any], seconds: float = 20, what: str = "it") -> Any:

@@ -517,7 +517,7 @@ class Pages(Case):
         page.click(".send")
         page.says(".outcome .equal", "equal")
         page.says("main", "2025-03-25 marked")
-        page.field("File").send_keys(str(support.EXAMPLES / "corrections.csv"))
+        page.field("File").send_keys(str(support.FORTNIGHT_FILES / "corrections.csv"))
         page.driver.execute_script(
             "[...document.querySelectorAll('button')].find((each) => each.textContent === 'Import').click()"
         )
@@ -649,7 +649,7 @@ class Crowd(Case):
             words = ["curl", "-s", "-S", "--fail", "--data-binary", command, f"{desk.url}/commands"]
             subprocess.run(words, check=True, stdout=subprocess.DEVNULL)
             if number == COMMANDS // 8:
-                rows = (support.EXAMPLES / "corrections.csv").read_bytes()
+                rows = (support.FORTNIGHT_FILES / "corrections.csv").read_bytes()
                 support.call(f"{desk.url}/import", rows)
             time.sleep(0.2)
         for thread in threads:

@@ -7,7 +7,7 @@ from collections.abc import Callable
 from pathlib import Path
 
 import support
-from outagebook_screen import commands, reader, state
+from server import commands, reader, state
 
 COMMANDS = 300
 FIRST, END = 1_742_770_800, 1_743_976_800

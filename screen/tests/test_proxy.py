@@ -1,4 +1,4 @@
-"""The screen behind nginx, with the configuration of examples/nginx.conf: TLS, logins, who may send, a proxy that breaks."""
+"""The screen behind nginx, with the configuration of deploy/nginx.conf: TLS, logins, who may send, a proxy that breaks."""
 
 import base64
 import http.client
@@ -39,7 +39,7 @@ class Nginx:
             secret = subprocess.run(["openssl", "passwd", "-apr1", "word"], check=True, capture_output=True, text=True)
             lines.append(f"{login}:{secret.stdout}")
         (place / "outagebook.passwd").write_text("".join(lines))
-        text = (support.EXAMPLES / "nginx.conf").read_text()
+        text = (support.DEPLOY / "nginx.conf").read_text()
         text = text.replace("/etc/nginx/", f"{place}/").replace("listen 443", f"listen 127.0.0.1:{port}")
         text = text.replace("127.0.0.1:8081", f"127.0.0.1:{screen}")
         temporary = "".join(

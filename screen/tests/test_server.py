@@ -13,8 +13,8 @@ from pathlib import Path
 from typing import cast
 
 import support
-from outagebook_screen import guard, moments, reader
-from outagebook_screen.state import Refused
+from server import guard, moments, reader
+from server.state import Refused
 
 LIGHTHOUSE = {"kind": "switch", "f1": "LBS-22", "f2": "close", "f3": "1743976320", "f4": "5", "f5": "CREW-3"}
 
@@ -101,7 +101,7 @@ class Commands(Case):
         screen = self.screen("", desk=desk)
         desk.post({**LIGHTHOUSE, "ref": "CURL-1"})
         support.until(lambda: screen.number() == 103, what="the command of another client")
-        rows = (support.EXAMPLES / "corrections.csv").read_bytes().splitlines(keepends=True)[:3]
+        rows = (support.FORTNIGHT_FILES / "corrections.csv").read_bytes().splitlines(keepends=True)[:3]
         support.call(f"{desk.url}/import", b"".join(rows))
         support.until(lambda: screen.number() == 105, what="the import of another client")
         self.assertIsNone(screen.call("/health")[1]["differs"])
@@ -139,7 +139,7 @@ class Commands(Case):
     def test_import_with_its_report(self) -> None:
         screen = self.screen("import")
         screen.log_in("ANNA")
-        rows = (support.EXAMPLES / "corrections.csv").read_bytes()
+        rows = (support.FORTNIGHT_FILES / "corrections.csv").read_bytes()
         status, shown = screen.call("/api/import", rows, {"Content-Type": "text/csv"})
         self.assertEqual((status, shown["reply"]), (200, {"added": 3, "again": 0, "stopped": None}))
         self.assertEqual(screen.number(), 105)
@@ -147,11 +147,11 @@ class Commands(Case):
 
     def test_the_whole_year_and_its_texts(self) -> None:
         screen = self.screen("year")
-        table = (support.EXAMPLES / "fortnight.table.txt").read_text()
+        table = (support.FORTNIGHT_FILES / "fortnight.table.txt").read_text()
         self.assertEqual(screen.call("/api/year")[1]["text"], table)
         self.assertEqual(support.call(f"{screen.url}/download/table.txt")[1].decode(), table)
         moves = support.call(f"{screen.url}/download/moves.csv")[1]
-        self.assertEqual(moves, (support.EXAMPLES / "fortnight.moves.csv").read_bytes())
+        self.assertEqual(moves, (support.FORTNIGHT_FILES / "fortnight.moves.csv").read_bytes())
         self.assertEqual(support.call(f"{screen.url}/download/commands.csv")[1].count(b"\n"), 103)
         self.assertIn(b"SAIDI", support.call(f"{screen.url}/report")[1])
 
@@ -411,7 +411,7 @@ class Hostile(Case):
         self.addCleanup(screen.end)
         screen.log_in("ANNA")
         command = json.dumps({**LIGHTHOUSE, "ref": "SCR-ANNA-1"}).encode()
-        rows = (support.EXAMPLES / "corrections.csv").read_bytes()
+        rows = (support.FORTNIGHT_FILES / "corrections.csv").read_bytes()
         begun = time.monotonic()
         stopped: list[socket.socket] = []
         gone: list[socket.socket] = []

@@ -8,7 +8,7 @@ from dataclasses import dataclass
 from pathlib import Path
 from unittest import mock
 
-from outagebook.oms import convert
+from outage_tools.oms import convert
 from tests import support
 
 ZONE = "CET-1CEST,M3.5.0,M10.5.0/3"
@@ -44,7 +44,7 @@ def run(*arguments: object) -> Done:
 
 
 def sample(name: str) -> str:
-    return (support.EXAMPLES / f"{name}.csv").read_text()
+    return (support.EXPORTS / f"{name}.csv").read_text()
 
 
 def arguments_of(folder: Path, texts: dict[str, str]) -> list[str]:

@@ -15,7 +15,7 @@ from dataclasses import replace
 from functools import lru_cache
 from pathlib import Path
 
-from outagebook.compare import Checked, figures_of_table, open_book
+from outage_tools.compare import Checked, figures_of_table, open_book
 from tests.support import TESTS, TOOLS
 
 IS_LONG = bool(os.environ.get("OUTAGEBOOK_LONG"))

@@ -7,7 +7,7 @@ from collections.abc import Iterable
 from functools import lru_cache
 from pathlib import Path
 
-from outagebook.serving import Desk, served
+from outage_tools.serving import Desk, served
 from tests import support
 
 HEADER = "kind,ref,f1,f2,f3,f4,f5,f6"

@@ -14,12 +14,14 @@ from dataclasses import dataclass
 from functools import lru_cache
 from pathlib import Path
 
-from outagebook.compare import Checked, open_book
+from outage_tools.compare import Checked, open_book
 
 TESTS = Path(__file__).resolve().parent
 TOOLS = TESTS.parent
 ROOT = TOOLS.parent
-EXAMPLES = ROOT / "examples"
+EXAMPLES = ROOT / "examples/fortnight"
+EXPORTS = ROOT / "examples/exports"
+DEPLOY = ROOT / "deploy"
 PROGRAM = Path(os.environ.get("OUTAGEBOOK", ROOT / "crates/outagebook/out/outagebook"))
 SEEDS = 60
 

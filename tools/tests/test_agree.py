@@ -11,13 +11,13 @@ from fractions import Fraction
 from functools import lru_cache
 from pathlib import Path
 
-from outagebook.agree import Told, agreement_of, exact_text, minutes_text, read_told
-from outagebook.compare import Checked, open_book
-from outagebook.errors import BookError
-from outagebook.oms.files import Row
-from outagebook.rows import CAUSE, Book
-from outagebook.suspects import Difference, Suspect, suspects_of
-from outagebook.tickets import Ticket, tickets_of
+from outage_tools.agree import Told, agreement_of, exact_text, minutes_text, read_told
+from outage_tools.compare import Checked, open_book
+from outage_tools.errors import BookError
+from outage_tools.oms.files import Row
+from outage_tools.rows import CAUSE, Book
+from outage_tools.suspects import Difference, Suspect, suspects_of
+from outage_tools.tickets import Ticket, tickets_of
 from tests import made_town, program_books, support
 from tests.made_town import FIRST, PERIOD, Switch, Town
 from tests.support import written

@@ -10,12 +10,12 @@ import unittest
 from collections.abc import Iterable
 from pathlib import Path
 
-from outagebook.compare import open_book
-from outagebook.copies import copy_of
-from outagebook.counts import amounts_of
-from outagebook.errors import BookError, Differs
-from outagebook.rows import Block, Book, Device, Entry, Postings, Section, period_of
-from outagebook.sweep import interruptions_of, sweep
+from outage_tools.compare import open_book
+from outage_tools.copies import copy_of
+from outage_tools.counts import amounts_of
+from outage_tools.errors import BookError, Differs
+from outage_tools.rows import Block, Book, Device, Entry, Postings, Section, period_of
+from outage_tools.sweep import interruptions_of, sweep
 from tests import support
 
 T = 1_704_067_200  # midnight of 1 January 2024 in UTC
@@ -249,17 +249,17 @@ class NoBooks(unittest.TestCase):
             database.execute("CREATE TABLE t (a)")
         changed("version", "UPDATE meta SET version = 3")
         for name in ["nowhere.db", "text.db", "empty.db", "begun.db", "short.db", "other.db", "version.db", "."]:
-            done = support.run_tool("book", here / name, table=support.fortnight())
+            done = support.run_tool("compare", here / name, table=support.fortnight())
             self.assertEqual((done.returncode, done.stdout), (1, ""), name)
             self.assertTrue(done.stderr.startswith("error: "), done.stderr)
 
     def test_a_program_that_isnt_there(self) -> None:
-        done = support.run_tool("book", support.fortnight().book, "--program", "/nowhere/outagebook")
+        done = support.run_tool("compare", support.fortnight().book, "--program", "/nowhere/outagebook")
         self.assertEqual((done.returncode, done.stdout), (1, ""))
         self.assertIn("--table", done.stderr)
 
     def test_wrong_words(self) -> None:
-        self.assertEqual(support.run_tool("book").returncode, 64)
+        self.assertEqual(support.run_tool("compare").returncode, 64)
         self.assertEqual(support.run_tool("figures", "book.db", "weeks").returncode, 64)
 
 

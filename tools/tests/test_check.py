@@ -7,11 +7,11 @@ from collections.abc import Iterable, Iterator
 from datetime import datetime, timedelta
 from pathlib import Path
 
-from outagebook.normal_state import SOURCE, TestedDevice, TestedNetwork, during
-from outagebook.trial import parted
+from outage_tools.normal_state import SOURCE, TestedDevice, TestedNetwork, during
+from outage_tools.trial import parted
 from tests import program_books, support
 from tests.program_books import run_program
-from tests.support import EXAMPLES, written
+from tests.support import EXPORTS, written
 
 ZONE = "CET-1CEST,M3.5.0,M10.5.0/3"
 PERIOD = ("2025-10-20", "14", ZONE)
@@ -28,7 +28,7 @@ SECONDS = 14 * 86_400 + 3_600  # of the period, in which the clocks go back
 
 def sample(export: str) -> list[str]:
     """The rows of a sample export, without its header."""
-    return (EXAMPLES / f"{export}.csv").read_text().splitlines()[1:]
+    return (EXPORTS / f"{export}.csv").read_text().splitlines()[1:]
 
 
 def changed(rows: Iterable[str], change: tuple[str, str]) -> Iterator[str]:

@@ -20,13 +20,13 @@ from typing import Any
 from urllib.error import HTTPError
 from urllib.request import Request, urlopen
 
-from outagebook.counts import SETS, fraction_text, indices_of
-from outagebook.district_check import CheckedCut, Part, check_cut, part_of, write_check
-from outagebook.errors import BookError
-from outagebook.sums import Sums, add_up
+from outage_tools.counts import SETS, fraction_text, indices_of
+from outage_tools.district_check import CheckedCut, Part, check_cut, part_of, write_check
+from outage_tools.errors import BookError
+from outage_tools.sums import Sums, add_up
 from tests import many_books
 from tests.many_books import books_of, district_rows, figures_of, opened, parts_of, run, table_of, with_tables
-from tests.support import EXAMPLES, PROGRAM, needs_program
+from tests.support import DEPLOY, PROGRAM, needs_program
 
 GIS_COLUMNS = ["type", "name", "feeder", "from", "to", "normal", "note"]
 NGINX = shutil.which("nginx") or "/usr/sbin/nginx"
@@ -376,7 +376,7 @@ class Checking(unittest.TestCase):
 
 @lru_cache(maxsize=None)
 def utility() -> Path:
-    """A utility's exports, as docs/DATA.md describes them, with outages for a book of a fortnight."""
+    """A utility's exports, as docs/use/IMPORTING.md describes them, with outages for a book of a fortnight."""
     exports = Exports(77, substations=10, sections=36, ties=12)
     rng = random.Random("outages")
     breakers = [row[1] for row in exports.gis if row[1].startswith(("sw-", "in-"))]
@@ -494,7 +494,7 @@ def proxy(ports: dict[str, int], users: Iterable[str]) -> Any:
     password = subprocess.run(["openssl", "passwd", "-apr1", "secret"], check=True, capture_output=True, text=True)
     (folder / "outagebook.passwd").write_text("".join(f"{user}:{password.stdout}" for user in users))
     port = free_port()
-    text = (EXAMPLES / "nginx-districts.conf").read_text().replace("/etc/nginx/", f"{folder}/")
+    text = (DEPLOY / "nginx-districts.conf").read_text().replace("/etc/nginx/", f"{folder}/")
     text = text.replace("listen 443 ssl", f"listen 127.0.0.1:{port} ssl")
     for name, number in ports.items():
         text = re.sub(rf"({name} +)\d+;", rf"\g<1>{number};", text)
@@ -666,8 +666,8 @@ class Screens(unittest.TestCase):
 class Units(unittest.TestCase):
     def differing(self, unit: str) -> list[str]:
         """The lines of a district's unit that the single one hasn't."""
-        one = (EXAMPLES / f"{unit}.service").read_text().splitlines()
-        each = (EXAMPLES / f"{unit}@.service").read_text().splitlines()
+        one = (DEPLOY / f"{unit}.service").read_text().splitlines()
+        each = (DEPLOY / f"{unit}@.service").read_text().splitlines()
         return [line for line in each if line not in one and not line.startswith("#")]
 
     def test_a_districts_units_differ_from_the_single_ones_in_book_ports_and_names_alone(self) -> None:

@@ -9,11 +9,11 @@ from collections.abc import Callable, Iterator
 from fractions import Fraction
 from typing import Any
 
-from outagebook import figures
-from outagebook.compare import Checked
-from outagebook.counts import SETS, decimal_text
-from outagebook.forms import Figures, write_csv, write_json, write_text
-from outagebook.years import lines_of
+from outage_tools import figures
+from outage_tools.compare import Checked
+from outage_tools.counts import SETS, decimal_text
+from outage_tools.forms import Figures, write_csv, write_json, write_text
+from outage_tools.years import lines_of
 from tests import support
 
 Row = dict[str, Any]  # a figure's values by their columns
@@ -28,7 +28,7 @@ def fraction(text: str) -> Fraction:
 
 
 class Fortnight(unittest.TestCase):
-    """What docs/TUTORIAL.md says of the sample fortnight."""
+    """What docs/use/TUTORIAL.md says of the sample fortnight."""
 
     def rows(self, name: str) -> list[Row]:
         return rows_of(figures.FIGURES[name](support.opened(support.fortnight())))

@@ -5,12 +5,12 @@ from collections import defaultdict
 from fractions import Fraction
 from pathlib import Path
 
-from outagebook import figures
-from outagebook.compare import Checked
-from outagebook.counts import SETS, fraction_text
-from outagebook.errors import BookError
-from outagebook.indices import Loads, computed, loads_of, meaning_of, read_hours
-from outagebook.sums import add_up, district_of
+from outage_tools import figures
+from outage_tools.compare import Checked
+from outage_tools.counts import SETS, fraction_text
+from outage_tools.errors import BookError
+from outage_tools.indices import Loads, computed, loads_of, meaning_of, read_hours
+from outage_tools.sums import add_up, district_of
 from tests import many_books, support
 from tests.many_books import books_of, district_rows, opened, parts_of, run, table_of
 

@@ -1,6 +1,6 @@
 """install.sh, and that the manual page and the completions have the words and options of the program.
 
-These are taken from the program's --help where it is built, and from the table of docs/COMMANDS.md else.
+These are taken from the program's --help where it is built, and from the table of docs/reference/CLI.md else.
 """
 
 import os
@@ -13,14 +13,14 @@ from pathlib import Path
 
 from tests import support
 
-INSTALLED = support.TOOLS / "installed"
+PACKAGING = support.ROOT / "packaging"
 SHELLS = {"bash": ["bash", "-n"], "zsh": ["zsh", "-n"], "fish": ["fish", "--no-execute"]}
 Options = dict[str, set[str]]  # of each subcommand
 FILES = {"bash": "outagebook.bash", "zsh": "_outagebook", "fish": "outagebook.fish"}
 
 
 def text_of(name: str) -> str:
-    return (INSTALLED / name).read_text()
+    return (PACKAGING / name).read_text()
 
 
 def options_in(text: str) -> set[str]:
@@ -42,7 +42,7 @@ def of_program() -> Options:
 
 def of_pages() -> Options:
     """The same by the page of the subcommands."""
-    table = (support.ROOT / "docs/COMMANDS.md").read_text().partition("\n## ")[0]
+    table = (support.ROOT / "docs/reference/CLI.md").read_text().partition("\n## ")[0]
     rows = re.findall(r"^\| `([a-z]+)([^`]*)`", table, re.M)
     return {word: options_in(rest) for word, rest in rows}
 
@@ -77,7 +77,7 @@ class Words(unittest.TestCase):
     def completed(self, *words: str) -> list[str]:
         """What bash offers behind some words."""
         script = (
-            f". {INSTALLED / 'outagebook.bash'}; COMP_WORDS=(outagebook {' '.join(words)}); COMP_CWORD={len(words)};"
+            f". {PACKAGING / 'outagebook.bash'}; COMP_WORDS=(outagebook {' '.join(words)}); COMP_CWORD={len(words)};"
         )
         script += ' _outagebook; printf "%s\\n" "${COMPREPLY[@]}"'
         return sorted(subprocess.run(["bash", "-c", script], check=True, capture_output=True, text=True).stdout.split())
@@ -105,7 +105,7 @@ class Words(unittest.TestCase):
     def test_shells_read_them(self) -> None:
         for shell, command in SHELLS.items():
             if shutil.which(shell):
-                done = subprocess.run([*command, INSTALLED / FILES[shell]], capture_output=True, text=True, check=False)
+                done = subprocess.run([*command, PACKAGING / FILES[shell]], capture_output=True, text=True, check=False)
                 self.assertEqual((done.returncode, done.stderr), (0, ""), shell)
 
 
@@ -143,10 +143,10 @@ class Install(unittest.TestCase):
         library = prefix / "lib/outagebook"
         installed = {path.relative_to(library).as_posix() for path in library.rglob("*.py")}
         installed = {path for path in installed if not path.startswith("screen/")}
-        package = {path.relative_to(support.TOOLS).as_posix() for path in support.TOOLS.glob("outagebook/**/*.py")}
+        package = {path.relative_to(support.TOOLS).as_posix() for path in support.TOOLS.glob("outage_tools/**/*.py")}
         commands = {path.name for path in support.TOOLS.glob("*.py")}
         self.assertEqual(installed, package | commands)
-        self.assertTrue((library / "outagebook/warehouse.sql").exists())
+        self.assertTrue((library / "outage_tools/warehouse.sql").exists())
 
     def test_what_is_refused(self) -> None:
         self.assertEqual(self.install(support.folder() / "none", PROGRAM="/nowhere/outagebook").returncode, 1)

@@ -7,10 +7,10 @@ from collections import Counter
 from collections.abc import Iterable, Iterator, Sequence
 from datetime import date
 
-from outagebook.counts import amounts_of, counts_of
-from outagebook.rows import CAUSE, DAY, FEEDER, Block, Book, Device, Entry, Period, Section
-from outagebook.sweep import Run, interruptions_of, sweep
-from outagebook.zone import Zone
+from outage_tools.counts import amounts_of, counts_of
+from outage_tools.rows import CAUSE, DAY, FEEDER, Block, Book, Device, Entry, Period, Section
+from outage_tools.sweep import Run, interruptions_of, sweep
+from outage_tools.zone import Zone
 
 FIRST, END = 1_000, 1_060
 PERIOD = Period(Zone("UTC0"), (date(1970, 1, 1), date(1970, 1, 2)), (FIRST, FIRST + 30, END))

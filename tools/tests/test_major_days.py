@@ -10,13 +10,13 @@ from collections import defaultdict
 from collections.abc import Sequence
 from datetime import date, timedelta
 
-from outagebook.counts import SETS, Counts
-from outagebook.errors import BookError
-from outagebook.indices import FurtherCounts
-from outagebook.major_days import Answer, answer_of, about, by_period, facts, mark_rows, read_years
-from outagebook.many_pages import major_days_page
-from outagebook.report.major_days import histogram
-from outagebook.sums import District, PeriodKey, Sums
+from outage_tools.counts import SETS, Counts
+from outage_tools.errors import BookError
+from outage_tools.indices import FurtherCounts
+from outage_tools.major_days import Answer, answer_of, about, by_period, facts, mark_rows, read_years
+from outage_tools.many_pages import major_days_page
+from outage_tools.report.major_days import histogram
+from outage_tools.sums import District, PeriodKey, Sums
 from tests import many_books
 from tests.browser import assert_paper, needs_browser
 from tests.many_books import books_of, district_rows, run, with_tables

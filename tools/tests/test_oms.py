@@ -4,7 +4,7 @@ import shutil
 import unittest
 from pathlib import Path
 
-from outagebook.compare import open_book
+from outage_tools.compare import open_book
 from tests import support
 from tests.support import written
 
@@ -18,7 +18,7 @@ class FromOms(unittest.TestCase):
     FILES = [
         argument
         for name in ["causes", "gis", "customers", "oms"]
-        for argument in (f"--{name}", support.EXAMPLES / f"{name}.csv")
+        for argument in (f"--{name}", support.EXPORTS / f"{name}.csv")
     ]
 
     def converted(self, *arguments: object, status: int = 0) -> str:
@@ -30,7 +30,7 @@ class FromOms(unittest.TestCase):
         return support.made_of(name, [(written(f"{name}.csv", text), ("2025-10-20", "14", ZONE))])[0]
 
     def changed(self, name: str, *changes: tuple[str, str]) -> Path:
-        text = (support.EXAMPLES / f"{name}.csv").read_text()
+        text = (support.EXPORTS / f"{name}.csv").read_text()
         for old, new in changes:
             self.assertEqual(text.count(old), 1, old)
             text = text.replace(old, new)
@@ -64,16 +64,16 @@ class FromOms(unittest.TestCase):
     def test_lives(self) -> None:
         """A device that joins, and one that a GIS tells to have been taken down since; what it doesn't tell stays."""
         row = "device,TIE-78,,ELM-STREET,DEPOT,open"
-        gis = (support.EXAMPLES / "gis.csv").read_text().replace("\n", ",,\n").replace("normal,,", "normal,since,until")
+        gis = (support.EXPORTS / "gis.csv").read_text().replace("\n", ",,\n").replace("normal,,", "normal,since,until")
         joins = written("gis-joins.csv", gis.replace(f"{row},,", f"{row},2025-10-20 09:00:00,"))
-        files = [joins if argument == support.EXAMPLES / "gis.csv" else argument for argument in self.FILES]
+        files = [joins if argument == support.EXPORTS / "gis.csv" else argument for argument in self.FILES]
         text = self.converted(*files, *PERIOD)
         self.assertIn("device,GIS-DEVICE-TIE-78,TIE-78,ELM-STREET,DEPOT,open,2025-10-20T09:00:00+02:00,\n", text)
         made = self.made("oms-sample", text)
         arguments = ["--book", made.book, "--table", made.table]
         header = "kind,ref,f1,f2,f3,f4,f5,f6\n"
         self.assertEqual(self.converted("--gis", joins, *arguments), header)
-        self.assertEqual(self.converted("--gis", support.EXAMPLES / "gis.csv", *arguments), header)
+        self.assertEqual(self.converted("--gis", support.EXPORTS / "gis.csv", *arguments), header)
         leaves = written("gis-leaves.csv", gis.replace(f"{row},,", f"{row},,2025-11-01 12:00:00"))
         rows = "life,GIS-LIFE-TIE-78,TIE-78,,2025-11-01T12:00:00+01:00,,,\n"
         self.assertEqual(self.converted("--gis", leaves, *arguments), header + rows)
@@ -95,7 +95,7 @@ class FromOms(unittest.TestCase):
             ("13:04:30,,PLANNED WORK,CREW-B,,", "13:04:30,,PLANNED WORK,CREW-B,,cancelled"),
             ("17:55:00+01:00,,,", "17:55:00+01:00,,2025-10-30 20:00,"),
         )
-        arguments = ["--causes", support.EXAMPLES / "causes.csv", "--oms", tickets]
+        arguments = ["--causes", support.EXPORTS / "causes.csv", "--oms", tickets]
         text = self.converted(*arguments, "--book", made.book, "--table", made.table)
         self.assertEqual(
             text.splitlines()[1:],
@@ -139,12 +139,10 @@ class FromOms(unittest.TestCase):
         ]
         for change, reason in cases:
             with self.subTest(reason):
-                arguments = ["--causes", support.EXAMPLES / "causes.csv", "--gis", support.EXAMPLES / "gis.csv"]
+                arguments = ["--causes", support.EXPORTS / "causes.csv", "--gis", support.EXPORTS / "gis.csv"]
                 arguments += ["--oms", self.changed("oms", change), *PERIOD]
                 self.assertIn(reason, self.converted(*arguments, status=1))
         self.assertIn(
             "no zone",
-            self.converted(
-                "--causes", support.EXAMPLES / "causes.csv", "--oms", support.EXAMPLES / "oms.csv", status=1
-            ),
+            self.converted("--causes", support.EXPORTS / "causes.csv", "--oms", support.EXPORTS / "oms.csv", status=1),
         )

@@ -9,9 +9,9 @@ import sys
 import unittest
 from contextlib import redirect_stderr
 
-from outagebook.oms.complaints import BadRow
-from outagebook.oms.fields import check_format, number, read_moment
-from outagebook.zone import Zone
+from outage_tools.oms.complaints import BadRow
+from outage_tools.oms.fields import check_format, number, read_moment
+from outage_tools.zone import Zone
 from tests import exports, support
 from tests.exports import Done, sample
 

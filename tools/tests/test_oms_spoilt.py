@@ -15,10 +15,10 @@ from collections.abc import Iterator
 from functools import lru_cache
 from pathlib import Path
 
-from outagebook.compare import open_book
-from outagebook.errors import BookError
-from outagebook.oms import convert
-from outagebook.oms.known import Known, known_of
+from outage_tools.compare import open_book
+from outage_tools.errors import BookError
+from outage_tools.oms import convert
+from outage_tools.oms.known import Known, known_of
 from tests import exports, support
 from tests.spoilt import spoilt
 

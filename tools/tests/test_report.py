@@ -9,13 +9,13 @@ from html.parser import HTMLParser
 from pathlib import Path
 from typing import Any
 
-from outagebook.counts import decimal_text
-from outagebook.errors import BookError
-from outagebook.events import read_rule
-from outagebook.lists import read_cause_groups, read_names, read_section_groups
-from outagebook.report import Asked, page
-from outagebook.report.head import value_text
-from outagebook.report.style import css_string
+from outage_tools.counts import decimal_text
+from outage_tools.errors import BookError
+from outage_tools.events import read_rule
+from outage_tools.lists import read_cause_groups, read_names, read_section_groups
+from outage_tools.report import Asked, page
+from outage_tools.report.head import value_text
+from outage_tools.report.style import css_string
 from tests import support
 from tests.browser import chromium, needs_browser, printed_pages
 from tests.test_user_lists import TOWNS

@@ -8,9 +8,9 @@ from collections.abc import Iterable
 from datetime import date, timedelta
 from pathlib import Path
 
-from outagebook import next_year
-from outagebook.commands import read_commands, write_rows
-from outagebook.rows import Book
+from outage_tools import next_year
+from outage_tools.commands import read_commands, write_rows
+from outage_tools.rows import Book
 from tests import support
 from tests.support import written
 from tests.test_book import T, worked

@@ -8,9 +8,9 @@ from io import StringIO
 from pathlib import Path
 from unittest.mock import patch
 
-from outagebook import parallel
-from outagebook.errors import BookError
-from outagebook.sums import District, Sums, add_up, read_district, read_districts, table_lines
+from outage_tools import parallel
+from outage_tools.errors import BookError
+from outage_tools.sums import District, Sums, add_up, read_district, read_districts, table_lines
 from tests import many_books
 from tests.browser import assert_paper, needs_browser
 from tests.many_books import books_of, district_rows, figures_of, parts_of, run, table_of, with_tables

@@ -10,14 +10,14 @@ from dataclasses import dataclass, field
 from pathlib import Path
 from unittest import mock
 
-from outagebook import trial
-from outagebook.exported import ExportedRows
-from outagebook.references import sources_of
-from outagebook.serving import Desk, Imported, Refusal
-from outagebook.texts import Text, text_of
+from outage_tools import trial
+from outage_tools.exported import ExportedRows
+from outage_tools.references import sources_of
+from outage_tools.serving import Desk, Imported, Refusal
+from outage_tools.texts import Text, text_of
 from tests import program_books, support
 from tests.program_books import HEADER, run_program
-from tests.support import EXAMPLES, written
+from tests.support import EXAMPLES, EXPORTS, written
 
 PROGRAM = ("--program", support.PROGRAM)
 
@@ -98,7 +98,7 @@ class Trials(unittest.TestCase):
         self.assertEqual(state_of(self.book), self.before, "the book's files, byte by byte")
 
     def tried(self, rows: Path, *words: object, status: int) -> str:
-        done = support.run_tool("trial", self.book, rows, *PROGRAM, *words)
+        done = support.run_tool("try", self.book, rows, *PROGRAM, *words)
         self.assertEqual((done.returncode, done.stderr), (status, ""))
         return done.stdout
 
@@ -221,19 +221,19 @@ class Trials(unittest.TestCase):
             (Path("/nowhere.csv"), "No such file"),
             (written("long.csv", f'{HEADER}\nbus,A,B,,,,,\nbus,"{"A" * 5_000_000}\n'), "row 2 has more than 4194304"),
         ]:
-            done = support.run_tool("trial", self.book, rows, *PROGRAM)
+            done = support.run_tool("try", self.book, rows, *PROGRAM)
             self.assertEqual((done.returncode, done.stdout), (1, ""))
             self.assertIn(said, done.stderr)
-        done = support.run_tool("trial", EXAMPLES / "oms.csv", no_header, *PROGRAM)
+        done = support.run_tool("try", EXPORTS / "oms.csv", no_header, *PROGRAM)
         self.assertEqual(done.returncode, 1)
         self.assertIn("is no SQLite file", done.stderr)
-        done = support.run_tool("trial", self.book, no_header, "--program", "/nowhere/outagebook")
+        done = support.run_tool("try", self.book, no_header, "--program", "/nowhere/outagebook")
         self.assertEqual(done.returncode, 1)
-        self.assertEqual(support.run_tool("trial", self.book, *PROGRAM).returncode, 64)
+        self.assertEqual(support.run_tool("try", self.book, *PROGRAM).returncode, 64)
 
     def test_a_book_of_version_1(self) -> None:
         path = support.as_version_1(support.edges())
-        done = support.run_tool("trial", path, EXAMPLES / "corrections.csv", *PROGRAM)
+        done = support.run_tool("try", path, EXAMPLES / "corrections.csv", *PROGRAM)
         self.assertEqual(done.returncode, 1)
         self.assertIn("refused 19 OldVersion 1", done.stderr)
 

@@ -6,16 +6,16 @@ from collections.abc import Iterator
 from fractions import Fraction
 from unittest import mock
 
-from outagebook import figures, section_groups
-from outagebook.causes import cause_groups
-from outagebook.compare import Checked
-from outagebook.counts import SETS, indices_of
-from outagebook.customers import served_customers
-from outagebook.errors import BookError, Differs
-from outagebook.events import DEFAULT_RULE, events_of, read_rule
-from outagebook.lists import Groups, read_cause_groups, read_names, read_section_groups, with_names
-from outagebook.section_groups import groups
-from outagebook.work import works_of
+from outage_tools import figures, section_groups
+from outage_tools.causes import cause_groups
+from outage_tools.compare import Checked
+from outage_tools.counts import SETS, indices_of
+from outage_tools.customers import served_customers
+from outage_tools.errors import BookError, Differs
+from outage_tools.events import DEFAULT_RULE, events_of, read_rule
+from outage_tools.lists import Groups, read_cause_groups, read_names, read_section_groups, with_names
+from outage_tools.section_groups import groups
+from outage_tools.work import works_of
 from tests import support
 from tests.test_figures import Row, rows_of
 
@@ -143,7 +143,7 @@ class MadeBooks(unittest.TestCase):
 
 
 class Fortnight(unittest.TestCase):
-    """What docs/TUTORIAL.md tells of the sample fortnight."""
+    """What docs/use/TUTORIAL.md tells of the sample fortnight."""
 
     def test_the_worst_served_customers_are_those_of_the_quarry(self) -> None:
         row = rows_of(figures.customers(fortnight()))[0]

@@ -14,10 +14,10 @@ from pathlib import Path
 from typing import Any
 
 
-from outagebook import figures
-from outagebook.counts import SETS, decimal_text, fraction_text, quotient
-from outagebook.rates import counted
-from outagebook.sums import PeriodKey, Sums, add_up, district_of
+from outage_tools import figures
+from outage_tools.counts import SETS, decimal_text, fraction_text, quotient
+from outage_tools.rates import counted
+from outage_tools.sums import PeriodKey, Sums, add_up, district_of
 from tests import many_books, own_postgres
 from tests.many_books import books_of, district_rows, opened, parts_of, run, table_of, with_tables
 from tests.support import TOOLS
@@ -454,7 +454,7 @@ class Loading(unittest.TestCase):
 
 class Partitions(unittest.TestCase):
     def test_a_warehouse_whose_interruptions_are_partitioned_by_period(self) -> None:
-        """The tables of docs/WAREHOUSE.md, "Growing": views and loads don't notice."""
+        """The tables of docs/operate/WAREHOUSE.md, "Growing": views and loads don't notice."""
         where = database("partitions")
         text = (TOOLS / "outagebook" / "warehouse.sql").read_text()
         head, mark, rest = text.partition("CREATE TABLE outagebook.interruption (")

@@ -8,7 +8,7 @@ from collections.abc import Iterator
 from contextlib import contextmanager
 from datetime import date, datetime
 
-from outagebook.zone import Zone
+from outage_tools.zone import Zone
 from tests import support
 
 DAY = 86_400
@@ -161,10 +161,10 @@ class Rules(unittest.TestCase):
             self.assertEqual(abs(Zone(rule).offset_at(0)), 10_800)
 
     def test_a_tool_says_what_is_wrong(self) -> None:
-        exports = ["--causes", support.EXAMPLES / "causes.csv", "--oms"]
-        outages = (support.EXAMPLES / "oms.csv").read_text()
+        exports = ["--causes", support.EXPORTS / "causes.csv", "--oms"]
+        outages = (support.EXPORTS / "oms.csv").read_text()
         for rule in ["CET", "CET-1CEST,M13.5.0,M10.5.0/3"]:
-            done = support.run_tool("from_oms", *exports, support.EXAMPLES / "oms.csv", "--zone", rule)
+            done = support.run_tool("from_oms", *exports, support.EXPORTS / "oms.csv", "--zone", rule)
             self.assertEqual((done.returncode, done.stdout), (64, ""))
             self.assertIn(f"{rule!r} is no POSIX rule of a zone", done.stderr)
             self.assertNotIn("Traceback", done.stderr)

@@ -1,0 +1,205 @@
+"""The gate: every proof, test and program, must-fail edits by what changed, and all tests beside the crates.
+
+    sh .ci/run               # must-fail edits of crates that changed since they were last seen refused, and of others by turn
+    sh .ci/run --all         # all must-fail edits
+    sh .ci/run --record      # the same as either, and writes ci/edits.txt by what was seen refused
+
+The last line is 'N passed, M failed', and the status is 0 where nothing failed. README.md beside this file says more.
+"""
+
+from __future__ import annotations
+
+import argparse
+import os
+import re
+import shutil
+import sys
+import tempfile
+from collections import Counter
+from concurrent.futures import ThreadPoolExecutor
+from dataclasses import dataclass, field
+from pathlib import Path
+from threading import Event
+
+from ahead import prove_behind_trunk
+from edits import Planned, Why, kit_of, plan, turn_of, write_seen
+from packages import FOR_ALL, Missing, install_with, provided
+from parts import Part, Ran, run, say
+from rt_output import counts_of, tried_edits, unrefused
+from suites import before_proofs, run_suite, screen, with_program
+from sums import edit_sums
+from tree import copy_tree
+
+ROOT = Path(__file__).resolve().parent.parent
+PROGRAM = Path("crates/outagebook/out/outagebook")
+PROGRAM_BUILT = re.compile(r"^rt: outagebook (?:proved$|is kept: )")
+KILOBYTES_A_LANE = 4_500_000
+COUNTED_BY_RT = ("NOT REFUSED", "NOT TRIED")
+
+
+@dataclass
+class Report:
+    """What the gate has to say at its end."""
+
+    parts: list[Part] = field(default_factory=list)
+    notes: list[str] = field(default_factory=list)
+
+    @property
+    def failed(self) -> int:
+        return sum(part.failed for part in self.parts)
+
+    def tell(self) -> int:
+        """Prints the parts, the notes and the last line; answers the status to end with."""
+        say("\n".join(["", "== the gate", *[part.line() for part in self.parts], *self.notes]))
+        say(f"{sum(part.passed for part in self.parts)} passed, {self.failed} failed")
+        return 1 if self.failed else 0
+
+
+def lanes_said() -> int:
+    """How many lanes RT_JOBS asks for; 0 where it doesn't say."""
+    said = os.environ.get("RT_JOBS", "")
+    return int(said) if said.isdigit() else 0
+
+
+def lanes() -> int:
+    """How much is done side by side: RT_JOBS, or one a processor as far as there is memory for each."""
+    if lanes_said():
+        return lanes_said()
+    memory = Path("/proc/meminfo").read_text(encoding="ascii").split("MemAvailable:")[1].split()[0]
+    return max(1, min(len(os.sched_getaffinity(0)), int(memory) // KILOBYTES_A_LANE))
+
+
+def of_plan(planned: list[Planned]) -> str:
+    """How many edits are tried, and why; how many stand by their sums."""
+    crates, edits = Counter(it.why for it in planned), Counter[Why]()
+    for it in planned:
+        edits[it.why] += len(it.edits)
+    reasons = [
+        f"{edits[why]} of {crates[why]} crates: {why.value}" for why in Why if crates[why] and why is not Why.STANDS
+    ]
+    tried = sum(edits.values()) - edits[Why.STANDS]
+    told = f"{tried} tried{' (' + '; '.join(reasons) + ')' if reasons else ''}"
+    return f"must-fail edits: {told}, {edits[Why.STANDS]} of {crates[Why.STANDS]} crates stand by their sums"
+
+
+def judge(planned: list[Planned], said: str, report: Report) -> dict[str, list[str]]:
+    """By crate whose edits were to be tried, those that the run hasn't seen refused."""
+    tried, uncounted, unseen = tried_edits(said), 0, {}
+    for it in planned:
+        if not it.is_tried:
+            continue
+        lost = unseen[it.name] = unrefused(list(it.edits), tried.get(it.name, {}))
+        uncounted += sum(not edit.endswith(COUNTED_BY_RT) for edit in lost)
+        told = "; ".join(lost) if it.name in tried else "its edits weren't tried"
+        if lost:
+            untrue = "its line of ci/edits.txt is untrue: " if it.why is Why.TURN and it.name in tried else ""
+            report.notes.append(f"{it.name}: {untrue}{told}")
+    if uncounted:
+        report.parts.append(Part("edits not refused", 0, uncounted))
+    return unseen
+
+
+def prove(place: Path, planned: list[Planned], report: Report, records: bool, built: Event) -> dict[str, list[str]]:
+    """`rt ci` over a tree; answers what of the planned edits it hasn't refused. It tells when the program is built there."""
+
+    def hear(line: str) -> None:
+        if PROGRAM_BUILT.match(line):
+            built.set()
+
+    def whole() -> Ran:
+        return run(["rt", "ci"], place, {"RT_JOBS": str(lanes())}, shows=True, heard=hear)
+
+    ran = prove_behind_trunk(place, lanes(), whole) if not lanes_said() and lanes() > 2 else whole()
+    passed, failed = counts_of(ran.said) or (0, 1)
+    why = f"status {ran.status}" if ran.status else ""
+    report.parts.append(Part("rt ci", passed, max(failed, 1 if ran.status else 0), ran.clock, ran.processor, why))
+    report.notes.append(of_plan(planned))
+    unseen = judge(planned, ran.said, report)
+    seen = [it.name for it in planned if it.is_changed and not unseen[it.name]]
+    if seen and not records:
+        report.notes.append(f"lines of ci/edits.txt that --record would write: {' '.join(seen)}")
+    return unseen
+
+
+def leave_out(place: Path, planned: list[Planned]) -> None:
+    """Takes the edits out of a copy whose crates' lines hold and whose turn it isn't."""
+    for it in planned:
+        if not it.is_tried:
+            shutil.rmtree(place / "crates" / it.name / "must-fail")
+
+
+def suites_with_program(place: Path, lost: list[Missing], report: Report, built: Event) -> None:
+    """The suites that want the program, once it is built: some side by side, then the screen's. `rt ci` may still be at work."""
+    built.wait()
+    program = place / PROGRAM
+    if not program.exists():
+        report.parts.append(Part("with the program", 0, 1, why="rt ci left no program"))
+        return
+    with ThreadPoolExecutor(max(2, lanes() // 2)) as pool:
+        report.parts += pool.map(lambda suite: run_suite(suite, place, program), with_program(place))
+    found, lacking = screen(place), [it for it in lost if it.part == "screen"]
+    if found and not lacking:
+        report.parts += [run_suite(suite, place, program) for suite in found]
+    elif found:
+        report.notes.append(f"the screen's tests didn't run: {install_with(lacking)}")
+
+
+def keep_program(place: Path) -> None:
+    """Leaves the program of a copy where the tools and pages look for it."""
+    if place != ROOT and (place / PROGRAM).exists():
+        (ROOT / PROGRAM).parent.mkdir(parents=True, exist_ok=True)
+        shutil.copy2(place / PROGRAM, f"{ROOT / PROGRAM}.new")
+        os.replace(f"{ROOT / PROGRAM}.new", ROOT / PROGRAM)
+
+
+def gate(place: Path, said: argparse.Namespace, report: Report) -> None:
+    """Runs all parts over a tree: what is cheap first, and no proof where that fails."""
+    lost = provided(place / "ci")
+    lacking = [it for it in lost if it.part == FOR_ALL]
+    if lacking:
+        names = ", ".join(it.name for it in lacking)
+        report.parts.append(Part("packages", 0, len(lacking), why=f"no {names}: {install_with(lacking)}"))
+        return
+    with ThreadPoolExecutor(lanes()) as pool:
+        report.parts += pool.map(lambda suite: run_suite(suite, place), before_proofs(place))
+    if report.failed:
+        report.notes.append("rt ci didn't run, since what comes before it failed")
+        return
+    kit = kit_of(place)
+    sums = edit_sums(place, kit)
+    planned = plan(place, sums, turn_of(ROOT), said.all)
+    if place != ROOT:
+        leave_out(place, planned)
+    built = Event()
+    with ThreadPoolExecutor(1) as pool:
+        suites = pool.submit(suites_with_program, place, lost, report, built)
+        try:
+            unseen = prove(place, planned, report, said.record, built)
+        finally:
+            built.set()
+        suites.result()
+    if said.record and place == ROOT and edit_sums(place, kit) != sums:
+        report.notes.append("files changed while rt ci ran: ci/edits.txt is as it was")
+    elif said.record:
+        write_seen(ROOT, sums, unseen)
+        report.notes.append("ci/edits.txt is written by what was seen refused")
+    if not report.failed:
+        keep_program(place)
+
+
+def main() -> int:
+    words = argparse.ArgumentParser(prog=".ci/run", description="The gate.")
+    words.add_argument("--all", action="store_true", help="try all must-fail edits, over the tree itself")
+    words.add_argument("--record", action="store_true", help="write ci/edits.txt by what was seen refused")
+    said = words.parse_args()
+    report = Report()
+    with tempfile.TemporaryDirectory(prefix="outagebook-ci-") as folder:
+        place = ROOT if said.all else Path(folder) / "tree"
+        if place != ROOT:
+            copy_tree(ROOT, place)
+        gate(place, said, report)
+        return report.tell()
+
+
+if __name__ == "__main__":
+    sys.exit(main())

@@ -1,1 +1,0 @@
-"""The desk's screen: a control room's view of an outage book in a browser. docs/SCREEN.md says what it shows and does."""

@@ -1,0 +1,116 @@
+"""The rows of a book, by the tools' reader: the one module that knows where the tools stand."""
+
+from __future__ import annotations
+
+import sqlite3
+import sys
+from contextlib import closing
+from dataclasses import dataclass
+from pathlib import Path
+
+ROOT = Path(__file__).resolve().parent.parent.parent
+TOOLS = next(folder for folder in (ROOT / "tools", ROOT) if (folder / "outagebook" / "rows.py").exists())
+sys.path.insert(1, str(TOOLS))  # in the clone, or where both are installed
+
+from outage_tools.cli import Parser  # noqa: E402
+from outage_tools.copies import copy_of  # noqa: E402
+from outage_tools.errors import BookError, Differs  # noqa: E402
+from outage_tools.rows import Device, Entry, Period, Section, read_book  # noqa: E402
+from outage_tools.zone import Zone  # noqa: E402
+
+__all__ = ["BookError", "Command", "Device", "Differs", "Entry", "Period", "Rows", "Parser", "Section", "Zone"]
+__all__ += ["command_of", "copy_of", "moves_by_second_program", "read_later", "read_rows", "report_words", "tool_words"]
+
+DIMENSIONS = {1: "cause", 2: "feeder", 3: "day"}
+Moves = list[tuple[str, int, int]]
+Service = tuple[int, int, int | None]  # section, since, until
+
+
+@dataclass(frozen=True)
+class Command:
+    """An accepted command: its number, its reference, its kind and its fields in the book's own spelling."""
+
+    number: int
+    ref: str
+    kind: str
+    fields: tuple[str, ...]
+
+
+@dataclass(frozen=True)
+class Rows:
+    """All that a book's file says, as of one commit."""
+
+    period: Period
+    causes: dict[int, str]
+    nodes: list[tuple[str, int, int]]  # name, kind, home feeder
+    devices: list[Device]
+    entries: list[Entry]
+    customers: dict[int, Service]
+    marks: dict[int, str]
+    postings: dict[tuple[int, int], int]
+    commands: list[Command]
+
+
+def command_of(number: int, ref: str, body: str) -> Command:
+    kind, *fields = body.split(" ")
+    return Command(number, ref, kind, tuple(fields))
+
+
+def read_rows(path: Path) -> Rows:
+    """A book as of its last commit, from a copy: no lock is taken, the desk isn't stopped."""
+    with copy_of(path) as copy, closing(sqlite3.connect(f"{copy.as_uri()}?mode=ro", uri=True)) as database:
+        try:
+            return rows_of(database)
+        except sqlite3.Error as error:
+            raise BookError(f"{path} is no book: {error}") from None
+
+
+def rows_of(database: sqlite3.Connection) -> Rows:
+    database.execute("BEGIN")
+    book = read_book(database)
+    customers = database.execute("SELECT id, section, since, until FROM customer ORDER BY id")
+    commands = database.execute("SELECT id, ref, body FROM cmd ORDER BY id")
+    return Rows(
+        period=book.period,
+        causes=dict(book.causes),
+        nodes=database.execute("SELECT name, kind, feeder FROM node ORDER BY id").fetchall(),
+        devices=list(book.devices),
+        entries=list(book.entries),
+        customers={number: (section, since, until) for number, section, since, until in customers},
+        marks=dict(book.marks),
+        postings=dict(book.postings),
+        commands=[command_of(*row) for row in commands],
+    )
+
+
+def read_later(path: Path, known: int) -> list[tuple[Command, Moves]]:
+    """The commands after a number, each with what it moved."""
+    with copy_of(path) as copy, closing(sqlite3.connect(f"{copy.as_uri()}?mode=ro", uri=True)) as database:
+        try:
+            database.execute("BEGIN")
+            rows = database.execute("SELECT id, ref, body FROM cmd WHERE id > ? ORDER BY id", (known,)).fetchall()
+            return [(command_of(*row), moves_of(database, row[0])) for row in rows]
+        except sqlite3.Error as error:
+            raise BookError(f"{path} is no book: {error}") from None
+
+
+def moves_of(database: sqlite3.Connection, number: int) -> Moves:
+    """What a command moved, as the desk's reply lists it."""
+    rows = database.execute("SELECT dim, k, delta FROM moved WHERE cmd = ? ORDER BY dim, k", (number,))
+    return [(DIMENSIONS[dim], key, delta) for dim, key, delta in rows]
+
+
+def moves_by_second_program(path: Path, number: int) -> Moves:
+    """What a command moved, read from the file alone, where there is no desk."""
+    with copy_of(path) as copy, closing(sqlite3.connect(f"{copy.as_uri()}?mode=ro", uri=True)) as database:
+        return moves_of(database, number)
+
+
+def tool_words(tool: str) -> list[str]:
+    """The words that run one of the tools."""
+    return [sys.executable, str(TOOLS / f"{tool}.py")]
+
+
+def report_words(book: Path, output: Path, program: str) -> list[str]:
+    """The words that write the printed report of a book."""
+    return [*tool_words("report"), str(book), "-o", str(output), "--program", program]

@@ -1,0 +1,233 @@
+"""Indices of IEEE Std 1366-2012 that the program doesn't print: MAIFI, CTAIDI, CELID, CEMSMI, and of load ASIFI and ASIDI.
+
+They come from the runs that were compared with the program's figures, over the same customers served (S / P), with the
+same line between sustained and momentary interruptions. Each is an exact quotient, or undefined where there is nothing
+to divide by.
+"""
+
+import re
+import sqlite3
+from collections import defaultdict
+from collections.abc import Iterable, Iterator, Mapping, Sequence
+from dataclasses import dataclass, field
+from fractions import Fraction
+
+from outage_tools.compare import Checked
+from outage_tools.counts import SETS, Counts, quotient
+from outage_tools.errors import BookError
+from outage_tools.lists import heads_of, read_list
+from outage_tools.rows import Book
+from outage_tools.sweep import LONGEST_MOMENTARY, Run
+
+HOUR = 3_600
+HOURS = (Fraction(4), Fraction(8), Fraction(12), Fraction(24))  # of CELID, where none are asked for
+MOST_CEMSMI = 10
+KVA_KINDS = ("section", "customer")
+
+TERMS = (
+    "MI are customers' momentary interruptions, each counted by itself; CNS_t customers with a sustained interruption of t"
+    " hours or more, CNT_t with t hours or more of sustained ones in all; CNM_n with n or more of either kind."
+)
+
+Spans = dict[int, list[tuple[int, int]]]
+
+
+@dataclass
+class FurtherCounts:
+    """Customers with at least 1 to 10 interruptions of either kind; with a sustained one of so many hours; with so many
+    hours of sustained ones in all."""
+
+    with_any: list[int] = field(default_factory=lambda: [0] * MOST_CEMSMI)
+    single: dict[Fraction, int] = field(default_factory=dict)
+    total: dict[Fraction, int] = field(default_factory=dict)
+
+    def __add__(self, other: "FurtherCounts") -> "FurtherCounts":
+        """The counts of both, whose customers are distinct."""
+        return FurtherCounts(
+            [here + there for here, there in zip(self.with_any, other.with_any)],
+            {hours: count + other.single[hours] for hours, count in self.single.items()},
+            {hours: count + other.total[hours] for hours, count in self.total.items()},
+        )
+
+
+def spans_of(runs: Iterable[Run]) -> Spans:
+    """The runs of each section, as intervals."""
+    spans: Spans = defaultdict(list)
+    for run in runs:
+        spans[run.section].append((run.since, run.until))
+    return spans
+
+
+def lengths_within(
+    book: Book, spans: Iterable[tuple[int, int]], since: int, until: int, unmarked: bool
+) -> Iterator[int]:
+    """The seconds of each interruption of a service, without those that begin on a marked day where they don't count."""
+    for begin, end in spans:
+        begin, end = max(begin, since), min(end, until)
+        if begin < end and not (unmarked and book.is_marked(begin)):
+            yield end - begin
+
+
+def further_counts(book: Book, runs: Iterable[Run], unmarked: bool, hours: Sequence[Fraction]) -> FurtherCounts:
+    """The counts over all interruptions, or over the unmarked ones, block by block of customers of equal service."""
+    spans = spans_of(runs)
+    counts = FurtherCounts(single=dict.fromkeys(hours, 0), total=dict.fromkeys(hours, 0))
+    for block in book.blocks:
+        lengths = list(lengths_within(book, spans.get(block.section, ()), block.since, block.until, unmarked))
+        sustained = [length for length in lengths if length > LONGEST_MOMENTARY]
+        for n in range(min(MOST_CEMSMI, len(lengths))):
+            counts.with_any[n] += block.customers
+        for long in hours:
+            counts.single[long] += block.customers * (max(sustained, default=0) >= long * HOUR)
+            counts.total[long] += block.customers * (sum(sustained) >= long * HOUR)
+    return counts
+
+
+def hours_text(hours: Fraction) -> str:
+    """Hours as they were asked for: `8`, `2.5`."""
+    return str(hours.numerator) if hours.denominator == 1 else f"{float(hours):g}"
+
+
+def read_hours(text: str) -> Fraction:
+    """Hours above 0, with a fraction of up to three decimals."""
+    if not re.fullmatch(r"[0-9]{1,4}(\.[0-9]{1,3})?", text) or not Fraction(text):
+        raise ValueError(f"{text!r} is no number of hours")
+    return Fraction(text)
+
+
+def further_indices(
+    counts: Counts, further: FurtherCounts, served_seconds: int, length: int
+) -> dict[str, Fraction | None]:
+    """The indices by name. `length` is P, `served_seconds` S; CTAIDI is in minutes."""
+    indices = {
+        "MAIFI": quotient(counts.momentary * length, served_seconds),
+        "CTAIDI": quotient(counts.sustained_seconds, 60 * counts.with_some[0]),
+    }
+    for kind, numbers in (("S", further.single), ("T", further.total)):
+        for hours, customers in numbers.items():
+            indices[f"CELID-{kind}-{hours_text(hours)}"] = quotient(customers * length, served_seconds)
+    for n, customers in enumerate(further.with_any, 1):
+        indices[f"CEMSMI-{n}"] = quotient(customers * length, served_seconds)
+    return indices
+
+
+MEANINGS = {
+    "MAIFI": ("momentary interruptions per customer served, each counted by itself", "MI x P / S"),
+    "CTAIDI": ("minutes per customer that had a sustained interruption", "CSI / (60 x CN)"),
+    "ASIFI": ("sustained interruptions of a connected kVA", "kVA interrupted x P / kVA-seconds connected"),
+    "ASIDI": ("minutes of sustained interruptions of a connected kVA", "kVA-seconds interrupted x P / (60 x kVA-seconds connected)"),
+}  # fmt: skip
+
+
+def meaning_of(index: str) -> tuple[str, str]:
+    """The unit and the quotient of an index."""
+    name, _, rest = index.partition("-")
+    if name == "CEMSMI":
+        unit = f"customers with {rest} or more interruptions of either kind, per customer served"
+        return unit, f"CNM_{rest} x P / S"
+    if name == "CELID":
+        kind, _, hours = rest.partition("-")
+        if kind == "S":
+            unit = f"customers with a sustained interruption of {hours} hours or more, per customer served"
+        else:
+            unit = f"customers with {hours} hours or more of sustained interruptions in all, per customer served"
+        return unit, f"CN{kind}_{hours} x P / S"
+    return MEANINGS[index]
+
+
+# Connected load.
+
+
+@dataclass(frozen=True)
+class Load:
+    """Connected kVA of a section, from a second up to another one."""
+
+    section: int
+    since: int
+    until: int
+    kva: Fraction
+
+
+@dataclass(frozen=True)
+class Loads:
+    """The connected loads of a book, and what is to be said of the file that they come from."""
+
+    loads: list[Load]
+    about: str
+
+
+def read_kva(path: str) -> tuple[str, dict[str, Fraction]]:
+    """The kVA of a file by section or by customer, with which of the two its column is."""
+    heads = heads_of(path)
+    kind = next((name for name in KVA_KINDS if name in heads), None)
+    if kind is None or "kva" not in heads:
+        raise BookError(f"{path} has to have the column kva, and either section or customer")
+    found: dict[str, Fraction] = {}
+    for row in read_list(path, (kind, "kva")):
+        key = row.filled(kind).upper()
+        if key in found:
+            raise row.refused(f"{kind} {key} comes twice")
+        if not re.fullmatch(r"[0-9]{1,9}(\.[0-9]{1,6})?", row["kva"]):
+            raise row.refused(f"kva {row['kva']!r} is no number")
+        found[key] = Fraction(row["kva"])
+    return kind, found
+
+
+def loads_of(path: str, book: Book, database: sqlite3.Connection) -> Loads:
+    """The connected loads of a book by a file; each section with customers, or each customer served, has to be in it."""
+    kind, kva = read_kva(path)
+    period = book.period
+    if kind == "section":
+        names = {book.sections[block.section].name for block in book.blocks}
+        known = {section.name: section.node for section in book.sections.values()}
+        loads = [Load(known[name], period.first, period.end, each) for name, each in kva.items() if name in known]
+    else:
+        served = database.execute(
+            "SELECT id, section, max(since, :first), min(ifnull(until, :end), :end) FROM customer"
+            " WHERE since < :end AND ifnull(until, :end) > max(since, :first) ORDER BY id",
+            {"first": period.first, "end": period.end},
+        ).fetchall()
+        known = {str(number): number for number, in database.execute("SELECT id FROM customer")}
+        names = {str(number) for number, *_ in served}
+        loads = [
+            Load(section, since, until, kva[str(number)])
+            for number, section, since, until in served
+            if str(number) in kva
+        ]
+    missing = sorted(names - kva.keys(), key=lambda name: (len(name), name))
+    if missing:
+        raise BookError(f"{path} hasn't the {kind} {missing[0]}, and {len(missing)} of the book's in all")
+    others = len(kva.keys() - known.keys())
+    about = f"ASIFI and ASIDI are over the connected kVA of {len(loads)} {kind}s by {path}"
+    return Loads(loads, about + (f"; {others} of its rows are of no {kind} of this book." if others else "."))
+
+
+def load_indices(book: Book, runs: Iterable[Run], loads: Sequence[Load], unmarked: bool) -> dict[str, Fraction | None]:
+    """ASIFI, and ASIDI in minutes, over the kVA connected: its average over the period."""
+    spans = spans_of(runs)
+    connected, interrupted, interrupted_seconds = Fraction(0), Fraction(0), Fraction(0)
+    for load in loads:
+        lengths = lengths_within(book, spans.get(load.section, ()), load.since, load.until, unmarked)
+        sustained = [length for length in lengths if length > LONGEST_MOMENTARY]
+        connected += load.kva * (load.until - load.since)
+        interrupted += load.kva * len(sustained)
+        interrupted_seconds += load.kva * sum(sustained)
+    length = book.period.length
+    return {
+        "ASIFI": interrupted * length / connected if connected else None,
+        "ASIDI": interrupted_seconds * length / (60 * connected) if connected else None,
+    }
+
+
+def computed(
+    found: Checked, hours: Sequence[Fraction], loads: Loads | None
+) -> Mapping[str, dict[str, Fraction | None]]:
+    """The further indices of a compared book, of both sets."""
+    indices: dict[str, dict[str, Fraction | None]] = {}
+    for name in SETS:
+        further = further_counts(found.book, found.runs, name == "unmarked", hours)
+        served, length = found.book.served_seconds(), found.book.period.length
+        indices[name] = further_indices(found.counts[name], further, served, length)
+        if loads is not None:
+            indices[name].update(load_indices(found.book, found.runs, loads.loads, name == "unmarked"))
+    return indices

@@ -1,0 +1,233 @@
+"""Exports of other systems into rows of commands: outages of an outage management system, network, customers, causes.
+
+    python3 tools/from_oms.py --causes causes.csv --gis gis.csv --customers customers.csv --oms oms.csv --zone RULE
+                              --first DATE --days N [-o rows.csv] [--report FILE]
+    python3 tools/from_oms.py --causes causes.csv --oms oms.csv --book BOOK [--table FILE | --program PATH] [-o rows.csv]
+
+docs/use/IMPORTING.md says what each file holds. With --book the rows are those that the book doesn't have yet: what is new, a
+`correct` with its revision where a ticket was changed, a `withdraw` where it was cancelled, a `revise` where a service
+was, a `life` where the beginning or the end of a device's life is another. References come from the ticket, so rows that
+are imported twice count once. All rows are checked against one another, the period and the book. Where one can't be taken
+nothing is written: all such rows are told, and the status is 1. What was left out or changed of others is told too.
+"""
+
+import argparse
+import re
+import sys
+from collections.abc import Iterable, Iterator
+from contextlib import ExitStack
+from dataclasses import dataclass, field
+from pathlib import Path
+
+from outage_tools.cli import Once, Parser, add_table_arguments, run_job
+from outage_tools.commands import write_rows
+from outage_tools.compare import open_book
+from outage_tools.errors import BookError
+from outage_tools.oms import causes, customers, network, outages, told
+from outage_tools.oms.complaints import Notes
+from outage_tools.oms.conversion import Conversion
+from outage_tools.oms.fields import LATEST_MOMENT
+from outage_tools.oms.files import Export, Format, Row, add_format_arguments, format_of
+from outage_tools.oms.known import Known, known_of
+from outage_tools.oms.steps import StepReader, cancelled_words
+from outage_tools.oms.writing import whole_file, whole_output
+from outage_tools.rows import Period, period_of
+from outage_tools.zone import Zone
+
+MOST_DAYS = 366
+MOST_PREFIX = 8
+MOST_TOLD = 1_000  # complaints on standard error
+EXPORTS = {
+    "oms": "outages and restoration steps",
+    "gis": "buses, sections and devices",
+    "customers": "customers and their services",
+    "causes": "causes: the book's codes and names, and the other system's words",
+}
+COLUMNS = {
+    "oms": outages.COLUMNS,
+    "gis": network.COLUMNS,
+    "customers": customers.COLUMNS,
+    "causes": causes.COLUMNS,
+    "counts": outages.COUNTS,
+}
+
+
+@dataclass
+class Run:
+    """The files of a run, and what was read of them."""
+
+    args: argparse.Namespace
+    conversion: Conversion
+    format: Format
+    files: list[Notes] = field(default_factory=list)
+
+    def rows(self, export: str, columns: tuple[str, ...], required: tuple[str, ...]) -> tuple[Iterable[Row], Notes]:
+        """The rows of an export, none where it isn't given, and the notes on them."""
+        path: str | None = getattr(self.args, export)
+        notes = Notes(export, path or "")
+        if not path:
+            return (), notes
+        self.files.append(notes)
+        return Export(path, columns, required, self.format, self.conversion.complaints, notes).rows(), notes
+
+    def commands(self) -> Iterator[list[str]]:
+        """The commands of all files, as far as their rows can be taken."""
+        conversion, args = self.conversion, self.args
+        found = causes.Causes(conversion)
+        yield from found.read(*self.rows("causes", causes.COLUMNS, causes.REQUIRED))
+        grid = network.Network(conversion)
+        if args.gis:
+            yield from grid.read(*self.rows("gis", network.COLUMNS, network.REQUIRED))
+        people = customers.Customers(conversion, grid)
+        yield from people.read(*self.rows("customers", customers.COLUMNS, customers.REQUIRED))
+        rows, notes = self.rows("oms", outages.COLUMNS, outages.REQUIRED)
+        reader = StepReader(conversion, grid, found, args.prefix, args.crew)
+        yield from outages.Outages(conversion, grid, reader, args.overlaps == "join", notes).commands(rows)
+        if not conversion.complaints.found:
+            self.check_given(grid)
+
+    def check_given(self, grid: network.Network) -> None:
+        """What the files can't be checked against isn't guessed, and a column's name that no file has is no slip of the pen: it may
+        be for a file that isn't given."""
+        read = {each for notes in self.files for each in notes.renamed}
+        given = {column for notes in self.files for column in COLUMNS[notes.export]}
+        elsewhere = {column for columns in COLUMNS.values() for column in columns} - given
+        for theirs, ours in self.format.columns:
+            if (theirs, ours) not in read and ours not in elsewhere:
+                raise BookError(f"no file has a column {theirs!r} that --column names as {ours}")
+        if (self.args.oms or self.args.customers) and not grid.is_known:
+            raise BookError("outages and customers are checked against the network: give --gis or --book")
+        if self.args.oms and self.conversion.period is None:
+            raise BookError("outages are checked against the period: give --book, or --first, --days and --zone")
+
+    def told(self) -> told.Told:
+        return told.Told(self.files, self.conversion.complaints.found)
+
+    def refuse(self) -> None:
+        """Nothing is written where a row can't be taken."""
+        complaints = self.conversion.complaints.found
+        if complaints:
+            listed = [str(complaint) for complaint in complaints[:MOST_TOLD]]
+            if len(complaints) > MOST_TOLD:
+                listed.append(f"and {len(complaints) - MOST_TOLD} more, which --report FILE tells")
+            reported = "\n".join(listed)
+            raise BookError(f"rows can't be read, and nothing was written:\n{reported}")
+
+
+def zone_argument(text: str) -> Zone:
+    """The zone of a rule on the command line."""
+    try:
+        return Zone(text)
+    except ValueError as error:
+        raise argparse.ArgumentTypeError(str(error)) from None
+
+
+def prefix_argument(text: str) -> str:
+    if not re.fullmatch(f"[A-Z0-9_-]{{0,{MOST_PREFIX}}}", text):
+        raise argparse.ArgumentTypeError(f"{text!r} isn't up to {MOST_PREFIX} of A-Z, 0-9, - and _")
+    return text
+
+
+def days_argument(text: str) -> int:
+    if not re.fullmatch("[0-9]{1,3}", text) or not 1 <= int(text) <= MOST_DAYS:
+        raise argparse.ArgumentTypeError(f"{text!r} isn't a number from 1 to {MOST_DAYS}")
+    return int(text)
+
+
+def make_parser() -> Parser:
+    """The words that tell the exports, and what they are for."""
+    parser = Parser(description="Writes rows of commands from exports of other systems.")
+    for export, text in EXPORTS.items():
+        parser.add_argument(f"--{export}", metavar="FILE", action=Once, help=text)
+    parser.add_argument(
+        "--zone", metavar="RULE", type=zone_argument, help="the POSIX rule of local times (that of the book)"
+    )
+    parser.add_argument("--book", metavar="BOOK", help="the book that the rows are for, as far as it is")
+    parser.add_argument(
+        "--prefix", type=prefix_argument, default="OMS-", help="what the references of outages begin with (OMS-)"
+    )
+    parser.add_argument(
+        "--cancelled",
+        metavar="WORD",
+        action="append",
+        default=[],
+        help="a word of the column status that means a mistake, beside cancelled; may be told several times",
+    )
+    parser.add_argument("--crew", default="OMS", help="the crew where a row names none (OMS)")
+    add_format_arguments(parser)
+    add_table_arguments(parser)
+    return parser
+
+
+def own_parser() -> Parser:
+    """The words of this tool."""
+    parser = make_parser()
+    parser.add_argument("--first", metavar="DATE", help="the period's first day, where there is no book yet")
+    parser.add_argument("--days", metavar="N", type=days_argument, help="how many days it has")
+    parser.add_argument(
+        "--overlaps",
+        choices=["refuse", "join"],
+        default="refuse",
+        help="what to do with steps of one device that overlap: refuse them, or make one outage of them (refuse)",
+    )
+    parser.add_argument("-o", dest="output", metavar="FILE", type=Path, help="where the rows go (standard output)")
+    parser.add_argument(
+        "--report", metavar="FILE", type=Path, help="what was read, left out and changed, as text, or as JSON by .json"
+    )
+    return parser
+
+
+def check_words(parser: Parser, args: argparse.Namespace) -> None:
+    """Words that don't go together end the run."""
+    if not (args.oms or args.gis or args.customers or args.causes):
+        parser.error("no file is given")
+    if args.book and (args.first or args.days):
+        parser.error("--first and --days are for a book that isn't made yet: leave them out, or --book")
+    if (args.first or args.days) and not (args.first and args.days and args.zone):
+        parser.error("--first, --days and --zone make the period together")
+
+
+def conversion_of(args: argparse.Namespace, known: Known) -> Conversion:
+    """What the run knows before it reads."""
+    period: Period | None = known.book.period if known.book else None
+    if args.first:
+        try:
+            period = period_of(args.first, args.days, args.zone.text)
+        except (ValueError, OverflowError) as error:
+            raise BookError(f"the period can't be read: {error}") from None
+        if period.first < 0 or period.end > LATEST_MOMENT:
+            raise BookError("the period doesn't lie between 1970 and 5138, where a book's seconds do")
+    cancelled = cancelled_words(args.cancelled)
+    return Conversion(args.zone or (period.zone if period else None), period, known, tuple(args.dates), cancelled)
+
+
+def write_report(path: Path, run: Run) -> None:
+    with whole_file(path) as file:
+        file.write(told.report_text(path, run.told()))
+
+
+def convert(args: argparse.Namespace, known: Known) -> None:
+    """Writes the rows, and what there is to tell of them."""
+    run = Run(args, conversion_of(args, known), format_of(args))
+    with whole_file(args.output) if args.output else whole_output() as out:
+        write_rows(run.commands(), out)
+        if args.report:
+            write_report(args.report, run)
+        run.refuse()
+    for line in told.lines_of_notes(run.files):
+        print(f"note: {line}", file=sys.stderr)
+
+
+def run_words(args: argparse.Namespace) -> None:
+    with ExitStack() as stack:
+        known = Known()
+        if args.book:
+            known = known_of(stack.enter_context(open_book(args.book, args.table, args.program)))
+        convert(args, known)
+
+
+def main() -> int:
+    parser = own_parser()
+    args = parser.parse_args()
+    check_words(parser, args)
+    return run_job(lambda: run_words(args))

@@ -1,0 +1,54 @@
+"""The part of a page that sets the counts of an outage management system beside the book's."""
+
+from fractions import Fraction
+from html import escape
+
+from outage_tools.agree import Agreement, TicketRow, about, exact_text, sections_text
+from outage_tools.compare import Checked
+from outage_tools.report.pieces import COMPUTED, Column, Part, TableRow, number, numbers, signed, table
+
+MOST_TICKETS = 25
+MOST_SECTIONS = 4
+NONE = "\u2013"
+HEADS = [
+    Column("ticket"),
+    *numbers("customers, OMS", "book", "more"),
+    *numbers("minutes, OMS", "book", "more"),
+    Column("sections", "long"),
+    Column("why", "long"),
+]
+
+
+def optional(value: int | None) -> str:
+    return NONE if value is None else number(value)
+
+
+def ticket_row(found: Checked, row: TicketRow) -> TableRow:
+    """A ticket; one that rounding doesn't explain is set apart."""
+    told, here = row.told, row.found
+    minutes = told.customer_minutes if told else None
+    cells = [
+        row.name,
+        optional(told.customers if told else None),
+        optional(here.customers if here else None),
+        NONE if row.customers_more is None else signed(row.customers_more),
+        NONE if minutes is None else exact_text(minutes),
+        optional(round(Fraction(here.customer_seconds, 60)) if here else None),
+        NONE if row.minutes_more is None else signed(round(row.minutes_more)),
+        sections_text(found.book, here, MOST_SECTIONS),
+        "; ".join(row.why),
+    ]
+    return TableRow(cells, not row.is_rounded)
+
+
+def agreement_part(found: Checked, agreement: Agreement) -> Part:
+    """The tickets that differ most, and the sums of both sides."""
+    sums = " ".join(escape(line) for line in about(agreement))
+    rest = len(agreement.rows) - MOST_TICKETS
+    shown = f" The first {MOST_TICKETS} of {number(len(agreement.rows))} tickets." if rest > 0 else ""
+    rows = (ticket_row(found, row) for row in agreement.rows[:MOST_TICKETS])
+    content = f"""
+<p>Customers and customer-minutes that the outage management system counts, beside those of the book, the greatest
+difference first; minutes of the book are rounded here. {sums}{shown}</p>
+{table(HEADS, rows)}"""
+    return Part("agreement", "Beside the OMS's own counts", COMPUTED, content)

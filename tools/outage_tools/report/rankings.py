@@ -1,0 +1,227 @@
+"""The parts of a page that are lists: groups of sections, events, customers, worst interruptions, what late work moved."""
+
+from html import escape
+
+from outage_tools.compare import Checked
+from outage_tools.counts import decimal_text, quotient
+from outage_tools.customers import Served, served_customers
+from outage_tools.events import Event, Rule, events_of, told_unfit
+from outage_tools.lists import Groups, Names, told_missing
+from outage_tools.outages import references
+from outage_tools.report.pictures import feeder_text
+from outage_tools.report.pieces import (
+    COMPUTED,
+    PROVED,
+    Column,
+    Part,
+    TableRow,
+    decimal,
+    duration,
+    number,
+    numbers,
+    signed,
+    table,
+)
+from outage_tools.rows import Block
+from outage_tools.section_groups import Counted, counted_groups, sections_without_group
+from outage_tools.sweep import Interruption, blocks_by_section
+from outage_tools.work import Work, own_sum, second_of, works_of
+
+WORST = 25  # rows of a list of what is worst
+
+
+def of_all(shown: int, count: int, what: str) -> str:
+    """How many rows of a list are shown."""
+    return f"All {number(count)} {what}" if shown == count else f"{number(shown)} of {number(count)} {what}"
+
+
+GROUP_HEADS = [
+    Column("group"),
+    Column("set"),
+    *numbers("customers served", "W", "CI", "CSI", "MI", "CN"),
+    *numbers("SAIFI", "SAIDI, min", "CAIDI, min", "ASAI"),
+]
+GROUP_TITLES = {"sum": "all groups together", "book": "the book's own"}
+
+
+def group_row(row: Counted) -> TableRow:
+    indices, counts = row.indices, row.counts
+    customers = decimal(quotient(row.served, row.length))
+    amounts = row.customer_seconds, counts.sustained, counts.sustained_seconds, counts.momentary, counts.with_some[0]
+    values = [decimal(indices[index]) for index in ("SAIFI", "SAIDI", "CAIDI")]
+    asai = decimal_text(indices["ASAI"], 5) or "undefined"
+    cells = [GROUP_TITLES.get(row.row, row.name), row.set, customers, *map(number, amounts), *values, asai]
+    return TableRow(cells, row.row != "group")
+
+
+def group_part(found: Checked, groups: Groups) -> Part:
+    """The indices of groups of sections, beside the book's own."""
+    missing = told_missing("Sections in no group, and not in the sum", sections_without_group(found, groups))
+    content = f"""
+<p>Each group over the customers of its own sections. The sum adds up the groups' counts and divides them anew; it is the
+book's own where every section is in a group. {escape(" ".join(missing))}</p>
+{table(GROUP_HEADS, map(group_row, counted_groups(found, groups)))}"""
+    return Part("groups", "Groups of sections", COMPUTED, content)
+
+
+EVENT_HEADS = [
+    Column("event"),
+    Column("first"),
+    Column("last"),
+    *numbers("steps", "customers", "customer-minutes"),
+    Column("feeders"),
+    Column("causes"),
+]
+
+
+def event_row(found: Checked, event: Event, blocks: dict[int, list[Block]]) -> TableRow:
+    book = found.book
+    cells = [
+        event.name,
+        book.period.zone.short_text(event.first),
+        book.period.zone.short_text(event.last),
+        len(event.steps),
+        number(event.customers(blocks)),
+        decimal(event.minutes),
+        ", ".join(map(str, event.feeders(book))),
+        event.causes(book),
+    ]
+    return TableRow(cells, event.marked(book) != "")
+
+
+def event_part(found: Checked, rule: Rule) -> Part:
+    """The events with the most customer-minutes, a ticket as one."""
+    events, blocks = events_of(found, rule), blocks_by_section(found.book)
+    rows = [event_row(found, event, blocks) for event in events[:WORST]]
+    content = f"""
+<p>{of_all(len(rows), len(events), "events")}, those with the most customer-minutes first: all interruptions that a ticket's
+switchings began, each customer counted once. Those that begin on marked days are set apart at the left.
+{escape(" ".join(told_unfit(events)))}</p>
+{table(EVENT_HEADS, rows)}"""
+    return Part("events", "Events", COMPUTED, content)
+
+
+CUSTOMER_HEADS = [
+    Column("section"),
+    Column("feeder"),
+    *numbers("customers", "sustained", "longest", "without supply"),
+    Column("cause and seconds of each interruption", "long"),
+]
+
+
+def customer_row(found: Checked, served: Served, names: Names) -> TableRow:
+    book = found.book
+    section = book.sections[served.block.section]
+    cells = [
+        section.name,
+        feeder_text(section.feeder, names),
+        number(served.block.customers),
+        len(served.sustained),
+        duration(served.longest),
+        duration(served.seconds),
+        served.causes_text(book),
+    ]
+    return TableRow(cells)
+
+
+def customer_part(found: Checked, names: Names) -> Part:
+    """The worst served customers, those of equal service together."""
+    groups = [served for served in served_customers(found) if served.had]
+    rows = [customer_row(found, served, names) for served in groups[:WORST]]
+    content = f"""
+<p>{of_all(len(rows), len(groups), "groups of equal service with interruptions")}: customers of one section who were in service
+at the same time had the same interruptions. The most sustained interruptions first, then the longest one.</p>
+{table(CUSTOMER_HEADS, rows)}"""
+    return Part("customers", "Worst served customers", COMPUTED, content)
+
+
+WORST_HEADS = [
+    Column("section"),
+    Column("feeder"),
+    Column("since"),
+    *numbers("duration", "customers", "customer-seconds"),
+    Column("cause"),
+    Column("reference"),
+]
+
+
+def rank(each: Interruption) -> tuple[int, int, int]:
+    """By the most customer-seconds, then by the first second."""
+    return -each.customer_seconds, each.since, each.run.section
+
+
+def worst_row(found: Checked, each: Interruption, refs: dict[int, str], names: Names) -> TableRow:
+    book, cutter = found.book, each.run.cutter
+    section = book.sections[each.run.section]
+    cells = [
+        section.name,
+        feeder_text(section.feeder, names),
+        book.period.zone.short_text(each.since),
+        duration(each.seconds),
+        number(each.customers),
+        number(each.customer_seconds),
+        book.causes.get(each.run.cause, ""),
+        refs[cutter.number] if cutter else "",
+    ]
+    return TableRow(cells, book.is_marked(each.since))
+
+
+def worst_part(found: Checked, names: Names) -> Part:
+    """The interruptions with the most customer-seconds."""
+    refs = references(found)
+    rows = [worst_row(found, each, refs, names) for each in sorted(found.interruptions, key=rank)[:WORST]]
+    content = f"""
+<p>{of_all(len(rows), len(found.interruptions), "interruptions")}, those with the most customer-seconds first, customers of one
+section with the same interruption together; marked days are set apart at the left. The reference is that of the switching
+that cut them off.</p>
+{table(WORST_HEADS, rows)}"""
+    return Part("worst", "Worst interruptions", COMPUTED, content)
+
+
+LATE_HEADS = [
+    Column("what"),
+    Column("references"),
+    Column("device"),
+    Column("second"),
+    *numbers("own, customer-seconds"),
+    Column("as it was told"),
+]
+
+
+def late_row(found: Checked, work: Work, by_number: dict[int, Work]) -> TableRow:
+    """A piece of late work as a whole: a late outage with both its halves, a withdrawal with what it takes back."""
+    book = found.book
+    told = [*(by_number[number] for number in work.others), work]
+    seconds = sorted(second for each in told if (second := second_of(each.command)) is not None)
+    cells = [
+        "late outage" if work.others and work.command.kind == "switch" else work.kind,
+        ", ".join(each.command.ref for each in told),
+        book.devices[book.entries[work.entry - 1].device].name,
+        " to ".join(map(book.period.zone.short_text, seconds)),
+        signed(work.own or 0),
+        " ".join(signed(each.net) for each in told) if work.others else "",
+    ]
+    return TableRow(cells)
+
+
+def late_rank(work: Work) -> tuple[int, int, int]:
+    return -abs(work.own or 0), -work.gross, work.command.number
+
+
+def late_part(found: Checked) -> Part:
+    """What late entries, corrections and withdrawals moved."""
+    works = works_of(found)
+    by_number = {work.command.number: work for work in works}
+    late = [work for work in works if work.is_late]
+    whole = sorted((work for work in late if work.own is not None), key=late_rank)
+    rows = [late_row(found, work, by_number) for work in whole[:WORST]]
+    if not late:
+        return Part("late", "What late work moved", PROVED, "<p>No switching is late, corrected or withdrawn.</p>")
+    content = f"""
+<p>{number(len(late))} late switchings, corrections and withdrawals; as wholes they changed W by {signed(own_sum(late))}
+customer-seconds. A switching is late where a later second had been told before it. An opening takes the rest of the period
+when it is accepted, and its closing gives it back: a late outage is shown by its own size, and a withdrawal together with
+what it takes back, with the amounts that each was told with behind it. {of_all(len(rows), len(whole), "of them")}, the
+largest first.</p>
+{table(LATE_HEADS, rows)}"""
+    return Part("late", "What late work moved", PROVED, content)

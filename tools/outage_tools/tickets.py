@@ -1,0 +1,160 @@
+"""Which interruptions belong to which ticket, and what they amount to.
+
+An interruption belongs to the ticket of the entry that cut its section off (its cutter). Where there is no such entry, or it is
+of no ticket, it belongs to the ticket of the entry that ended it: the last one of the second at which it was over that brought
+supply back to the section. Where that one is of no ticket either, it belongs to none. So each interruption counts once.
+"""
+
+from bisect import bisect_left
+from collections import defaultdict
+from collections.abc import Iterable
+from dataclasses import dataclass, field
+
+from outage_tools.commands import read_commands
+from outage_tools.compare import Checked
+from outage_tools.errors import BookError
+from outage_tools.references import switchings_of
+from outage_tools.rows import Block, Book, Entry
+from outage_tools.sweep import LONGEST_MOMENTARY, Run, Supply, blocks_by_section, bounds_of_lives
+
+
+@dataclass(frozen=True)
+class Part:
+    """What customers of equal service have of a run, with the entry that ended it where one did."""
+
+    run: Run
+    block: Block
+    since: int
+    until: int
+    ender: Entry | None
+
+    @property
+    def seconds(self) -> int:
+        return self.until - self.since
+
+    @property
+    def customer_seconds(self) -> int:
+        return self.block.customers * self.seconds
+
+    @property
+    def is_momentary(self) -> bool:
+        return self.seconds <= LONGEST_MOMENTARY
+
+
+@dataclass
+class Ticket:
+    """A ticket in a book: its entries, withdrawn ones among them, and the interruptions that belong to it."""
+
+    name: str
+    entries: list[Entry] = field(default_factory=list)
+    parts: list[Part] = field(default_factory=list)
+
+    @property
+    def customers(self) -> int:
+        """Those who had at least one of its interruptions, each once."""
+        return customers_of(self.parts)
+
+    @property
+    def interruptions(self) -> int:
+        """Its interruptions: a customer that had two counts twice."""
+        return sum(part.block.customers for part in self.parts)
+
+    @property
+    def customer_seconds(self) -> int:
+        return sum(part.customer_seconds for part in self.parts)
+
+    def sections(self) -> dict[int, int]:
+        """The sections that were interrupted, each with its customers who were; the one with most first."""
+        parts: dict[int, list[Part]] = defaultdict(list)
+        for part in self.parts:
+            parts[part.run.section].append(part)
+        counts = {section: customers_of(listed) for section, listed in parts.items()}
+        return dict(sorted(counts.items(), key=lambda pair: (-pair[1], pair[0])))
+
+
+def customers_of(parts: Iterable[Part]) -> int:
+    """The customers of some parts, each once: a customer is in one block."""
+    return sum(block.customers for block in {part.block for part in parts})
+
+
+@dataclass(frozen=True)
+class Tickets:
+    """The tickets of a book by their names, the ticket of each entry, the interruptions of none, and the runs of each section in
+    their order with the ticket to which they belong."""
+
+    by_name: dict[str, Ticket] = field(default_factory=dict)
+    of_entry: dict[int, str] = field(default_factory=dict)
+    of_none: list[Part] = field(default_factory=list)
+    runs: dict[int, list[tuple[Run, str | None]]] = field(default_factory=lambda: defaultdict(list))
+
+    def owner(self, run: Run, ender: Entry | None) -> str | None:
+        """The ticket to which the interruptions of a run belong."""
+        owners = (self.of_entry.get(entry.number) for entry in (run.cutter, ender) if entry)
+        return next((owner for owner in owners if owner is not None), None)
+
+    def out_at(self, section: int, second: int) -> str | None:
+        """The ticket of the run in which a section was without supply before and after a second."""
+        runs = self.runs.get(section, [])
+        place = bisect_left(runs, second, key=lambda pair: pair[0].since) - 1
+        return runs[place][1] if place >= 0 and second < runs[place][0].until else None
+
+
+def enders_of(book: Book) -> dict[tuple[int, int], Entry]:
+    """The entries that brought supply back, by the section and the second.
+
+    As in a sweep, lives act before the entries of their second, and these by their numbers.
+    """
+    supply = Supply(book)
+    entries_at: dict[int, list[Entry]] = defaultdict(list)
+    for entry in book.entries:
+        if entry.is_kept:
+            entries_at[entry.second].append(entry)
+    lives = bounds_of_lives(book.devices)
+    enders: dict[tuple[int, int], Entry] = {}
+    supplied = supply.supplied()
+    for moment in sorted(second for second in {*entries_at, *lives} if book.period.first <= second < book.period.end):
+        if moment in lives and supply.come_to(moment):
+            supplied = supply.supplied()
+        for entry in entries_at.get(moment, ()):
+            if supply.switch(entry, moment):
+                before, supplied = supplied, supply.supplied()
+                enders.update(((node, moment), entry) for node in supplied - before)
+    return enders
+
+
+def tickets_of_entries(found: Checked, prefix: str, known: Iterable[str]) -> dict[int, str]:
+    """The ticket of each entry whose reference tells one. `known` are tickets that there are: a reference that may be read
+    in several ways is of the one among them."""
+    names = set(known)
+    tickets: dict[int, str] = {}
+    for command in read_commands(found.database):
+        if command.kind != "switch" or command.entry is None:
+            continue
+        ways = [way.ticket for way in switchings_of(command.ref, prefix)]
+        among = [ticket for ticket in ways if ticket in names]
+        if len(among) > 1:
+            raise BookError(f"the reference {command.ref} may be of the tickets {' and '.join(among)}")
+        if ways:
+            tickets[command.entry] = (among or ways)[0]
+    return tickets
+
+
+def tickets_of(found: Checked, prefix: str = "OMS-", known: Iterable[str] = ()) -> Tickets:
+    """The tickets of a book and what belongs to each, in the order in which they were entered."""
+    book = found.book
+    of_entry = tickets_of_entries(found, prefix, known)
+    tickets = Tickets(of_entry=of_entry)
+    for number, name in of_entry.items():
+        tickets.by_name.setdefault(name, Ticket(name)).entries.append(book.entries[number - 1])
+    enders = enders_of(book)
+    blocks = blocks_by_section(book)
+    for run in found.runs:
+        ender = enders.get((run.section, run.until))
+        owner = tickets.owner(run, ender)
+        tickets.runs[run.section].append((run, owner))
+        parts = tickets.of_none if owner is None else tickets.by_name[owner].parts
+        for block in blocks.get(run.section, ()):
+            since, until = max(run.since, block.since), min(run.until, block.until)
+            if since < until:
+                parts.append(Part(run, block, since, until, ender))
+    return tickets
