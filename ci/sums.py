@@ -1,4 +1,4 @@
-"""Sums of all that the check of a crate's must-fail edits reads, over contents alone: no times, no places.
+"""Sums of all that the check of a crate's must-fail edits reads, over contents alone: no times, no places, no comments.
 
 Of the crate itself: src/, specs/, proofs/, c/ and must-fail/. Of each crate below it, whose statements the check reads:
 src/, specs/ and c/, and its lemmas (the files right in proofs/, and folders that proofs/Lib.antt makes public) where
@@ -12,13 +12,15 @@ from __future__ import annotations
 
 import hashlib
 import re
-from collections.abc import Iterable, Iterator
+from collections.abc import Callable, Iterable, Iterator
 from pathlib import Path
 
 from crates import Crate, crates_below, edits_of, read_crates
 
 OWN = ("src", "specs", "proofs", "c", "must-fail")
 OF_BELOW = ("src", "specs", "c")
+COMMENTS = {".rt": "//", ".antt": "--"}  # how a line of comment begins, by the kind of file
+QUOTES = re.compile(r'\\.|"')
 PUBLIC = re.compile(r"^pub mod\s+(\S+)", re.MULTILINE)
 
 
@@ -36,15 +38,31 @@ def files_in(folder: Path) -> list[Path]:
     return sorted((file for file in folder.rglob("*") if file.is_file()), key=lambda file: file.as_posix())
 
 
-def sum_of_files(files: Iterable[Path], root: Path) -> str:
+def sum_of_files(files: Iterable[Path], root: Path, read: Callable[[Path], bytes] = Path.read_bytes) -> str:
     """One sum over files, by their paths below a folder and their contents."""
 
     def parts() -> Iterator[bytes]:
         for file in files:
             yield file.relative_to(root).as_posix().encode()
-            yield file.read_bytes()
+            yield read(file)
 
     return sum_of_parts(parts())
+
+
+def without_comments(file: Path) -> bytes:
+    """What a check reads of a file: all but the lines that are comments alone.
+
+    A file in which a text in quotes may go over several lines counts whole, since a line of such a text may look like a comment.
+    """
+    begin = COMMENTS.get(file.suffix)
+    text = file.read_bytes()
+    if begin is None:
+        return text
+    lines = text.decode().splitlines(keepends=True)
+    code = [line for line in lines if not line.lstrip().startswith(begin)]
+    if any(QUOTES.findall(line.replace("'\"'", "")).count('"') % 2 for line in code):
+        return text
+    return "".join(code).encode()
 
 
 def public_lemmas(crate: Path) -> list[Path]:
@@ -64,7 +82,9 @@ def sum_below(root: Path, crate: Crate) -> str:
     """The sum of what a check of a crate above reads of this one."""
     folder = root / "crates" / crate.name
     files = [file for part in OF_BELOW for file in files_in(folder / part)]
-    return sum_of_parts([" ".join(crate.line).encode(), sum_of_files(files + public_lemmas(folder), folder).encode()])
+    return sum_of_parts(
+        [" ".join(crate.line).encode(), sum_of_files(files + public_lemmas(folder), folder, without_comments).encode()]
+    )
 
 
 def edit_sums(root: Path, kit: str) -> dict[str, str]:
@@ -77,7 +97,7 @@ def edit_sums(root: Path, kit: str) -> dict[str, str]:
     for name, crate in crates.items():
         if edits_of(root, name):
             folder = root / "crates" / name
-            own = sum_of_files((file for part in OWN for file in files_in(folder / part)), folder)
+            own = sum_of_files((file for part in OWN for file in files_in(folder / part)), folder, without_comments)
             stands_on = [f"{other} {below[other]}".encode() for other in crates_below(crates, name)]
             sums[name] = sum_of_parts([*house, " ".join(crate.line).encode(), own.encode(), *stands_on])
     return sums

@@ -36,6 +36,23 @@ class Sums(unittest.TestCase):
                 self.made.write(f"crates/low/{name}", f"{STRONG}{name}\n")
                 self.assertEqual(self.changed(), ["high", "low", "middle"])
 
+    def test_comments_change_none(self) -> None:
+        self.made.write("crates/low/src/lib.rt", f"//! A crate.\n\n{STRONG}")
+        self.made.write("crates/low/specs/Lib.antt", "pub mod Answer\n")
+        self.before = self.sums()
+        self.made.write("crates/low/src/lib.rt", f"//! Another\n//! comment.\n\n    // here too\n{STRONG}")
+        self.made.write("crates/low/specs/Lib.antt", "-- the answer\npub mod Answer\n")
+        self.assertEqual(self.changed(), [])
+        self.made.write("crates/low/src/lib.rt", f"//! A crate.\n\n{STRONG.rstrip()} // after code\n")
+        self.assertEqual(self.changed(), ["high", "low", "middle"])
+
+    def test_what_looks_like_a_comment_within_a_text(self) -> None:
+        text = 'const TEXT: &str = "\\\n// {}\n";\n'
+        self.made.write("crates/low/src/lib.rt", text.format("one"))
+        self.before = self.sums()
+        self.made.write("crates/low/src/lib.rt", text.format("two"))
+        self.assertEqual(self.changed(), ["high", "low", "middle"])
+
     def test_edit_changes_its_own_crate(self) -> None:
         self.made.write("crates/low/must-fail/other.edit", "file: src/lib.rt\n")
         self.assertEqual(self.changed(), ["low"])
