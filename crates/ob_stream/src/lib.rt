@@ -1,8 +1,9 @@
-//! Texts in and out of readers and writers that may fail or be interrupted.
+//! Reading and writing texts over streams that may fail or be interrupted.
 //!
-//! Keeps `Watched`, a reader or writer that remembers its failures, and the retries of interrupted calls.
-//! Promises that a text is read or written whole, or that the fault which is answered was the stream's own.
-//! Above it stand the program, the import, the export and the desk.
+//! Keeps `Watched`, a reader or writer that remembers its failures, and the count of retries of
+//! interrupted calls. Promises that a text is read or written whole; if a call answers a fault of
+//! the input or the output, the stream itself failed.
+//! Used by `ob_net`, `ob_requests`, `ob_import`, `ob_desk`, `ob_total`, `ob_jobs` and `outagebook`.
 #![tactic(auto)]
 
 mod stream;
