@@ -7,14 +7,15 @@ pub fn one_request()
     ensures no_ending { RequestIsNoEnding }
 {}
 
-/// States that bytes have at most one ending, and if they do, they are not cut off. Both 400 and
-/// 431 may answer bytes that end inside a target.
+/// States that bytes have at most one ending, and if they have one, they are not cut off. The
+/// exception is bytes that end inside a target: both 400 and 431 may answer them.
 pub fn one_ending()
     ensures ending { OneEnding }
     ensures no_cut { EndingIsNoCut }
 {}
 
-/// States that a stream has exactly one list of requests, followed by one ending.
+/// States that a stream has at most one list of requests and then at most one ending, apart from
+/// the exception of `one_ending`.
 pub fn one_stream()
     ensures { OneStream }
 {}
