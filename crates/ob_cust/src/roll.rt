@@ -12,8 +12,8 @@ use ob_base::{Refusal, Second, Stop};
 use std::alloc::{AllocError, Global};
 use std::marker::Model;
 
-/// The customers of the network. Their services are counted on shelves, each of which serves some
-/// of the sections: so a change moves only the services of one shelf.
+/// The customers of the network. Their services are counted on shelves, each for some of the
+/// sections, so a change moves the services of one shelf only.
 #[derive(Drop)]
 pub struct Roll {
     customers: Vec<Customer>,

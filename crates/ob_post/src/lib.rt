@@ -1,12 +1,11 @@
-//! Customer-seconds without supply, counted by cause, home feeder and day.
+//! Postings: customer-seconds without supply, counted under cause, home feeder and day.
 //!
 //! Keeps the amounts (`Postings`) and, as rows, the amounts that a change takes back and gives.
 //! Promises that a list of changes alters exactly the amounts that it names, by its deltas; that
-//! the changes between two lists of amounts are their differences, each once and in order; that the
-//! amounts of an outage interval are its customer-seconds, second by second and customer by
-//! customer; and that the rows of a change turn the amounts before it into those after it, although
-//! only intervals that differ are examined. The definitions state which customer-seconds count
-//! under a key. Used by `ob_json`, `ob_replies`, `ob_state`, `ob_book` and the storage crates.
+//! the changes between two lists of amounts are their differences, each once and in order; that an
+//! outage interval's amounts are its customer-seconds, second by second and customer by customer;
+//! and that a change's rows turn the old amounts into the new ones, although only differing
+//! intervals are examined. Used by `ob_json`, `ob_replies`, `ob_state` and crates above them.
 #![tactic(auto)]
 
 mod difference;

@@ -23,8 +23,8 @@ pub enum Method {
 /// section 5).
 #[derive(Clone, Copy, Debug, PartialEq, Eq)]
 pub enum HeadRefusal {
-    /// 400: no valid head, a target that isn't in origin form, a missing or repeated Host, or a
-    /// repeated or invalid Content-Length.
+    /// 400: no valid head, a target that isn't in origin form, a Host that is repeated or, in
+    /// HTTP/1.1, missing, or a Content-Length that is repeated or invalid.
     BadRequest,
     /// 501: a transfer coding, or a method other than GET and POST.
     NotImplemented,

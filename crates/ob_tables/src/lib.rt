@@ -1,12 +1,11 @@
 //! The tables of a book, and the statements that read and write them.
 //!
-//! Keeps the eleven tables, and one function for each statement; it runs inside the caller's
-//! transaction. Promises what each statement does to the rows (adds, changes or deletes one, or
-//! nothing) and what it finds; a statement that breaks a rule of its table fails. Promises that
-//! each test of a row answers true exactly if the row is that of the given item. For books of
-//! version 1, which has ten tables, it adds the eleventh, of in-service intervals, and the other
-//! rows stay. Used by `ob_commit`, which writes the rows of a command in one transaction, and by
-//! the other storage crates, `ob_import`, `ob_routes` and `ob_jobs`.
+//! Keeps the eleven tables, and one function for each statement, which runs inside the caller's
+//! transaction. Promises which row each statement adds, changes or deletes, if any, what it finds,
+//! and that it fails if it breaks a rule of its table. Promises that each test of a row is true
+//! exactly for the row of the given item. To the ten tables of version 1 it adds the eleventh, of
+//! in-service intervals; their rows stay. Used by `ob_commit`, which writes the rows of a command
+//! in one transaction, the other storage crates, `ob_import`, `ob_routes` and `ob_jobs`.
 #![tactic(auto)]
 
 mod changes;
