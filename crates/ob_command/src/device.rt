@@ -7,7 +7,7 @@ use crate::{Ends, Service};
 use ob_base::{Name, Pos};
 use ob_net::Device;
 
-/// A switching device as a command adds it.
+/// A switching device as a command describes it.
 #[derive(Clone, Copy)]
 pub struct NewDevice {
     pub name: Name,
@@ -17,7 +17,7 @@ pub struct NewDevice {
 }
 
 impl NewDevice {
-    /// The device between the nodes of two numbers.
+    /// The device between the nodes with these numbers.
     pub fn between(&self, a: u16, b: u16) -> Device
         ensures device { result ≡ device_between self.now a b }
         ensures range { IsService self.now.life }
@@ -31,8 +31,8 @@ impl NewDevice {
         }
     }
 
-    /// Whether nothing is told of it beyond its ends and its normal position: it lives without end
-    /// from the first second on.
+    /// Whether the device has the whole life: it is in service from the first second on, without
+    /// end.
     pub fn is_plain(&self) -> bool
         ensures { result ≡ is_plain self.now }
     {
@@ -40,15 +40,15 @@ impl NewDevice {
     }
 }
 
-/// What the body text of a plain device ends with, behind its normal position.
+/// The end of a plain device's body text, after its normal position.
 pub fn plain_end() -> &'static [u8]
     ensures { result.now ≡ plain_end }
 {
     b" 0 -"
 }
 
-/// The body text of a plain device is its words up to its normal position, joined by one space,
-/// and `plain_end`. It does nothing when it runs.
+/// States that the body text of a plain device consists of its kind and its fields up to the normal
+/// position, joined by one space, and then `plain_end`. This function does nothing when it runs.
 pub fn plain_law()
     ensures { PlainDevicesEnd }
 {}

@@ -1,4 +1,4 @@
-//! Reading a command from its six fields, by its kind. The leftmost bad column is refused.
+//! Reading a command from its six fields, by its kind. A refusal names the leftmost bad column.
 ghost use Rattle.std.specs.Prelude.{◌≡◌, ◌<◌, ◌+◌, [], ◌∷◌, length, map, Ok};
 ghost use Rattle.ob_command.specs.Fields.{bus_of, cause_of, connect_of, correct_of, device_of, life_of, mark_of, operation_in, revise_of, section_of, service_in, switch_of, unmark_of, with_unused, withdraw_of, AreFieldsOf};
 ghost use Rattle.ob_command.specs.Spellings.{end_as, ends_from, start_as};
@@ -8,7 +8,7 @@ use crate::spelling::Spelling;
 use crate::{CivilDate, Command, Ends, Moment, NewDevice, Operation, Service};
 use ob_base::{Crew, Name, Refusal, read_act, read_normal};
 
-/// The six fields after the kind, columns 3 to 8; those that a kind doesn't name are empty.
+/// The six fields after the kind, columns 3 to 8. Fields that a kind doesn't use are empty.
 #[derive(Clone, Copy)]
 pub(crate) struct Fields<'a> {
     /// Column 3.
@@ -25,8 +25,8 @@ pub(crate) struct Fields<'a> {
     pub(crate) f6: &'a [u8],
 }
 
-/// Reads a command of this kind from its fields, as they are spelled. The refusal is that of the
-/// leftmost bad column, from 3 on; where a device's second node is its first, column 5 is bad.
+/// Reads a command of this kind from its fields in this spelling. The refusal names the leftmost
+/// bad column, from 3 on. If a device's second node is its first, column 5 is bad.
 pub(crate) fn read_fields(
     spelling: Spelling,
     kind: Kind,
@@ -35,8 +35,8 @@ pub(crate) fn read_fields(
     ensures { AreFieldsOf spelling kind fields.now.f1.now fields.now.f2.now fields.now.f3.now
         fields.now.f4.now fields.now.f5.now fields.now.f6.now result }
 {
-    // Texts of moments and dates are read first, whatever stands left of them: what they give is
-    // a relation, which the contract of each kind takes as known.
+    // Moments and dates are read first, whatever is in the columns to their left: their readings
+    // are defined by a relation, and the contract of each kind takes their results as given.
     match kind {
         Kind::Cause => cause(spelling, fields),
         Kind::Bus => bus(fields),
@@ -69,7 +69,7 @@ pub(crate) fn read_fields(
     }
 }
 
-// Each kind's columns from the left, then those that are empty.
+// For each kind: its columns from the left, then the columns that must be empty.
 
 fn cause(spelling: Spelling, fields: &Fields<'_>) -> Result<Command, Refusal>
     ensures { result ≡ cause_of spelling fields.now.f1.now fields.now.f2.now
@@ -265,14 +265,15 @@ fn unmark(date: Option<CivilDate>, fields: &Fields<'_>) -> Result<Command, Refus
     )
 }
 
-// The ends of a device, whose second node isn't the first.
+// Reads the second node of a device, which must differ from the first, and answers both.
 fn read_ends(a: Name, text: &[u8]) -> Option<Ends>
     ensures { result ≡ ends_from a text.now }
 {
     Ends::new(a, Name::read(text)?)
 }
 
-// A service or a life, whose beginning stands in a column and its end in the next one.
+// Makes a service or an in-service interval, with its beginning in a column and its end in the
+// next.
 fn read_service(
     column: u8,
     since: Option<Moment>,
@@ -286,7 +287,7 @@ fn read_service(
     Ok(Service { since, until })
 }
 
-// An operation, whose act, second, cause and crew stand in four columns from one on.
+// Makes a switching operation from four columns from `column` on: act, second, cause and crew.
 fn read_operation(
     spelling: Spelling,
     column: u8,
@@ -308,7 +309,7 @@ fn read_operation(
     })
 }
 
-// The command, where the fields from a column on are empty.
+// Answers the command if the fields from a column on are empty.
 fn complete(command: Command, column: u8, fields: &[&[u8]]) -> Result<Command, Refusal>
     requires { column + length fields.now < 256 }
     ensures { result ≡ with_unused column (map (λ f. f.now) fields.now) (Ok command) }

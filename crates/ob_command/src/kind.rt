@@ -1,4 +1,4 @@
-//! The kinds of command, as words.
+//! The kinds of command, by their names.
 ghost use Rattle.std.specs.Prelude.{◌≡◌};
 ghost use Rattle.ob_command.specs.Fields.{kind_in};
 
@@ -20,7 +20,7 @@ pub(crate) enum Kind {
 }
 
 impl Kind {
-    /// The kind of this word; None for any other text.
+    /// Reads the name of a kind; `None` for any other text.
     pub(crate) fn read(text: &[u8]) -> Option<Self>
         ensures { result ≡ kind_in text.now }
     {

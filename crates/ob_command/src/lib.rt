@@ -1,10 +1,11 @@
 //! The commands of the book, and their texts.
 //!
-//! Keeps the twelve kinds of command, with fields that hold what their readings give and nothing
-//! else. Promises the body text of each command, that two commands have two texts, that a body
-//! text is read back as its command and no other text is read, and that a row is read as its
-//! reference and its command or refused for its leftmost bad column. Above it stand the book, which
-//! acts by commands, its store, which keeps their texts, and the readers of rows and requests.
+//! Keeps the twelve kinds of command. The type of each field holds exactly the values that reading
+//! it can give. Promises the body text of each command, that two different commands have two
+//! different texts, and that a body text, and no other text, is read back as its command. Promises
+//! that a row is read as its reference and its command, or refused with its leftmost bad column.
+//! Used by `ob_state` and `ob_book`, which apply commands, by the storage crates, which store their
+//! texts, and by `ob_import`, `ob_replies` and `ob_routes`, which read rows and requests.
 #![tactic(auto)]
 
 mod body;

@@ -2,8 +2,8 @@
 use crate::{CauseCode, Moment};
 use ob_base::{Crew, Pos};
 
-/// A switching operation, as an entry of the sheet tells it: it leaves its device in the position
-/// `act`.
+/// A switching operation as an entry of the switching log records it. `act` is the position of the
+/// device after it.
 #[derive(Clone, Copy)]
 pub struct Operation {
     pub act: Pos,

@@ -1,4 +1,4 @@
-//! Reading body texts back.
+//! Reading commands back from their body texts.
 ghost use Rattle.std.specs.Prelude.{◌≡◌, ◌↔◌, Some};
 ghost use Rattle.ob_command.specs.Commands.{body_text, BodiesDiffer, IsCommand};
 ghost use Rattle.ob_command.specs.declared.command.Command.{Command as AnyCommand};
@@ -9,7 +9,7 @@ use crate::kind::Kind;
 use crate::spelling::Spelling;
 use crate::split::split;
 
-/// Reads a body text back; None for every text that isn't the body text of a command.
+/// Reads a command from its body text; `None` for every text that isn't a command's body text.
 pub fn read_body(text: &[u8]) -> Option<Command>
     ensures { (c : AnyCommand) → (result ≡ Some c) ↔ (IsCommand c × (text.now ≡ body_text c)) }
 {
@@ -21,7 +21,7 @@ pub fn read_body(text: &[u8]) -> Option<Command>
     }
 }
 
-/// Two commands have two body texts.
+/// States that two different commands have two different body texts.
 pub fn bodies_law()
     ensures { BodiesDiffer }
 {}

@@ -1,4 +1,4 @@
-//! Reading rows.
+//! Reading commands from rows.
 ghost use Rattle.std.specs.Prelude.{map};
 ghost use Rattle.ob_command.specs.Fields.{IsRow, RowsSayOneThing};
 
@@ -9,7 +9,7 @@ use crate::spelling::Spelling;
 use ob_base::{Ref, Refusal};
 
 /// Reads the reference and the command of a row's eight fields: the kind, the reference and the
-/// kind's fields, where those that the kind doesn't name are empty. The refusal is `BadField` of
+/// kind's fields. Fields that the kind doesn't use must be empty. The refusal is `BadField` with
 /// the leftmost bad column, from 1 to 8.
 pub fn read_row(row: &[&[u8]; 8]) -> Result<(Ref, Command), Refusal>
     ensures { IsRow (map (λ f. f.now) row.now) result }
@@ -28,7 +28,7 @@ pub fn read_row(row: &[&[u8]; 8]) -> Result<(Ref, Command), Refusal>
     Ok((reference, read_fields(Spelling::Free, kind, &fields)?))
 }
 
-/// What a row says is one thing: a reference and a command, or the refusal of one column.
+/// States that a row has one meaning: a reference and a command, or a refusal of one column.
 pub fn rows_law()
     ensures { RowsSayOneThing }
 {}

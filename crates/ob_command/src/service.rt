@@ -1,4 +1,4 @@
-//! Services and lives in commands.
+//! Services of customers and in-service intervals of devices in commands.
 ghost use Rattle.std.specs.Prelude.{◌≡◌};
 ghost use Rattle.ob_base.specs.Life.{life};
 ghost use Rattle.ob_command.specs.Commands.{IsEnd, IsService};
@@ -6,8 +6,8 @@ ghost use Rattle.ob_command.specs.Commands.{IsEnd, IsService};
 use crate::Moment;
 use ob_base::{Life, Second};
 
-/// When a customer is served, or a device stands in the network: from `since` until before `until`,
-/// None for without end.
+/// The seconds in which a customer is served or a device is in service: from `since` up to `until`,
+/// `until` excluded; without end if `until` is `None`.
 #[derive(Clone, Copy)]
 pub struct Service {
     pub since: Moment,
@@ -15,7 +15,7 @@ pub struct Service {
 }
 
 impl Service {
-    /// Its end as a second; None for without end.
+    /// The end as a second; `None` if there is no end.
     pub fn end(self) -> Option<Second>
         ensures value { result ≡ self.until }
         ensures range { IsEnd self.until }
@@ -26,7 +26,7 @@ impl Service {
         }
     }
 
-    /// The life of these ends, in seconds.
+    /// The same interval as a `Life`, in seconds.
     pub fn life(self) -> Life
         ensures life { result ≡ life self.since self.until }
         ensures range { IsService self }

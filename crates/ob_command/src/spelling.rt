@@ -1,4 +1,5 @@
-//! Reading single fields: what a row may spell freely has one spelling in a body.
+//! Reading single fields in either spelling. What a row may spell in several ways has exactly one
+//! spelling in a body text.
 ghost use Rattle.std.specs.Prelude.{◌≡◌};
 ghost use Rattle.ob_base.specs.Fields.{cause_in, feeder_in, serial_in, unix_second_in};
 ghost use Rattle.ob_command.specs.Spellings.{end_as, start_as, is_misspelled, leads_zero, number_as, no_end, IsMomentAs};
@@ -10,11 +11,12 @@ use ob_base::read_unix_second;
 /// How the fields of a command are spelled.
 #[derive(Clone, Copy)]
 pub(crate) enum Spelling {
-    /// As in a row or a JSON member: numbers may have leading zeros, a moment is Unix seconds or a
-    /// civil moment, and an empty field is no end of a service or a life, or a life's beginning at 0.
+    /// As in a row or a JSON member: numbers may have leading zeros, and a moment is Unix seconds
+    /// or a civil moment. An empty field means no end of a service or an in-service interval, or a
+    /// beginning of an in-service interval at 0.
     Free,
-    /// As in a body text: numbers have no leading zeros, a moment is Unix seconds, and no end of
-    /// a service or a life is `-`.
+    /// As in a body text: numbers have no leading zeros, a moment is Unix seconds, and `-` means no
+    /// end of a service or an in-service interval.
     Body,
 }
 
@@ -55,7 +57,8 @@ impl Spelling {
         }
     }
 
-    /// The beginning of a life that a text is, which as a moment is `moment`: where it may be empty, it is then 0.
+    /// The beginning of an in-service interval from a text; `moment` is the same text read as a
+    /// moment. If the text may be empty and is, the beginning is 0.
     pub(crate) fn start_of(self, text: &[u8], moment: Option<Moment>) -> Option<Moment>
         ensures { result ≡ start_as self text.now moment }
     {
@@ -70,7 +73,8 @@ impl Spelling {
         }
     }
 
-    /// The end of a service or a life that a text is, which as a moment is `moment`.
+    /// The end of a service or an in-service interval from a text; `moment` is the same text read
+    /// as a moment.
     pub(crate) fn end_of(self, text: &[u8], moment: Option<Moment>) -> Option<Option<Moment>>
         ensures { result ≡ end_as self text.now moment }
     {
@@ -92,7 +96,7 @@ impl Spelling {
         }
     }
 
-    // In a body a number has no leading zeros.
+    // Whether this is a body text and the number has leading zeros.
     fn is_misspelled(self, text: &[u8]) -> bool
         ensures { result ≡ is_misspelled self text.now }
     {
@@ -103,7 +107,7 @@ impl Spelling {
     }
 }
 
-// A moment as Unix seconds, without leading zeros.
+// Reads a moment as Unix seconds without leading zeros.
 fn read_plain_second(text: &[u8]) -> Option<Moment>
     ensures { result ≡ number_as Body unix_second_in text.now }
 {

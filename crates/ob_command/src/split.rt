@@ -1,11 +1,11 @@
-//! Body texts as words.
+//! Splitting body texts at their spaces.
 ghost use Rattle.std.specs.Prelude.{◌≡◌, ◌<◌, ◌==◌, length, option_map, position, Some, IfSome};
 ghost use Rattle.ob_command.specs.Splits.{both_texts, cut_in, seven_texts, word_in, words_in};
 
 use crate::fields::Fields;
 
-/// The kind and the fields that a body text is made of, by the single spaces between them; the
-/// fields that it doesn't have are empty. None where a word is empty or an eighth one follows.
+/// Splits a body text into its kind and its fields at single spaces; the fields that it doesn't
+/// have are empty. `None` if the kind or a field is empty, or an eighth part follows.
 pub(crate) fn split(text: &[u8]) -> Option<(&[u8], Fields<'_>)>
     ensures { option_map (λ p. seven_texts (p.0.now, p.1)) result ≡ words_in 7 (Some text.now) }
 {
@@ -30,7 +30,7 @@ pub(crate) fn split(text: &[u8]) -> Option<(&[u8], Fields<'_>)>
     Some((kind, fields))
 }
 
-// The next word, and what stands behind the space after it.
+// The next part up to a space, and what follows that space.
 fn word(text: Option<&[u8]>) -> Option<(&[u8], Option<&[u8]>)>
     ensures { option_map (λ p. (p.0.now, option_map (λ r. r.now) p.1)) result
         ≡ word_in (option_map (λ t. t.now) text.entry) }
@@ -48,7 +48,7 @@ fn word(text: Option<&[u8]>) -> Option<(&[u8], Option<&[u8]>)>
     Some((word, rest))
 }
 
-// What stands before the first space, and what behind it.
+// What comes before the first space, and what comes after it.
 fn cut(text: &[u8]) -> Option<(&[u8], &[u8])>
     ensures { both_texts result ≡ cut_in text.now }
 {

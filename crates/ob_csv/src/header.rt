@@ -5,7 +5,7 @@ ghost use Rattle.ob_csv.specs.Header.{header};
 /// How many columns the header names.
 pub const COLUMNS: usize = 8;
 
-/// The fields of a row that has one for each column, from the left, each the bytes that stand in the text.
+/// The fields of a row that has one for each column, from the left, each with the text's own bytes.
 pub type RowFields<'a> = [&'a [u8]; COLUMNS];
 
 /// The names of the columns, from the left: `kind`, `ref` and `f1` to `f6`.

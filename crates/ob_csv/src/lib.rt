@@ -1,8 +1,9 @@
-//! The rows of a CSV text, RFC 4180, one at a time.
+//! The rows of a CSV text (RFC 4180), one at a time.
 //!
-//! Keeps how the outage book takes CSV: what ends a row, what quoting means and what the header is.
-//! Promises that a reader gives the rows of its text, each once and in order, with every field as it
-//! stands in the text. Above it stand the total, the import and the desk; none of them names `csv`.
+//! Keeps the book's rules for CSV: what ends a row, what quoting means and what the header is.
+//! Promises that a reader gives each row of its text once and in order, with every field as it is
+//! in the text. Used by `ob_total`, `ob_import`, `ob_replies`, `ob_routes` and `ob_desk`, which
+//! read CSV through this crate instead of the `csv` crate.
 #![tactic(auto)]
 
 mod header;

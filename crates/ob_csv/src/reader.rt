@@ -10,11 +10,12 @@ use ob_base::{Fault, Stop};
 use std::alloc::Global;
 use std::io::Read;
 
-/// A reader of the rows of a CSV text, RFC 4180, its header among them.
+/// A reader of the rows of a CSV text (RFC 4180), including its header.
 ///
-/// Beyond the standard, a row ends at LF, CRLF or a lone CR, the last one also where the text ends,
-/// within quotes too; rows may differ in their number of fields; empty lines are skipped; a UTF-8 mark
-/// at the very start of the text is skipped. Nothing is trimmed, and the bytes may be any.
+/// It reads more than the standard allows. A row ends at LF, CRLF or a lone CR; the last row may
+/// also end with the text, even within quotes. Rows may differ in their number of fields. Empty
+/// lines are skipped, and so is a UTF-8 byte order mark at the very start. Nothing is trimmed, and
+/// the bytes may be any.
 #[derive(Drop)]
 pub struct RowReader<R> {
     records: Reader<R>,
@@ -24,7 +25,7 @@ pub struct RowReader<R> {
 impl<R: Read> RowReader<R> {
     ghost use Rattle.ob_csv.specs.RowReading.{rows_left, has_stopped};
 
-    /// A reader of the rows of what `text` gives.
+    /// Makes a reader of the rows of `text`.
     pub fn new(alloc: Global, text: R) -> RowReader<R>
         ensures rows { rows_left R.remaining result ≡ option_map rows_of (R.remaining text) }
         ensures going { has_stopped result ≡ false }
@@ -40,9 +41,9 @@ impl<R: Read> RowReader<R> {
     ///
     /// # Errors
     ///
-    /// `Fault::OutOfMemory` where memory was refused. Where `text` is a reader that can fail, it stands
-    /// for that failure too: whoever holds that reader knows which of the two it was. After an error
-    /// `row` may hold anything, and the reader gives no further row.
+    /// `Fault::OutOfMemory` if an allocation failed. If `text` is a reader that can fail, the same
+    /// fault also reports its failure; the owner of that reader can tell which of the two happened.
+    /// After an error, `row` may hold anything, and the reader gives no further row.
     pub fn next_row(&mut self, row: &mut Row) -> Result<bool, Stop>
         ensures takes { IfOk result (λ found. TakesRow (rows_left R.remaining self.old)
             (rows_left R.remaining self.new) found row.new) }

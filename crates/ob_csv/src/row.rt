@@ -8,7 +8,7 @@ use csv::ByteRecord;
 use std::alloc::Global;
 use std::marker::Model;
 
-/// A row of any number of fields: to contracts, the list of their bytes.
+/// A row of any number of fields. In contracts it is the list of their bytes.
 #[derive(Drop)]
 pub struct Row {
     pub(crate) fields: ByteRecord,
@@ -33,7 +33,7 @@ impl Row {
         }
     }
 
-    /// Its fields, where it has one for each column.
+    /// The fields of the row, if it has one for each column.
     pub fn fields(&self) -> Option<RowFields<'_>>
         ensures { MatchOption result (length self.now ≢ columns) (λ fields. self.now
             ≡ map (λ f. f.now) fields) }
@@ -42,7 +42,7 @@ impl Row {
         (self.fields.len() == COLUMNS).then_some(fields)
     }
 
-    /// Whether its fields are the names of the columns, in their order.
+    /// Whether the row's fields are the names of the columns, in their order.
     pub fn is_header(&self) -> bool
         ensures { result ≡ is_header self.now }
     {
@@ -77,7 +77,7 @@ fn first_fields(row: &ByteRecord) -> RowFields<'_>
     fields
 }
 
-// The field at a place; an empty one where there is none.
+// The field at a place; an empty field if there is none.
 fn field_at(row: &ByteRecord, place: usize) -> &[u8]
     ensures { result.now ≡ get_or (fields_of row.now) place [] }
 {

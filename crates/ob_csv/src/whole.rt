@@ -1,26 +1,26 @@
-//! The whole rows of a text that broke off.
+//! The complete rows at the start of a text that may have been cut off.
 ghost use Rattle.std.specs.Prelude.{◌≡◌, ◌≤◌, length, take};
 ghost use Rattle.ob_csv.specs.Rows.{rows_of};
 ghost use Rattle.ob_csv.specs.Scanning.{Ends, behind_plain, mark_length};
 ghost use Rattle.ob_csv.specs.WholeRows.{WholeRowsStand, whole_rows};
 
-/// Where a text stands between two bytes.
+/// What the reader expects between two bytes of a text.
 #[derive(Clone, Copy)]
 enum Place {
     // A row may begin.
     RowStart,
-    // Behind a comma.
+    // After a comma.
     FieldStart,
     // In a field without quotes.
     Field,
     // In a field with quotes.
     Quoted,
-    // Behind a quote inside such a field: it is closed, or the quote is doubled.
+    // After a quote in a field with quotes: the field is closed, or the quote is doubled.
     Closed,
 }
 
-/// How many of a text's first bytes hold its whole rows, those whose line ends are in it: as many as come before a row
-/// that may go on. The text may have been broken off anywhere.
+/// The length in bytes of a text's complete rows, those with their line end in the text. A last row
+/// that may continue is left out. The text may have been cut off anywhere.
 pub fn whole_rows_end(text: &[u8]) -> usize
     ensures within { result ≤ length text.now }
     ensures rows { rows_of (take result text.now) ≡ whole_rows text.now }
@@ -29,12 +29,13 @@ pub fn whole_rows_end(text: &[u8]) -> usize
     mark + last_row_end(&text[mark..])
 }
 
-/// The rows of a text begin with the whole rows of each part that it begins with. It does nothing when it runs.
+/// States that if a text begins with some part, its rows begin with the complete rows of that part.
+/// This function does nothing when it runs.
 pub fn whole_rows_law()
     ensures { WholeRowsStand }
 {}
 
-/// The length of the UTF-8 mark at the start of a text.
+/// The length of the UTF-8 byte order mark at the start of a text; 0 if there is none.
 fn mark_length(text: &[u8]) -> usize
     ensures { result ≡ mark_length text.now }
 {
@@ -45,7 +46,7 @@ fn mark_length(text: &[u8]) -> usize
     }
 }
 
-/// The end of the last whole row of a text without a mark.
+/// The end of the last complete row of a text without a byte order mark.
 fn last_row_end(text: &[u8]) -> usize
     ensures { Ends text.now result }
 {
@@ -64,7 +65,7 @@ impl Place {
     ghost use Rattle.std.specs.Prelude.{◌≡◌};
     ghost use Rattle.ob_csv.specs.Scanning.{place_behind};
 
-    /// The place behind one byte more.
+    /// The place after one more byte.
     fn behind(self, byte: u8) -> Place
         ensures { result ≡ place_behind self byte }
     {
@@ -88,7 +89,7 @@ impl Place {
     }
 }
 
-/// The place behind a byte that isn't a quote.
+/// The place after a byte that isn't a quote.
 fn behind_plain(byte: u8) -> Place
     ensures { result ≡ behind_plain byte }
 {

@@ -1,9 +1,10 @@
-//! The roll of customers and their service.
+//! The customer register: the customers and their service.
 //!
-//! Keeps customers by number, each with its section and the seconds of its service. Promises why a
-//! customer is refused, over any span the seconds at which the customers of a section are in
-//! service, and how many of them have each service. Above it stand the postings, which count the
-//! seconds that are without supply.
+//! Keeps customers by number, each with its section and the seconds of its service. Promises for
+//! which reasons a customer is refused, the sum of the seconds of service over any span of time
+//! for the customers of a section, and how many customers of a section have each service.
+//! Used by `ob_post` and `ob_index`, which count customer-seconds, and by the book's state and
+//! tables.
 #![tactic(auto)]
 
 mod roll;
@@ -23,7 +24,7 @@ pub struct Customer {
     pub section: u16,
     /// The first second of its service.
     pub since: Second,
-    /// The second at which its service is over, None where it has no end.
+    /// The second at which its service ends; `None` if it has no end.
     pub until: Option<Second>,
 }
 
@@ -32,18 +33,18 @@ pub struct Customer {
 pub struct Block {
     /// The first second of their service.
     pub since: Second,
-    /// The second at which their service is over, None where it has no end.
+    /// The second at which their service ends; `None` if it has no end.
     pub until: Option<Second>,
-    /// How many they are.
+    /// The number of these customers.
     pub count: u32,
 }
 
-/// Customers of one section with equal service, counted together, and the section.
+/// A block of customers together with their section.
 #[derive(Clone, Copy, PartialEq, Eq)]
 pub struct SectionBlock {
     /// The section of the customers.
     pub section: u16,
-    /// Their service, and how many they are.
+    /// Their service, and the number of these customers.
     pub block: Block,
 }
 

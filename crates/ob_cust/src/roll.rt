@@ -1,4 +1,4 @@
-//! The roll: the customers by number.
+//! The customer register: the customers by number.
 ghost use Rattle.std.specs.Prelude.{◌≡◌, ◌<◌, ◌≤◌, ◌==◌, ◌%◌, ℕ, List, IfOk, IfErr, OnOk, false, true, length, map, nat_lt, slice_get, slice_index_or};
 ghost use Rattle.std.specs.List.{All, AllPairs, count_by, find};
 ghost use Rattle.std.specs.Result.{is_ok};
@@ -12,17 +12,18 @@ use ob_base::{Refusal, Second, Stop};
 use std::alloc::{AllocError, Global};
 use std::marker::Model;
 
-/// The customers of the network.
+/// The customers of the network. Their services are counted on shelves, each for some of the
+/// sections, so a change moves the services of one shelf only.
 #[derive(Drop)]
 pub struct Roll {
     customers: Vec<Customer>,
     // A section's customers are counted on the shelf `section % shelves.len()`.
     shelves: Vec<Shelf>,
-    // For so many customers more of any section there is room on every shelf.
+    // Every shelf has room for this many more customers, whatever their section.
     room: usize,
 }
 
-// How many shelves a roll has that customers of many sections are connected to.
+// How many shelves a register has that isn't made for one customer.
 const SHELVES: usize = 64;
 
 impl Model for Roll {
@@ -53,7 +54,7 @@ impl Roll {
     ghost use Rattle.ob_cust.specs.Roll.{connect_refusal, ends_too_early, is_bad_service, revise_refusal, revised, with_customer, with_service};
     ghost use Rattle.ob_cust.specs.Service.{served_seconds as served};
 
-    /// A roll of no customer.
+    /// Makes a register without customers.
     pub fn new(alloc: Global) -> Roll
         ensures { result.customers ≡ [] }
     {
@@ -64,7 +65,7 @@ impl Roll {
         }
     }
 
-    /// A roll of one customer, for whom alone it takes memory.
+    /// Makes a register of one customer, with memory for this customer alone.
     pub fn of_one(alloc: Global, customer: Customer) -> Result<Roll, Stop>
         requires service { is_bad_service customer ≡ false }
         ensures roll { IfOk result (λ roll. roll.customers ≡ customer ∷ []) }
@@ -99,10 +100,10 @@ impl Roll {
         Ok(())
     }
 
-    /// Connects a customer. It is refused with `NameTaken` where its number is in use, else with
-    /// `BadService` where its service ends no later than it begins, else with `Full` where there are
-    /// `MOST_CUSTOMERS`. It moves the customers of greater numbers, at most 3.2 MB, and on one shelf
-    /// the services behind its own.
+    /// Connects a customer. Refused with `NameTaken` if its number is in use, else with
+    /// `BadService` if its service ends no later than it begins, else with `Full` if there are
+    /// `MOST_CUSTOMERS`. It moves the customers with greater numbers, at most 3.2 MB, and on one
+    /// shelf the services after its own.
     pub fn connect(&mut self, customer: Customer) -> Result<(), Refusal>
         requires room { 0 < self.old.room }
         ensures refused { result_err result ≡ connect_refusal self.old.customers customer }
@@ -118,7 +119,7 @@ impl Roll {
         Ok(())
     }
 
-    /// Why a customer can't be connected; None where it can.
+    /// Why a customer can't be connected; `None` if it can.
     pub fn connect_refusal(&self, customer: &Customer) -> Option<Refusal>
         ensures { result ≡ connect_refusal self.now.customers customer.now }
     {
@@ -134,7 +135,7 @@ impl Roll {
         None
     }
 
-    /// Adds a customer that isn't refused.
+    /// Adds a customer for whom `connect_refusal` is `None`.
     pub fn add(&mut self, customer: Customer)
         requires room { 0 < self.old.room }
         requires free { connect_refusal self.old.customers customer ≡ None }
@@ -146,14 +147,14 @@ impl Roll {
         let shelf = shelf_of(customer.section, self.shelves.len());
         self.shelves[shelf].add(&customer);
         self.room -= 1;
-        // There is room for one more, so no memory is asked for.
+        // There is room for one more, so `insert` needs no memory.
         if self.customers.insert(place, customer).is_err() {
             unreachable!();
         }
     }
 
-    /// Gives a customer another service. It is refused with `UnknownCustomer` where no customer has
-    /// the number, else with `BadService` where the service would end no later than it begins.
+    /// Gives a customer another service. Refused with `UnknownCustomer` if no customer has the
+    /// number, else with `BadService` if the new service ends no later than it begins.
     pub fn revise(&mut self, no: u32, since: Second, until: Option<Second>) -> Result<(), Refusal>
         ensures refused { result_err result ≡ revise_refusal self.old.customers «no» since until }
         ensures ok { OnOk result (self.new.customers
@@ -171,7 +172,7 @@ impl Roll {
         Ok(())
     }
 
-    /// The customer with a number as it is, or why it can't have this service.
+    /// The customer with a number as it is now, or why it can't get this service.
     #[tactic(auto, using(crate::proofs::Searched::has_found))]
     pub fn customer_for(
         &self,
@@ -194,7 +195,7 @@ impl Roll {
         Ok(customer)
     }
 
-    /// Puts a customer with another service in its place.
+    /// Replaces a customer by the same customer with another service.
     pub fn serve(&mut self, old: Customer, new: Customer)
         requires on { find (λ c. c.«no» == old.«no») self.old.customers ≡ Some old }
         requires new { new ≡ revised new.since new.until old }
@@ -209,7 +210,7 @@ impl Roll {
         self.customers[place] = new;
     }
 
-    /// The customers, by rising number.
+    /// The customers, in order of rising number.
     pub fn customers(&self) -> &[Customer]
         ensures customers { result.now ≡ self.now.customers }
         ensures rising { AllPairs (λ c d. c.«no» < d.«no») result.now }
@@ -229,15 +230,15 @@ impl Roll {
         }
     }
 
-    /// Whether there are `MOST_CUSTOMERS`.
+    /// Whether there are as many as `MOST_CUSTOMERS`.
     pub fn is_full(&self) -> bool
         ensures { result ≡ (length self.now.customers == 100_000) }
     {
         self.customers.len() == MOST_CUSTOMERS
     }
 
-    /// The seconds of service from `a` up to `b`, summed over the customers of a section; 0 where
-    /// `b` is not above `a`.
+    /// The seconds of service from `a` up to `b`, summed over the customers of a section; 0 if `b`
+    /// is not after `a`.
     pub fn served_seconds(&self, section: u16, a: Second, b: Second) -> u64
         requires { b ≤ 99_999_999_999 }
         ensures { result ≡ served self.now.customers section a b }
@@ -253,8 +254,8 @@ impl Roll {
         (begun - over) as u64
     }
 
-    /// The blocks of a section, each service of its customers once, by `since` and then by `until`,
-    /// where a service without end comes first; takes no memory.
+    /// The blocks of a section: each service of its customers once, ordered by `since` and then by
+    /// `until`, where a service without end comes first. Needs no memory.
     pub fn section_blocks(&self, section: u16) -> &[SectionBlock]
         ensures of_section { All (λ b. b.section ≡ section) result.now }
         ensures positive { All (λ b. 0 < b.block.count) result.now }
@@ -271,8 +272,8 @@ impl Roll {
         shelf.services.of_section(section)
     }
 
-    /// The blocks of a section, each service of its customers once, by `since` and then by `until`,
-    /// where a service without end comes first.
+    /// The blocks of a section: each service of its customers once, ordered by `since` and then by
+    /// `until`, where a service without end comes first.
     pub fn blocks(&self, section: u16) -> Result<Vec<Block>, Stop>
         ensures counts { IfOk result (λ blocks. All (λ b. b.count
             ≡ count_by (has_service section b.since b.until) self.now.customers) blocks.items) }
@@ -304,7 +305,7 @@ fn without_section(alloc: Global, blocks: &[SectionBlock]) -> Result<Vec<Block>,
     Ok(plain)
 }
 
-// Makes the shelves where there are none.
+// Makes the shelves if there are none.
 fn make_shelves(shelves: &mut Vec<Shelf>, alloc: Global) -> Result<(), AllocError>
     ensures some { OnOk result (0 < length shelves.new.items) }
     ensures shelves { (customers : List Customer) (room : ℕ)
@@ -318,7 +319,7 @@ fn make_shelves(shelves: &mut Vec<Shelf>, alloc: Global) -> Result<(), AllocErro
     Ok(())
 }
 
-// Shelves of no customer.
+// Makes shelves without customers.
 fn empty_shelves(alloc: Global, count: usize) -> Result<Vec<Shelf>, AllocError>
     ensures len { IfOk result (λ v. length v.items ≡ count) }
     ensures empty { IfOk result (λ v. All IsEmpty v.items) }
@@ -330,7 +331,7 @@ fn empty_shelves(alloc: Global, count: usize) -> Result<Vec<Shelf>, AllocError>
     Ok(shelves)
 }
 
-// Makes room for one customer more on each shelf.
+// Makes room for one more customer on each shelf.
 fn reserve_each(shelves: &mut [Shelf]) -> Result<(), AllocError>
     requires few { All (λ s. s.customers ≤ 100_000) shelves.old }
     ensures len { length shelves.new ≡ length shelves.old }
@@ -344,7 +345,7 @@ fn reserve_each(shelves: &mut [Shelf]) -> Result<(), AllocError>
     Ok(())
 }
 
-// The shelf of a section.
+// The number of the shelf for a section.
 fn shelf_of(section: u16, shelves: usize) -> usize
     requires { 0 < shelves }
     ensures within { result < shelves }
@@ -353,7 +354,7 @@ fn shelf_of(section: u16, shelves: usize) -> usize
     section as usize % shelves
 }
 
-// Where the customer with the number stands, or where it would.
+// The place of the customer with this number, as `Ok`; if missing, where it would be, as `Err`.
 fn place_of(customers: &[Customer], no: u32) -> Result<usize, usize>
     requires { AllPairs (λ c d. c.«no» < d.«no») customers.now }
     ensures known { is_ok result ≡ has_number customers.now «no» }
@@ -366,7 +367,7 @@ fn place_of(customers: &[Customer], no: u32) -> Result<usize, usize>
     customers.binary_search_by_key(&no, |customer| customer.no)
 }
 
-// Where the customer with a number stands, or where it would.
+// The place of the customer with this number, or where it would be.
 fn place_in(customers: &[Customer], no: u32) -> usize
     requires { AllPairs (λ c d. c.«no» < d.«no») customers.now }
     ensures known { has_number customers.now «no» ≡ true → slice_get customers.now result

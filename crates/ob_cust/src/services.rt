@@ -1,4 +1,4 @@
-//! Services of sections in order, each once with how many have it, and the sums of those before it.
+//! Services of sections in order, each once with the number of its customers, and running sums.
 ghost use Rattle.std.specs.Prelude.{◌≡◌, ◌<◌, ◌≤◌, ◌+◌, ◌*◌, ◌^◌, ℕ, Option, true, false, nat_lt, nat_le, length, take, slice_index_or, IfOk, IfErr};
 ghost use Rattle.std.specs.List.{AllWithin};
 ghost use Rattle.std.specs.Vec.{vec_capacity};
@@ -10,15 +10,16 @@ use ob_base::Second;
 use std::alloc::{AllocError, Global};
 use std::marker::Model;
 
-// What stands before a block in its section: the customers, and their first seconds of service, summed.
+// Sums over the blocks before a block in its section: the customers, and the first seconds of
+// their services.
 #[derive(Clone, Copy)]
 struct Before {
     customers: u32,
     seconds: u128,
 }
 
-/// The services of customers, by section, `since` and then `until`, where a service without end
-/// comes first.
+/// The services of customers, ordered by section, `since` and then `until`, where a service
+/// without end comes first.
 #[derive(Drop)]
 pub struct Services {
     blocks: Vec<SectionBlock>,
@@ -48,7 +49,7 @@ impl Services {
     ghost use Rattle.ob_cust.specs.Blocks.{service_cmp, service_of, sum_over_blocks};
     ghost use Rattle.ob_cust.specs.Services.{sum_of, customers_of, since_start};
 
-    /// No services.
+    /// Makes an empty list of services.
     pub fn new(alloc: Global) -> Services
         ensures { result.blocks ≡ [] }
     {
@@ -58,7 +59,7 @@ impl Services {
         }
     }
 
-    /// Makes room for the services of so many customers.
+    /// Makes room for the services of this many customers.
     pub fn reserve(&mut self, customers: usize) -> Result<(), AllocError>
         ensures blocks { self.new.blocks ≡ self.old.blocks }
         ensures ok { OnOk result (customers ≤ self.new.capacity) }
@@ -70,7 +71,7 @@ impl Services {
             .reserve(customers.saturating_sub(self.before.len()))
     }
 
-    /// Counts one customer more of a service.
+    /// Counts one more customer with a service.
     pub fn add(&mut self, section: u16, since: Second, until: Option<Second>)
         requires room { customers_of self.old.blocks < self.old.capacity }
         requires few { customers_of self.old.blocks < 100_000 }
@@ -99,7 +100,7 @@ impl Services {
         }
     }
 
-    /// Counts one customer less of a service that is there.
+    /// Counts one customer less with a service that is in the list.
     pub fn remove(&mut self, section: u16, since: Second, until: Option<Second>)
         requires there { (f : ℕ → ℕ → Option ℕ → ℕ)
             → f section since until ≤ sum_of f self.old.blocks }
@@ -107,7 +108,7 @@ impl Services {
             ≡ sum_of f self.old.blocks }
         ensures capacity { self.new.capacity ≡ self.old.capacity }
     {
-        // No block of such a service: there is nothing to take away.
+        // There is no block of such a service, so there is nothing to remove.
         let Ok(place) = place_of(&self.blocks, section, since, until) else {
             return;
         };
@@ -119,7 +120,8 @@ impl Services {
         }
     }
 
-    /// Counts one customer more of the service without end that begins at `end`, where there is one.
+    /// Counts one more customer with the service without end that begins at `end`, if `end` is
+    /// given.
     pub fn add_end(&mut self, section: u16, end: Option<Second>)
         requires room { customers_of self.old.blocks < self.old.capacity }
         requires few { customers_of self.old.blocks < 100_000 }
@@ -132,7 +134,8 @@ impl Services {
         }
     }
 
-    /// Counts one customer less of the service without end that begins at `end`, where there is one.
+    /// Counts one customer less with the service without end that begins at `end`, if `end` is
+    /// given.
     pub fn remove_end(&mut self, section: u16, end: Option<Second>)
         requires there { (f : ℕ → ℕ → Option ℕ → ℕ)
             → option_map_or (λ since. f section since None) end 0 ≤ sum_of f self.old.blocks }
@@ -159,7 +162,7 @@ impl Services {
         &self.blocks[first..end]
     }
 
-    /// How many seconds have passed at `x` since the services of the section began, summed over their
+    /// The seconds from the beginning of each service of the section up to `x`, summed over the
     /// customers.
     pub fn seconds_passed(&self, section: u16, x: Second) -> u128
         ensures { result ≡ sum_of (since_start section x) self.now.blocks }
@@ -177,7 +180,7 @@ impl Services {
     }
 }
 
-// Where the block of a service stands, or where it would.
+// The place of the block of a service, as `Ok`; if missing, where it would be, as `Err`.
 fn place_of(
     blocks: &[SectionBlock],
     section: u16,
@@ -199,7 +202,7 @@ fn place_of(
     })
 }
 
-// The place of the first block of the section or of a later one.
+// The place of the first block of this section or a later one.
 fn first_of(blocks: &[SectionBlock], section: u16) -> usize
     requires { AreServices blocks.now }
     ensures bound { result ≤ length blocks.now }
@@ -227,7 +230,7 @@ fn end_of(blocks: &[SectionBlock], section: u16) -> usize
     )
 }
 
-// How many blocks are of an earlier section, or of this one and begin before `x`.
+// How many blocks belong to an earlier section, or to this one and begin before `x`.
 fn begun_before(blocks: &[SectionBlock], section: u16, x: Second) -> usize
     requires { AreServices blocks.now }
     ensures bound { result ≤ length blocks.now }
@@ -242,7 +245,7 @@ fn begun_before(blocks: &[SectionBlock], section: u16, x: Second) -> usize
     )
 }
 
-// Gives a block another count.
+// Changes the count of a block.
 fn recount(blocks: &mut Vec<SectionBlock>, before: &mut Vec<Before>, place: usize, count: u32)
     requires services { IsServices blocks.old.items before.old.items }
     requires place { place < length blocks.old.items }
@@ -262,7 +265,7 @@ fn recount(blocks: &mut Vec<SectionBlock>, before: &mut Vec<Before>, place: usiz
     carry(blocks, before, section, place);
 }
 
-// Puts a block at its place.
+// Inserts a block at its place.
 fn put(blocks: &mut Vec<SectionBlock>, before: &mut Vec<Before>, place: usize, block: SectionBlock)
     requires services { IsServices blocks.old.items before.old.items }
     requires place { place ≤ length blocks.old.items }
@@ -286,12 +289,12 @@ fn put(blocks: &mut Vec<SectionBlock>, before: &mut Vec<Before>, place: usize, b
     };
     match (blocks.insert(place, block), before.insert(place, none)) {
         (Ok(()), Ok(())) => carry(blocks, before, block.section, place),
-        // Both have room for one more, so neither asks for memory.
+        // Both lists have room for one more, so `insert` needs no memory.
         _ => unreachable!(),
     }
 }
 
-// Takes out a block.
+// Removes a block.
 fn take_out(blocks: &mut Vec<SectionBlock>, before: &mut Vec<Before>, place: usize)
     requires services { IsServices blocks.old.items before.old.items }
     requires place { place < length blocks.old.items }
@@ -307,7 +310,7 @@ fn take_out(blocks: &mut Vec<SectionBlock>, before: &mut Vec<Before>, place: usi
     carry(blocks, before, section, place);
 }
 
-// Carries the sums on from a place to the end of the section.
+// Recomputes the running sums from a place to the end of the section.
 fn carry(blocks: &[SectionBlock], before: &mut [Before], section: u16, place: usize)
     requires services { AreServices blocks.now }
     requires len { length before.old ≡ length blocks.now }
@@ -326,7 +329,7 @@ fn carry(blocks: &[SectionBlock], before: &mut [Before], section: u16, place: us
     }
 }
 
-// The sums at a place, from those at the place before it.
+// The running sums at a place, from those at the place before it.
 fn sums_at(blocks: &[SectionBlock], before: &[Before], at: usize) -> Before
     requires services { AreServices blocks.now }
     requires len { length before.now ≡ length blocks.now }
@@ -344,7 +347,7 @@ fn sums_at(blocks: &[SectionBlock], before: &[Before], at: usize) -> Before
     with_own(before[at - 1], blocks[at - 1].block)
 }
 
-// The sums with those of a block.
+// The running sums with those of a block added.
 fn with_own(before: Before, block: Block) -> Before
     requires few { before.customers + block.count ≤ 100_000 }
     requires small { before.seconds + block.count * block.since < 2 ^ 128 }

@@ -1,20 +1,20 @@
-//! A shelf: the services of some sections' customers, and the ends of these services.
+//! A shelf: the services of the customers of some sections, and the ends of these services.
 
 use crate::services::Services;
 use crate::{Customer, MOST_CUSTOMERS};
 use std::alloc::{AllocError, Global};
 
-/// The services of some sections' customers.
+/// The services of the customers of some sections.
 ///
-/// A service with an end is one without end, less one that begins at that end. So its end is kept as
-/// such a service.
+/// A service with an end equals a service without end, minus another one without end that begins
+/// at that end. So each end is stored as a service without end.
 #[derive(Drop)]
 pub struct Shelf {
-    /// The customers' services.
+    /// The services of the customers.
     pub services: Services,
-    /// For each service with an end one without end that begins there.
+    /// For each service with an end, a service without end that begins there.
     pub ends: Services,
-    /// How many customers there are.
+    /// The number of customers.
     pub customers: usize,
 }
 
@@ -23,7 +23,7 @@ impl Shelf {
     ghost use Rattle.ob_cust.specs.Services.{sum_of, customers_of};
     ghost use Rattle.ob_cust.specs.Shelves.{at_end, IsRoomier, HasRoom, IsEmpty};
 
-    /// A shelf of no customer.
+    /// Makes a shelf without customers.
     pub fn new(alloc: Global) -> Shelf
         ensures { IsEmpty result }
     {
@@ -34,7 +34,7 @@ impl Shelf {
         }
     }
 
-    /// Makes room for one customer more, whatever services the others get.
+    /// Makes room for one more customer, whatever services the other customers get.
     pub fn reserve_one(&mut self) -> Result<(), AllocError>
         requires few { self.old.customers ≤ 100_000 }
         ensures kept { IsRoomier self.old self.new }
@@ -45,7 +45,7 @@ impl Shelf {
         self.ends.reserve(customers)
     }
 
-    /// Counts one customer more.
+    /// Counts one more customer.
     pub fn add(&mut self, customer: &Customer)
         requires counted { self.old.customers ≡ customers_of self.old.services.blocks }
         requires ends { customers_of self.old.ends.blocks ≤ self.old.customers }
@@ -66,7 +66,7 @@ impl Shelf {
         self.customers += 1;
     }
 
-    /// Counts a customer with its other service in place of its old one.
+    /// Counts a customer with its new service instead of its old one.
     pub fn revise(&mut self, old: &Customer, new: &Customer)
         requires there { (f : ℕ → ℕ → Option ℕ → ℕ)
             → f old.now.section old.now.since old.now.until ≤ sum_of f self.old.services.blocks }

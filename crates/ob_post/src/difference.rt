@@ -1,4 +1,4 @@
-//! The moves between two lists of amounts.
+//! The changes between two lists of amounts.
 ghost use Rattle.std.specs.Prelude.{◌≡◌, ◌^◌, ◌<◌, ◌-ℤ◌, ℕ, ℤ, IfOk, IfErr, length, slice_index_or, pos};
 ghost use Rattle.std.specs.Prelude.{FitsSigned};
 ghost use Rattle.std.specs.Int.{int_wrap, w64};
@@ -15,9 +15,10 @@ use crate::place::{MOST_PLACES, key_at, place_of};
 use ob_base::Stop;
 use std::alloc::Global;
 
-/// The moves from the amounts `taken` to the amounts `given`: for each key what is given less what is
-/// taken, where that isn't 0, in the order cause, feeder, day and then by key. Several rows of a key
-/// count together, and each difference fits an i64. The error is that memory was refused.
+/// The changes that replace the amounts `taken` by the amounts `given`: for each key the sum in
+/// `given` less the sum in `taken`, if that isn't 0, in the order cause, feeder, day and then by
+/// key. A key may have several rows. Each difference fits an `i64`. The error is a failed
+/// allocation.
 pub fn moves(alloc: Global, taken: &[Moved], given: &[Moved]) -> Result<Vec<Moved>, Stop>
     requires taken { HaveKeys 366 taken.now }
     requires given { HaveKeys 366 given.now }
@@ -27,7 +28,8 @@ pub fn moves(alloc: Global, taken: &[Moved], given: &[Moved]) -> Result<Vec<Move
         → delta_of moved.items dim key ≡ delta_of given.now dim key -ℤ delta_of taken.now dim key) }
     ensures no_zero { IfOk result (λ moved. HaveNoZero moved.items) }
     ensures order { IfOk result (λ moved. AreInOrder moved.items) }
-    // As one list: with any number of days that has all their keys, the changes of all keys.
+    // Seen as one list: for any number of days that includes all the keys, these are the changes of
+    // all keys.
     ensures moves { IfOk result (λ moved. (days : ℕ) → HaveKeys days taken.now
         → HaveKeys days given.now → moved.items ≡ moves_by
         (λ dim key. delta_of given.now dim key -ℤ delta_of taken.now dim key) days) }
@@ -51,8 +53,8 @@ pub fn moves(alloc: Global, taken: &[Moved], given: &[Moved]) -> Result<Vec<Move
     Ok(moved)
 }
 
-// The deltas of each key summed, by place. A sum may wrap on the way: the difference of two is exact
-// wherever it fits.
+// The sum of the deltas of each key, by place. A sum may wrap around on the way: the difference of
+// two sums is still exact if it fits.
 fn sums(alloc: Global, rows: &[Moved]) -> Result<Vec<i64>, Stop>
     requires { HaveKeys 366 rows.now }
     ensures places { IfOk result (λ sums. length sums.items ≡ MOST_PLACES) }

@@ -1,23 +1,23 @@
-//! Where the runs that a section had and those that it has then differ.
+//! Where the outage intervals of a section before and after a change differ.
 ghost use Rattle.std.specs.Prelude.{◌≡◌, ◌++◌, ◌-◌, ◌≤◌, drop, length, take};
 
 use ob_sweep::Run;
 
-/// Two lists of runs: what they have in common at the front, what lies between, and what they have in
-/// common at the back.
+/// The comparison of an old and a new list of outage intervals: a common front, what lies between,
+/// and a common back.
 #[derive(Clone, Copy)]
 pub struct Differing<'a> {
-    /// The first runs of both.
+    /// The first intervals, which both lists have.
     pub front: &'a [Run],
-    /// The runs between of the old list.
+    /// The intervals of the old list between front and back.
     pub taken: &'a [Run],
-    /// The runs between of the new list.
+    /// The intervals of the new list between front and back.
     pub given: &'a [Run],
-    /// The last runs of both.
+    /// The last intervals, which both lists have.
     pub back: &'a [Run],
 }
 
-/// Where an old and a new list of runs differ.
+/// Compares an old and a new list of outage intervals.
 pub fn compare<'a>(old: &'a [Run], new: &'a [Run]) -> Differing<'a>
     ensures old { old.now ≡ result.front.now ++ (result.taken.now ++ result.back.now) }
     ensures new { new.now ≡ result.front.now ++ (result.given.now ++ result.back.now) }
@@ -34,7 +34,7 @@ pub fn compare<'a>(old: &'a [Run], new: &'a [Run]) -> Differing<'a>
     }
 }
 
-// How many runs two lists have in common at the front.
+// How many intervals two lists have in common at the front.
 fn common_front(old: &[Run], new: &[Run]) -> usize
     ensures old { result ≤ length old.now }
     ensures new { result ≤ length new.now }
@@ -49,7 +49,7 @@ fn common_front(old: &[Run], new: &[Run]) -> usize
     most
 }
 
-// How many runs two lists have in common at the back.
+// How many intervals two lists have in common at the back.
 fn common_back(old: &[Run], new: &[Run]) -> usize
     ensures old { result ≤ length old.now }
     ensures new { result ≤ length new.now }

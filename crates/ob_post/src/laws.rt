@@ -1,10 +1,11 @@
-//! Laws of the amounts, for a proof that calls them; they do nothing when they run.
+//! Laws of the amounts, for proofs that call them. These functions do nothing when they run.
 ghost use Rattle.ob_post.specs.CauseLaws.{ChangedCause, EnteredCause, SameCause};
 ghost use Rattle.ob_post.specs.MoveLaws.{DifferencesFit, HaveKeysOfMore, MovesAreInOrder, MovesAreOfChange, MovesHaveKeys, MovesLeadTo, NodeReposted, NodeStays, NoneReposted, RepostedDiffer};
 ghost use Rattle.ob_post.specs.SectionLaws.{BySection, ByRuns, Changed, ChangedInRuns, Connected, ConnectedToRuns, Nobody, OneCustomer, RunsLieWithin, SameByCause, SectionByRuns};
 ghost use Rattle.ob_post.specs.TotalLaws.{AddUp, AmountsAreSmall, TotalsAgree, TotalsAreSmall};
 
-/// All customer-seconds under a key are those of the sections' runs, each under its cutter's cause.
+/// States that the customer-seconds under a key are those of the sections' outage intervals, each
+/// counted under its cutter's cause.
 pub fn section_laws()
     ensures within { RunsLieWithin }
     ensures section_by_runs { SectionByRuns }
@@ -13,14 +14,14 @@ pub fn section_laws()
     ensures same_by_cause { SameByCause }
 {}
 
-/// The causes of runs once an entry is new or has changed.
+/// States which causes outage intervals have after an entry is added or changed.
 pub fn cause_laws()
     ensures entered { EnteredCause }
     ensures changed { ChangedCause }
     ensures same { SameCause }
 {}
 
-/// What one customer adds, and what a change of one moves.
+/// States what one customer adds to the amounts, and how a change of a customer changes them.
 pub fn roll_laws()
     ensures nobody { Nobody }
     ensures one { OneCustomer }
@@ -30,7 +31,8 @@ pub fn roll_laws()
     ensures changed_in_runs { ChangedInRuns }
 {}
 
-/// The amounts under all keys of a dimension add up to all customer-seconds, and are below 2^63.
+/// States that the amounts under all keys of a dimension add up to all customer-seconds and are
+/// below 2^63.
 pub fn total_laws()
     ensures add_up { AddUp }
     ensures amounts { AmountsAreSmall }
@@ -38,7 +40,8 @@ pub fn total_laws()
     ensures agree { TotalsAgree }
 {}
 
-/// From what is taken and given to the moves, and from these to the new amounts.
+/// States how the amounts taken back and given lead to the list of changes, and how that list leads
+/// to the new amounts.
 pub fn move_laws()
     ensures none_reposted { NoneReposted }
     ensures node_stays { NodeStays }

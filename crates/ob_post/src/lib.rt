@@ -1,11 +1,11 @@
-//! Customer-seconds without supply by cause, home feeder and day.
+//! Postings: customer-seconds without supply, counted under cause, home feeder and day.
 //!
-//! Keeps the amounts of the postings, and, as rows, what a change takes back of them and gives. Promises that a list of moves
-//! changes exactly the amounts that it names, by what it says; that the moves between two lists of amounts are their
-//! differences, each once and in order; that the amounts of a run are its customer-seconds, second by second and customer by
-//! customer; and that the rows of a change lead from the amounts of the runs and causes before it to those after it, though
-//! only runs that differ are looked at. The definitions say which customer-seconds count under a key; the state of a book
-//! stands above.
+//! Keeps the amounts (`Postings`) and, as rows, the amounts that a change takes back and gives.
+//! Promises that a list of changes alters exactly the amounts that it names, by its deltas; that
+//! the changes between two lists of amounts are their differences, each once and in order; that an
+//! outage interval's amounts are its customer-seconds, second by second and customer by customer;
+//! and that a change's rows turn the old amounts into the new ones, although only differing
+//! intervals are examined. Used by `ob_json`, `ob_replies`, `ob_state` and crates above them.
 #![tactic(auto)]
 
 mod difference;
@@ -22,17 +22,17 @@ pub use posting::Posting;
 pub use postings::Postings;
 pub use run_amounts::{amounts, post_run, post_runs};
 
-/// How many days postings may have.
+/// The most days that postings may have.
 pub const MOST_DAYS: u16 = 366;
 
-/// What customer-seconds are kept by.
+/// A dimension by which customer-seconds are counted.
 #[derive(Clone, Copy, PartialEq, Eq)]
 pub enum Dim {
     /// By the cause of the entry that cut the section off, from 0 (unassigned) to 63.
     Cause,
     /// By the section's home feeder, from 1 to 255.
     Feeder,
-    /// By the day that holds the second, numbered from 0.
+    /// By the day that contains the second, numbered from 0.
     Day,
 }
 
@@ -40,7 +40,7 @@ impl Dim {
     ghost use Rattle.std.specs.Prelude.{◌≡◌};
     ghost use Rattle.ob_post.specs.Keys.{dim_number};
 
-    /// Its number, from 1 to 3.
+    /// The number of the dimension, from 1 to 3.
     pub fn number(&self) -> u8
         ensures { result ≡ dim_number self.now }
     {
@@ -52,7 +52,7 @@ impl Dim {
     }
 }
 
-/// By how many customer-seconds the amount under a key of a dimension moves.
+/// The change, in customer-seconds, of the amount under a key of a dimension.
 #[derive(Clone, Copy, PartialEq, Eq)]
 pub struct Moved {
     pub dim: Dim,

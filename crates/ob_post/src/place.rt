@@ -1,17 +1,17 @@
-//! Where amounts stand in one list: causes 0 to 63, then feeders 1 to 255, then days.
+//! The places of amounts in one list: causes 0 to 63, then feeders 1 to 255, then days.
 ghost use Rattle.std.specs.Prelude.{◌≡◌, ◌<◌};
 ghost use Rattle.ob_post.specs.Keys.{IsKey};
 ghost use Rattle.ob_post.specs.Places.{place_of as the_place_of};
 
 use crate::{Dim, MOST_DAYS};
 
-/// How many places the causes and feeders have.
+/// The number of places of causes and feeders.
 pub const FIXED_PLACES: usize = 64 + 255;
 
-/// How many places there are at most.
+/// The most places that there are.
 pub const MOST_PLACES: usize = FIXED_PLACES + MOST_DAYS as usize;
 
-/// The place of the first feeder, 1.
+/// The place of feeder 1, the first one.
 pub const FIRST_FEEDER: usize = 64;
 
 /// The place of a key.
@@ -27,7 +27,7 @@ pub fn place_of(dim: Dim, key: u16) -> usize
     }
 }
 
-/// The dimension and the key of a place.
+/// The dimension and the key at a place.
 pub fn key_at(place: usize) -> (Dim, u16)
     requires { place < MOST_PLACES }
     ensures exists { IsKey 366 result.0 result.1 }

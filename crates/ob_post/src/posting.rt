@@ -34,7 +34,7 @@ impl Posting {
     ghost use Rattle.ob_post.specs.Balances.{together, Balances, IsOfSmall, Posts};
     ghost use Rattle.ob_post.specs.Causes.{BeginAtCutters, IsSoundChange};
 
-    /// No amount is taken or given yet.
+    /// Makes an empty `Posting`: no amount is taken back or given yet.
     pub fn new(alloc: Global) -> Posting
         ensures { (days : ℕ) (amounts : Dimension → ℕ → ℕ) → Balances days result amounts amounts }
     {
@@ -45,8 +45,8 @@ impl Posting {
         }
     }
 
-    /// Takes back the amounts of a section's runs under the causes of a sheet. The error is that
-    /// memory was refused; rows may have been added by then.
+    /// Takes back the amounts of a section's outage intervals under the causes of a switching log.
+    /// The error is a failed allocation; rows may have been added before it.
     pub fn take(
         &mut self,
         runs: &[Run],
@@ -69,8 +69,8 @@ impl Posting {
         post_runs(runs, &causes, feeder, roll, period, &mut self.taken)
     }
 
-    /// Gives the amounts of a section's runs under the causes of a sheet. The error is that memory
-    /// was refused; rows may have been added by then.
+    /// Gives the amounts of a section's outage intervals under the causes of a switching log. The
+    /// error is a failed allocation; rows may have been added before it.
     pub fn give(
         &mut self,
         runs: &[Run],
@@ -93,8 +93,8 @@ impl Posting {
         post_runs(runs, &causes, feeder, roll, period, &mut self.given)
     }
 
-    // Gives the amounts of a section's runs under the causes that a sheet has once it has changed.
-    // The error is that memory was refused; rows may have been added by then.
+    // Gives the amounts of a section's outage intervals under the causes of a switching log after a
+    // change. The error is a failed allocation; rows may have been added before it.
     fn give_changed(
         &mut self,
         runs: &[Run],
@@ -118,9 +118,10 @@ impl Posting {
         post_runs(runs, &changed, feeder, roll, period, &mut self.given)
     }
 
-    /// Posts the runs of a section that a changed sheet alters: those that the section no longer has
-    /// are taken back, those that it has then are given, and what it keeps is posted anew where its
-    /// cause becomes another. The error is that memory was refused; rows may have been added by then.
+    /// Replaces the amounts of a section whose outage intervals a change of the switching log
+    /// alters. Takes back those of the intervals that disappear, gives those of the new intervals,
+    /// and counts an interval that stays under its new cause if the cause changes. The error is a
+    /// failed allocation; rows may have been added before it.
     pub fn replace(
         &mut self,
         old: &[Run],
@@ -150,8 +151,9 @@ impl Posting {
         self.relabel(runs.back, sheet, change, feeder, roll, period)
     }
 
-    /// Posts the run of a section anew whose cause becomes another once a sheet has changed, where
-    /// there is one. The error is that memory was refused; rows may have been added by then.
+    /// Moves the amounts of the one outage interval of a section whose cause changes with the
+    /// switching log, if there is one. The error is a failed allocation; rows may have been added
+    /// before it.
     pub fn relabel(
         &mut self,
         runs: &[Run],
@@ -181,7 +183,7 @@ impl Posting {
         self.relabel_run(run, before, after, feeder, roll, period)
     }
 
-    // Posts a run anew where its cause becomes another.
+    // Moves the amounts of an outage interval to its new cause, if the cause changes.
     fn relabel_run(
         &mut self,
         run: &Run,
@@ -209,7 +211,8 @@ impl Posting {
         post_run(run, after, feeder, roll, period, &mut self.given)
     }
 
-    /// What is given less what is taken, by key, in a period. The error is that memory was refused.
+    /// The amounts given less the amounts taken back, by key, in a period. The error is a failed
+    /// allocation.
     pub fn moves(&self, period: &CivilDays) -> Result<Vec<Moved>, Stop>
         requires small { IsOfSmall (day_count period.now) self.now }
         ensures moves { (old new : Dimension → ℕ → ℕ)

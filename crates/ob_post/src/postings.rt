@@ -1,4 +1,4 @@
-//! The amounts by cause, feeder and day.
+//! The amounts by cause, home feeder and day.
 
 use crate::place::{FIRST_FEEDER, FIXED_PLACES, place_of};
 use crate::{Dim, Moved};
@@ -6,10 +6,11 @@ use ob_base::Stop;
 use std::alloc::Global;
 use std::marker::Model;
 
-/// Customer-seconds under each cause from 0 to 63, each home feeder from 1 to 255 and each day.
+/// Customer-seconds without supply: under each cause from 0 to 63, each home feeder from 1 to 255
+/// and each day.
 #[derive(Drop)]
 pub struct Postings {
-    // By place.
+    // The amount at each place.
     amounts: Vec<u64>,
 }
 
@@ -33,7 +34,7 @@ impl Postings {
     ghost use Rattle.ob_post.specs.Postings.{amount_of, amount_after, day_count, total_of, total_after};
     ghost use Rattle.ob_post.specs.declared.Dim.{Dim as Dimension};
 
-    /// Postings for that many days, where every amount is 0; the error is that memory was refused.
+    /// Makes postings for `days` days, with every amount 0. The error is a failed allocation.
     pub fn new(alloc: Global, days: u16) -> Result<Postings, Stop>
         requires { days ≤ 366 }
         ensures zero { IfOk result (λ p. (dim : Dimension) (key : ℕ) → amount_of p dim key ≡ 0) }
@@ -54,7 +55,7 @@ impl Postings {
         self.amounts[place_of(dim, key)]
     }
 
-    /// The amounts under all keys of a dimension together, which are less than 2^63.
+    /// The sum of the amounts under all keys of a dimension, which is less than 2^63.
     pub fn total(&self, dim: Dim) -> u64
         ensures value { result ≡ total_of self.now dim }
         ensures below { result < 2 ^ 63 }
@@ -74,8 +75,9 @@ impl Postings {
         }
     }
 
-    /// Moves the amounts, each by its deltas; every other amount stays as it is. A key may have several
-    /// rows, in any order: an amount may fall below 0 or rise above any bound on the way, not in the end.
+    /// Changes the amounts by the deltas; every other amount stays as it is. A key may have several
+    /// rows, in any order. During the call an amount may be below 0 or above any bound, but not at
+    /// its end.
     pub fn apply(&mut self, moved: &[Moved])
         requires keys { HaveKeys (day_count self.old) moved.now }
         requires floor { (dim : Dimension) (key : ℕ) → IsKey (day_count self.old) dim key
@@ -83,7 +85,8 @@ impl Postings {
         requires ceiling { (dim : Dimension) → total_after self.old moved.now dim < 2 ^ 63 }
         ensures amounts { (dim : Dimension) (key : ℕ) → IsKey (day_count self.old) dim key
             → pos (amount_of self.new dim key) ≡ amount_after self.old moved.now dim key }
-        // Moved by the change from the amounts that it keeps to new ones, it keeps the new ones.
+        // If these changes turn the current amounts into some new ones, the amounts are the new
+        // ones.
         ensures led { (new : Dimension → ℕ → ℕ) → LeadTo self.old moved.now new
             → (dim : Dimension) (key : ℕ) → IsKey (day_count self.old) dim key
             → amount_of self.new dim key ≡ new dim key }

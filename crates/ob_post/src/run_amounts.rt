@@ -1,4 +1,4 @@
-//! The amounts of runs.
+//! The customer-seconds of outage intervals.
 ghost use Rattle.std.specs.Prelude.{◌≡◌, ◌<◌, ◌≤◌, ◌+ℤ◌, ℕ, List, length, map, take, pos, IfOk, OnOk, IfErr};
 ghost use Rattle.std.specs.List.{All, zip};
 ghost use Rattle.ob_net.specs.Network.{Network};
@@ -20,9 +20,9 @@ use ob_sweep::Run;
 use ob_time::CivilDays;
 use std::alloc::Global;
 
-/// The customer-seconds of a run that lies in the period: under its cause, under its section's home
-/// feeder, and under each day that it touches those of the part in that day, which may be 0. The
-/// error is that memory was refused.
+/// The customer-seconds of an outage interval that lies in the period: under its cause, under its
+/// section's home feeder, and under each day that it touches. The part in a day may be 0. The error
+/// is a failed allocation.
 pub fn amounts(
     alloc: Global,
     run: &Run,
@@ -41,7 +41,8 @@ pub fn amounts(
     ensures customer_seconds { IfOk result (λ moved. AddUpTo moved.items
         (customer_seconds_in roll.now.customers run.now cause feeder (days_of period.now))) }
 
-    // Where it is a run of a network under a sheet, they are its part of the customer-seconds without supply.
+    // For an outage interval of a network under a switching log, they are its part of the
+    // customer-seconds without supply.
     ensures without_supply { (net : Network) (entries : List Entry) (p : Days)
         → p.days ≡ days_of period.now → IsRunOf net entries p run.now cause feeder
         → IfOk result (λ moved. AddUpTo moved.items
@@ -55,8 +56,9 @@ pub fn amounts(
     Ok(moved)
 }
 
-/// Appends the customer-seconds of runs that lie in the period, of sections of one home feeder, each
-/// under its own cause. The error is that memory was refused; rows may have been appended by then.
+/// Appends the customer-seconds of outage intervals that lie in the period, of sections with the
+/// same home feeder, each under its own cause. The error is a failed allocation; rows may have been
+/// appended before it.
 pub fn post_runs(
     runs: &[Run],
     causes: &[u8],
@@ -74,7 +76,8 @@ pub fn post_runs(
         (amount_of_posted roll.now.customers (days_of period.now) feeder (zip runs.now causes.now)
         dim key)) }
 
-    // Where the causes are those that the runs' cutters have in a sheet, the amount is that of the runs.
+    // If the causes are those of the intervals' cutters in a switching log, the amount is that of
+    // the intervals.
     ensures amounts { (entries : List Entry) → causes.now ≡ map (run_cause entries) runs.now
         → OnOk result ((dim : Dimension) (key : ℕ)
         → delta_of rows.new.items dim key ≡ delta_of rows.old.items dim key +ℤ pos
@@ -90,8 +93,8 @@ pub fn post_runs(
     Ok(())
 }
 
-/// Appends the customer-seconds of a run that lies in the period, as `amounts` gives them. The error
-/// is that memory was refused; rows may have been appended by then.
+/// Appends the customer-seconds of an outage interval that lies in the period, as `amounts` gives
+/// them. The error is a failed allocation; rows may have been appended before it.
 pub fn post_run(
     run: &Run,
     cause: u8,
@@ -147,7 +150,7 @@ pub fn post_run(
     Ok(())
 }
 
-// The seconds of service as a delta: 100,000 customers have far fewer than 2^63.
+// The seconds of service as a delta: for 100,000 customers they are far below 2^63.
 fn served_delta(roll: &Roll, section: u16, since: Second, until: Second) -> i64
     requires { until ≤ 99_999_999_999 }
     ensures { result ≡ pos (served roll.now.customers section since until) }

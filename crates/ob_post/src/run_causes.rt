@@ -1,4 +1,4 @@
-//! The causes that runs are posted to: each is its cutter's.
+//! The causes under which outage intervals are counted: each is its cutter's.
 ghost use Rattle.std.specs.Prelude.{◌≡◌, ◌<◌, List, IfOk, IfErr, IfSome, length, map};
 ghost use Rattle.std.specs.List.{All, AllPairs};
 ghost use Rattle.ob_base.specs.Stop.{out_of_memory};
@@ -16,7 +16,8 @@ use ob_sheet::{Entry, Sheet};
 use ob_sweep::{Change, Run};
 use std::alloc::Global;
 
-/// The cause that a run has under a sheet; 0 where no entry cut the section off, as where the end of a life did.
+/// The cause of an outage interval under a switching log; 0 if no entry cut the section off, for
+/// example if the end of an in-service interval did.
 pub fn cause_before(sheet: &Sheet, run: &Run) -> u8
     ensures { result ≡ run_cause sheet.now.entries run.now }
 {
@@ -26,7 +27,7 @@ pub fn cause_before(sheet: &Sheet, run: &Run) -> u8
     }
 }
 
-/// The cause that a run has after a change.
+/// The cause of an outage interval after a change.
 pub fn cause_after(sheet: &Sheet, change: &Change, run: &Run) -> u8
     requires applies { Applies change.now sheet.now.entries }
     requires numbered { AreNumbered sheet.now.entries }
@@ -43,8 +44,8 @@ pub fn cause_after(sheet: &Sheet, change: &Change, run: &Run) -> u8
     }
 }
 
-/// The place of the one run that may have another cause after a change: a corrected entry's
-/// run begins at the entry's second.
+/// The place of the only outage interval whose cause may differ after a change: the interval of a
+/// corrected entry begins at the entry's second.
 pub fn place_recaused(runs: &[Run], change: &Change) -> Option<usize>
     requires some { All (λ r. r.since < r.until) runs.now }
     requires rising { AllPairs (λ r s. r.until < s.since) runs.now }
@@ -62,7 +63,7 @@ pub fn place_recaused(runs: &[Run], change: &Change) -> Option<usize>
     }
 }
 
-/// The causes that runs have under a sheet.
+/// The causes of outage intervals under a switching log.
 pub fn causes_before(alloc: Global, sheet: &Sheet, runs: &[Run]) -> Result<Vec<u8>, Stop>
     ensures causes { IfOk result (λ causes. causes.items
         ≡ map (run_cause sheet.now.entries) runs.now) }
@@ -75,7 +76,7 @@ pub fn causes_before(alloc: Global, sheet: &Sheet, runs: &[Run]) -> Result<Vec<u
     Ok(causes)
 }
 
-/// The causes that runs have after a change.
+/// The causes of outage intervals after a change.
 pub fn causes_after(
     alloc: Global,
     sheet: &Sheet,
@@ -95,7 +96,7 @@ pub fn causes_after(
     Ok(causes)
 }
 
-// The cause of a run, where an entry has this cause and the others have theirs.
+// The cause of an outage interval if one entry has this cause and the others have their own.
 fn cause_with(sheet: &Sheet, entry: &Entry, run: &Run) -> u8
     ensures { result ≡ cause_of_run_with sheet.now.entries entry.now.«no» entry.now.cause run.now }
 {
@@ -106,7 +107,7 @@ fn cause_with(sheet: &Sheet, entry: &Entry, run: &Run) -> u8
     }
 }
 
-// The cause of the entry with a number; 0 where there is none.
+// The cause of the entry with a number; 0 if there is none.
 fn cause_of(sheet: &Sheet, number: u32) -> u8
     ensures { result ≡ cause_under sheet.now.entries number }
 {

@@ -1,4 +1,4 @@
-//! The bytes of a stream that were read ahead and that no request has taken yet.
+//! The bytes of a stream that were read but that no request has taken yet.
 ghost use Rattle.std.specs.Prelude.{◌≡◌, ◌<◌, ◌≤◌, [], List, ℕ, drop, take, length, true, false, Ok, OnOk, IfOk, IfErr, vec_len};
 ghost use Rattle.std.specs.Io.KnownBytes.{Keeps, IsAtEnd};
 ghost use Rattle.ob_stream.specs.Watching.{watched_bytes};
@@ -11,16 +11,16 @@ use std::alloc::Global;
 use std::io::Read;
 use std::marker::Model;
 
-/// The most bytes of a head, the empty lines before it among them.
+/// The most bytes of a head, including the empty lines before it.
 pub(crate) const HEAD_BOUND: usize = 16_384;
 
-/// Room for the field lines of any head within the bound, since a line has three bytes at least.
+/// Room for the field lines of any head within the bound, since each line has at least three bytes.
 pub(crate) const FIELD_ROOM: usize = 5_461;
 
-/// How many bytes one read takes at most.
+/// The most bytes that one read takes.
 pub(crate) const PIECE: usize = 4_096;
 
-/// The bytes of a stream that were read ahead, at most 16,384, with room for the fields of one head.
+/// The bytes read but not yet taken, at most 16,384, with room for the fields of one head.
 #[derive(Drop)]
 pub struct Ahead {
     pub(crate) bytes: Vec<u8>,
@@ -36,7 +36,7 @@ impl Model for Ahead {
 }
 
 impl Ahead {
-    /// No byte read ahead.
+    /// Makes an empty store of bytes, with none read yet.
     pub fn new(alloc: Global) -> Result<Ahead, Fault>
         ensures none { IfOk result (λ ahead. ahead ≡ []) }
         ensures fault { IfErr result (λ f. f ≡ Fault.OutOfMemory) }
@@ -51,7 +51,7 @@ impl Ahead {
     }
 }
 
-/// Reads ahead once. False says that the stream has ended.
+/// Reads once more. False means that the stream has ended.
 pub(crate) fn read_ahead<R: Read>(
     reader: &mut Watched<R>,
     retries: &mut Retries,
@@ -81,7 +81,7 @@ pub(crate) fn read_ahead<R: Read>(
     }
 }
 
-/// Takes the first bytes away.
+/// Drops the first `count` bytes.
 pub(crate) fn drop_front(bytes: &mut Vec<u8>, count: usize)
     requires { count ≤ vec_len bytes.old }
     ensures rest { bytes.new.items ≡ drop count bytes.old.items }
@@ -92,7 +92,7 @@ pub(crate) fn drop_front(bytes: &mut Vec<u8>, count: usize)
     bytes.truncate(left);
 }
 
-/// Takes the first bytes out.
+/// Removes the first `count` bytes and answers them.
 pub(crate) fn take_front(alloc: Global, bytes: &mut Vec<u8>, count: usize) -> Result<Vec<u8>, Fault>
     requires { count ≤ vec_len bytes.old }
     ensures front { IfOk result (λ front. front.items ≡ take count bytes.old.items) }

@@ -11,7 +11,7 @@ use ob_stream::{Retries, Watched, read_some};
 use std::alloc::Global;
 use std::io::Read;
 
-/// Reads on until the body has its length. False says that the stream ended before.
+/// Reads on until the body has its full length. False means that the stream ended before that.
 fn fill_body<R: Read>(
     reader: &mut Watched<R>,
     retries: &mut Retries,
@@ -43,7 +43,7 @@ fn fill_body<R: Read>(
     Ok(true)
 }
 
-/// Reads a body after what was read ahead.
+/// Reads a body that begins with the bytes already read.
 fn body_over<R: Read>(
     alloc: Global,
     reader: &mut Watched<R>,
@@ -69,7 +69,8 @@ fn body_over<R: Read>(
     }
 }
 
-/// Reads a body of `size` bytes and no byte past it (RFC 9112, section 6.3). `None` says that the stream has fewer.
+/// Reads a body of `size` bytes and no byte past it (RFC 9112, section 6.3). `None` means that the
+/// stream has fewer bytes.
 pub fn read_body<R: Read>(
     alloc: Global,
     reader: &mut Watched<R>,

@@ -1,4 +1,4 @@
-//! What the field lines of a head say.
+//! Reading the field lines of a head by name.
 ghost use Rattle.std.specs.Prelude.{◌≡◌, length, map, All};
 ghost use Rattle.std.specs.Str.{str_eq_ignore_ascii_case};
 ghost use Rattle.httparse.specs.Spans.{IsHeaderWithin, header_bytes};
@@ -7,7 +7,7 @@ ghost use Rattle.ob_requests.specs.Fields.{is_named, values_of, Tells, says, lis
 use crate::list::is_listed;
 use httparse::spans::HeaderSpan;
 
-/// The fields with one name.
+/// The fields that have one given name.
 #[derive(Clone, Copy)]
 pub(crate) enum Named<'b> {
     Absent,
@@ -15,7 +15,7 @@ pub(crate) enum Named<'b> {
     Several,
 }
 
-/// Whether a field has this name, in any case.
+/// Whether a field has this name, ignoring case.
 fn is_named(bytes: &[u8], field: &HeaderSpan, name: &[u8]) -> bool
     requires { IsHeaderWithin (length bytes.now) field.now }
     ensures { result ≡ is_named name.now (header_bytes bytes.now field.now) }
@@ -23,7 +23,7 @@ fn is_named(bytes: &[u8], field: &HeaderSpan, name: &[u8]) -> bool
     field.name.of(bytes).eq_ignore_ascii_case(name)
 }
 
-/// The value of the field with this name, where it is there once.
+/// The value of the field with this name, if exactly one field has it.
 pub(crate) fn value_named<'b>(bytes: &'b [u8], fields: &[HeaderSpan], name: &[u8]) -> Named<'b>
     requires { All (IsHeaderWithin (length bytes.now)) fields.now }
     ensures { Tells result (values_of name.now (map (header_bytes bytes.now) fields.now)) }
@@ -49,7 +49,7 @@ fn is_text(value: &[u8], text: &[u8]) -> bool
     value.eq_ignore_ascii_case(text)
 }
 
-/// Whether one of the fields with this name has this value, in any case.
+/// Whether one of the fields with this name has this value, ignoring case.
 pub(crate) fn is_said(bytes: &[u8], fields: &[HeaderSpan], name: &[u8], text: &[u8]) -> bool
     requires { All (IsHeaderWithin (length bytes.now)) fields.now }
     ensures { result ≡ says text.now (values_of name.now (map (header_bytes bytes.now) fields.now)) }
@@ -62,7 +62,7 @@ pub(crate) fn is_said(bytes: &[u8], fields: &[HeaderSpan], name: &[u8], text: &[
     false
 }
 
-/// Whether one of the fields with this name lists this option, in any case.
+/// Whether one of the fields with this name lists this option, ignoring case.
 pub(crate) fn has_option(bytes: &[u8], fields: &[HeaderSpan], name: &[u8], option: &[u8]) -> bool
     requires { All (IsHeaderWithin (length bytes.now)) fields.now }
     ensures { result ≡ lists option.now (values_of name.now

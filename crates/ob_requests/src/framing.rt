@@ -1,4 +1,4 @@
-//! What a head asks of the connection.
+//! What a head requests of the connection.
 ghost use Rattle.std.specs.Prelude.{◌≡◌, ◌≤◌, length, map, take, All, codes};
 ghost use Rattle.httparse.specs.Grammar.{RequestHead};
 ghost use Rattle.httparse.specs.Spans.{IsHeaderWithin, header_bytes, IsRequestWithin, IsRequestAt, span_bytes};
@@ -9,22 +9,24 @@ use crate::field::{Named, has_option, is_said, value_named};
 use httparse::spans::{HeaderSpan, RequestSpans};
 use ob_base::read_number;
 
-/// The most bytes of a body.
+/// The most bytes that a body may have.
 const BODY_BOUND: u64 = 4_194_304;
 
-/// The methods that are known (RFC 9110, section 9.3).
+/// The methods that the server knows (RFC 9110, section 9.3).
 #[derive(Clone, Copy, Debug, PartialEq, Eq)]
 pub enum Method {
     Get,
     Post,
 }
 
-/// Why a head is refused, by the status that answers it (RFC 9110, section 15, and RFC 6585, section 5).
+/// Why a head is refused, by the status of the answer (RFC 9110, section 15, and RFC 6585,
+/// section 5).
 #[derive(Clone, Copy, Debug, PartialEq, Eq)]
 pub enum HeadRefusal {
-    /// 400: no head, a target that isn't in origin form, a Host too few or too many, or no one Content-Length.
+    /// 400: no valid head, a target that isn't in origin form, a Host that is repeated or, in
+    /// HTTP/1.1, missing, or a Content-Length that is repeated or invalid.
     BadRequest,
-    /// 501: a transfer coding, or another method than GET and POST.
+    /// 501: a transfer coding, or a method other than GET and POST.
     NotImplemented,
     /// 411: a POST without Content-Length.
     LengthRequired,
@@ -34,7 +36,7 @@ pub enum HeadRefusal {
     FieldsTooLarge,
 }
 
-/// How a request goes on after its head.
+/// What follows a request's head.
 #[derive(Clone, Copy, Debug, PartialEq, Eq)]
 pub struct Framing {
     pub method: Method,
@@ -126,7 +128,7 @@ fn closes(bytes: &[u8], fields: &[HeaderSpan], version: u8) -> bool
     version == 0 || has_option(bytes, fields, b"connection", b"close")
 }
 
-/// What a head asks, or the status that refuses it.
+/// What a head requests, or the status that refuses it.
 pub(crate) fn find_framing(
     bytes: &[u8],
     spans: &RequestSpans,

@@ -1,4 +1,4 @@
-//! Finding a request's head in the bytes read ahead.
+//! Finding a request's head in the bytes already read.
 ghost use Rattle.std.specs.Prelude.{◌≡◌, ◌≤◌, length, OnOk, IfOk, IfErr, IfSome, vec_len};
 ghost use Rattle.std.specs.Io.KnownBytes.{Keeps};
 ghost use Rattle.httparse.specs.Grammar.{NeverHasRequest};
@@ -15,7 +15,7 @@ use ob_base::Fault;
 use ob_stream::{Retries, Watched};
 use std::io::Read;
 
-/// What a parse says of the bytes so far.
+/// The result of parsing the bytes read so far.
 #[derive(Clone, Copy)]
 pub(crate) enum Parsed {
     Whole(RequestSpans),
@@ -23,7 +23,7 @@ pub(crate) enum Parsed {
     Refused,
 }
 
-/// Parses the bytes so far.
+/// Parses the bytes read so far.
 pub(crate) fn parse_head(bytes: &[u8], fields: &mut [HeaderSpan]) -> Parsed
     requires bound { length bytes.now ≤ HEAD_BOUND }
     requires room { FIELD_ROOM ≤ length fields.old }
@@ -39,21 +39,21 @@ pub(crate) fn parse_head(bytes: &[u8], fields: &mut [HeaderSpan]) -> Parsed
     }
 }
 
-/// What a stream goes on with.
+/// What comes next in a stream.
 #[derive(Clone, Copy)]
 pub(crate) enum NextHead {
     Head(RequestSpans),
-    /// No byte more.
+    /// No more bytes: the stream has ended.
     End,
-    /// A head that the stream's end cuts off.
+    /// The beginning of a head; the stream ends inside it.
     Cut,
-    /// Bytes that no head begins with.
+    /// Bytes with which no head begins.
     NoHead,
-    /// A head past the bound.
+    /// A head longer than the bound.
     TooLong,
 }
 
-/// Reads ahead until it is clear what the stream goes on with.
+/// Reads until it is clear what comes next in the stream.
 pub(crate) fn read_head<R: Read>(
     reader: &mut Watched<R>,
     retries: &mut Retries,

@@ -1,8 +1,9 @@
 //! The requests of a stream, read from its bytes in pieces of any size (RFC 9112).
 //!
-//! Keeps the bytes that were read ahead, and the checks of a request's head. Promises that the bytes of a stream say
-//! which requests it has, whatever the pieces, or how it ends: by no byte more, by bytes that a status answers, or
-//! inside a request. It knows nothing of routes and books: above it stands the desk.
+//! Keeps the bytes read but not yet taken, and the checks of a request's head. Promises that the
+//! bytes of a stream alone determine its requests and its ending, in whatever pieces they arrive.
+//! A stream ends with no more bytes, with bytes that are answered with an error status, or inside
+//! a request. This crate knows nothing of routes or books. Used by `ob_routes` and `ob_desk`.
 #![tactic(auto)]
 
 mod ahead;

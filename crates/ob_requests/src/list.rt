@@ -1,4 +1,4 @@
-//! Values that list options between commas (RFC 9110, section 5.6.1).
+//! Field values that list options separated by commas (RFC 9110, section 5.6.1).
 ghost use Rattle.std.specs.Prelude.{◌≡◌, reverse};
 ghost use Rattle.std.specs.Str.{str_eq_ignore_ascii_case};
 ghost use Rattle.httparse.specs.Grammar.{skip_ows, trim_ows};
@@ -28,7 +28,7 @@ fn trim_end(mut text: &[u8]) -> &[u8]
     text
 }
 
-/// Whether an element is this option, in any case, without the white space around it.
+/// Whether an element is this option, ignoring case and the white space around it.
 #[tactic(auto, unfolding(httparse::specs::Grammar::trim_ows))]
 fn is_option(element: &[u8], option: &[u8]) -> bool
     ensures { result ≡ str_eq_ignore_ascii_case (trim_ows element.now) option.now }
@@ -36,7 +36,7 @@ fn is_option(element: &[u8], option: &[u8]) -> bool
     trim_end(trim_start(element)).eq_ignore_ascii_case(option)
 }
 
-/// Whether a value lists this option, in any case.
+/// Whether a value lists this option, ignoring case.
 pub(crate) fn is_listed(value: &[u8], option: &[u8]) -> bool
     ensures { result ≡ says option.now (elements value.now) }
 {

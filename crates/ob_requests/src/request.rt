@@ -16,11 +16,11 @@ use ob_stream::{Retries, Watched, write_text};
 use std::alloc::Global;
 use std::io::{Read, Write};
 
-/// A request as it was read.
+/// A request as it was read from the stream.
 #[derive(Debug, Drop)]
 pub struct Request {
     pub method: Method,
-    /// The request target as it stands, which begins with a slash.
+    /// The request target exactly as received; it begins with a slash.
     pub target: String,
     pub body: Vec<u8>,
     /// The client waited for an interim reply before it sent the body.
@@ -32,7 +32,7 @@ pub struct Request {
 impl Request {
     ghost use Rattle.ob_requests.specs.Message.{path_of};
 
-    /// The target up to its query (RFC 3986, section 3.4), as it stands: nothing is decoded.
+    /// The target up to its query (RFC 3986, section 3.4), exactly as received: nothing is decoded.
     pub fn path(&self) -> &str
         ensures { result.now ≡ path_of (string_bytes self.now.target) }
     {
@@ -43,19 +43,19 @@ impl Request {
     }
 }
 
-/// How a stream goes on.
+/// What comes next in a stream.
 #[derive(Debug, Drop)]
 pub enum Next {
     Request(Request),
-    /// Bytes that a status answers, after which nothing more is read.
+    /// Bytes that are answered with an error status. Nothing more is read after them.
     Refused(HeadRefusal),
-    /// No byte more.
+    /// No more bytes: the stream has ended.
     End,
     /// The stream ends inside a request.
     Cut,
 }
 
-/// Writes the interim reply, where the client waits for it.
+/// Writes the interim reply, if the client waits for it.
 #[tactic(auto, unfolding(crate::specs::Continue::continue_text))]
 fn write_interim<W: Write>(
     writer: &mut Watched<W>,
@@ -75,8 +75,8 @@ fn write_interim<W: Write>(
     }
 }
 
-/// Reads the next request, and before its body writes the interim reply where the client waits for it. The bytes
-/// after the request stay unread. After anything but a request the stream isn't read on.
+/// Reads the next request, and writes the interim reply before the body if the client waits for
+/// it. The bytes after the request stay unread. After anything but a request, nothing more is read.
 pub fn read_request<R: Read, W: Write>(
     alloc: Global,
     reader: &mut Watched<R>,

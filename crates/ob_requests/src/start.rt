@@ -1,4 +1,4 @@
-//! The head of a request, with what it asks.
+//! The head of a request, with its method, framing and target.
 ghost use Rattle.std.specs.Prelude.{◌≡◌, ◌≤◌, length, IfOk, IfErr, IsUtf8, vec_len, string_bytes};
 ghost use Rattle.ob_stream.specs.Watching.{watched_bytes};
 ghost use Rattle.ob_requests.specs.Unread.{unread};
@@ -13,26 +13,26 @@ use ob_stream::{Retries, Watched};
 use std::alloc::Global;
 use std::io::Read;
 
-/// How a stream goes on, up to a head.
+/// What comes next in a stream, up to the end of a head.
 #[derive(Debug, Drop)]
 pub enum Start {
-    /// A head: what it asks, and its target.
+    /// A head: its framing and its target.
     Head(Framing, String),
-    /// Bytes that a status answers, after which nothing more is read.
+    /// Bytes that are answered with an error status. Nothing more is read after them.
     Refused(HeadRefusal),
-    /// No byte more.
+    /// No more bytes: the stream has ended.
     End,
     /// The stream ends inside a head.
     Cut,
 }
 
-/// The text of bytes that are one.
+/// Copies bytes that are valid UTF-8 into a text.
 fn text_of(alloc: Global, bytes: &[u8]) -> Result<String, Fault>
     requires { IsUtf8 bytes.now }
     ensures text { IfOk result (λ text. string_bytes text ≡ bytes.now) }
     ensures fault { IfErr result (λ f. f ≡ Fault.OutOfMemory) }
 {
-    // They are one, so the test of them doesn't fail.
+    // The bytes are valid UTF-8 by the contract, so this test never fails.
     let Ok(text) = std::str::from_utf8(bytes) else {
         unreachable!()
     };
@@ -42,7 +42,7 @@ fn text_of(alloc: Global, bytes: &[u8]) -> Result<String, Fault>
     }
 }
 
-/// Reads the next head, over room for its fields.
+/// Reads the next head, with the given room for its fields.
 fn start_over<R: Read>(
     alloc: Global,
     reader: &mut Watched<R>,
@@ -75,8 +75,8 @@ fn start_over<R: Read>(
     Ok(Start::Head(framing, target))
 }
 
-/// Reads the next head of a stream, and checks it in the order of RFC 9112: its lines, its target, Host, the framing
-/// of its body, its method. What is refused ends the stream.
+/// Reads the next head of a stream, and checks it in the order of RFC 9112: its lines, its target,
+/// Host, the framing of its body, its method. After a refused head the stream is read no further.
 pub fn read_start<R: Read>(
     alloc: Global,
     reader: &mut Watched<R>,

@@ -1,4 +1,5 @@
-//! The numbers of the kept entries by device: places among them, and what the entries before a place leave.
+//! The kept entries' numbers by device: searches in that list, and the positions that entries
+//! leave.
 ghost use Rattle.std.specs.Prelude.{◌≡◌, ◌==◌, ◌<◌, ◌≤◌, None, Some, IfErr, IfOk, drop, length, not, slice_get, take};
 ghost use Rattle.std.specs.List.{All, filter, last_or, prefix_len};
 ghost use Rattle.ob_base.specs.Stop.{out_of_memory};
@@ -14,7 +15,8 @@ use ob_base::{Pos, Second, Stop};
 use ob_net::Net;
 use std::alloc::Global;
 
-/// A device, a second and a number: an entry of the device with them, and those before it.
+/// A bound in the list by device: the entries of lower devices, and those of `device` up to and
+/// including an entry with this second and this number.
 #[derive(Clone, Copy)]
 pub(crate) struct Until {
     pub device: u16,
@@ -22,9 +24,10 @@ pub(crate) struct Until {
     pub no: u32,
 }
 
-/// How many numbers by device are until there, where it is known of the first `from`.
+/// How many numbers of the list by device are within the bound. The first `from` are known to be.
 ///
-/// Looks at a number of them that grows as the logarithm of how many are behind `from`.
+/// The search doubles its steps, so its work grows with the logarithm of how many numbers come
+/// after `from`.
 pub(crate) fn place_by_device(
     entries: &[Entry],
     by_device: &[u32],
@@ -51,7 +54,7 @@ pub(crate) fn place_by_device(
     place_between(entries, by_device, low, by_device.len(), until)
 }
 
-/// How many numbers by device are until there, where it is at least `from` and at most `to`.
+/// How many numbers of the list by device are within the bound, at least `from` and at most `to`.
 fn place_between(
     entries: &[Entry],
     by_device: &[u32],
@@ -82,7 +85,7 @@ fn place_between(
     low
 }
 
-/// Whether the entry with a number is, by device, until there.
+/// Whether the entry with a number is within the bound.
 fn is_number_until(entries: &[Entry], number: u32, until: Until) -> bool
     requires numbered { AreNumbered entries.now }
     requires some { 1 ≤ number }
@@ -94,7 +97,8 @@ fn is_number_until(entries: &[Entry], number: u32, until: Until) -> bool
         || entry.device == until.device && !is_after(entry, until.second, until.no)
 }
 
-/// The last number of a device before a place by device, where no later device stands before it.
+/// The last number of a device before a place of the list by device. No number before the place
+/// belongs to a later device.
 pub(crate) fn last_before(
     entries: &[Entry],
     by_device: &[u32],
@@ -113,7 +117,8 @@ pub(crate) fn last_before(
     (entries[number as usize - 1].device == device).then_some(number)
 }
 
-/// The first number of a device from a place by device on, where no earlier device stands there or behind.
+/// The first number of a device at a place of the list by device or after it. No number there
+/// belongs to an earlier device.
 pub(crate) fn first_from(
     entries: &[Entry],
     by_device: &[u32],
@@ -131,7 +136,7 @@ pub(crate) fn first_from(
     (entries[number as usize - 1].device == device).then_some(number)
 }
 
-/// The positions of the devices after the entries in order until a second and a number.
+/// The positions of the devices after the entries in order, up to a second and a number.
 pub(crate) fn positions_until(
     alloc: Global,
     entries: &[Entry],
@@ -164,7 +169,8 @@ pub(crate) fn positions_until(
     Ok(positions)
 }
 
-/// The position of a device after the entries in order until a second and a number, from their place by device.
+/// The position of a device after the entries in order up to a second and a number, found by their
+/// place in the list by device.
 fn position_until(
     entries: &[Entry],
     by_device: &[u32],

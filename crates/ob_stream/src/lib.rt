@@ -1,8 +1,10 @@
-//! Texts in and out of readers and writers that may fail or be interrupted.
+//! Reading and writing texts over streams that may fail or be interrupted.
 //!
-//! Keeps `Watched`, a reader or writer that remembers its failures, and the retries of interrupted calls.
-//! Promises that a text is read or written whole, or that the fault which is answered was the stream's own.
-//! Above it stand the program, the import, the export and the desk.
+//! Keeps `Watched`, a reader or writer that remembers its failures, and the count of retries of
+//! interrupted calls. Promises that a text is read or written whole. A fault of the input means
+//! that the reader failed or has more bytes than the limit; a fault of the output means that the
+//! writer failed. Used by `ob_net`, `ob_requests`, `ob_import`, `ob_desk`, `ob_total`, `ob_jobs`
+//! and `outagebook`.
 #![tactic(auto)]
 
 mod stream;

@@ -12,21 +12,21 @@ use std::alloc::Global;
 use std::io;
 use std::io::{ErrorKind, Read, Write};
 
-/// How often interrupted calls are tried again, whoever makes them.
+/// How many more times interrupted calls may be tried again. All calls on a stream share it.
 #[derive(Drop)]
 pub struct Retries {
     left: u32,
 }
 
 impl Retries {
-    /// As many as a stream has.
+    /// The full number of retries, 65,536.
     pub fn new() -> Retries
         ensures { retries_left result ≡ 65536 }
     {
         Retries { left: 65_536 }
     }
 
-    /// Whether a call that answered `error` is tried again, which counts.
+    /// Decides whether a call that answered `error` is tried again. If so, one retry is used up.
     pub fn again(&mut self, error: &io::Error) -> bool
         ensures again { IsTrue result ↔ ((error_kind error.now ≡ ErrorKind.Interrupted)
             × (0 < retries_left self.old)) }
@@ -42,7 +42,7 @@ impl Retries {
     }
 }
 
-/// One read, tried again where it is interrupted. On a fault the reader's last call failed.
+/// Reads once; an interrupted read is tried again. On a fault, the reader's last call failed.
 pub fn read_some<R: Read>(
     reader: &mut Watched<R>,
     retries: &mut Retries,
@@ -65,7 +65,7 @@ pub fn read_some<R: Read>(
     }
 }
 
-/// All that the reader has left, where that is at most `limit` bytes.
+/// Reads all that the reader has left, if that is at most `limit` bytes.
 pub fn read_text<R: Read>(
     alloc: Global,
     reader: &mut Watched<R>,
@@ -94,7 +94,8 @@ pub fn read_text<R: Read>(
     }
 }
 
-/// Writes a text whole, or some front of it that lacks a byte at least, and then the writer's last call failed.
+/// Writes a whole text. On a fault, the writer took only a front part of the text, at least one
+/// byte less than all of it, and its last call failed.
 pub fn write_text<W: Write>(
     writer: &mut Watched<W>,
     retries: &mut Retries,

@@ -1,4 +1,4 @@
-//! `Watched`: a reader or writer that remembers whether it ever failed, and whether its last call did.
+//! `Watched`: a reader or writer that remembers whether any call failed, and whether the last did.
 ghost use Rattle.std.specs.Prelude.{◌≡◌, ◌≢◌, ◌||◌, ◌≤◌, length, false, true, IfErr, OnErr};
 ghost use Rattle.std.specs.Result.{is_err};
 ghost use Rattle.std.specs.Io.{ReadsAtMost, WritesAtMost};
@@ -7,7 +7,7 @@ ghost use Rattle.std.specs.Io.KnownBytes.{Keeps, ReadConsumes, WriteAppends};
 use std::io;
 use std::io::{Read, Write};
 
-/// A reader or writer `D` with a note of whether a call of it ever failed, and whether the last one did.
+/// A reader or writer `D` that records whether any call failed, and whether the last one did.
 #[derive(Drop)]
 pub struct Watched<D> {
     inner: D,
@@ -18,7 +18,7 @@ pub struct Watched<D> {
 impl<D> Watched<D> {
     ghost use Rattle.ob_stream.specs.Watching.{watched_inner, watched_failed, watched_last_failed};
 
-    /// Watches `inner`, of which no call was seen yet.
+    /// Watches `inner`; no call is recorded yet.
     pub fn new(inner: D) -> Watched<D>
         ensures inner { watched_inner result ≡ inner }
         ensures fresh { watched_failed result ≡ false }
@@ -31,7 +31,7 @@ impl<D> Watched<D> {
         }
     }
 
-    /// Whether a call answered an error or, as a write, took no byte of some.
+    /// Whether any call answered an error, or was a write of some bytes that took none of them.
     pub fn has_failed(&self) -> bool
         ensures { result ≡ watched_failed self.now }
     {
@@ -98,7 +98,7 @@ impl<D: Write> Write for Watched<D> {
     }
 }
 
-// Whether a write answered an error, or took no byte of some.
+// Whether a write answered an error, or took none of the bytes although there were some.
 fn refuses(answer: &io::Result<usize>, buf: &[u8]) -> bool
     ensures { result ≡ took_none answer.now buf.now }
 {

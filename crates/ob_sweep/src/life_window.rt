@@ -1,4 +1,5 @@
-//! The window of a life that is set anew: the seconds in which it can alter the supply, and the entries of these seconds.
+//! The window of a changed in-service interval: the seconds in which the change can alter the
+//! supply, and the entries of these seconds.
 ghost use Rattle.std.specs.Prelude.{◌≡◌, ◌≤◌, ◌<◌, ℕ, false, MatchOption, None, Some};
 ghost use Rattle.ob_base.specs.Life.{is_alive};
 ghost use Rattle.ob_sheet.specs.Sheet.{AreNumbered};
@@ -9,14 +10,14 @@ use crate::window::Window;
 use ob_base::{Life, Second};
 use ob_sheet::Sheet;
 
-/// The life that holds no second: that of a device which isn't there.
+/// The in-service interval without any second, that of a device which doesn't exist.
 pub const NEVER: Life = Life {
     since: 0,
     until: Some(0),
 };
 
-/// The seconds from a first one up to an end that a life holds, as the first of them and the second after the last; none where it
-/// holds none of them.
+/// The seconds from `first` up to `end` that an in-service interval contains: the first one, and
+/// the second after the last one. `None` if it contains none of them.
 fn seconds_held(life: Life, first: Second, end: Second) -> Option<(Second, Second)>
     ensures { MatchOption result ((s : ℕ) → first ≤ s → s < end
         → is_alive life s ≡ false) (λ w. HoldsFrom (is_alive life) first end w.0 w.1) }
@@ -33,8 +34,8 @@ fn seconds_held(life: Life, first: Second, end: Second) -> Option<(Second, Secon
     }
 }
 
-/// The first second from a first one up to an end that exactly one of two lives holds, and the second after the last such one;
-/// none where both hold the same seconds.
+/// The seconds from `first` up to `end` that exactly one of two in-service intervals contains: the
+/// first one, and the second after the last one. `None` if both contain the same seconds.
 fn differing_seconds(old: Life, new: Life, first: Second, end: Second) -> Option<(Second, Second)>
     ensures { MatchOption result ((s : ℕ) → first ≤ s → s < end
         → differ_at old new s ≡ false) (λ w. Bounds (differ_at old new) first end w.0 w.1) }
@@ -54,8 +55,9 @@ fn differing_seconds(old: Life, new: Life, first: Second, end: Second) -> Option
     }
 }
 
-/// The window of a life that is set anew, where all seconds are from a first one up to an end: from the first second that exactly one
-/// of the two lives holds to the one after the last such one, or up to the end; none where both hold the same seconds.
+/// The window of a changed in-service interval, within the seconds from `first` up to `end`: from
+/// the first second that exactly one of the two intervals contains to the second after the last
+/// such one, or up to `end`. `None` if both contain the same seconds.
 pub fn life_window(
     sheet: &Sheet,
     old: Life,

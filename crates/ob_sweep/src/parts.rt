@@ -1,4 +1,4 @@
-//! What a section more alters in the runs that a timeline holds.
+//! What a new section changes in the outage intervals that a timeline holds.
 ghost use Rattle.std.specs.Prelude.{◌≡◌, ◌≤◌, ◌<◌, ◌-◌, ℕ, List, Some, IfOk, IfErr, length};
 ghost use Rattle.ob_base.specs.Stop.{out_of_memory};
 ghost use Rattle.ob_net.specs.Network.{without_last_node};
@@ -14,8 +14,9 @@ use ob_base::{Second, Stop};
 use ob_net::Net;
 use std::alloc::Global;
 
-/// What the section that was added last alters, of which no device is an end yet: it has one run, all the seconds, without a cutter,
-/// and the runs of all others stay. Nothing is searched. The error is that memory was refused.
+/// What changes when a section was added that no device joins yet: it has one outage interval, all
+/// the seconds, without a cutter. The intervals of all other sections stay. The network is not
+/// searched. The error is a failed allocation.
 pub fn plan_section(alloc: Global, net: &Net, first: Second, end: Second) -> Result<Delta, Stop>
     requires some { first < end }
     requires nodes { 0 < length net.now.network.nodes }

@@ -1,4 +1,4 @@
-//! The statements that change a row or take one away, each in a function of its own.
+//! The statements that change or delete a row, each in its own function.
 ghost use Rattle.std.specs.Prelude.{◌≡◌, ◌<◌, ◌^◌, IfSome};
 ghost use Rattle.ob_tables.specs.Steps.{Changes};
 ghost use Rattle.ob_tables.specs.Rows.{Always, with_change, serve, HasCustomer, relive, HasLife, rebody, HasCommand, reversion, HasHeading, correct, withdraw, HasEntry, without_key, HasMark, with_posting, HasPosting};
@@ -13,7 +13,7 @@ use ob_cust::Customer;
 use ob_sheet::Entry;
 use sqlite::{Alter, Transaction};
 
-/// Gives the customer of this number the service of this one.
+/// Changes a customer's service to the one in `customer`.
 pub fn set_service<S: Alter>(tx: &mut Transaction<'_, S>, customer: Customer) -> Result<(), Stop>
     requires since { customer.since < 2 ^ 63 }
     requires until { IfSome customer.until (λ end. end < 2 ^ 63) }
@@ -31,7 +31,7 @@ pub fn set_service<S: Alter>(tx: &mut Transaction<'_, S>, customer: Customer) ->
     )
 }
 
-/// Gives a device another life.
+/// Changes the in-service interval of a device.
 pub fn set_life<S: Alter>(tx: &mut Transaction<'_, S>, device: u16, life: Life) -> Result<(), Stop>
     requires since { life.since < 2 ^ 63 }
     requires until { IfSome life.until (λ end. end < 2 ^ 63) }
@@ -49,7 +49,7 @@ pub fn set_life<S: Alter>(tx: &mut Transaction<'_, S>, device: u16, life: Life) 
     )
 }
 
-/// Gives a command another body text.
+/// Changes the body text of a command.
 pub fn set_body<S: Alter>(tx: &mut Transaction<'_, S>, no: u32, body: &[u8]) -> Result<(), Stop>
     ensures { Changes S.Store tx.old.conn tx.new.conn result (HasCommand no)
         (LetsBody no body.now)
@@ -62,7 +62,7 @@ pub fn set_body<S: Alter>(tx: &mut Transaction<'_, S>, no: u32, body: &[u8]) -> 
     )
 }
 
-/// Gives the heading another version.
+/// Changes the version in the heading.
 pub fn set_version<S: Alter>(tx: &mut Transaction<'_, S>, version: u32) -> Result<(), Stop>
     ensures { Changes S.Store tx.old.conn tx.new.conn result HasHeading LetsVersion
         (with_change ATable.Meta 1 (reversion version)) }
@@ -74,7 +74,7 @@ pub fn set_version<S: Alter>(tx: &mut Transaction<'_, S>, version: u32) -> Resul
     )
 }
 
-/// Gives the entry of this number the revision, position, second, cause and crew of this one. It fails where
+/// Changes an entry's revision, position, second, cause and crew to those in `entry`. Fails if
 /// there is no such cause.
 pub fn correct_entry<S: Alter>(tx: &mut Transaction<'_, S>, entry: &Entry) -> Result<(), Stop>
     requires second { entry.now.second < 2 ^ 63 }
@@ -96,7 +96,7 @@ pub fn correct_entry<S: Alter>(tx: &mut Transaction<'_, S>, entry: &Entry) -> Re
     )
 }
 
-/// Gives an entry another revision, and keeps it no more.
+/// Changes an entry's revision and records that the entry is withdrawn.
 pub fn withdraw_entry<S: Alter>(
     tx: &mut Transaction<'_, S>,
     no: u32,
@@ -112,7 +112,7 @@ pub fn withdraw_entry<S: Alter>(
     )
 }
 
-/// Takes the mark off a day.
+/// Deletes the major event day flag of a day.
 pub fn drop_mark<S: Alter>(tx: &mut Transaction<'_, S>, day: u16) -> Result<(), Stop>
     ensures { Changes S.Store tx.old.conn tx.new.conn result (HasMark day) Always
         (without_key ATable.Mark day) }
@@ -124,7 +124,7 @@ pub fn drop_mark<S: Alter>(tx: &mut Transaction<'_, S>, day: u16) -> Result<(), 
     )
 }
 
-/// Gives the amount of a dimension and a key another value.
+/// Changes the amount under a dimension and a key.
 pub fn set_posting<S: Alter>(
     tx: &mut Transaction<'_, S>,
     dim: u32,

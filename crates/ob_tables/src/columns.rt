@@ -1,5 +1,6 @@
-//! The columns of each row, in the order of its table's listing: an INSERT binds them, and a row that was read is held
-//! against them. Those of `cmd` and `moved` are bound alone, and stand at their INSERT.
+//! The columns of each row, in the order of its table's listing. An INSERT binds them, and a row
+//! that was read is compared with them. The columns of `cmd` and `moved` are only bound, so they
+//! are written at their INSERT.
 ghost use Rattle.std.specs.Prelude.{◌≡◌, ◌<◌, ◌^◌, map, IfSome};
 ghost use Rattle.std.specs.List.{AllByRecursion};
 ghost use Rattle.ob_tables.specs.Fields.{held, Fits};
@@ -31,7 +32,7 @@ pub(crate) fn meta_columns<'t>(
     ]
 }
 
-/// The cause of a code.
+/// The cause with a code.
 pub(crate) fn cause_columns(code: u64, name: &Name) -> [Field<'_>; 2]
     ensures columns { map held result ≡ cause_row code name.now }
     ensures fits { code < 2 ^ 63 → AllByRecursion Fits result }
@@ -40,13 +41,13 @@ pub(crate) fn cause_columns(code: u64, name: &Name) -> [Field<'_>; 2]
     [Field::Large(code), Field::Words(name.bytes())]
 }
 
-/// The node of a number.
+/// The node with a number.
 pub(crate) fn node_columns(number: u64, node: &Node) -> [Field<'_>; 4]
     ensures columns { map held result ≡ node_row number node.now }
     ensures fits { number < 2 ^ 63 → AllByRecursion Fits result }
     ensures short { IsShort node.now.name }
 {
-    // The column of the feeder is 0 for GRID and for a bus, which have none.
+    // The feeder's column is 0 for GRID and for a bus, which have no feeder.
     let feeder = node.feeder.unwrap_or(0);
     [
         Field::Large(number),
@@ -56,7 +57,7 @@ pub(crate) fn node_columns(number: u64, node: &Node) -> [Field<'_>; 4]
     ]
 }
 
-/// The kind of the node of a number: 2 for a section, 0 for GRID, which is the node numbered 0, and 1 for a bus.
+/// The kind of the node with a number: 0 for GRID, which is node 0; 2 for a section; 1 for a bus.
 fn kind_of(number: u64, node: &Node) -> u32
     ensures { result ≡ node_kind number node.now }
 {
@@ -69,7 +70,7 @@ fn kind_of(number: u64, node: &Node) -> u32
     }
 }
 
-/// The device of a number.
+/// The device with a number.
 pub(crate) fn device_columns(number: u64, device: &Device) -> [Field<'_>; 5]
     ensures columns { map held result ≡ device_row number device.now }
     ensures fits { number < 2 ^ 63 → AllByRecursion Fits result }
@@ -84,7 +85,7 @@ pub(crate) fn device_columns(number: u64, device: &Device) -> [Field<'_>; 5]
     ]
 }
 
-/// The life of a device.
+/// The in-service interval of a device.
 pub(crate) fn life_columns(device: u64, life: Life) -> [Field<'static>; 3]
     ensures columns { map held result ≡ life_row device life }
     ensures fits { device < 2 ^ 63 → life.since < 2 ^ 63 → IfSome life.until (λ end. end < 2 ^ 63)
@@ -111,7 +112,7 @@ pub(crate) fn customer_columns(customer: Customer) -> [Field<'static>; 4]
     ]
 }
 
-/// An entry of the sheet.
+/// An entry of the switching log.
 pub(crate) fn entry_columns(entry: &Entry) -> [Field<'_>; 8]
     ensures columns { map held result ≡ entry_row entry.now }
     ensures fits { entry.now.second < 2 ^ 63 → AllByRecursion Fits result }
@@ -130,7 +131,7 @@ pub(crate) fn entry_columns(entry: &Entry) -> [Field<'_>; 8]
     ]
 }
 
-/// The mark that an engineer put on a day.
+/// The major event day flag that an engineer set on a day.
 pub(crate) fn mark_columns(day: u64, engineer: &Crew) -> [Field<'_>; 2]
     ensures columns { map held result ≡ mark_row day engineer.now }
     ensures fits { day < 2 ^ 63 → AllByRecursion Fits result }
@@ -139,7 +140,7 @@ pub(crate) fn mark_columns(day: u64, engineer: &Crew) -> [Field<'_>; 2]
     [Field::Large(day), Field::Words(engineer.bytes())]
 }
 
-/// An amount of a dimension and a key.
+/// An amount under a dimension and a key.
 pub(crate) fn posting_columns(dim: u64, key: u64, amount: u64) -> [Field<'static>; 3]
     ensures columns { map held result ≡ posting_row dim key amount }
     ensures fits { dim < 2 ^ 63 → key < 2 ^ 63 → amount < 2 ^ 63 → AllByRecursion Fits result }

@@ -1,4 +1,4 @@
-//! The statements that make the tables.
+//! The statements that create the tables.
 ghost use Rattle.std.specs.Prelude.{◌≡◌, ◌<◌, ◌+◌};
 ghost use Rattle.ob_tables.specs.Creation.{before, create_text, LetsBook, LetsTable, MakesUpTo, MakesBook, Creates};
 ghost use Rattle.ob_tables.specs.Versions.{LetsLives, MakesLife};
@@ -8,7 +8,7 @@ use crate::table::Table;
 use ob_base::Stop;
 use sqlite::{Alter, Transaction};
 
-/// Makes the eleven tables, without rows. It fails where one of them stands already.
+/// Creates the eleven tables, without rows. Fails if one of them exists already.
 pub fn create_tables<S: Alter>(tx: &mut Transaction<'_, S>) -> Result<(), Stop>
     ensures { Creates S.Store tx.old.conn tx.new.conn result LetsBook MakesBook }
 {
@@ -18,14 +18,15 @@ pub fn create_tables<S: Alter>(tx: &mut Transaction<'_, S>) -> Result<(), Stop>
     Ok(())
 }
 
-/// Makes the table of lives over the tables of version 1, without rows. It fails where a table of that name stands already.
+/// Adds the table of in-service intervals, without rows, to the tables of version 1. Fails if a
+/// table with that name exists already.
 pub fn create_life<S: Alter>(tx: &mut Transaction<'_, S>) -> Result<(), Stop>
     ensures { Creates S.Store tx.old.conn tx.new.conn result LetsLives MakesLife }
 {
     run(tx, text_of(Table::Life), &[])
 }
 
-/// The table that is made after so many.
+/// The table that is created when this many exist.
 fn table_after(count: usize) -> Table
     requires { count < 11 }
     ensures { before result ≡ count }
@@ -45,7 +46,7 @@ fn table_after(count: usize) -> Table
     }
 }
 
-/// Makes a table after those before it.
+/// Creates a table when those before it exist.
 fn create_table<S: Alter>(tx: &mut Transaction<'_, S>, table: Table) -> Result<(), Stop>
     ensures { Creates S.Store tx.old.conn tx.new.conn result
         (LetsTable (before table)) (MakesUpTo (before table) (before table + 1)) }
@@ -53,7 +54,7 @@ fn create_table<S: Alter>(tx: &mut Transaction<'_, S>, table: Table) -> Result<(
     run(tx, text_of(table), &[])
 }
 
-/// The text that makes a table.
+/// The statement that creates a table.
 fn text_of(table: Table) -> &'static str
     ensures { result.now ≡ create_text table }
 {

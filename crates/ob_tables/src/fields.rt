@@ -1,4 +1,4 @@
-//! The fields of a row: what they are to hold, as parameters of a statement and against a row that was read.
+//! The fields of a row: as parameters of a statement, and as what a row that was read should hold.
 ghost use Rattle.std.specs.Prelude.{◌≡◌, ◌↔◌, ◌<◌, ◌≤◌, ◌^◌, length, map, take, IfSome, IsTrue};
 ghost use Rattle.std.specs.List.{AllByRecursion};
 ghost use Rattle.sqlite.specs.Values.{bound, bound_value};
@@ -10,18 +10,18 @@ use ob_base::Pos;
 use sqlite::Row;
 use sqlite_value::value::ValueRef;
 
-/// What a field of a row holds, or is to hold.
+/// What a field of a row holds or should hold.
 #[derive(Clone, Copy)]
 pub(crate) enum Field<'a> {
     Nothing,
     Small(u32),
-    /// No row holds one from 2^63 on.
+    /// A number; in a row it is below 2^63.
     Large(u64),
     Signed(i64),
     Words(&'a [u8]),
 }
 
-/// The number of a row, which is far below the largest row number.
+/// A row's number, which is far below the largest row number.
 pub(crate) fn key(n: u32) -> Field<'static>
     ensures field { held result ≡ number n }
     ensures fits { Fits result }
@@ -30,7 +30,7 @@ pub(crate) fn key(n: u32) -> Field<'static>
     Field::Small(n)
 }
 
-/// A large number, or nothing.
+/// A large number, or NULL for `None`.
 pub(crate) fn large_or_nothing(n: Option<u64>) -> Field<'static>
     ensures field { held result ≡ number_or_null n }
     ensures fits { IfSome n (λ it. it < 2 ^ 63) → Fits result }
@@ -51,7 +51,7 @@ pub(crate) fn position_number(pos: Pos) -> u32
     }
 }
 
-/// 1 for true, 0 for false.
+/// The number 1 for true and 0 for false.
 pub(crate) fn bit(is: bool) -> u32
     ensures { result ≡ bit is }
 {
@@ -72,7 +72,7 @@ fn value_of(field: Field<'_>) -> ValueRef<'_>
     }
 }
 
-/// Fields as parameters, and NULL after them up to the eighth: no table has more columns.
+/// Fields as parameters, then NULL up to the eighth, since no table has more than eight columns.
 pub(crate) fn values<'a>(fields: &[Field<'a>]) -> [ValueRef<'a>; 8]
     requires few { length fields.now ≤ 8 }
     requires fits { AllByRecursion Fits fields.now }
@@ -85,7 +85,7 @@ pub(crate) fn values<'a>(fields: &[Field<'a>]) -> [ValueRef<'a>; 8]
     values
 }
 
-/// Whether a value is what a field is expected to hold.
+/// Whether a value is the one that a field should hold.
 fn is_held(value: ValueRef<'_>, field: Field<'_>) -> bool
     ensures { IsTrue result ↔ (owned value.entry ≡ held field.entry) }
 {
@@ -99,7 +99,7 @@ fn is_held(value: ValueRef<'_>, field: Field<'_>) -> bool
     }
 }
 
-/// Whether a row has these fields.
+/// Whether a row consists of these fields.
 pub(crate) fn has_fields(row: &Row, fields: &[Field<'_>]) -> bool
     ensures { IsTrue result ↔ (row.now ≡ map held fields.now) }
 {

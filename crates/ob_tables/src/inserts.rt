@@ -1,4 +1,4 @@
-//! The statements that add a row, each in a function of its own.
+//! The statements that add a row, each in its own function.
 ghost use Rattle.std.specs.Prelude.{◌≡◌, ◌<◌, ◌^◌, IfSome};
 ghost use Rattle.ob_tables.specs.Steps.{Changes};
 ghost use Rattle.ob_tables.specs.Rows.{Always, with_row, meta_row, cause_row, node_row, device_row, life_row, customer_row, entry_row, mark_row, command_row, moved_row, posting_row};
@@ -17,7 +17,7 @@ use ob_net::{Device, Node};
 use ob_sheet::Entry;
 use sqlite::{Alter, Transaction};
 
-/// Adds the one row of `meta`, of version 2. It fails where the row stands already.
+/// Adds the only row of `meta`, with version 2. Fails if the row exists already.
 pub fn add_meta<'t, S: Alter>(
     tx: &mut Transaction<'_, S>,
     first_day: &'t [u8],
@@ -35,7 +35,7 @@ pub fn add_meta<'t, S: Alter>(
     )
 }
 
-/// Adds a cause. It fails where its code or its name stands already.
+/// Adds a cause. Fails if its code or its name exists already.
 pub fn add_cause<S: Alter>(tx: &mut Transaction<'_, S>, code: u8, name: &Name) -> Result<(), Stop>
     ensures { Changes S.Store tx.old.conn tx.new.conn result Always
         (LetsCause code name.now)
@@ -48,7 +48,7 @@ pub fn add_cause<S: Alter>(tx: &mut Transaction<'_, S>, code: u8, name: &Name) -
     )
 }
 
-/// Adds the node of a number. It fails where its number or its name stands already.
+/// Adds the node with a number. Fails if its number or its name exists already.
 pub fn add_node<S: Alter>(tx: &mut Transaction<'_, S>, number: u16, node: &Node) -> Result<(), Stop>
     ensures { Changes S.Store tx.old.conn tx.new.conn result Always
         (LetsNode number node.now.name)
@@ -61,8 +61,8 @@ pub fn add_node<S: Alter>(tx: &mut Transaction<'_, S>, number: u16, node: &Node)
     )
 }
 
-/// Adds the device of a number. It fails where its number or its name stands already, and where a node of it
-/// doesn't.
+/// Adds the device with a number. Fails if its number or its name exists already, or if one of its
+/// nodes doesn't exist.
 pub fn add_device<S: Alter>(
     tx: &mut Transaction<'_, S>,
     number: u16,
@@ -79,8 +79,8 @@ pub fn add_device<S: Alter>(
     )
 }
 
-/// Adds a customer of a section. It fails where the customer's number stands already, and where the section
-/// doesn't.
+/// Adds a customer of a section. Fails if the customer's number exists already, or if the section
+/// doesn't exist.
 pub fn add_customer<S: Alter>(tx: &mut Transaction<'_, S>, customer: Customer) -> Result<(), Stop>
     requires since { customer.since < 2 ^ 63 }
     requires until { IfSome customer.until (λ end. end < 2 ^ 63) }
@@ -95,7 +95,8 @@ pub fn add_customer<S: Alter>(tx: &mut Transaction<'_, S>, customer: Customer) -
     )
 }
 
-/// Adds the life of a device. It fails where it stands already, and where there is no such device.
+/// Adds the in-service interval of a device. Fails if it exists already, or if there is no such
+/// device.
 pub fn add_life<S: Alter>(tx: &mut Transaction<'_, S>, device: u16, life: Life) -> Result<(), Stop>
     requires since { life.since < 2 ^ 63 }
     requires until { IfSome life.until (λ end. end < 2 ^ 63) }
@@ -110,8 +111,8 @@ pub fn add_life<S: Alter>(tx: &mut Transaction<'_, S>, device: u16, life: Life) 
     )
 }
 
-/// Adds an entry of the sheet. It fails where its number stands already, and where its device or its cause
-/// doesn't.
+/// Adds an entry of the switching log. Fails if its number exists already, or if its device or its
+/// cause doesn't exist.
 pub fn add_entry<S: Alter>(tx: &mut Transaction<'_, S>, entry: &Entry) -> Result<(), Stop>
     requires second { entry.now.second < 2 ^ 63 }
     ensures { Changes S.Store tx.old.conn tx.new.conn result Always
@@ -125,7 +126,7 @@ pub fn add_entry<S: Alter>(tx: &mut Transaction<'_, S>, entry: &Entry) -> Result
     )
 }
 
-/// Adds the mark of a day. It fails where the day is marked already.
+/// Adds the major event day flag of a day. Fails if the day is marked already.
 pub fn add_mark<S: Alter>(
     tx: &mut Transaction<'_, S>,
     day: u16,
@@ -142,7 +143,7 @@ pub fn add_mark<S: Alter>(
     )
 }
 
-/// Adds the row of an accepted command. It fails where the number or the reference stands already.
+/// Adds the row of an accepted command. Fails if the number or the reference exists already.
 pub fn add_command<'t, S: Alter>(
     tx: &mut Transaction<'_, S>,
     no: u32,
@@ -164,8 +165,8 @@ pub fn add_command<'t, S: Alter>(
     )
 }
 
-/// Adds the row of an amount that a command moved. It fails where the amount of this key stands already for the
-/// command, where there is no such command, and where `delta` is 0.
+/// Adds the row of an amount that a command changed. Fails if the command has a row for this
+/// dimension and key already, if there is no such command, or if `delta` is 0.
 pub fn add_moved<S: Alter>(
     tx: &mut Transaction<'_, S>,
     no: u32,
@@ -189,7 +190,7 @@ pub fn add_moved<S: Alter>(
     )
 }
 
-/// Adds the row of a dimension and a key, with the amount 0. It fails where the row stands already.
+/// Adds the row of a dimension and a key, with the amount 0. Fails if the row exists already.
 pub fn add_posting<S: Alter>(tx: &mut Transaction<'_, S>, dim: u32, key: u32) -> Result<(), Stop>
     ensures { Changes S.Store tx.old.conn tx.new.conn result Always
         (LetsPosting dim key)

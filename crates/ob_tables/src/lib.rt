@@ -1,11 +1,11 @@
 //! The tables of a book, and the statements that read and write them.
 //!
-//! Keeps the eleven tables and one function for each statement, which takes a node, a device, a customer or an entry as it
-//! is and runs inside a transaction of the caller. Promises of each what it makes of the rows that the tables show: a row
-//! more, one written anew, one less, or none, and what was found; and of each test of a row that it holds just where the
-//! row is that of what it is held against. A statement that breaks a rule of its table fails. The ten tables of version 1
-//! are known too: over them the eleventh, that of lives, is made, and their rows stay. What writes the rows of a command in
-//! one transaction stands above it.
+//! Keeps the eleven tables, and one function for each statement, which runs inside the caller's
+//! transaction. Promises which row each statement adds, changes or deletes, if any, what it finds,
+//! and that it fails if it breaks a rule of its table. Promises that each test of a row is true
+//! exactly for the row of the given item. To the ten tables of version 1 it adds the eleventh, of
+//! in-service intervals; their rows stay. Used by `ob_commit`, which writes the rows of a command
+//! in one transaction, the other storage crates, `ob_import`, `ob_routes` and `ob_jobs`.
 #![tactic(auto)]
 
 mod changes;

@@ -1,10 +1,10 @@
-//! The listing of each table.
+//! The query that lists each table.
 ghost use Rattle.std.specs.Prelude.{◌≡◌};
 ghost use Rattle.ob_tables.specs.Listings.{select_of};
 
 use crate::table::Table;
 
-/// The query of all rows of a table, by key.
+/// The query of all rows of a table, in order of their keys.
 pub fn select_of(table: Table) -> &'static str
     ensures { result.now ≡ select_of table }
 {

@@ -1,4 +1,4 @@
-//! The statements that read rows, each in a function of its own.
+//! The statements that read rows, each in its own function.
 ghost use Rattle.std.specs.Prelude.{◌≡◌, IfOk};
 ghost use Rattle.sqlite.specs.Held.{state};
 ghost use Rattle.sqlite.specs.State.{HasCleanDisk};
@@ -12,7 +12,7 @@ use ob_base::Stop;
 use sqlite::{Alter, Row, Transaction};
 use sqlite_value::value::ValueRef;
 
-/// The rows of the commands with a reference: one or none. Nothing is changed.
+/// Finds the rows of the commands with a reference: none or one. Nothing is changed.
 pub fn find_commands<S: Alter>(
     tx: &mut Transaction<'_, S>,
     reference: &[u8],

@@ -1,4 +1,5 @@
-//! Running one statement inside a transaction, and what its failure is; numbers as values.
+//! Running one statement inside a transaction, turning its failure into a fault, and numbers as
+//! values.
 ghost use Rattle.std.specs.Prelude.{◌≡◌, ◌≤◌, length, map};
 ghost use Rattle.std.specs.List.{AllByRecursion};
 ghost use Rattle.sqlite_value.specs.Value.{owned};
@@ -30,7 +31,7 @@ pub(crate) fn run<S: Alter>(
     }
 }
 
-/// A failure of the store as a fault.
+/// Turns a failure of the storage into a fault.
 pub fn stop_of(error: Error) -> Stop
     ensures faults { IsStoreFault result }
     ensures memory { error ≡ Error.SqliteFailure ErrorCode.OutOfMemory → result ≡ out_of_memory }
@@ -48,7 +49,7 @@ pub fn int(n: u32) -> ValueRef<'static>
     ValueRef::Int(i64::from(n))
 }
 
-/// A number that may be below 0 as a value.
+/// A number that may be negative as a value.
 pub fn signed_value(n: i64) -> ValueRef<'static>
     ensures { owned result ≡ Int n }
 {

@@ -1,6 +1,6 @@
 //! The eleven tables.
 
-/// A table of a book. They are made in this order, but for the lives, which are made last.
+/// A table of a book. The tables are created in this order, except `Life`, which is created last.
 #[derive(Clone, Copy)]
 pub enum Table {
     /// The version of the tables, the first day, the count of days and the zone: one row.
@@ -11,17 +11,17 @@ pub enum Table {
     Node,
     /// The switching devices, by number.
     Device,
-    /// The lives of the devices, by the number of the device.
+    /// The in-service intervals of the devices, by device number.
     Life,
-    /// The customers and their service, by number.
+    /// The customers and their services, by customer number.
     Customer,
-    /// The entries of the switching sheet, by number.
+    /// The entries of the switching log, by number.
     Entry,
     /// The marked days.
     Mark,
     /// The accepted commands, by number.
     Command,
-    /// The amounts that commands moved, by command, dimension and key.
+    /// The amounts that commands changed, by command, dimension and key.
     Moved,
     /// The amounts, by dimension and key.
     Posting,
@@ -31,7 +31,7 @@ impl Table {
     ghost use Rattle.std.specs.Prelude.{◌≡◌};
     ghost use Rattle.ob_tables.specs.Rows.{table_name};
 
-    /// Its name.
+    /// The name of the table.
     pub fn name(self) -> &'static str
         ensures { result.now ≡ table_name self }
     {

@@ -3,9 +3,10 @@
 /// A version of the tables of a book.
 #[derive(Clone, Copy)]
 pub enum Version {
-    /// The first: ten tables, without that of lives. Books of it are read once, to be made books of version 2.
+    /// The first version: ten tables, without the table of in-service intervals. A book of this
+    /// version is only read to convert it to version 2.
     One,
-    /// The one that is written: all eleven tables.
+    /// The current version, which the program writes: all eleven tables.
     Two,
 }
 
@@ -13,7 +14,7 @@ impl Version {
     ghost use Rattle.std.specs.Prelude.{◌≡◌};
     ghost use Rattle.ob_tables.specs.Versions.{version_number};
 
-    /// Its number, as the heading tells it.
+    /// The version's number, as stored in the heading.
     pub fn number(self) -> u32
         ensures { result ≡ version_number self }
     {

@@ -10,10 +10,10 @@ use jiff::civil::Date;
 use jiff::tz::TimeZone;
 use ob_base::Second;
 
-// A period has at most 366 days: where each begins, and where the last one ends.
+// A period has at most 366 days: the beginning of each, and the end of the last one.
 const MOST_BOUNDS: usize = 367;
 
-// The date that many days later.
+// The date `days` days after the first.
 fn date_after(first: Date, days: u16) -> Option<Date>
     ensures found { IfSome result (λ d. epoch_day d ≡ epoch_day first +ℤ pos days) }
     ensures none { IfNone result (¬ (IsEpochDay (epoch_day first +ℤ pos days))) }
@@ -25,8 +25,8 @@ fn date_after(first: Date, days: u16) -> Option<Date>
     }
 }
 
-/// The bounds of that many days from the first date on: their midnights and the next date's, if
-/// each is there and they rise. They stand at the front of the array.
+/// The bounds of `days` days from the first date on: their midnights and the midnight after them.
+/// `None` if one of these is missing or they don't rise. The bounds are at the array's front.
 pub(crate) fn day_bounds_from(
     first: Date,
     days: u16,
@@ -50,7 +50,7 @@ pub(crate) fn day_bounds_from(
     Some(bounds)
 }
 
-// The midnight of the date that many days later.
+// The midnight of the date `days` days after the first.
 fn bound_after(first: Date, days: u16, zone: &TimeZone<'_>) -> Option<Second>
     ensures found { IfSome result
         (IsMidnight (plain_zone zone.now) (epoch_day first +ℤ pos days)) }

@@ -1,4 +1,4 @@
-//! Civil days in a zone by their bounds, which know dates by their day numbers alone.
+//! Civil days in a zone by their bounds. Dates occur in this module as day numbers only.
 ghost use Rattle.std.specs.Prelude.{◌≡◌, ℕ, ℤ, pos, neg_ℤ, ◌<◌, ◌+◌, ◌^◌, ◌+ℤ◌, ◌≤ℤ◌, ◌↔◌, Some, length, slice_get, IsSome, IfSome, IfNone, IfOk, IfErr, string_bytes};
 ghost use Rattle.std.specs.List.{count_by, sum_by};
 ghost use Rattle.ob_base.specs.Stop.{out_of_memory};
@@ -11,13 +11,13 @@ use ob_base::{Second, Stop};
 use std::alloc::Global;
 use std::marker::Model;
 
-/// Whole civil days in a zone, one after another: 1 to 366, numbered from 0. What counts seconds
-/// by day takes these: a `Period` lends its own.
+/// Whole civil days in a zone, one after another: 1 to 366, numbered from 0. Code that counts
+/// seconds by day takes this type; a `Period` dereferences to it.
 #[derive(Drop)]
 pub struct CivilDays {
     // The day number of the first date: days since 1970-01-01.
     first_day: i32,
-    // Where each day begins, and after them the second at which the last one ends.
+    // The second at which each day begins, and then the second at which the last one ends.
     bounds: Vec<Second>,
     zone: Vec<u8>,
 }
@@ -31,7 +31,7 @@ impl Model for CivilDays {
 }
 
 impl CivilDays {
-    /// The days from this day number on between these bounds, in the zone of this text.
+    /// The days from this day number on, with these bounds, in the zone that this text names.
     pub(crate) fn between(first_day: i32, bounds: Vec<Second>, zone: Vec<u8>) -> CivilDays
         requires { IsCalendar (calendar first_day bounds.items zone.items) }
         ensures { result ≡ calendar first_day bounds.items zone.items }
@@ -51,7 +51,7 @@ impl CivilDays {
         self.bounds[0]
     }
 
-    /// The second after the last one.
+    /// The second after the last second.
     pub fn end_second(&self) -> Second
         ensures value { result ≡ end_second_of self.now }
         ensures kept { IsCalendar self.now }
@@ -59,7 +59,7 @@ impl CivilDays {
         self.bounds[self.bounds.len() - 1]
     }
 
-    /// How many seconds there are, from 1 to 2^25 - 1.
+    /// The number of seconds, from 1 to 2^25 - 1.
     #[tactic(auto, using(crate::proofs::PeriodLemmas::calendar_rises, crate::proofs::DayLemmas::days_add_up))]
     pub fn length(&self) -> Second
         ensures value { result + first_second_of self.now ≡ end_second_of self.now }
@@ -70,8 +70,7 @@ impl CivilDays {
         self.end_second() - self.first_second()
     }
 
-    /// How many days there are, from 1 to 366. They part the seconds of the period: each second
-    /// lies in exactly one of them.
+    /// The number of days, from 1 to 366. Each second of the period lies in exactly one of them.
     pub fn days(&self) -> u16
         ensures value { result ≡ day_count self.now }
         ensures listed { result ≡ length (days_of self.now) }
@@ -84,7 +83,7 @@ impl CivilDays {
         (self.bounds.len() - 1) as u16
     }
 
-    /// The number of the day that holds the second, None outside the period.
+    /// The number of the day that contains the second; `None` outside the period.
     pub fn day_of(&self, second: Second) -> Option<u16>
         ensures inside { IsSome result ↔ IsInPeriod self.now second }
         ensures found { IfSome result (λ k. IsInDay self.now k second) }
@@ -97,8 +96,8 @@ impl CivilDays {
         Some((bounds_up_to(&self.bounds, second) - 1) as u16)
     }
 
-    /// The first second of a day, and the second after its last one; None where the period has no
-    /// day of that number.
+    /// The first second of a day, and the second after its last one; `None` if the period has no
+    /// day with that number.
     pub fn day_bounds(&self, day: u16) -> Option<(Second, Second)>
         ensures inside { IsSome result ↔ (day < day_count self.now) }
         ensures begin { IfSome result (λ p. p.0 ≡ bound_of self.now day) }
@@ -114,7 +113,8 @@ impl CivilDays {
         Some((self.bounds[day], self.bounds[day + 1]))
     }
 
-    /// The number of the day with this day number, None where there is no such day.
+    /// The number within the period of the day with this day number; `None` if there is no such
+    /// day.
     pub(crate) fn index_of(&self, day_number: i32) -> Option<u16>
         ensures index { result ≡ day_on self.now day_number }
         ensures found { IfSome result (λ k. IsDayOn self.now k day_number) }
@@ -127,7 +127,7 @@ impl CivilDays {
         Some(day as u16)
     }
 
-    /// The day number of a day.
+    /// The day number (days since 1970-01-01) of a day of the period.
     pub(crate) fn day_number(&self, day: u16) -> i64
         requires { day < day_count self.now }
         ensures value { result ≡ self.now.first_day +ℤ pos day }
@@ -137,12 +137,12 @@ impl CivilDays {
         i64::from(self.first_day) + i64::from(day)
     }
 
-    /// The allocator that the bounds came from.
+    /// The allocator of the bounds.
     pub(crate) fn allocator(&self) -> Global {
         *self.bounds.allocator()
     }
 
-    /// The date of a day, as `2024-03-11`; the error is that memory was refused.
+    /// The date of a day, as `2024-03-11`. The error is a failed allocation.
     pub fn date_text(&self, day: u16) -> Result<String, Stop>
         requires { day < day_count self.now }
         ensures value { IfOk result (λ t.
@@ -152,7 +152,7 @@ impl CivilDays {
         text_of_day(self.allocator(), self.day_number(day))
     }
 
-    /// The text of the zone that `Period::from_text` was given, and `-` after `Period::new`.
+    /// The zone's text as given to `Period::from_text`; `-` after `Period::new`.
     pub fn zone_text(&self) -> &[u8]
         ensures { result.now ≡ self.now.zone }
     {

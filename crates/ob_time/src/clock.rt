@@ -7,7 +7,7 @@ ghost use Rattle.ob_time.specs.Moment.{IsTimeForm, IsTimeText, IsHourMinuteText,
 use crate::reader::{after, two_digits};
 use jiff::civil::Time;
 
-// The numbers of `HH:MM:SS`.
+// The three numbers of `HH:MM:SS`.
 fn time_numbers(text: &[u8]) -> Option<(u8, u8, u8)>
     ensures found { IfSome result (λ p. IsTimeForm text.now p.0 p.1 p.2) }
     ensures none { IfNone result ((h m s : ℕ) → ¬ (IsTimeForm text.now h m s)) }
@@ -33,7 +33,7 @@ pub(crate) fn read_time(text: &[u8]) -> Option<Time>
     }
 }
 
-// The seconds of `HH:MM`, which is the whole text.
+// The seconds of `HH:MM`; the text must have nothing else.
 fn hours_minutes(text: &[u8]) -> Option<u32>
     ensures found { IfSome result (IsHourMinuteText text.now) }
     ensures none { IfNone result ((n : ℕ) → ¬ (IsHourMinuteText text.now n)) }
@@ -46,7 +46,7 @@ fn hours_minutes(text: &[u8]) -> Option<u32>
     Some(u32::from(hours) * 3600 + u32::from(minutes) * 60)
 }
 
-// The seconds east of UTC of `Z`, `+HH:MM` or `-HH:MM`, which is the whole text.
+// The offset in seconds east of UTC: `Z`, `+HH:MM` or `-HH:MM`, and nothing else.
 pub(crate) fn read_offset(text: &[u8]) -> Option<i64>
     ensures found { IfSome result (IsOffsetText text.now) }
     ensures none { IfNone result ((o : ℤ) → ¬ (IsOffsetText text.now o)) }
@@ -64,7 +64,7 @@ pub(crate) fn read_offset(text: &[u8]) -> Option<i64>
     }
 }
 
-// The seconds of `HH:MM`, with a sign.
+// The seconds of `HH:MM` with a sign.
 fn signed_offset(text: &[u8], negative: bool) -> Option<i64>
     ensures found { IfSome result (λ o. (n : ℕ) × IsHourMinuteText text.now n
         × (o ≡ signed negative n)) }

@@ -10,7 +10,7 @@ use jiff::civil::Date;
 use ob_base::Stop;
 use std::alloc::Global;
 
-// The numbers of `YYYY-MM-DD`.
+// The three numbers of `YYYY-MM-DD`.
 fn date_numbers(text: &[u8]) -> Option<(u16, u8, u8)>
     ensures found { IfSome result (λ p. IsDateForm text.now p.0 p.1 p.2) }
     ensures none { IfNone result ((y m d : ℕ) → ¬ (IsDateForm text.now y m d)) }
@@ -24,7 +24,7 @@ fn date_numbers(text: &[u8]) -> Option<(u16, u8, u8)>
     Some((year, month, day))
 }
 
-/// Reads the date `YYYY-MM-DD`, of a year from 0000 on; None for any other text.
+/// Reads the date `YYYY-MM-DD`, of the year 0000 or later; `None` for any other text.
 pub fn read_date(text: &[u8]) -> Option<Date>
     ensures found { IfSome result (IsDateText text.now) }
     ensures only { IfSome result (λ d. (e : PlainDate) → IsDateText text.now e → e ≡ d) }
@@ -37,7 +37,7 @@ pub fn read_date(text: &[u8]) -> Option<Date>
     }
 }
 
-/// The text of the date of a day number; the error is that memory was refused.
+/// The text of the date with a day number. The error is a failed allocation.
 pub(crate) fn text_of_day(alloc: Global, day: i64) -> Result<String, Stop>
     requires low { neg_ℤ (pos 1) ≤ℤ day }
     requires high { day ≤ℤ pos 2_932_896 }

@@ -1,8 +1,9 @@
 //! Periods of civil days in a zone, and moments as texts.
 //!
-//! Keeps the bounds of a period's days. Promises that they are the zone's midnights as `jiff` picks
-//! them, that the days part the period's seconds, and which texts are dates and moments. Above it
-//! stand the sweep, the postings and the indices, which count seconds by day.
+//! Keeps the bounds of a period's days. Promises that they are the zone's midnights as `jiff`
+//! picks them, that each second of the period belongs to exactly one day, and which texts are
+//! dates and moments. Used by `ob_sweep`, `ob_post` and `ob_index`, which count seconds by day,
+//! by `ob_command`, which reads dates and moments, and by the crates of the book above them.
 #![tactic(auto)]
 
 mod bounds;

@@ -8,8 +8,8 @@ use jiff::tz::TimeZone;
 use jiff::{Error, Timestamp};
 use ob_base::{LAST_SECOND, Second};
 
-/// The second that the zone picks for the midnight that begins the date, if it is one of the
-/// seconds that there are. In a gap the offset before it counts, in a fold the earlier instant.
+/// The second that the zone picks for the midnight that begins the date; `None` if it is outside 0
+/// to `LAST_SECOND`. In a gap the offset before it counts, in a fold the earlier instant.
 pub(crate) fn midnight(date: Date, zone: &TimeZone<'_>) -> Option<Second>
     ensures found { IfSome result (IsMidnight (plain_zone zone.now) (epoch_day date)) }
     ensures none { IfNone result ((s : ℕ)
@@ -26,7 +26,7 @@ pub(crate) fn midnight(date: Date, zone: &TimeZone<'_>) -> Option<Second>
     Some(second as Second)
 }
 
-// The instant of the datetime in the zone.
+// The instant of the civil datetime in the zone.
 #[tactic(auto, using(crate::proofs::MidnightLemmas::counted_is_compatible))]
 fn picked_instant(datetime: DateTime, zone: &TimeZone<'_>) -> Result<Timestamp, Error>
     ensures { IsInstantAt datetime

@@ -29,7 +29,7 @@ fn read_civil(text: &[u8]) -> Option<Second>
     Some(second as Second)
 }
 
-// The UTC second of a civil second at an offset east of UTC.
+// The UTC second of a civil second, given the offset in seconds east of UTC.
 fn utc_second(civil: i64, offset: i64) -> i64
     requires civil { IsBetween (neg_ℤ (pos (2 ^ 40))) (pos (2 ^ 40)) civil }
     requires offset { IsBetween (neg_ℤ (pos 86_400)) (pos 86_400) offset }
@@ -38,9 +38,9 @@ fn utc_second(civil: i64, offset: i64) -> i64
     civil - offset
 }
 
-/// Reads a moment: 1 to 11 digits are Unix seconds, and else `YYYY-MM-DDTHH:MM:SS` with `Z`,
-/// `+HH:MM` or `-HH:MM` is a civil moment, whose second is its second in UTC less the offset. None
-/// for any other text, or outside 0 to `LAST_SECOND`.
+/// Reads a moment. 1 to 11 digits are Unix seconds. `YYYY-MM-DDTHH:MM:SS` with `Z`, `+HH:MM` or
+/// `-HH:MM` is a civil moment, and its second is the one it would be in UTC, less the offset.
+/// `None` for any other text, or outside 0 to `LAST_SECOND`.
 pub fn read_second(text: &[u8]) -> Option<Second>
     ensures { (s : ℕ) → (result ≡ Some s) ↔ IsSecondText text.now s }
 {
@@ -50,7 +50,7 @@ pub fn read_second(text: &[u8]) -> Option<Second>
     }
 }
 
-/// The text of a second, as `2024-01-01T00:00:00Z`; the error is that memory was refused.
+/// The text of a second, as `2024-01-01T00:00:00Z`. The error is a failed allocation.
 pub fn second_text(alloc: Global, second: Second) -> Result<String, Stop>
     requires { second ≤ 99_999_999_999 }
     ensures ok { IfOk result (λ t. IsUtcText (string_bytes t) second) }

@@ -1,4 +1,4 @@
-//! A period of civil days in a zone, from dates and zones of `jiff`.
+//! A period of civil days in a zone, made from dates and zones of `jiff`.
 ghost use Rattle.std.specs.Prelude.{◌≡◌, ℕ, pos, ◌<◌, ◌+ℤ◌, ◌↔◌, List, codes, Err, IfSome, IfNone, IfOk, IfErr, string_bytes};
 ghost use Rattle.jiff.specs.Types.{Date as PlainDate, TimeZone as PlainZone};
 ghost use Rattle.jiff.specs.Words.{plain_zone, epoch_day};
@@ -20,16 +20,16 @@ use std::ops::Deref;
 
 const BAD_PERIOD: Stop = Stop::Refused(Refusal::BadPeriod);
 
-// The days that a period may have.
+// The most days that a period may have.
 const MOST_DAYS: u16 = 366;
 
-// A period has fewer seconds than this.
+// A period must have fewer seconds than this.
 const TOO_LONG: u64 = 1 << 25;
 
 /// A period: whole civil days in a zone, one after another, 1 to 366, numbered from 0.
 ///
-/// What its days alone say is called on them, to which a period points; only what takes dates and
-/// zones stands here, so that a crate which takes `CivilDays` is built without `jiff`.
+/// It dereferences to its `CivilDays`. Only functions that need dates and zones are defined here,
+/// so a crate that uses `CivilDays` alone is built without `jiff`.
 #[derive(Drop)]
 pub struct Period {
     days: CivilDays,
@@ -52,12 +52,12 @@ impl Deref for Period {
 }
 
 impl Period {
-    /// The period of that many days from the first date on, in the zone. A day begins at the
+    /// Makes the period of `days` days from the first date on, in the zone. A day begins at the
     /// instant of its midnight: in a gap by the offset before it, in a fold at the earlier instant.
     ///
-    /// Refused as no period exactly where `days` isn't 1 to 366, a bound isn't one of the seconds
-    /// from 0 to `LAST_SECOND` or isn't above the one before it, or there are 2^25 seconds or more:
-    /// all this is looked at before memory is asked for.
+    /// Refused with `BadPeriod` exactly if `days` isn't 1 to 366, a bound lies outside 0 to
+    /// `LAST_SECOND` or isn't above the bound before it, or there are 2^25 seconds or more. All
+    /// this is checked before memory is requested.
     pub fn new(alloc: Global, first: Date, days: u16, zone: &TimeZone<'_>) -> Result<Period, Stop>
         ensures ok { IfOk result (IsPeriod (plain_zone zone.now) (epoch_day first) days) }
         ensures zone { IfOk result (λ p. p.zone ≡ codes "-") }
@@ -68,10 +68,10 @@ impl Period {
         Period::with_zone_text(alloc, first, days, zone, b"-")
     }
 
-    /// The period of that many days from the date `YYYY-MM-DD` on, in the zone of a POSIX rule of
-    /// 1 to 64 ASCII bytes, such as `EST5EDT,M3.2.0,M11.1.0`.
+    /// Makes the period of `days` days from the date `YYYY-MM-DD` on, in the zone of a POSIX TZ
+    /// rule of 1 to 64 ASCII bytes, such as `EST5EDT,M3.2.0,M11.1.0`.
     ///
-    /// Refused as no period exactly where `new` refuses it, or a text is no date or no such rule.
+    /// Refused with `BadPeriod` exactly if `new` refuses it, or a text is no date or no such rule.
     pub fn from_text(alloc: Global, first: &[u8], days: u16, zone: &[u8]) -> Result<Period, Stop>
         ensures ok { IfOk result (IsPeriodText first.now days zone.now) }
         ensures only { IfOk result (λ p. (c : Calendar)
@@ -89,7 +89,7 @@ impl Period {
         Period::with_zone_text(alloc, date, days, &rule, zone)
     }
 
-    // The period with this text for its zone.
+    // Makes the period with this text for its zone.
     fn with_zone_text(
         alloc: Global,
         first: Date,
@@ -123,7 +123,7 @@ impl Period {
         })
     }
 
-    /// The number of the day with this date, None where the period has no such day.
+    /// The number of the day with this date; `None` if the period has no such day.
     pub fn day_index(&self, date: &Date) -> Option<u16>
         ensures index { result ≡ day_on self.now (epoch_day date.now) }
         ensures found { IfSome result (λ k. IsDayOn self.now k (epoch_day date.now)) }
@@ -132,7 +132,7 @@ impl Period {
         self.days.index_of(date.to_plain().to_unix_epoch_day())
     }
 
-    /// The date of a day, as `2024-03-11`; the error is that memory was refused.
+    /// The date of a day, as `2024-03-11`. The error is a failed allocation.
     pub fn date_text(&self, day: u16) -> Result<String, Stop>
         requires { day < day_count self.now }
         ensures ok { IfOk result (λ t.
@@ -149,7 +149,7 @@ impl Period {
     }
 }
 
-// The zone of a POSIX rule of 1 to 64 ASCII bytes.
+// Reads the zone of a POSIX TZ rule of 1 to 64 ASCII bytes.
 fn read_zone(text: &[u8]) -> Option<TimeZone<'static>>
     ensures found { IfSome result (λ tz. IsZoneText text.now (plain_zone tz)) }
     ensures none { IfNone result ((tz : PlainZone) → ¬ (IsZoneText text.now tz)) }
