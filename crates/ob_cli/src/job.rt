@@ -1,10 +1,10 @@
-//! What the program is to do.
+//! The job that the program is to do.
 ghost use Rattle.std.specs.Prelude.{◌≡◌, List, ℕ, IfOk};
 
 use std::alloc::{AllocError, Global};
 use std::marker::Model;
 
-/// A text among the words. Contracts see it as its bytes.
+/// The text of a command-line argument. Contracts see it as its bytes.
 #[derive(Drop)]
 pub struct Word {
     text: String,
@@ -32,7 +32,8 @@ impl Word {
     }
 }
 
-/// What the program is to do: one variant for each subcommand, with the values of its options.
+/// The job that the program is to do: one variant for each subcommand, with the values of its
+/// options.
 #[derive(Drop)]
 pub enum Job {
     /// Count the customer-seconds of the text on standard input.
@@ -48,18 +49,18 @@ pub enum Job {
         /// The time zone.
         zone: Word,
     },
-    /// Act the commands of a CSV file on a book.
+    /// Apply the commands of a CSV file to a book.
     Import {
         /// The book's file.
         book: Word,
         /// The file of the commands.
         input: Word,
     },
-    /// Write what a book's commands moved into a CSV file.
+    /// Write the changes of amounts that a book's commands made into a CSV file.
     Export {
         /// The book's file.
         book: Word,
-        /// The file to write, which is made anew.
+        /// The file to write, which replaces a file of that name.
         output: Word,
     },
     /// Print the annual table of a book.
@@ -72,7 +73,7 @@ pub enum Job {
         /// The book's file.
         book: Word,
     },
-    /// Make a book of version 1 one of version 2.
+    /// Upgrade a book of version 1 to version 2.
     Migrate {
         /// The book's file.
         book: Word,
@@ -81,9 +82,9 @@ pub enum Job {
     Serve {
         /// The book's file.
         book: Word,
-        /// The port; 0 for one that is free.
+        /// The port; 0 for any free port.
         port: u16,
-        /// How many streams are served; 0 for 2^64 - 1.
+        /// The number of streams that are served; 0 for 2^64 - 1.
         streams: u64,
     },
 }
