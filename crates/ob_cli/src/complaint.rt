@@ -5,8 +5,8 @@ ghost use Rattle.ob_cli.specs.Complaints.{complaint_line, fault_line, refused_li
 use ob_base::{Fault, Refusal, Stop};
 use std::alloc::{AllocError, Global};
 
-/// Returns the line for a refusal or a fault: `refused <number> <name>`, then the detail and ` row
-/// <n>` if there are these, or `fault <number> <name>`.
+/// Returns the line for a refusal or a fault. That of a refusal is `refused <number> <name>`, then
+/// the detail and ` row <n>`, if there are these. That of a fault is `fault <number> <name>`.
 pub fn complaint_of(alloc: Global, stop: &Stop, row: Option<u32>) -> Result<String, AllocError>
     ensures { IfOk result (λ line. string_bytes line ≡ complaint_line stop.now row) }
 {

@@ -36,49 +36,49 @@ impl Word {
 /// options.
 #[derive(Drop)]
 pub enum Job {
-    /// Count the customer-seconds of the text on standard input.
+    /// Counts the customer-seconds of the text on standard input.
     Total,
-    /// Make a book in a new file.
+    /// Creates a book in a new file.
     Init {
         /// The file.
         book: Word,
         /// The first day of the period.
         first: Word,
-        /// How many days the period has.
+        /// The number of days of the period.
         days: u16,
         /// The time zone.
         zone: Word,
     },
-    /// Apply the commands of a CSV file to a book.
+    /// Applies the commands of a CSV file to a book.
     Import {
         /// The book's file.
         book: Word,
         /// The file of the commands.
         input: Word,
     },
-    /// Write the changes of amounts that a book's commands made into a CSV file.
+    /// Writes the changes of amounts that a book's commands made into a CSV file.
     Export {
         /// The book's file.
         book: Word,
         /// The file to write, which replaces a file of that name.
         output: Word,
     },
-    /// Print the annual table of a book.
+    /// Prints the annual table of a book.
     Table {
         /// The book's file.
         book: Word,
     },
-    /// Compare the tables of a book with its commands.
+    /// Compares the tables of a book with its commands.
     Audit {
         /// The book's file.
         book: Word,
     },
-    /// Upgrade a book of version 1 to version 2.
+    /// Upgrades a book of version 1 to version 2.
     Migrate {
         /// The book's file.
         book: Word,
     },
-    /// Serve a book over HTTP on 127.0.0.1.
+    /// Serves a book over HTTP on 127.0.0.1.
     Serve {
         /// The book's file.
         book: Word,

@@ -1,11 +1,11 @@
 //! Writes the rows of a book in transactions and reads them back.
 //!
-//! Creates the eleven tables of a new book, writes the rows of an accepted command, upgrades the
-//! ten tables of version 1 to the eleven of version 2, and reads the rows of one command by its
-//! reference or number. Promises that each transaction is committed whole or not at all, also if
-//! the store fails or the machine stops in between. Refuses a database that isn't empty and leaves
-//! it as it was. Reading writes nothing, and a row that no book has is a fault of the store.
-//! `ob_record` and the crates above it use this crate.
+//! Creates the eleven tables of a new book, and writes the rows of an accepted command. Upgrades
+//! the ten tables of version 1 to version 2. Reads the rows of one command by reference or number.
+//! Promises that each transaction is committed whole or not at all, also if the store fails or the
+//! machine stops. Refuses a database that isn't empty and leaves it as it was. Reading writes
+//! nothing; a row that no book has is a fault of the store. `ob_record`, `ob_compare`, `ob_parts`,
+//! `ob_store` and `ob_desk` use this crate.
 #![tactic(auto)]
 
 mod act;

@@ -50,11 +50,12 @@ pub fn are_distinct(alloc: Global, commands: &[Filed]) -> Result<bool, Stop>
     Ok(have_no_twins(&references))
 }
 
-/// States what commands under different references give, if each is accepted in its turn: the same
-/// state as applying each under its reference. If a whole list is accepted, it is such a list, and
-/// the changes of amounts that its commands make are the rows of the table of moved amounts. The
-/// rows of commands, in the order of their numbers, belong to only one list of a version's
-/// commands. Does nothing at run time.
+/// States how accepted commands and states belong together. Commands under different references,
+/// each accepted in its turn, give the same state as applying each under its reference. If a whole
+/// list was accepted, no reference occurs twice in it, each command was accepted in its turn, and
+/// the changes of amounts are the rows of the table of moved amounts. The rows of commands, in the
+/// order of their numbers, belong to only one list of a version's commands. Does nothing at run
+/// time.
 pub fn reaching_law()
     ensures reached { ReachedByCommands }
     ensures accepted { ActsAreAccepted }

@@ -1,12 +1,11 @@
 //! Reads the tables of a book back, row by row, and compares them with those of a book of its
 //! commands.
 //!
-//! Each function works on the tables of either version that has the table. The version given as an
-//! argument decides which body texts are read and which commands are accepted. Promises that
-//! nothing is written, and that the store still keeps what it kept. Over such tables `Fault::Store`
-//! is returned only if the disk failed, the connection was closed, or its steps are limited.
-//! `ob_parts` and `ob_store` use it to load and to audit a book, and `ob_jobs` uses it for the
-//! progress of a job.
+//! Works on the tables of either version. The version given as an argument decides which body texts
+//! are read and which commands are accepted. Promises that nothing is written and that a store
+//! keeps what it kept. Over such tables `Fault::Store` is returned only if the disk failed, the
+//! connection was closed, or its steps are limited. `ob_parts` and `ob_store` use this crate, and
+//! `ob_jobs` its `Progress`.
 #![tactic(auto)]
 
 mod apart;

@@ -20,7 +20,7 @@ use std::io::Write;
 /// Loads a book, then opens the input, and applies the commands of its CSV text, as
 /// [`ob_import::import_with_progress`]. Writes `added`, the number of rows that added a command,
 /// `again`, the number of rows whose command the book had already, and LF. Writes this line also if
-/// a row was refused, which then is the end of the job.
+/// a row was refused; the job then ends as `Unfinished::Stopped`.
 ///
 /// # Errors
 ///

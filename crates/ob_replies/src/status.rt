@@ -35,7 +35,7 @@ pub enum Status {
     RequestHeaderFieldsTooLarge,
     /// 501: another method, or a transfer coding.
     NotImplemented,
-    /// 503: a fault, which is a failure of the machine.
+    /// 503: a fault.
     ServiceUnavailable,
 }
 

@@ -2,11 +2,10 @@
 //! amounts change with it.
 //!
 //! Holds, for one period, the network, the causes, the customer register, the switching log, the
-//! major event days, and the number of accepted commands. `resolve` looks the names of a command up
-//! once; from then on it has numbers in place of names. Promises that a command is refused exactly
-//! if the definition refuses it, and that an accepted one changes the state as defined. Its effect
-//! is computed beforehand, from a state that stays unchanged. `ob_book` uses this crate and keeps
-//! the outage intervals and the amounts.
+//! major event days, and the number of accepted commands. Promises that a command is refused
+//! exactly if the definition refuses it, and that an accepted one changes the state as defined. Its
+//! effect is computed beforehand, from a state that stays unchanged. `ob_book`, which adds the
+//! outage intervals and the amounts, and most crates after it use this crate.
 #![tactic(auto)]
 
 mod amounts;

@@ -148,8 +148,8 @@ fn posted_everywhere<T: Timeline>(
     Ok(posting)
 }
 
-// Counts the intervals of a node under their keys, if it is a section: those that change, or else
-// the one whose cause changes.
+// Adds the changes of amounts of a node, if it is a section: those of the outage intervals that
+// change, or else of the interval whose cause changes.
 fn post_node<T: Timeline>(
     posting: &mut Posting,
     state: &State,
@@ -189,7 +189,7 @@ fn post_node<T: Timeline>(
     )
 }
 
-// Counts those intervals of a touched section that change.
+// Adds the changes of amounts of a touched section: those of the outage intervals that change.
 fn post_touched<T: Timeline>(
     posting: &mut Posting,
     state: &State,

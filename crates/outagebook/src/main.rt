@@ -1,9 +1,9 @@
 //! The program `outagebook`: it reads its arguments and does the job that they name.
 //!
-//! The exit status is 0 if the job was done, or help or the version was printed, 1 after a fault, 2
-//! after a refusal or an audit that found a difference, and 64 if the arguments name no job. The
-//! jobs are public functions of `ob_jobs`, `ob_desk` and `ob_total` over readers and writers, and
-//! their contracts define what they do. No crate uses this one.
+//! The exit status is 0 if the job was done, or help or the version was printed. It is 1 after a
+//! fault, 2 after a refusal or an audit that found a difference, and 64 if the arguments name no
+//! job. The jobs are public functions of `ob_jobs`, `ob_desk` and `ob_total` over readers and
+//! writers, and their contracts define what they do. No crate uses this one.
 #![tactic(auto)]
 
 mod books;

@@ -24,11 +24,11 @@ struct Times {
     newer: Mark,
 }
 
-/// Shows on standard error what is being done, if that is a terminal: that a book is being opened
-/// or its tables compared, or how many commands were replayed or rows applied, of about how many,
-/// and about how long the rest will take. It is a single line, rewritten at most five times a
-/// second while steps are counted, and cleared at the end. Shows nothing if standard error is no
-/// terminal.
+/// Shows on standard error what is being done, if that is a terminal. It shows that a book is being
+/// opened or its tables compared, or how many commands were replayed or rows applied. With these
+/// counts it shows about how many there are and about how long the rest will take. It is a single
+/// line, rewritten at most five times a second while steps are counted, and cleared at the end.
+/// Shows nothing if standard error is no terminal.
 #[derive(Drop)]
 pub(crate) struct Telling<'r> {
     rt: &'r HostRuntime,
