@@ -1,4 +1,4 @@
-//! What the amounts of a state come to. It does nothing when it runs.
+//! A law on the sums of amounts. Its function does nothing at run time.
 ghost use Rattle.std.specs.Prelude.{◌≡◌};
 ghost use Rattle.ob_post.specs.Postings.{total_of};
 ghost use Rattle.ob_post.specs.declared.Dim.{Dim as Dimension};
@@ -9,7 +9,7 @@ use ob_post::Postings;
 use ob_post::laws::total_laws;
 use ob_state::State;
 
-/// The amounts of each dimension add up to all customer-seconds without supply.
+/// States that the amounts of each dimension add up to all customer-seconds without supply.
 pub fn amounts_add_up(state: &State, postings: &Postings)
     requires posted { ArePosted state.now.state postings.now }
     ensures totals { (dim : Dimension) → total_of postings.now dim

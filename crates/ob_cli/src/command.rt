@@ -1,4 +1,4 @@
-//! The command that the words are matched with.
+//! The definition of the command line, against which `clap` matches the arguments.
 ghost use Rattle.std.specs.Prelude.{◌≡◌, IfOk, codes, false};
 ghost use Rattle.clap.specs.Words.{app_of, rule_of};
 ghost use Rattle.clap.specs.declared.builder.command.Command.TheViews.{out-Command};
@@ -50,7 +50,7 @@ fn streams_option<'a>(alloc: Global) -> Arg<'a>
         .help("How many streams to serve before it ends; 0 for no bound")
 }
 
-/// A word of its own that names a file.
+/// A positional argument that names a file.
 fn file_word<'a>(alloc: Global, name: &'a str, help: &'a str) -> Arg<'a>
     ensures rule { rule_of result ≡ word_rule name.entry.now }
     ensures local { result.global ≡ false }

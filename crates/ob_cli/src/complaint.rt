@@ -1,12 +1,12 @@
-//! The line that the program tells of a stop.
+//! The line that the program prints for a refusal or a fault.
 ghost use Rattle.std.specs.Prelude.{◌≡◌, IfOk, string_bytes};
 ghost use Rattle.ob_cli.specs.Complaints.{complaint_line, fault_line, refused_line};
 
 use ob_base::{Fault, Refusal, Stop};
 use std::alloc::{AllocError, Global};
 
-/// The line that says a stop: `refused <number> <name>`, then the detail and ` row <n>`, where there
-/// are these, or `fault <number> <name>`.
+/// Returns the line for a refusal or a fault. That of a refusal is `refused <number> <name>`, then
+/// the detail and ` row <n>`, if there are these. That of a fault is `fault <number> <name>`.
 pub fn complaint_of(alloc: Global, stop: &Stop, row: Option<u32>) -> Result<String, AllocError>
     ensures { IfOk result (λ line. string_bytes line ≡ complaint_line stop.now row) }
 {

@@ -1,10 +1,10 @@
-//! What the program is to do.
+//! The job that the program is to do.
 ghost use Rattle.std.specs.Prelude.{◌≡◌, List, ℕ, IfOk};
 
 use std::alloc::{AllocError, Global};
 use std::marker::Model;
 
-/// A text among the words. Contracts see it as its bytes.
+/// The text of a command-line argument. Contracts see it as its bytes.
 #[derive(Drop)]
 pub struct Word {
     text: String,
@@ -32,58 +32,59 @@ impl Word {
     }
 }
 
-/// What the program is to do: one variant for each subcommand, with the values of its options.
+/// The job that the program is to do: one variant for each subcommand, with the values of its
+/// options.
 #[derive(Drop)]
 pub enum Job {
-    /// Count the customer-seconds of the text on standard input.
+    /// Counts the customer-seconds of the text on standard input.
     Total,
-    /// Make a book in a new file.
+    /// Creates a book in a new file.
     Init {
         /// The file.
         book: Word,
         /// The first day of the period.
         first: Word,
-        /// How many days the period has.
+        /// The number of days of the period.
         days: u16,
         /// The time zone.
         zone: Word,
     },
-    /// Act the commands of a CSV file on a book.
+    /// Applies the commands of a CSV file to a book.
     Import {
         /// The book's file.
         book: Word,
         /// The file of the commands.
         input: Word,
     },
-    /// Write what a book's commands moved into a CSV file.
+    /// Writes the changes of amounts that a book's commands made into a CSV file.
     Export {
         /// The book's file.
         book: Word,
-        /// The file to write, which is made anew.
+        /// The file to write, which replaces a file of that name.
         output: Word,
     },
-    /// Print the annual table of a book.
+    /// Prints the annual table of a book.
     Table {
         /// The book's file.
         book: Word,
     },
-    /// Compare the tables of a book with its commands.
+    /// Compares the tables of a book with its commands.
     Audit {
         /// The book's file.
         book: Word,
     },
-    /// Make a book of version 1 one of version 2.
+    /// Upgrades a book of version 1 to version 2.
     Migrate {
         /// The book's file.
         book: Word,
     },
-    /// Serve a book over HTTP on 127.0.0.1.
+    /// Serves a book over HTTP on 127.0.0.1.
     Serve {
         /// The book's file.
         book: Word,
-        /// The port; 0 for one that is free.
+        /// The port; 0 for any free port.
         port: u16,
-        /// How many streams are served; 0 for 2^64 - 1.
+        /// The number of streams that are served; 0 for 2^64 - 1.
         streams: u64,
     },
 }

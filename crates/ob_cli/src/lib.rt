@@ -1,9 +1,10 @@
-//! The command line of the program `outagebook`, and what it ends with.
+//! The command line of the program `outagebook`, and its exit status.
 //!
-//! Keeps the subcommands and their options, as `clap` reads them, the line that tells a stop and the
-//! status of a run. Promises that a job is answered only where `clap` matches the words, that it is the
-//! one that they name, that words which name a job are never refused, and that no run which was refused
-//! or met a fault has the status of a job done. Above it stands the program.
+//! Defines the subcommands and their options, as `clap` reads them, the line printed for a refusal
+//! or a fault, and the exit status. Promises that a job is returned only if `clap` matches the
+//! arguments, that it is the job that they name, and that arguments that name a job are never
+//! refused. No run that was refused or met a fault ends with the status of a job done. `ob_jobs`
+//! and the program use this crate.
 #![tactic(auto)]
 
 mod command;

@@ -1,4 +1,4 @@
-//! The job that a subcommand's matches give.
+//! Reads the job from the matches of a subcommand.
 ghost use Rattle.std.specs.Prelude.{◌≡◌, IfOk, option_and_then};
 ghost use Rattle.clap.specs.Words.{first_of, found_of, rows_of, subcommand_rows_of};
 ghost use Rattle.ob_cli.specs.Jobs.{audit_job, export_job, import_job, init_job, job_named, migrate_job, serve_job, table_job};
@@ -23,7 +23,7 @@ fn number_of(matches: &ArgMatches<'_>, name: &str) -> Option<u16>
     matches.get_one::<u16>(name)
 }
 
-/// The number of 64 bits given for an option.
+/// Returns the 64-bit number given for an option.
 fn count_of(matches: &ArgMatches<'_>, name: &str) -> Option<u64>
     ensures { result ≡ count_given name.now (rows_of (found_of matches.now)) }
 {
@@ -129,7 +129,7 @@ fn job_from(alloc: Global, name: &str, matches: &ArgMatches<'_>) -> Result<Optio
     }
 }
 
-/// The job that the words name, where they are matched; None where no subcommand was matched.
+/// Returns the job that matched arguments name; None if no subcommand was matched.
 pub(crate) fn matched_job(
     alloc: Global,
     matches: &ArgMatches<'_>,

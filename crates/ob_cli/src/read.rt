@@ -1,4 +1,4 @@
-//! The job that a list of words names.
+//! Reads the job from a list of arguments.
 ghost use Rattle.std.specs.Prelude.{◌≡◌, IfErr, IfOk, Some, map};
 ghost use Rattle.clap.specs.Words.{kind_of};
 ghost use Rattle.ob_cli.specs.Jobs.{IsReason, IsReasonOf, job_of, status_of};
@@ -11,21 +11,21 @@ use clap::error::ErrorKind;
 use ob_base::Fault;
 use std::alloc::{AllocError, Global};
 
-/// Why the words name no job.
+/// Why the arguments name no job.
 #[derive(Debug, Drop)]
 pub enum WrongWords {
-    /// Help was asked for: this is its text. The program ends with status 0.
+    /// Help was asked for, with this text. The exit status is 0.
     Help(String),
-    /// The version was asked for: this is its text. The program ends with status 0.
+    /// The version was asked for, with this text. The exit status is 0.
     Version(String),
-    /// The words were refused, for this reason. The program ends with status 64.
+    /// The arguments were refused, with this reason. The exit status is 64.
     Wrong(String),
-    /// Memory was refused. The program ends with status 1.
+    /// An allocation failed. The exit status is 1.
     Fault(Fault),
 }
 
 impl WrongWords {
-    /// The status that the program ends with: 0, 64 or 1.
+    /// The exit status: 0, 64 or 1.
     pub fn status(&self) -> u8
         ensures { result ≡ status_of self.now }
     {
@@ -62,12 +62,12 @@ fn reason_of(alloc: Global, error: &Error) -> WrongWords
     }
 }
 
-/// The job that the words name; the first word is the program's name.
+/// Returns the job that the arguments name; the first argument is the program's name.
 ///
 /// # Errors
 ///
-/// `Help` and `Version` where the words ask for it, `Wrong` where they name no job, and `Fault` where memory is
-/// refused.
+/// `Help` and `Version` if the arguments ask for it, `Wrong` if they name no job, and `Fault` if an
+/// allocation fails.
 pub fn read_words(alloc: Global, words: &[&str]) -> Result<Job, WrongWords>
     ensures job { IfOk result (λ j. job_of (map (λ word. word.now) words.now) ≡ Some j) }
     ensures reason { IfErr result (λ e. IsReason (map (λ word. word.now) words.now) e) }

@@ -1,18 +1,18 @@
-//! The status that a run ends with.
+//! The exit status of a run.
 ghost use Rattle.std.specs.Prelude.{◌≡◌};
 ghost use Rattle.ob_cli.specs.Statuses.{run_status};
 
 use crate::read::WrongWords;
 use ob_base::Stop;
 
-/// Why a run ends with its job not done, or done with a finding.
+/// Why a run ends without its job done, or done with a finding.
 #[derive(Drop)]
 pub enum Unfinished {
-    /// The words name no job.
+    /// The arguments name no job.
     Words(WrongWords),
-    /// The job was refused or met a fault, at this row where there is one.
+    /// The job was refused or met a fault, at this row if there is one.
     Stopped(Stop, Option<u32>),
-    /// The tables of a book differ from its commands, which the audit has told.
+    /// The tables of a book differ from its commands; the audit has printed this.
     Differs,
 }
 
@@ -26,9 +26,9 @@ impl From<Stop> for Unfinished {
     }
 }
 
-/// The status that the program ends with after a run: 0 where the job was done, or help or the version was asked for, 1
-/// after a fault, 2 after a refusal or an audit that found a difference, and 64 where the words name no
-/// job.
+/// Returns the exit status after a run: 0 if the job was done, or help or the version was asked
+/// for; 1 after a fault; 2 after a refusal or an audit that found a difference; 64 if the arguments
+/// name no job.
 pub fn status_of_run(run: &Result<(), Unfinished>) -> u8
     ensures { result ≡ run_status run.now }
 {

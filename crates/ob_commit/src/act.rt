@@ -1,4 +1,4 @@
-//! The rows of a command, committed together.
+//! Commits the rows of an accepted command in one transaction.
 ghost use Rattle.std.specs.Prelude.{◌≡◌, false, OnOk, IfErr};
 ghost use Rattle.sqlite.specs.Held.{state};
 ghost use Rattle.sqlite.specs.State.{HasCleanDisk, Survives};
@@ -16,7 +16,7 @@ use ob_state::Resolved;
 use ob_tables::add_command;
 use sqlite::{Alter, Connection};
 
-/// An accepted command, as the rows show it.
+/// An accepted command, as the tables store it.
 #[derive(Clone, Copy)]
 pub struct Act<'t> {
     /// Its number, from 1.
@@ -25,14 +25,15 @@ pub struct Act<'t> {
     pub reference: &'t [u8],
     /// Its body text.
     pub body: &'t [u8],
-    /// What it comes to, which tells what it does to the rows beside its own and those of its amounts.
+    /// The command with numbers in place of names. It determines which rows change, apart from the
+    /// command's own row and those of its amounts.
     pub resolved: &'t Resolved,
-    /// The amounts that it moves.
+    /// The changes of amounts that it makes.
     pub moves: &'t [Moved],
 }
 
-/// Commits the rows of an accepted command, all or none: those that it changes, its own, and those of the amounts that it
-/// moves.
+/// Commits the rows of an accepted command, all or none: the rows that it changes, its own row, and
+/// the rows of the amounts that it changes.
 pub fn commit_act<S: Alter>(
     conn: &mut Connection<S>,
     act: &Act<'_>,
@@ -50,21 +51,22 @@ pub fn commit_act<S: Alter>(
     ensures either { IfErr result (λ stop. (t : Tables) → Keeps (state S.Store conn.old) t
         → NeedsRows postings.now act.now t
         → KeepsEither (state S.Store conn.new) t (with_act postings.now act.now t)) }
-    // where the rules let the rows in, the store fails only with a cause
+    // if the rules of the tables admit the rows, `Fault::Store` means that the store failed or
+    // rolled the transaction back
     ensures cause { IfErr result (λ stop. stop ≡ Stop.Fault Fault.Store → HasCleanDisk (state S.Store conn.new)
         → (t : Tables) → Keeps (state S.Store conn.old) t → KeepsNumbers (state S.Store conn.old)
         → NeedsRows postings.now act.now t → LetsAct act.now t
         → HasCommitCause S.Store (state S.Store conn.old) (state S.Store conn.new)
         (with_act postings.now act.now t)) }
-    // the hidden row numbers go on by one
+    // the hidden row numbers stay 1, 2, 3 and so on
     ensures numbered { (t : Tables) → Keeps (state S.Store conn.old) t → NeedsRows postings.now act.now t
         → KeepsNumbers (state S.Store conn.old) → KeepsNumbers (state S.Store conn.new) }
-    // a crash leaves no more than before, but for the rows of the command
+    // a crash leaves what it could leave before, or that with the rows of the command
     ensures survives { Survives (state S.Store conn.old) (state S.Store conn.new)
         (LeavesChanged (state S.Store conn.old) (NeedsRows postings.now act.now)
         (with_act postings.now act.now)) }
 {
-    // what is open is a whole database
+    // an open connection shows a complete database
     let _schema = conn.schema();
     let mut tx = conn.transaction();
     write_rows(&mut tx, act.resolved)?;

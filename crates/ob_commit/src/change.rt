@@ -1,4 +1,4 @@
-//! The rows that a command changes beside its own and those of its amounts.
+//! The rows that a command changes, apart from its own row and those of its amounts.
 ghost use Rattle.std.specs.Prelude.{◌≡◌, ◌<◌, ◌^◌, IfSome};
 ghost use Rattle.ob_tables.specs.Rows.{Always};
 ghost use Rattle.ob_tables.specs.Rules.{LacksKey, LetsDevice};
@@ -15,7 +15,7 @@ use ob_tables::{
 };
 use sqlite::{Alter, Transaction};
 
-/// Changes the rows as a command does, by what it comes to.
+/// Writes the rows that a command changes, given its resolved form.
 pub(crate) fn write_rows<S: Alter>(
     tx: &mut Transaction<'_, S>,
     resolved: &Resolved,
@@ -39,7 +39,7 @@ pub(crate) fn write_rows<S: Alter>(
     }
 }
 
-/// Adds a device between the nodes of two numbers, and its life.
+/// Adds a device between two nodes, by their numbers, and its in-service interval.
 fn add_device_and_life<S: Alter>(
     tx: &mut Transaction<'_, S>,
     number: u16,

@@ -1,4 +1,4 @@
-//! The columns of a row that a query answered.
+//! Reads the columns of a row that a query returned.
 ghost use Rattle.std.specs.Prelude.{◌≡◌, ◌<◌, ◌^◌, ℕ, ℤ, List, length, IsOk, IfOk, IfErr};
 ghost use Rattle.sqlite.specs.Order.{column};
 ghost use Rattle.sqlite.specs.declared.types.Value.TheVariants.{Int, Text as AText};
@@ -9,7 +9,7 @@ use ob_base::{Fault, Stop};
 use sqlite::Row;
 use sqlite_value::value::ValueRef;
 
-/// The number in a column.
+/// Returns the number in a column.
 pub(crate) fn number_at(row: &Row, place: usize) -> Result<u32, Stop>
     ensures value { IfOk result (λ n. column row.now place ≡ number n) }
     ensures fault { IfErr result (λ stop. stop ≡ store_fault) }
@@ -25,7 +25,7 @@ pub(crate) fn number_at(row: &Row, place: usize) -> Result<u32, Stop>
     }
 }
 
-/// The number in a column, which may be below 0.
+/// Returns the number in a column; it may be negative.
 pub(crate) fn signed_at(row: &Row, place: usize) -> Result<i64, Stop>
     ensures value { IfOk result (λ n. column row.now place ≡ Int n) }
     ensures fault { IfErr result (λ stop. stop ≡ store_fault) }
@@ -38,7 +38,7 @@ pub(crate) fn signed_at(row: &Row, place: usize) -> Result<i64, Stop>
     }
 }
 
-/// The bytes of the text in a column.
+/// Returns the bytes of the text in a column.
 pub(crate) fn text_at(row: &Row, place: usize) -> Result<&[u8], Stop>
     ensures value { IfOk result (λ text. column row.now place ≡ AText text.now) }
     ensures fault { IfErr result (λ stop. stop ≡ store_fault) }

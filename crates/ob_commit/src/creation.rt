@@ -1,4 +1,4 @@
-//! The tables of a new book, committed together.
+//! Commits the tables of a new book in one transaction.
 ghost use Rattle.std.specs.Prelude.{◌≡◌, ◌≢◌, ◌↔◌, ◌⊎◌, Err, false, IsTrue, OnOk, IfErr};
 ghost use Rattle.sqlite.specs.Held.{state};
 ghost use Rattle.sqlite.specs.State.{HasCleanDisk, IsLive, Survives};
@@ -14,7 +14,7 @@ use crate::writing::write_new;
 use ob_base::{Fault, Refusal, Stop};
 use sqlite::{Alter, Connection};
 
-/// Makes the tables of a new book in a database that holds nothing: all or none. It is refused as `BadBook` where
+/// Creates the tables of a new book in an empty database, all or none. Refuses with `BadBook` if
 /// the database holds a table, an index or a view.
 pub fn commit_new<S: Alter>(
     conn: &mut Connection<S>,
@@ -40,20 +40,22 @@ pub fn commit_new<S: Alter>(
         → (t : Tables) → Keeps (state S.Store conn.old) t → Keeps (state S.Store conn.new) t) }
     ensures either { IfErr result (λ stop. StaysOrBegins (state S.Store conn.old)
         (state S.Store conn.new) (new_tables first_day.now days zone.now)) }
-    // where the texts fit, the store fails only with a cause
+    // if the texts are short enough, `Fault::Store` means that the store failed or rolled the
+    // transaction back
     ensures cause { IfErr result (λ stop. stop ≡ Stop.Fault Fault.Store → HasCleanDisk (state S.Store conn.new)
         → IsShort first_day.now → IsShort zone.now
         → HasCommitCause S.Store (state S.Store conn.old) (state S.Store conn.new)
         (new_tables first_day.now days zone.now)) }
     ensures numbered { OnOk result (KeepsNumbers (state S.Store conn.new)) }
-    // a crash leaves no more than before, but for the tables of a new book where nothing was
+    // a crash leaves what it could leave before, or, if the database was empty, the tables of a new
+    // book
     ensures survives { Survives (state S.Store conn.old) (state S.Store conn.new)
         (Begins (state S.Store conn.old) (new_tables first_day.now days zone.now)) }
 {
     if !is_empty(conn) {
         return Err(Stop::Refused(Refusal::BadBook));
     }
-    // outside a transaction what a connection shows is what was committed
+    // outside a transaction a connection shows what was committed
     prove!(conn.is_autocommit());
     let mut tx = conn.transaction();
     write_new(&mut tx, first_day, days, zone)?;
@@ -66,7 +68,7 @@ pub fn commit_new<S: Alter>(
 /// Whether the database holds no table, no index and no view.
 fn is_empty<S: Alter>(conn: &Connection<S>) -> bool
     ensures empty { IsTrue result ↔ ((state S.Store conn.now).now.schema ≡ no_schema) }
-    // what is open is a whole database
+    // an open connection shows a complete database
     ensures live { IsLive (state S.Store conn.now) }
 {
     let schema = conn.schema();

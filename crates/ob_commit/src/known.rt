@@ -1,4 +1,4 @@
-//! What stands under a reference.
+//! Looks up a reference in the table of commands.
 ghost use Rattle.std.specs.Prelude.{◌≡◌, ◌<◌, ◌^◌, ◌∷◌, [], ℕ, false, filter, List, IsPermutation, IsOk, IfOk, IfErr};
 ghost use Rattle.sqlite.specs.Held.{state};
 ghost use Rattle.sqlite.specs.State.{HasCleanDisk, Survives};
@@ -14,18 +14,18 @@ use ob_base::{Fault, Stop};
 use ob_tables::find_commands;
 use sqlite::{Alter, Connection, Row};
 
-/// What stands under a reference.
+/// The result of looking up a reference.
 #[derive(Clone, Copy)]
 pub enum Known {
-    /// No command.
+    /// No command has the reference.
     New,
-    /// The command of this number, with this body.
+    /// The command of this number has the reference and the same body.
     Same(u32),
-    /// The command of this number, with another body.
+    /// The command of this number has the reference and another body.
     Other(u32),
 }
 
-/// What the tables hold under a reference. Nothing is written.
+/// Looks up a reference in the tables. Nothing is written.
 pub fn look_up<S: Alter>(
     conn: &mut Connection<S>,
     reference: &[u8],
@@ -52,7 +52,7 @@ pub fn look_up<S: Alter>(
     }
 }
 
-/// The rows of the commands with a reference: one or none. Nothing is written.
+/// Returns the rows of the commands with a reference: one or none. Nothing is written.
 fn known_rows<S: Alter>(conn: &mut Connection<S>, reference: &[u8]) -> Result<Vec<Row>, Stop>
     requires mode { conn.old.in_transaction ≡ false }
     ensures mode { conn.new.in_transaction ≡ false }
@@ -70,7 +70,7 @@ fn known_rows<S: Alter>(conn: &mut Connection<S>, reference: &[u8]) -> Result<Ve
     find_commands(&mut tx, reference)
 }
 
-/// What the rows under a reference tell.
+/// Reads the result from the rows with a reference.
 fn tell(rows: &[Row], reference: &[u8], body: &[u8]) -> Result<Known, Stop>
     ensures told { IfOk result (IsUnder rows.now reference.now body.now) }
     ensures fault { IfErr result (λ stop. stop ≡ store_fault) }
@@ -83,7 +83,7 @@ fn tell(rows: &[Row], reference: &[u8], body: &[u8]) -> Result<Known, Stop>
     }
 }
 
-/// What the one row under a reference tells. Another row than that of a command with the reference is a fault.
+/// Reads the result from the one row with a reference. Any other row is a fault of the store.
 fn tell_row(row: &Row, reference: &[u8], body: &[u8]) -> Result<Known, Stop>
     ensures told { IfOk result (IsUnder (row.now ∷ []) reference.now body.now) }
     ensures fault { IfErr result (λ stop. stop ≡ store_fault) }

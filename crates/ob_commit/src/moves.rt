@@ -1,4 +1,4 @@
-//! The rows of the amounts that a command moves.
+//! Writes the rows of the amounts that a command changes.
 ghost use Rattle.std.specs.Prelude.{◌≡◌, ◌<◌, ◌^◌};
 ghost use Rattle.std.specs.Int.RustNames.{unsigned_abs};
 ghost use Rattle.std.specs.List.{All};
@@ -15,7 +15,7 @@ use ob_post::{Moved, Postings};
 use ob_tables::{add_moved, set_posting};
 use sqlite::{Alter, Transaction};
 
-/// The amount under the key of a row once the row has moved it.
+/// Returns the amount under the key of a change after that change.
 fn amount_after(postings: &Postings, it: &Moved) -> u64
     requires can { CanMove postings.now it.now }
     ensures value { result ≡ unsigned_abs (moved_to postings.now it.now) }
@@ -25,7 +25,7 @@ fn amount_after(postings: &Postings, it: &Moved) -> u64
     (postings.amount(dim, key) as i64 + delta).unsigned_abs()
 }
 
-/// Writes the row of one amount that a command moves, and the amount that then stands.
+/// Writes the row of one change of an amount, and the new amount.
 pub(crate) fn write_move<S: Alter>(
     tx: &mut Transaction<'_, S>,
     no: u32,
@@ -44,7 +44,7 @@ pub(crate) fn write_move<S: Alter>(
     set_posting(tx, u32::from(dim.number()), u32::from(key), amount)
 }
 
-/// Writes the rows of all amounts that a command moves.
+/// Writes the rows of all changes of amounts that a command makes.
 pub(crate) fn write_moves<S: Alter>(
     tx: &mut Transaction<'_, S>,
     no: u32,

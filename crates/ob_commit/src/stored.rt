@@ -1,4 +1,4 @@
-//! What a command moved, as its rows tell.
+//! Reads the changes of amounts that a stored command made.
 ghost use Rattle.std.specs.Prelude.{◌≡◌, ◌<◌, ◌^◌, ℕ, false, List, All, length, IsPermutation, filter, IsOk, IfOk, IfErr};
 ghost use Rattle.sqlite.specs.Held.{state};
 ghost use Rattle.sqlite.specs.State.{HasCleanDisk, Survives};
@@ -24,7 +24,7 @@ use sqlite::{Alter, Connection, Row, Transaction};
 use sqlite_value::value::ValueRef;
 use std::alloc::Global;
 
-/// The amounts that the command of a number moved, by dimension and key. Nothing is written.
+/// Returns the changes of amounts that a command made, by dimension and key. Nothing is written.
 pub fn stored_moves<S: Alter>(
     alloc: Global,
     conn: &mut Connection<S>,
@@ -53,7 +53,7 @@ pub fn stored_moves<S: Alter>(
     }
 }
 
-/// The rows of what the command of a number moved, by dimension and key. Nothing is written.
+/// Returns the rows of the changes that a command made, by dimension and key. Nothing is written.
 fn moved_rows<S: Alter>(conn: &mut Connection<S>, no: u32) -> Result<Vec<Row>, Stop>
     requires mode { conn.old.in_transaction ≡ false }
     ensures mode { conn.new.in_transaction ≡ false }
@@ -71,7 +71,8 @@ fn moved_rows<S: Alter>(conn: &mut Connection<S>, no: u32) -> Result<Vec<Row>, S
     find_moves(&mut tx, no)
 }
 
-/// The rows of what the command of a number moved, by dimension and key. Nothing is changed.
+/// Returns the rows of the changes that a command made, by dimension and key, inside a transaction.
+/// Nothing is changed.
 fn find_moves<S: Alter>(tx: &mut Transaction<'_, S>, no: u32) -> Result<Vec<Row>, Stop>
     ensures reads { Reads S.Store tx.old.conn tx.new.conn result }
     ensures found { HasCleanDisk (state S.Store tx.new.conn.now)
@@ -89,7 +90,7 @@ fn find_moves<S: Alter>(tx: &mut Transaction<'_, S>, no: u32) -> Result<Vec<Row>
     }
 }
 
-/// What the rows tell that the command of a number moved, in their order.
+/// Reads the changes that a command made from its rows, in their order.
 fn read_moves(alloc: Global, rows: &[Row], no: u32) -> Result<Vec<Moved>, Stop>
     ensures told { IfOk result (λ moves. rows.now ≡ rows_of no moves.items) }
     ensures faults { IfErr result IsStoreFault }
@@ -102,7 +103,7 @@ fn read_moves(alloc: Global, rows: &[Row], no: u32) -> Result<Vec<Moved>, Stop>
     Ok(moves)
 }
 
-/// What a row tells that the command of a number moved. Another row than that of an amount that it moved is a fault.
+/// Reads one change that a command made from its row. Any other row is a fault of the store.
 fn read_move(row: &Row, no: u32) -> Result<Moved, Stop>
     ensures told { IfOk result (λ it. row.now ≡ row_of no it) }
     ensures fault { IfErr result (λ stop. stop ≡ store_fault) }
@@ -118,7 +119,7 @@ fn read_move(row: &Row, no: u32) -> Result<Moved, Stop>
     Ok(Moved { dim, key, delta })
 }
 
-/// The dimension in a column.
+/// Returns the dimension in a column.
 fn dim_at(row: &Row, place: usize) -> Result<Dim, Stop>
     ensures value { IfOk result (λ dim. column row.now place ≡ number (dim_number dim)) }
     ensures fault { IfErr result (λ stop. stop ≡ store_fault) }
@@ -133,7 +134,7 @@ fn dim_at(row: &Row, place: usize) -> Result<Dim, Stop>
     }
 }
 
-/// The key in a column.
+/// Returns the key in a column.
 fn key_at(row: &Row, place: usize) -> Result<u16, Stop>
     ensures value { IfOk result (λ key. column row.now place ≡ number key) }
     ensures fault { IfErr result (λ stop. stop ≡ store_fault) }

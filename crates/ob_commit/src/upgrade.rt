@@ -1,4 +1,4 @@
-//! The tables of version 1 made those of version 2, committed together.
+//! Upgrades the tables of version 1 to those of version 2 in one transaction.
 ghost use Rattle.std.specs.Prelude.{◌≡◌, false, OnOk, IfErr};
 ghost use Rattle.sqlite.specs.Held.{state};
 ghost use Rattle.sqlite.specs.State.{HasCleanDisk, Survives};
@@ -13,7 +13,7 @@ use ob_base::{Fault, Life, Stop};
 use ob_tables::{add_life, create_life, set_body, set_version};
 use sqlite::{Alter, Connection, Transaction};
 
-/// The body text that the command of a number has from now on.
+/// A new body text for the command of a number.
 #[derive(Drop)]
 pub struct NewBody {
     /// The number.
@@ -22,7 +22,7 @@ pub struct NewBody {
     pub body: Vec<u8>,
 }
 
-/// Gives commands other body texts.
+/// Replaces the body texts of commands.
 fn write_bodies<S: Alter>(tx: &mut Transaction<'_, S>, bodies: &[NewBody]) -> Result<(), Stop>
     ensures { ChangesOpen S.Store tx.old.conn tx.new.conn result (HasBodies bodies.now)
         (LetsBodies bodies.now) (with_bodies bodies.now) }
@@ -34,7 +34,8 @@ fn write_bodies<S: Alter>(tx: &mut Transaction<'_, S>, bodies: &[NewBody]) -> Re
     Ok(())
 }
 
-/// Gives so many devices, from number 0 on, a life without end from the first second on.
+/// Gives the devices with numbers from 0 up to `devices` an in-service interval from the first
+/// second on, without end.
 fn write_lives<S: Alter>(tx: &mut Transaction<'_, S>, devices: u16) -> Result<(), Stop>
     ensures { ChangesOpen S.Store tx.old.conn tx.new.conn result Always
         (LetsLivesOf devices) (with_lives devices) }
@@ -49,8 +50,8 @@ fn write_lives<S: Alter>(tx: &mut Transaction<'_, S>, devices: u16) -> Result<()
     Ok(())
 }
 
-/// Makes of the tables of version 1 those of version 2: with the table of lives, a whole one for each of so many devices,
-/// with these bodies and with version 2.
+/// Upgrades the tables of version 1 to those of version 2: adds the table of in-service intervals
+/// with one interval for each device, replaces these bodies, and sets the version to 2.
 fn write_upgrade<S: Alter>(
     tx: &mut Transaction<'_, S>,
     bodies: &[NewBody],
@@ -65,8 +66,9 @@ fn write_upgrade<S: Alter>(
     set_version(tx, 2)
 }
 
-/// Commits what makes the tables of version 1 those of version 2, all or nothing: the table of lives, a life without end from
-/// the first second on for each of so many devices, these body texts, and the version.
+/// Commits the upgrade of the tables of version 1 to version 2, all or nothing. It writes the table
+/// of in-service intervals, an interval from the first second on without end for each of `devices`
+/// devices, these body texts, and the version.
 pub fn commit_upgrade<S: Alter>(
     conn: &mut Connection<S>,
     bodies: &[NewBody],
@@ -84,14 +86,15 @@ pub fn commit_upgrade<S: Alter>(
     ensures either { IfErr result (λ stop. (t : Tables)
         → KeepsIn AVersion.One (state S.Store conn.old) t → CanUpgrade bodies.now devices t
         → KeepsOldOr (state S.Store conn.new) t (with_upgrade bodies.now devices t)) }
-    // where the rules let the rows in, the store fails only with a cause
+    // if the rules of the tables admit the rows, `Fault::Store` means that the store failed or
+    // rolled the transaction back
     ensures cause { IfErr result (λ stop. stop ≡ Stop.Fault Fault.Store → HasCleanDisk (state S.Store conn.new)
         → (t : Tables) → KeepsIn AVersion.One (state S.Store conn.old) t
         → KeepsNumbers (state S.Store conn.old) → CanUpgrade bodies.now devices t
         → LetsUpgrade bodies.now devices t
         → HasCommitCause S.Store (state S.Store conn.old) (state S.Store conn.new)
         (with_upgrade bodies.now devices t)) }
-    // the hidden row numbers stay
+    // the hidden row numbers stay 1, 2, 3 and so on
     ensures numbered { (t : Tables) → KeepsIn AVersion.One (state S.Store conn.old) t
         → CanUpgrade bodies.now devices t → KeepsNumbers (state S.Store conn.old)
         → KeepsNumbers (state S.Store conn.new) }
@@ -99,7 +102,7 @@ pub fn commit_upgrade<S: Alter>(
         (LeavesUpgraded (state S.Store conn.old) (CanUpgrade bodies.now devices)
         (with_upgrade bodies.now devices)) }
 {
-    // what is open is a whole database
+    // an open connection shows a complete database
     let _schema = conn.schema();
     let mut tx = conn.transaction();
     write_upgrade(&mut tx, bodies, devices)?;

@@ -1,4 +1,4 @@
-//! The statements that make the tables of a new book, with the rows that they begin with.
+//! Creates the tables of a new book, with their first rows.
 ghost use Rattle.std.specs.List.{range_with_len};
 ghost use Rattle.ob_tables.specs.Steps.{Changes};
 ghost use Rattle.ob_tables.specs.Creation.{Creates};
@@ -14,13 +14,13 @@ use ob_state::unassigned;
 use ob_tables::{add_cause, add_meta, add_node, add_posting, create_tables};
 use sqlite::{Alter, Transaction};
 
-/// How many codes causes may have, from 0 on.
+/// The number of codes for causes, from 0 on.
 const CAUSES: u16 = 64;
 
-/// How many numbers home feeders may have, from 1 on.
+/// The number of home feeders, from 1 on.
 const FEEDERS: u16 = 255;
 
-/// Makes the tables of a new book. It fails where one of them stands already.
+/// Creates the tables of a new book. Fails if one of them exists already.
 pub(crate) fn write_new<S: Alter>(
     tx: &mut Transaction<'_, S>,
     first_day: &[u8],
@@ -35,7 +35,7 @@ pub(crate) fn write_new<S: Alter>(
     write_amounts(tx, days)
 }
 
-/// Adds the rows of the period, of cause 0 and of GRID.
+/// Adds the row of the period, of cause 0 and of GRID.
 fn write_heading<S: Alter>(
     tx: &mut Transaction<'_, S>,
     first_day: &[u8],
@@ -50,7 +50,7 @@ fn write_heading<S: Alter>(
     add_node(tx, 0, &grid())
 }
 
-/// Adds the row of each amount, which is 0.
+/// Adds a row for each amount, with the value 0.
 fn write_amounts<S: Alter>(tx: &mut Transaction<'_, S>, days: u16) -> Result<(), Stop>
     ensures { ChangesOpen S.Store tx.old.conn tx.new.conn result Always
         (LetsZeros (all_keys days)) (with_zeros (all_keys days)) }
@@ -60,7 +60,7 @@ fn write_amounts<S: Alter>(tx: &mut Transaction<'_, S>, days: u16) -> Result<(),
     write_keys(tx, Dim::Day, 0, days)
 }
 
-/// Adds the row of each of so many keys of a dimension, from the first on, with the amount 0.
+/// Adds a row with the amount 0 for each key of a dimension, from the first key on.
 fn write_keys<S: Alter>(
     tx: &mut Transaction<'_, S>,
     dim: Dim,

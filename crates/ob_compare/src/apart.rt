@@ -1,4 +1,4 @@
-//! Whether the rows of amounts have numbers of their own, by which they may be told apart.
+//! Checks that the rows of amounts have different row numbers.
 ghost use Rattle.std.specs.Prelude.{◌≡◌, ◌↔◌, ℤ, false, List, [], Some, IsTrue, IfOk, IfErr, OnOk};
 ghost use Rattle.sqlite.specs.Order.{Row as ARow};
 ghost use Rattle.sqlite.specs.Tree.{rowid};
@@ -19,7 +19,7 @@ use ob_tables::stop_of;
 use sqlite::{Alter, Connection, Row, Rows};
 use sqlite_value::value::ValueRef;
 
-/// The number that the row begins with, where it is above the last.
+/// Returns the number in the first column of the row, if it is above the last number.
 pub(crate) fn higher_in(row: &Row, last: Option<i64>) -> Option<i64>
     ensures { (n : ℤ) → (result ≡ Some n) ↔ ((rowid row.now ≡ Int n) × IsAbove last n) }
 {
@@ -34,7 +34,7 @@ pub(crate) fn higher_in(row: &Row, last: Option<i64>) -> Option<i64>
     Some(number)
 }
 
-/// What stands next among the numbers of rows.
+/// The next item among the row numbers.
 enum NextNumber {
     /// A number above the last.
     Higher(i64),
@@ -44,7 +44,7 @@ enum NextNumber {
     End,
 }
 
-/// What stands next, behind the last number.
+/// Reads the next item after the last number.
 fn next_number<S: Alter>(rows: &mut Rows<'_, S>, last: Option<i64>) -> Result<NextNumber, Stop>
     ensures same_reference { rows.new.conn.ghost_name ≡ rows.old.conn.ghost_name }
     ensures survives { Survives (state S.Store rows.old.conn.now) (state S.Store rows.new.conn.now)
@@ -77,7 +77,7 @@ fn next_number<S: Alter>(rows: &mut Rows<'_, S>, last: Option<i64>) -> Result<Ne
     }
 }
 
-/// Whether the numbers to come rise.
+/// Whether the row numbers still to be read rise.
 fn rise<S: Alter>(rows: &mut Rows<'_, S>) -> Result<bool, Stop>
     ensures same_reference { rows.new.conn.ghost_name ≡ rows.old.conn.ghost_name }
     ensures survives { Survives (state S.Store rows.old.conn.now) (state S.Store rows.new.conn.now)
@@ -111,8 +111,8 @@ fn rise<S: Alter>(rows: &mut Rows<'_, S>) -> Result<bool, Stop>
     }
 }
 
-/// Whether each row of the table of amounts has a number for its hidden key, and no two have the same. Nothing is written.
-/// The tables may be those of either version.
+/// Whether each row of the table of amounts has a number as its hidden key, and no two have the
+/// same. Nothing is written. The tables may be those of either version.
 pub fn are_apart<S: Alter>(conn: &mut Connection<S>) -> Result<bool, Stop>
     ensures mode { conn.old.in_transaction ≡ false → conn.new.in_transaction ≡ false }
     ensures survives { Survives (state S.Store conn.old) (state S.Store conn.new) (λ _. ⊥) }

@@ -1,4 +1,4 @@
-//! The columns of a row, read one at a time.
+//! Reads the columns of a row, one at a time.
 ghost use Rattle.std.specs.Prelude.{◌≡◌, ◌↔◌, ◌<◌, ◌^◌, ℕ, List, Some, IsTrue, length, option_copied};
 ghost use Rattle.sqlite.specs.Order.{column};
 ghost use Rattle.sqlite.specs.declared.types.Value.TheVariants.{Text};
@@ -7,7 +7,7 @@ ghost use Rattle.ob_tables.specs.Rows.{number};
 use sqlite::Row;
 use sqlite_value::value::ValueRef;
 
-/// The text in a column.
+/// Returns the text in a column, if it is a text.
 pub(crate) fn text_at(row: &Row, at: usize) -> Option<&[u8]>
     ensures { (t : List ℕ) → (option_copied result ≡ Some t)
         ↔ ((at < length row.now) × (column row.now at ≡ Text t)) }
@@ -28,7 +28,7 @@ pub(crate) fn has_number(row: &Row, at: usize, n: u32) -> bool
     }
 }
 
-/// The number in a column, where it is small.
+/// Returns the number in a column, if it is below 2^16.
 pub(crate) fn small_at(row: &Row, at: usize) -> Option<u16>
     ensures { (n : ℕ) → (result ≡ Some n)
         ↔ ((n < 2 ^ 16) × (at < length row.now) × (column row.now at ≡ number n)) }

@@ -1,4 +1,4 @@
-//! The commands, read back from the rows of their table.
+//! Reads the commands back from the rows of their table.
 ghost use Rattle.std.specs.Prelude.{◌≡◌, ◌≢◌, ◌↔◌, pos, false, List, [], Some, IsTrue, IfOk, IfErr, OnOk};
 ghost use Rattle.sqlite.specs.Order.{Row as ARow};
 ghost use Rattle.sqlite.specs.Tree.{rowid};
@@ -43,7 +43,8 @@ pub struct Commands {
     pub counted: bool,
 }
 
-/// The command whose body text it is in a version. The error is that memory was refused.
+/// Returns the command with this body text in a version; None if there is none. Fails only if an
+/// allocation fails.
 fn read_body_in(alloc: Global, text: &[u8], version: Version) -> Result<Option<Command>, Stop>
     ensures read { IfOk result (λ found. (c : ACommand)
         → (found ≡ Some c) ↔ (IsCommandIn version c × (text.now ≡ body_in version c))) }
@@ -55,7 +56,8 @@ fn read_body_in(alloc: Global, text: &[u8], version: Version) -> Result<Option<C
     }
 }
 
-/// The command whose row it is in a version, whatever its number. The error is that memory was refused.
+/// Returns the command in this row in a version, whatever the row's number; None if there is none.
+/// Fails only if an allocation fails.
 fn filed_in(alloc: Global, row: &Row, version: Version) -> Result<Option<Filed>, Stop>
     ensures filed { IfOk result (λ found. (f : AFiled)
         → (found ≡ Some f) ↔ (IsFiled version f × (row.now
@@ -80,17 +82,17 @@ fn filed_in(alloc: Global, row: &Row, version: Version) -> Result<Option<Filed>,
     Ok(Some(Filed { reference, command }))
 }
 
-/// What stands next in the table of commands.
+/// The next item in the table of commands.
 enum Next {
     /// A command, with a number above the last.
     Higher(i64, Filed),
-    /// A row of none.
+    /// A row that is no command, or whose number isn't above the last.
     Other,
     /// No row.
     End,
 }
 
-/// What stands next, behind the last number.
+/// Reads the next item after the last number.
 fn next_filed<S: Alter>(
     alloc: Global,
     rows: &mut Rows<'_, S>,
@@ -131,14 +133,15 @@ fn next_filed<S: Alter>(
     Ok(Next::Higher(number, filed))
 }
 
-/// Whether numbers that count from 1 so far, or don't, do with one more, where this is due.
+/// Whether the numbers still count from 1 without gaps, given whether they did so far, the next
+/// number, and the number that is due.
 fn goes_on_counting(counted: bool, number: i64, due: u32) -> bool
     ensures { IsTrue result ↔ (IsTrue counted × (number ≡ pos due)) }
 {
     counted && number == i64::from(due)
 }
 
-/// The commands that the rows hold.
+/// Returns the commands that the rows hold.
 fn filed_rows<S: Alter>(
     alloc: Global,
     rows: &mut Rows<'_, S>,
@@ -189,9 +192,11 @@ fn filed_rows<S: Alter>(
     }
 }
 
-/// The commands of the table `cmd`, by the body texts of a version, in the order of their numbers, and whether these count
-/// from 1; None where its rows aren't those of the version's commands under references and numbers that rise, no more than a
-/// book takes. A database without the table is refused as no book's. The tables may be those of either version.
+/// Reads the commands of the table `cmd`, with the body texts of a version, in the order of their
+/// numbers. Also returns whether the numbers count from 1 without gaps. None if the rows aren't
+/// commands of the version under references, with rising numbers, or if there are more of them than
+/// a book may accept. Refuses with `BadBook` if the database lacks the table. The tables may be
+/// those of either version.
 pub fn read_commands<S: Alter>(
     alloc: Global,
     conn: &mut Connection<S>,
@@ -220,7 +225,7 @@ pub fn read_commands<S: Alter>(
         → (rows : List Columns) → Shows (state S.Store conn.old).now.trees ATable.Command rows
         → IsCommands version found rows) }
 {
-    // A `?` converts the stop on its way, and the clauses say which it is.
+    // No `?` here: it would convert the error, and the contract states which error it is.
     let statement = match prepare(conn, select_of(Table::Command)) {
         Ok(statement) => statement,
         Err(stop) => return Err(stop),

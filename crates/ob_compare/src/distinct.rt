@@ -1,4 +1,4 @@
-//! Commands under references that stand once, and the states that they lead to.
+//! Checks that no reference occurs twice, and laws of the states that such commands give.
 ghost use Rattle.std.specs.Prelude.{◌≡◌, ◌≢◌, ◌↔◌, ℕ, List, AllPairs, IsSorted, IsTrue, IfOk, IfErr};
 ghost use Rattle.ob_base.specs.Stop.{out_of_memory};
 ghost use Rattle.ob_compare.specs.Listing.{filed_of};
@@ -14,7 +14,7 @@ use ob_command::bodies_law;
 use ob_upgrade::version_law;
 use std::alloc::Global;
 
-/// The bytes of the references.
+/// Returns the bytes of the references.
 fn references_of(alloc: Global, commands: &[Filed]) -> Result<Vec<&[u8]>, Stop>
     ensures references { IfOk result (λ list. shown_texts list.items ≡ texts_of commands.now) }
     ensures faults { IfErr result (λ stop. stop ≡ out_of_memory) }
@@ -26,7 +26,7 @@ fn references_of(alloc: Global, commands: &[Filed]) -> Result<Vec<&[u8]>, Stop>
     Ok(references)
 }
 
-/// Whether no text of a list that is sorted stands twice: those that are the same are neighbours.
+/// Whether no text occurs twice in a sorted list. Equal texts are neighbours in it.
 fn have_no_twins(sorted: &[&[u8]]) -> bool
     requires { IsSorted text_order sorted.now }
     ensures { IsTrue result ↔ AllPairs (λ (a b : List ℕ). a ≢ b) (shown_texts sorted.now) }
@@ -39,7 +39,8 @@ fn have_no_twins(sorted: &[&[u8]]) -> bool
     true
 }
 
-/// Whether no reference stands twice. A copy of the references is sorted, which takes time n log n and memory for them.
+/// Whether no reference occurs twice. Sorts a copy of the references, which takes time n log n and
+/// memory for the copy.
 pub fn are_distinct(alloc: Global, commands: &[Filed]) -> Result<bool, Stop>
     ensures distinct { IfOk result (λ is. IsTrue is ↔ AreDistinct (filed_of commands.now)) }
     ensures faults { IfErr result (λ stop. stop ≡ out_of_memory) }
@@ -49,9 +50,12 @@ pub fn are_distinct(alloc: Global, commands: &[Filed]) -> Result<bool, Stop>
     Ok(have_no_twins(&references))
 }
 
-/// Commands under references that stand once, each accepted in its turn, lead to the state of acts; where acts accept a
-/// whole list, it is such a list, and what its commands moved are the rows of the tables of its state. In the order of their
-/// numbers rows are those of one list of a version's commands alone.
+/// States how accepted commands and states belong together. Commands under different references,
+/// each accepted in its turn, give the same state as applying each under its reference. If a whole
+/// list was accepted, no reference occurs twice in it, each command was accepted in its turn, and
+/// the changes of amounts are the rows of the table of moved amounts. The rows of commands, in the
+/// order of their numbers, belong to only one list of a version's commands. Does nothing at run
+/// time.
 pub fn reaching_law()
     ensures reached { ReachedByCommands }
     ensures accepted { ActsAreAccepted }

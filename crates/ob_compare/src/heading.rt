@@ -1,4 +1,4 @@
-//! The heading of a book, read back from its table.
+//! Reads the heading of a book back from its table.
 ghost use Rattle.std.specs.Prelude.{◌≡◌, ◌≢◌, false, List, IfOk, IfErr, OnOk};
 ghost use Rattle.sqlite.specs.Held.{state};
 ghost use Rattle.sqlite.specs.State.{HasCleanDisk, IsUnchanged, Survives};
@@ -22,7 +22,7 @@ use ob_tables::{Table, select_of};
 use sqlite::{Alter, Connection, Row};
 use std::alloc::Global;
 
-/// The row of `meta` of a book, under any number and of any version: the texts as they stand.
+/// The row of `meta` of a book, of any number and version: its texts as they are stored.
 #[derive(Drop)]
 pub struct Heading {
     /// The text of the first day.
@@ -33,7 +33,7 @@ pub struct Heading {
     pub zone: Vec<u8>,
 }
 
-/// The heading that a row holds.
+/// Returns the heading in a row, if the row holds one.
 fn heading_of(alloc: Global, row: &Row) -> Result<Option<Heading>, Stop>
     ensures heading { IfOk result (λ found. IsHeadingRow found row.now) }
     ensures err { IfErr result (λ stop. stop ≡ out_of_memory) }
@@ -59,7 +59,7 @@ fn heading_of(alloc: Global, row: &Row) -> Result<Option<Heading>, Stop>
     }))
 }
 
-/// The heading, where there is one row and it holds one.
+/// Returns the heading, if there is one row and it holds a heading.
 fn heading_in(alloc: Global, rows: &[Row]) -> Result<Option<Heading>, Stop>
     ensures heading { IfOk result (λ found. IsHeading found rows.now) }
     ensures err { IfErr result (λ stop. stop ≡ out_of_memory) }
@@ -70,9 +70,9 @@ fn heading_in(alloc: Global, rows: &[Row]) -> Result<Option<Heading>, Stop>
     heading_of(alloc, &rows[0])
 }
 
-/// The row of `meta`, where it is the only one and names a first day, a count of days and a zone, whatever its number and
-/// its version; None where `meta` holds anything else. A database without tables is refused as no book's. The tables may be
-/// those of either version.
+/// Reads the row of `meta` if it is the only one and has a first day, a count of days and a zone,
+/// whatever its number and its version. None if `meta` holds anything else. Refuses with `BadBook`
+/// if the database lacks the table. The tables may be those of either version.
 pub fn read_heading<S: Alter>(
     alloc: Global,
     conn: &mut Connection<S>,
@@ -102,7 +102,7 @@ pub fn read_heading<S: Alter>(
         → (rows : List Columns) → Shows (state S.Store conn.old).now.trees ATable.Meta rows
         → IsHeading found rows) }
 {
-    // A `?` converts the stop on its way, and the clauses say which it is.
+    // No `?` here: it would convert the error, and the contract states which error it is.
     match list_all(conn, select_of(Table::Meta)) {
         Ok(rows) => heading_in(alloc, &rows),
         Err(stop) => Err(stop),

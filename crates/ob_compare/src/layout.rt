@@ -1,11 +1,12 @@
-//! The nodes and the devices of a book that is led along.
+//! The nodes and the devices of a book during a replay.
 use ob_base::{Life, Stop};
 use ob_net::{Device, Node, grid};
 use ob_state::Resolved;
 use std::alloc::Global;
 use std::marker::Model;
 
-/// The nodes and the devices of a book's network, noted as commands add them: a network shows no device's ends.
+/// The nodes and the devices of a book's network, recorded as commands add them. The network itself
+/// doesn't show the ends of a device.
 #[derive(Drop)]
 pub struct Layout {
     nodes: Vec<Node>,
@@ -26,7 +27,7 @@ impl Layout {
     ghost use Rattle.ob_net.specs.Network.{grid_alone, with_life};
     ghost use Rattle.ob_compare.specs.Layout.{network_by};
 
-    /// GRID alone, as a new book has it.
+    /// GRID alone, as in a new book.
     pub fn new(alloc: Global) -> Result<Layout, Stop>
         ensures network { IfOk result (λ layout. layout ≡ grid_alone) }
         ensures faults { IfErr result (λ stop. stop ≡ out_of_memory) }
@@ -39,7 +40,7 @@ impl Layout {
         })
     }
 
-    /// Notes what a command makes of the network.
+    /// Records what a command changes in the network.
     pub(crate) fn note(&mut self, resolved: &Resolved) -> Result<(), Stop>
         ensures noted { OnOk result (self.new ≡ network_by self.old resolved.now) }
         ensures faults { IfErr result (λ stop. stop ≡ out_of_memory) }
@@ -53,7 +54,7 @@ impl Layout {
         Ok(())
     }
 
-    /// Gives another life to the device with a number, where there is one.
+    /// Gives another in-service interval to the device with this number, if there is one.
     fn give_life(&mut self, number: u16, life: Life)
         ensures network { self.new ≡ with_life self.old number life }
     {
@@ -62,14 +63,14 @@ impl Layout {
         }
     }
 
-    /// The nodes, each at the place of its number.
+    /// The nodes, by number.
     pub fn nodes(&self) -> &[Node]
         ensures { result.now ≡ self.now.nodes }
     {
         &self.nodes
     }
 
-    /// The devices, each at the place of its number.
+    /// The devices, by number.
     pub fn devices(&self) -> &[Device]
         ensures { result.now ≡ self.now.devices }
     {

@@ -1,4 +1,4 @@
-//! A book is led along commands.
+//! Replays commands on a book.
 ghost use Rattle.std.specs.Prelude.{◌≡◌, ◌<◌, ◌↔◌, true, IsTrue, IsSome, IfOk, IfErr, IfSome, Ok, Some, None};
 ghost use Rattle.ob_base.specs.Stop.{out_of_memory};
 ghost use Rattle.ob_state.specs.Next.{next, next_all};
@@ -14,7 +14,8 @@ use ob_book::{Book, Plan};
 use ob_command::Command;
 use ob_sweep::Timeline;
 
-/// The plan of a command that is accepted, with what it makes of the network noted; None where it is refused.
+/// Returns the plan of a command and records what it changes in the network; None if the command is
+/// refused.
 pub(crate) fn decide_noting<T: Timeline>(
     book: &mut Book<T>,
     command: &Command,
@@ -38,7 +39,8 @@ pub(crate) fn decide_noting<T: Timeline>(
     Ok(Some(plan))
 }
 
-/// Whether a command is accepted. If so, the book adopts it, and what it makes of the network is noted.
+/// Whether a command is accepted. If it is, the book adopts it, and `noted` records what it changes
+/// in the network.
 fn adopts<T: Timeline>(
     book: &mut Book<T>,
     command: &Command,
@@ -58,7 +60,8 @@ fn adopts<T: Timeline>(
     Ok(true)
 }
 
-/// Whether each of the commands is accepted in its turn. The book is led along, and what they make of the network is noted.
+/// Whether each of the commands is accepted in its turn. Replays them on the book, and records what
+/// they change in the network.
 pub fn lead<T: Timeline>(
     book: &mut Book<T>,
     commands: &[Filed],

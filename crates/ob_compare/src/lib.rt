@@ -1,9 +1,11 @@
-//! The tables of a book, read back row by row and compared with what a book of their commands has.
+//! Reads the tables of a book back, row by row, and compares them with those of a book of its
+//! commands.
 //!
-//! Each reading holds over the tables of either version that has the table; which body texts are read, and which commands are
-//! accepted, is told by the version that is asked for. Promises that nothing is written, and that a store keeps what it kept;
-//! and that over such tables the store is told to have failed only where the disk failed, it was shut, or steps are limited.
-//! What makes a book of the tables, or finds what is wrong with them, stands above it.
+//! Works on the tables of either version. The version given as an argument decides which body texts
+//! are read and which commands are accepted. Promises that nothing is written and that a store
+//! keeps what it kept. Over such tables `Fault::Store` is returned only if the disk failed, the
+//! connection was closed, or its steps are limited. `ob_parts` and `ob_store` use this crate, and
+//! `ob_jobs` its `Progress`.
 #![tactic(auto)]
 
 mod apart;

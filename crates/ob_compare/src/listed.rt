@@ -1,4 +1,4 @@
-//! The rows of a table against what stands at the places of a part of a book, one after another.
+//! Compares the rows of a table, one after another, with a part of a book.
 ghost use Rattle.std.specs.Prelude.{◌≡◌, ◌↔◌, ◌<◌, List, Option, Some, None, []};
 ghost use Rattle.std.specs.Prelude.{false, is_some, length, slice_index_or, IsTrue, IfOk, IfErr, OnOk, ◌∷◌};
 ghost use Rattle.std.specs.List.Sorted.{IsStrictlySortedBy};
@@ -23,19 +23,20 @@ use ob_base::Stop;
 use ob_tables::{Table, select_of, stop_of};
 use sqlite::{Alter, Connection, Row, Rows};
 
-/// A part of a book as rows of a table: each of its places has one or none. They rise by key.
+/// A part of a book as rows of a table. It has numbered places; each place has one row or none. The
+/// rows rise by key.
 pub trait Listed {
-    /// The table that the rows are of.
+    /// The table of the rows.
     ghost table: { ATable };
 
-    /// For each place its row, where it has one.
+    /// The row of each place, if it has one.
     ghost places: { Self → List (Option Columns) };
 
-    /// The table that the rows are of.
+    /// The table of the rows.
     fn table(&self) -> Table
         ensures { result ≡ table };
 
-    /// How many places there are.
+    /// The number of places.
     fn count(&self) -> usize
         ensures { result ≡ length (places self.now) };
 
@@ -44,13 +45,13 @@ pub trait Listed {
         requires { at < length (places self.now) }
         ensures { result ≡ is_some (slice_index_or (places self.now) at None) };
 
-    /// Whether a row is that of a place.
+    /// Whether a row is the row of a place.
     fn is_row(&self, at: usize, row: &Row) -> bool
         requires { at < length (places self.now) }
         ensures { IsTrue result ↔ (slice_index_or (places self.now) at None ≡ Some row.now) };
 }
 
-/// Whether the rows go on with that of a place, if it has one.
+/// Whether the next row is the row of a place, if that place has one.
 fn goes_on<S: Alter, L: Listed>(rows: &mut Rows<'_, S>, listed: &L, at: usize) -> Result<bool, Stop>
     requires { at < length (L.places listed.now) }
     ensures same_reference { rows.new.conn.ghost_name ≡ rows.old.conn.ghost_name }
@@ -117,7 +118,7 @@ fn follows<S: Alter, L: Listed>(rows: &mut Rows<'_, S>, listed: &L) -> Result<bo
     Ok(true)
 }
 
-/// Whether the rows to come are those of the places, and no other.
+/// Whether the rows still to be read are those of the places, and no others.
 fn matches<S: Alter, L: Listed>(rows: &mut Rows<'_, S>, listed: &L) -> Result<bool, Stop>
     requires rises { IsStrictlySortedBy (row_cmp L.table) (standing (L.places listed.now)) }
     ensures same_reference { rows.new.conn.ghost_name ≡ rows.old.conn.ghost_name }
@@ -149,14 +150,15 @@ fn matches<S: Alter, L: Listed>(rows: &mut Rows<'_, S>, listed: &L) -> Result<bo
     is_over(rows)
 }
 
-/// Whether a table holds just the rows of a part of a book, which rise by key. Nothing is written. A database without
-/// the table is refused as no book's. So it is over the tables of each version that has the table.
+/// Whether a table holds exactly the rows of a part of a book, which rise by key. Nothing is
+/// written. Refuses with `BadBook` if the database lacks the table. Works on the tables of each
+/// version that has the table.
 pub fn holds<S: Alter, L: Listed>(conn: &mut Connection<S>, listed: &L) -> Result<bool, Stop>
     requires rises { IsStrictlySortedBy (row_cmp L.table) (standing (L.places listed.now)) }
     ensures { (v : Version) → Has v L.table
         → Compares S.Store v L.table (standing (L.places listed.now)) conn.old conn.new result }
 {
-    // A `?` converts the stop on its way, and the clauses say which it is.
+    // No `?` here: it would convert the error, and the contract states which error it is.
     let statement = match prepare(conn, select_of(listed.table())) {
         Ok(statement) => statement,
         Err(stop) => return Err(stop),

@@ -1,4 +1,5 @@
-//! What the table of moved amounts holds, against what commands move: row by row, in one query.
+//! Compares the table of moved amounts with the changes that the commands make: row by row, in one
+//! query.
 ghost use Rattle.std.specs.Prelude.{◌∷◌, ◌≡◌, ◌≢◌, ◌↔◌, ◌&&◌, false, true, List, [], IsTrue, IfOk, IfErr, OnOk, Ok, Some, is_none};
 ghost use Rattle.sqlite.specs.Order.{Row as ARow};
 ghost use Rattle.sqlite.specs.Held.{state};
@@ -36,7 +37,7 @@ use ob_tables::{Table, Version, int, select_of, signed_value, stop_of};
 use ob_upgrade::fits_version_one;
 use sqlite::{Alter, Connection, Row, Rows};
 
-/// Whether the row is that of an amount that a command moved.
+/// Whether the row is that of a change of an amount by the command of this number.
 fn is_moved(row: &Row, no: u32, it: &Moved) -> bool
     ensures { IsTrue result ↔ (row.now ≡ moved_row no (dim_number it.now.dim) it.now.key
         it.now.delta) }
@@ -53,7 +54,7 @@ fn is_moved(row: &Row, no: u32, it: &Moved) -> bool
     )
 }
 
-/// Whether the next row is that of an amount that a command moved.
+/// Whether the next row is that of a change of an amount by the command of this number.
 fn next_is<S: Alter>(rows: &mut Rows<'_, S>, no: u32, it: &Moved) -> Result<bool, Stop>
     ensures same_reference { rows.new.conn.ghost_name ≡ rows.old.conn.ghost_name }
     ensures survives { Survives (state S.Store rows.old.conn.now) (state S.Store rows.new.conn.now)
@@ -83,7 +84,7 @@ fn next_is<S: Alter>(rows: &mut Rows<'_, S>, no: u32, it: &Moved) -> Result<bool
     }
 }
 
-/// Whether the next rows are those of what a command moved.
+/// Whether the next rows are those of the changes that a command makes.
 fn matches<S: Alter>(rows: &mut Rows<'_, S>, no: u32, moves: &[Moved]) -> Result<bool, Stop>
     ensures same_reference { rows.new.conn.ghost_name ≡ rows.old.conn.ghost_name }
     ensures survives { Survives (state S.Store rows.old.conn.now) (state S.Store rows.new.conn.now)
@@ -115,8 +116,8 @@ fn matches<S: Alter>(rows: &mut Rows<'_, S>, no: u32, moves: &[Moved]) -> Result
     Ok(true)
 }
 
-/// Whether a version has the command, and takes it over the book's sheet. Of these commands it accepts those that are
-/// accepted today.
+/// Whether a version has the command and allows it over the book's switching log. Of these commands
+/// the version accepts those that are accepted today.
 fn fits<T: Timeline>(book: &Book<T>, command: &Command, version: Version) -> bool
     ensures { accepts_in version book.now.state command.now
         ≡ (result && is_none (refusal_to book.now.state command.now)) }
@@ -127,8 +128,8 @@ fn fits<T: Timeline>(book: &Book<T>, command: &Command, version: Version) -> boo
     }
 }
 
-/// Whether a version accepts the command, and the next rows are those of what it moves. If so, the book adopts it, and
-/// what it makes of the network is noted.
+/// Whether a version accepts the command, and the next rows are those of the changes that it makes.
+/// If so, the book adopts it, and `noted` records what it changes in the network.
 fn takes_on<S: Alter, T: Timeline>(
     rows: &mut Rows<'_, S>,
     book: &mut Book<T>,
@@ -178,8 +179,9 @@ fn takes_on<S: Alter, T: Timeline>(
     Ok(true)
 }
 
-/// Whether the rows to come are those of what the commands move, each accepted in its turn by a version. The book is led
-/// along, and what they make of the network is noted.
+/// Whether a version accepts each command in its turn, and the rows still to be read are those of
+/// the changes that they make. Replays the commands on the book, and records what they change in
+/// the network.
 fn follows<S: Alter, T: Timeline, P: Progress>(
     rows: &mut Rows<'_, S>,
     book: &mut Book<T>,
@@ -228,10 +230,10 @@ fn follows<S: Alter, T: Timeline, P: Progress>(
     is_over(rows)
 }
 
-/// Whether the table of moved amounts holds what the commands move, each accepted in its turn by a version, and no other
-/// row. The book is led along, and what they make of the network is noted. Nothing is written. A database without the
-/// table is refused as no book's. The tables may be those of either version. Who listens is told of each command that was
-/// led along.
+/// Whether a version accepts each command in its turn, and the table of moved amounts holds exactly
+/// the changes that they make. Replays the commands on the book, records what they change in the
+/// network, and reports each replayed command to `progress`. Nothing is written. Refuses with
+/// `BadBook` if the database lacks the table. The tables may be those of either version.
 pub fn holds_moves<S: Alter, T: Timeline, P: Progress>(
     conn: &mut Connection<S>,
     book: &mut Book<T>,
@@ -266,7 +268,7 @@ pub fn holds_moves<S: Alter, T: Timeline, P: Progress>(
     ensures noted { result ≡ Ok true → noted.old ≡ book.old.state.network
         → noted.new ≡ book.new.state.network }
 {
-    // A `?` converts the stop on its way, and the clauses say which it is.
+    // No `?` here: it would convert the error, and the contract states which error it is.
     let statement = match prepare(conn, select_of(Table::Moved)) {
         Ok(statement) => statement,
         Err(stop) => return Err(stop),

@@ -1,32 +1,32 @@
-//! Who is told how far a long work is.
+//! Reports on the progress of long work.
 
-/// What is under way.
+/// The kind of work.
 #[derive(Clone, Copy)]
 pub enum Work {
-    /// A book is opened: its heading and its commands are read.
+    /// Opening a book: reading its heading and its commands.
     Opening,
-    /// The commands of a book are led along, each with what it moved.
+    /// Replaying the commands of a book and comparing the changes of amounts that each makes.
     Commands,
-    /// The tables of a book's parts are compared.
+    /// Comparing the tables of a book's parts.
     Tables,
-    /// The rows of a text act.
+    /// Applying the rows of a text.
     Rows,
 }
 
-/// Hears how far a long work is. It is lent no store and no book and answers nothing, so the work is the same whoever
-/// listens.
+/// Receives reports on the progress of long work. It gets no store and no book and returns nothing,
+/// so the work is the same for every receiver.
 pub trait Progress {
-    /// A work begins, of about so many steps; 0 where it has none that are told.
+    /// Reports that work begins, of about this many steps; 0 if its steps aren't reported.
     fn begin(&mut self, work: Work, steps: u64);
 
-    /// The step of this number, from 1 on, is done.
+    /// Reports that the step of this number, counted from 1, is done.
     fn step(&mut self, number: u32);
 
-    /// No work is under way any more.
+    /// Reports that the work has ended.
     fn end(&mut self);
 }
 
-/// Hears it, and does nothing.
+/// Ignores all reports.
 #[derive(Clone, Copy)]
 pub struct Silent;
 

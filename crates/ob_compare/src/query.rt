@@ -1,4 +1,4 @@
-//! Queries of the rows of a table.
+//! Queries the rows of a table.
 ghost use Rattle.std.specs.Prelude.{◌≡◌, ◌≢◌, ◌↔◌, false, [], IfOk, IfErr};
 ghost use Rattle.sqlite.specs.Held.{state};
 ghost use Rattle.sqlite.specs.Schema.{Schema};
@@ -17,7 +17,8 @@ use ob_base::{Fault, Refusal, Stop};
 use ob_tables::stop_of;
 use sqlite::{Alter, Connection, Error, ErrorCode, Row, Statement};
 
-/// Why a text wasn't prepared: the tables lack what it names, as those of no book, or the store failed.
+/// Returns why a query couldn't be prepared: `BadBook` if the tables lack what it names, or else a
+/// fault of the store.
 fn stop_of_prepare(error: Error) -> Stop
     ensures faults { IsReadFault result }
     ensures foreign { result ≡ bad_book → IsInputError error }
@@ -31,7 +32,7 @@ fn stop_of_prepare(error: Error) -> Stop
     }
 }
 
-/// Prepares a query. It is refused where the tables lack what it names, as those of no book.
+/// Prepares a query. Refuses with `BadBook` if the tables lack what it names.
 pub(crate) fn prepare<S: Alter>(conn: &mut Connection<S>, sql: &str) -> Result<Statement, Stop>
     ensures mode { conn.old.in_transaction ≡ false → conn.new.in_transaction ≡ false }
     ensures survives { Survives (state S.Store conn.old) (state S.Store conn.new) (λ _. ⊥) }
@@ -55,7 +56,7 @@ pub(crate) fn prepare<S: Alter>(conn: &mut Connection<S>, sql: &str) -> Result<S
     }
 }
 
-/// All rows of a table, by rising key. It is for tables of a few rows.
+/// Returns all rows of a table by rising key. Meant for tables of a few rows.
 pub(crate) fn list_all<S: Alter>(conn: &mut Connection<S>, sql: &str) -> Result<Vec<Row>, Stop>
     ensures mode { conn.old.in_transaction ≡ false → conn.new.in_transaction ≡ false }
     ensures clean { HasCleanDisk (state S.Store conn.new) → HasCleanDisk (state S.Store conn.old) }
@@ -83,7 +84,7 @@ pub(crate) fn list_all<S: Alter>(conn: &mut Connection<S>, sql: &str) -> Result<
         → Lists l (state S.Store conn.old).now rows.items
         × IsUnchanged (state S.Store conn.old) (state S.Store conn.new)) }
 {
-    // A `?` converts the stop on its way, and the clauses say which it is.
+    // No `?` here: it would convert the error, and the contract states which error it is.
     let statement = match prepare(conn, sql) {
         Ok(statement) => statement,
         Err(stop) => return Err(stop),

@@ -1,4 +1,4 @@
-//! Rows of a query, one after another, against what is expected.
+//! Reads the rows of a query one after another and compares them with expected values.
 ghost use Rattle.std.specs.Prelude.{◌≡◌, ◌↔◌, ℕ, false, List, [], map, IsTrue, IfOk, IfErr, OnOk};
 ghost use Rattle.sqlite.specs.Order.{Row as ARow};
 ghost use Rattle.sqlite.specs.Held.{state};

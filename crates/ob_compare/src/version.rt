@@ -26,8 +26,8 @@ fn is_version(rows: &[Row], version: u32) -> bool
     rows.len() == 1 && has_number(&rows[0], 1, version)
 }
 
-/// Whether `meta` holds one row, with this version: of a book of the tables that there are now, or of those of version 1.
-/// Nothing is written. A database without the table is refused as no book's.
+/// Whether `meta` holds exactly one row, with this version. Works on today's tables and on those of
+/// version 1. Nothing is written. Refuses with `BadBook` if the database lacks the table.
 pub fn has_version<S: Alter>(conn: &mut Connection<S>, version: u32) -> Result<bool, Stop>
     ensures mode { conn.old.in_transaction ≡ false → conn.new.in_transaction ≡ false }
     ensures survives { Survives (state S.Store conn.old) (state S.Store conn.new) (λ _. ⊥) }
@@ -48,7 +48,7 @@ pub fn has_version<S: Alter>(conn: &mut Connection<S>, version: u32) -> Result<b
         → IsMissed (state S.Store conn.old) (state S.Store conn.new) result) }
     ensures same { HasCleanDisk (state S.Store conn.new) → OnOk result (IsOfBook conn.old.schema
         → IsUnchanged (state S.Store conn.old) (state S.Store conn.new)) }
-    // Whatever the tables, these rows were shown.
+    // These rows were shown, whatever the tables are.
     ensures shown { HasCleanDisk (state S.Store conn.new)
         → IfOk result (λ is. (rows : List Columns) × Shown (select_of ATable.Meta) []
         (state S.Store conn.old) (state S.Store conn.new) rows
@@ -57,7 +57,7 @@ pub fn has_version<S: Alter>(conn: &mut Connection<S>, version: u32) -> Result<b
         → IfOk result (λ is. IsOfBook conn.old.schema
         → IsTrue is ↔ HasVersion version (state S.Store conn.old).now.trees) }
 {
-    // A `?` converts the stop on its way, and the clauses say which it is.
+    // No `?` here: it would convert the error, and the contract states which error it is.
     match list_all(conn, select_of(Table::Meta)) {
         Ok(rows) => Ok(is_version(&rows, version)),
         Err(stop) => Err(stop),

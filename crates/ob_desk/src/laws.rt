@@ -1,9 +1,9 @@
-//! Laws of what is written for requests.
+//! Laws of the bytes written in reply to requests.
 ghost use Rattle.ob_desk.specs.Laws.{RepliesAreOneThing};
 
 use ob_routes::answers_law;
 
-/// Requests are answered by one text, which leaves one book.
+/// States that the replies to a list of requests are exactly one text, and leave exactly one book.
 pub fn replies_law()
     ensures { RepliesAreOneThing }
 {

@@ -1,8 +1,10 @@
-//! The desk: it serves the book of a keeper over HTTP/1.1 (RFC 9112), one stream after the other.
+//! The desk: the book's HTTP/1.1 server (RFC 9112). It serves a keeper's book, one stream after
+//! another.
 //!
-//! Keeps the run of a stream, and of the streams of a listener. Promises that what is written are the replies to the
-//! requests that the stream's bytes say, one after the other, whatever the pieces, each after its commit; and what is
-//! written and what stands where a fault ends the stream. Above it stands the program.
+//! Serves one stream, and the streams of a listener. Promises that the bytes written are the
+//! replies to the requests in the bytes of the stream, in order, each after its commit, however the
+//! stream is split into reads. States which bytes are written and what the book is if a fault ends
+//! the stream. The program `outagebook` uses this crate.
 #![tactic(auto)]
 
 mod laws;

@@ -1,4 +1,4 @@
-//! The streams of a listener, one after the other.
+//! Serves the streams of a listener, one after another.
 ghost use Rattle.std.specs.Prelude.{◌≡◌, ◌↔◌, true, false, None, Err, IsSome};
 ghost use Rattle.sqlite.specs.Held.{state};
 ghost use Rattle.sqlite.specs.State.{HasCleanDisk};
@@ -18,31 +18,31 @@ use sqlite::Alter;
 use std::alloc::Global;
 use std::net::TcpStream;
 
-/// Where the faults of single streams are told.
+/// A log for the faults of single streams.
 pub trait FaultLog {
     ghost use Rattle.ob_base.specs.declared.stop.Fault.{Fault as AFault};
 
-    /// What a telling makes of it.
+    /// What a report changes in the log.
     ghost tells: { Self → AFault → Self → Type 0 };
 
-    /// Tells the fault that ended a stream, after which the next one is taken.
+    /// Reports the fault that ended a stream, after which the next stream is taken.
     fn tell(&mut self, fault: Fault)
         ensures { tells self.old fault self.new };
 }
 
-/// Why a desk ended before its last stream.
+/// Why the desk ended before its last stream.
 #[derive(Clone, Copy, Debug, PartialEq, Eq)]
 pub enum Unserved {
     /// No stream could be taken.
     Listener,
-    /// The store has failed, in the stream in work.
+    /// The store failed during the current stream.
     Store,
     /// A request needed the book, and there was none.
     Reopen,
 }
 
 impl Unserved {
-    /// The fault that it is told as.
+    /// The fault as which it is reported.
     pub fn fault(self) -> Fault
         ensures { result ≡ unserved_fault self }
     {
@@ -54,13 +54,14 @@ impl Unserved {
     }
 }
 
-/// Serves the streams that are to be taken of a listener, one after the other, by the book of a keeper. A fault of a stream is
-/// told, and the next stream is taken.
+/// Serves as many streams of a listener as it has left, one after another, from a keeper's book. A
+/// fault of one stream is reported to the log, and the next stream is taken.
 ///
 /// # Errors
 ///
-/// `Unserved::Store`, and `Unserved::Reopen` where a request needs the book and there is none, of the stream in work;
-/// `Unserved::Listener` where no stream can be taken. Nothing more is served then, and none of these is told before.
+/// `Unserved::Store`, and `Unserved::Reopen` if a request needs the book and there is none, both
+/// during the current stream; `Unserved::Listener` if no stream can be taken. Serving then ends,
+/// and the log gets none of these.
 pub fn run_serve<S: Alter, T: Timeline, L: FaultLog>(
     alloc: Global,
     listener: &mut Listener<'_>,
@@ -88,7 +89,8 @@ pub fn run_serve<S: Alter, T: Timeline, L: FaultLog>(
     Ok(())
 }
 
-/// How a stream's fault ends the desk, where it does: there is no book, or none any more.
+/// Returns how the fault of a stream ends the desk, if it does: the keeper has no book, or no
+/// longer has one.
 fn desk_end(fault: Fault) -> Option<Unserved>
     ensures { result ≡ desk_end fault }
 {
@@ -99,7 +101,7 @@ fn desk_end(fault: Fault) -> Option<Unserved>
     }
 }
 
-/// Serves one stream of a listener, which tells none of its bytes to contracts.
+/// Serves one stream of a listener. The contracts don't cover its bytes.
 fn serve_connection<S: Alter, T: Timeline>(
     alloc: Global,
     stream: &TcpStream,
@@ -111,7 +113,8 @@ fn serve_connection<S: Alter, T: Timeline>(
         → Ties S.Store keeper.old b → IsSome keeper.old.book
         → IsLeft S.Store keeper.new b (fault_of result) }
 {
-    // A reply doesn't wait for the client to acknowledge the one before it. Where the system refuses that, it only comes later.
+    // A reply doesn't wait until the client has acknowledged the one before it. If the system
+    // refuses this, replies are only later.
     let _ = stream.set_nodelay(true);
     let mut reader = Watched::new(stream);
     let mut writer = Watched::new(stream);

@@ -1,9 +1,10 @@
-//! `Listener`: what gives the streams, with a note of how many are still to be taken, and whether the last one could not be.
+//! `Listener`: the source of the streams. It records how many are still to be taken, and whether
+//! the last attempt failed.
 ghost use Rattle.std.specs.Prelude.{◌≡◌, ◌↔◌, ◌+◌, ◌<◌, true, false, IsTrue, MatchOption};
 
 use std::net::{TcpListener, TcpStream};
 
-/// A TCP listener of which so many streams are still to be taken.
+/// A TCP listener with the number of streams still to be taken.
 #[derive(Drop)]
 pub struct Listener<'l> {
     inner: &'l TcpListener,
@@ -14,7 +15,7 @@ pub struct Listener<'l> {
 impl<'l> Listener<'l> {
     ghost use Rattle.ob_desk.specs.Listening.{has_failed, most_streams, streams_left};
 
-    /// So many streams are to be taken; 0 is as many as there can be, 2^64 - 1.
+    /// Creates a listener from which `streams` streams are to be taken; 0 stands for 2^64 - 1.
     pub fn new(inner: &'l TcpListener, streams: u64) -> Listener<'l>
         ensures left { streams_left result ≡ most_streams streams }
         ensures fresh { has_failed result ≡ false }
@@ -34,7 +35,7 @@ impl<'l> Listener<'l> {
         self.left > 0
     }
 
-    /// Takes the next stream, for which it waits; None where none can be taken.
+    /// Waits for the next stream and takes it; None if none can be taken.
     pub(crate) fn take(&mut self) -> Option<TcpStream>
         requires { 0 < streams_left self.old }
         ensures { MatchOption result

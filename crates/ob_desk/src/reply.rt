@@ -1,4 +1,4 @@
-//! The reply to one request, or to bytes that are none.
+//! Replies to one request, or to bytes that are no request.
 ghost use Rattle.std.specs.Prelude.{◌≡◌, IfErr, OnOk};
 ghost use Rattle.ob_stream.specs.Watching.{watched_bytes};
 ghost use Rattle.ob_requests.specs.Reading.{message_of};
@@ -17,7 +17,7 @@ use sqlite::Alter;
 use std::alloc::Global;
 use std::io::Write;
 
-/// The status that answers a head which is refused.
+/// Returns the status that answers a refused head.
 pub(crate) fn head_status(refusal: HeadRefusal) -> Status
     ensures { result ≡ head_status refusal }
 {
@@ -30,8 +30,9 @@ pub(crate) fn head_status(refusal: HeadRefusal) -> Status
     }
 }
 
-/// Answers a request and writes its reply, which tells whether the stream ends. Where it can't be answered, 503 is
-/// written as far as it can be, which takes no memory.
+/// Answers a request and writes its reply. `ends` decides whether the reply states that the stream
+/// ends. If the request can't be answered, writes 503 as far as possible, which needs no
+/// allocation.
 pub(crate) fn reply_to<W: Write, S: Alter, T: Timeline>(
     alloc: Global,
     routes: &Routes,
@@ -52,7 +53,7 @@ pub(crate) fn reply_to<W: Write, S: Alter, T: Timeline>(
     match answer(alloc, routes, keeper, request, ends) {
         Ok(text) => write_text(writer, retries, text.bytes()),
         Err(fault) => {
-            // The stream ends by this fault, whether or not the client hears of it.
+            // This fault ends the stream, whether or not the client receives the reply.
             let _ = write_text(
                 writer,
                 retries,

@@ -1,4 +1,4 @@
-//! The run of one stream.
+//! Serves one stream.
 ghost use Rattle.std.specs.Prelude.{◌≡◌, ◌↔◌, [], None, Err, IsSome, IfErr, IfOk};
 ghost use Rattle.sqlite.specs.Held.{state};
 ghost use Rattle.sqlite.specs.State.{HasCleanDisk};
@@ -18,28 +18,30 @@ use sqlite::Alter;
 use std::alloc::Global;
 use std::io::{Read, Write};
 
-/// The most requests of one stream.
+/// The largest number of requests of one stream.
 const MOST_REQUESTS: u32 = 1_000;
 
-/// What was served of a stream.
+/// The result of serving a stream.
 #[derive(Clone, Copy, Debug, PartialEq, Eq)]
 pub struct Served {
-    /// The replies, without the interim ones. Bytes that are refused get one too.
+    /// The number of replies, without interim ones. Refused bytes get a reply too.
     pub requests: u32,
 }
 
-/// Serves the requests of a stream by the book of a keeper: it reads one after the other, answers each, and writes its
-/// reply only after its commit. The stream ends after the reply to a request that closes the connection, to the
-/// 1,000th or to bytes that are refused, and where there is no byte more. Interrupted reads and writes are tried again,
-/// 65,536 times in all.
+/// Serves the requests of a stream from a keeper's book: reads them in order, answers each, and
+/// writes its reply only after its commit. The stream ends after the reply to a request that closes
+/// the connection, to the 1,000th request, or to refused bytes, and at the end of its bytes.
+/// Interrupted reads and writes are repeated, 65,536 times in all.
 ///
 /// # Errors
 ///
-/// `Fault::Input` where the reader fails or the stream ends inside a request, `Fault::Output` where the writer fails:
-/// the requests before it are answered, and of the one in work a part of its reply may be written.
-/// `Fault::OutOfMemory`, `Fault::Store`, and `Fault::Reopen` where a request needs the book and there is none: where
-/// that came in place of an answer, 503 is written, whole unless the writer fails. A command, or the rows of an import, may then
-/// stand without a reply.
+/// `Fault::Input` if the reader fails or the stream ends inside a request, `Fault::Output` if the
+/// writer fails: the requests before it are answered, and a part of the current reply may be
+/// written.
+///
+/// `Fault::OutOfMemory`, `Fault::Store`, and `Fault::Reopen` if a request needs the book and there
+/// is none. If the fault came in place of an answer, 503 is written, completely unless the writer
+/// fails. A command, or the rows of an import, may then be in the book without a reply.
 pub fn serve_stream<R: Read, W: Write, S: Alter, T: Timeline>(
     alloc: Global,
     reader: &mut Watched<R>,

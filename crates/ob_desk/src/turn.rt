@@ -1,4 +1,4 @@
-//! One turn of a stream: a request is read and answered, or the stream ends.
+//! One turn of a stream: reads a request and answers it, or ends the stream.
 ghost use Rattle.std.specs.Prelude.{◌≡◌, IfErr, IfOk};
 ghost use Rattle.ob_stream.specs.Watching.{watched_bytes};
 ghost use Rattle.ob_requests.specs.Reading.{message_of};
@@ -22,7 +22,7 @@ use std::io::{Read, Write};
 /// How a turn ended.
 #[derive(Clone, Copy)]
 pub(crate) enum Turn {
-    /// A request was answered, and whether the stream ends after it.
+    /// A request was answered; true if the stream ends after it.
     Answered(bool),
     /// The bytes were refused, and the stream ends.
     Refused,
@@ -30,15 +30,16 @@ pub(crate) enum Turn {
     Closed,
 }
 
-/// Whether the stream ends after the reply to a request, where so many are still allowed.
+/// Whether the stream ends after the reply to a request, if `allowed` requests are still allowed,
+/// this one included.
 fn ends_stream(request: &Request, allowed: u32) -> bool
     ensures { result ≡ ends allowed (message_of request.now) }
 {
     request.closes || allowed == 1
 }
 
-/// Reads a request and answers it. The last that is allowed ends the stream, and so does one that says so, or bytes
-/// that are refused.
+/// Reads a request and answers it. The stream ends after the last allowed request, a request that
+/// asks for it, or refused bytes.
 pub(crate) fn serve_turn<R: Read, W: Write, S: Alter, T: Timeline>(
     alloc: Global,
     routes: &Routes,

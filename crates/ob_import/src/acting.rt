@@ -1,4 +1,4 @@
-//! One row acts.
+//! Applies one row of an import.
 ghost use Rattle.std.specs.Prelude.{◌≡◌, ◌↔◌, None, Err, IsSome, IfSome, IfErr};
 ghost use Rattle.sqlite.specs.Held.{state};
 ghost use Rattle.sqlite.specs.State.{HasCleanDisk};
@@ -17,7 +17,7 @@ use ob_store::Keeper;
 use ob_sweep::Timeline;
 use sqlite::Alter;
 
-/// Acts the command that a row says, and answers whether it was new to the book.
+/// Applies the command in a row, and returns whether it was new to the book.
 pub(crate) fn act_row<S: Alter, T: Timeline>(
     keeper: &mut Keeper<S, T>,
     row: &Row,
@@ -40,7 +40,7 @@ pub(crate) fn act_row<S: Alter, T: Timeline>(
     Ok(before < accepted_count(keeper))
 }
 
-/// The reference and the command that a row says.
+/// Reads the reference and the command in a row.
 fn command_in(row: &Row) -> Result<(Ref, Command), Refusal>
     ensures { IsRow row.now result }
 {
@@ -50,7 +50,7 @@ fn command_in(row: &Row) -> Result<(Ref, Command), Refusal>
     }
 }
 
-/// How many commands the book has accepted.
+/// The number of commands that the book has accepted.
 fn accepted_count<S: Alter, T: Timeline>(keeper: &Keeper<S, T>) -> u32
     ensures { IfSome keeper.now.book (λ s. result ≡ s.accepted) }
 {

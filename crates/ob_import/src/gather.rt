@@ -1,4 +1,4 @@
-//! A text that is gathered before its rows are read: what its reader gave up to where it stopped.
+//! Reads a whole text before its rows are used, up to its end or to where the reader stopped.
 ghost use Rattle.std.specs.Prelude.{◌≡◌, ◌⊎◌, ◌≤◌, ◌<◌, ◌+◌, ◌^◌, true, false, length, take, drop, IfOk};
 ghost use Rattle.std.specs.Io.{ReadsAtMost};
 ghost use Rattle.std.specs.Io.KnownBytes.{Consumes, IsAtEnd};
@@ -11,14 +11,14 @@ use ob_stream::{Retries, Watched, read_some};
 use std::alloc::{AllocError, Global};
 use std::io::Read;
 
-/// What a reader gave, and whether that was all.
+/// The bytes from a reader, and whether they are the whole text.
 #[derive(Drop)]
 pub(crate) struct Gathered {
     pub(crate) bytes: Vec<u8>,
     pub(crate) whole: bool,
 }
 
-/// What the reader gives up to its end, to a failure, or to the byte after `limit`.
+/// Reads up to the end of the text, to a failure, or to the byte after `limit`.
 pub(crate) fn gather<R: Read>(
     alloc: Global,
     reader: &mut Watched<R>,
@@ -60,7 +60,8 @@ impl Gathered {
     ghost use Rattle.ob_csv.specs.Rows.{rows_of};
     ghost use Rattle.ob_import.specs.Gathering.{gathered_rows};
 
-    /// The part that has the rows which may act: all of a whole text, and of one that broke off its whole rows.
+    /// The part whose rows may be applied: a whole text entirely, or the complete rows of one that
+    /// broke off.
     pub(crate) fn whole_part(&self) -> &[u8]
         ensures { rows_of result.now ≡ gathered_rows self.now.whole self.now.bytes.items }
     {

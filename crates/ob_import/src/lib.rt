@@ -1,8 +1,8 @@
-//! An import of commands from a CSV text.
+//! Imports commands from a CSV text.
 //!
-//! Keeps how the rows of a text act on a book: each on its own, in their order, up to the first refusal.
-//! Promises that the rows before a refusal or a fault stand, that the report counts them, and that a text
-//! which is imported again adds nothing. Above it stand the program and the desk.
+//! Each row is applied to a book on its own, in order, up to the first refusal. Promises that the
+//! rows before a refusal or a fault stay in the book, that the report counts them, and that
+//! importing the same text again adds nothing. `ob_routes`, `ob_desk` and `ob_jobs` use it.
 #![tactic(auto)]
 
 mod acting;

@@ -1,24 +1,24 @@
-//! What an import tells.
+//! The result of an import.
 use ob_base::{Fault, Refusal};
 
-/// What an import did.
+/// The result of an import that met no fault.
 #[derive(Clone, Copy, Debug, PartialEq, Eq)]
 pub struct ImportReport {
-    /// How many rows added a command to the book.
+    /// The number of rows that added a command to the book.
     pub added: u32,
-    /// How many rows named a command that the book had under their reference already.
+    /// The number of rows whose command the book had already, under the same reference.
     pub again: u32,
-    /// The row that stopped the import, and why: rows are numbered from 1, the header is 0.
+    /// The row that stopped the import, and why. Rows are numbered from 1; the header is row 0.
     pub stopped: Option<(u32, Refusal)>,
 }
 
-/// What an import did up to a fault.
+/// The result of an import up to a fault.
 #[derive(Clone, Copy, Debug, PartialEq, Eq)]
 pub struct ImportFault {
     /// The fault.
     pub fault: Fault,
-    /// How many rows added a command to the book.
+    /// The number of rows that added a command to the book.
     pub added: u32,
-    /// How many rows named a command that the book had under their reference already.
+    /// The number of rows whose command the book had already, under the same reference.
     pub again: u32,
 }

@@ -1,4 +1,4 @@
-//! The rows of a text act in turn, up to the first refusal.
+//! Applies the rows of a text in order, up to the first refusal.
 ghost use Rattle.std.specs.Prelude.{◌≡◌, ◌≢◌, true, false, [], Some, Ok, IsSome, IfSome, IfOk, IfErr};
 ghost use Rattle.ob_csv.specs.Rows.{TakesRow};
 ghost use Rattle.ob_csv.specs.RowReading.{rows_left};
@@ -15,8 +15,8 @@ use sqlite::Alter;
 use std::alloc::Global;
 use std::io::Read;
 
-/// Imports the rows of a text, its header among them. Where they aren't the whole text, the input breaks off behind the
-/// last of them.
+/// Imports the rows of a text, its header included. If they aren't the whole text, ends with
+/// `Fault::Input` after the last of them.
 pub(crate) fn import_rows<R: Read, S: Alter, T: Timeline, P: Progress>(
     alloc: Global,
     rows: &mut RowReader<R>,
@@ -60,7 +60,8 @@ pub(crate) fn import_rows<R: Read, S: Alter, T: Timeline, P: Progress>(
     }
 }
 
-/// The next row into `row`, and whether there was one. `Input` behind the last row of what isn't the whole text.
+/// Reads the next row into `row`, and returns whether there was one. `Fault::Input` after the last
+/// row if the text isn't whole.
 fn take_row<R: Read>(rows: &mut RowReader<R>, row: &mut Row, whole: bool) -> Result<bool, Fault>
     ensures takes { IfOk result (λ found. TakesRow (rows_left R.remaining rows.old)
         (rows_left R.remaining rows.new) found row.new) }
@@ -82,19 +83,19 @@ fn take_row<R: Read>(rows: &mut RowReader<R>, row: &mut Row, whole: bool) -> Res
     }
 }
 
-/// How many rows were taken so far.
+/// The number of rows applied so far.
 #[derive(Clone, Copy)]
 struct Tally {
-    // Those that added a command.
+    // Rows that added a command.
     added: u32,
-    // Those that named one that the book had.
+    // Rows whose command the book had already.
     again: u32,
 }
 
 impl Tally {
     ghost use Rattle.std.specs.Prelude.{◌≡◌, ◌+◌, ◌<◌, if◌then◌else◌};
 
-    /// One row more, whose command was new to the book or not.
+    /// Counts one row, by whether its command was new to the book.
     fn count(&mut self, is_new: bool)
         requires { self.old.added + self.old.again < 1_000_000 }
         ensures added { self.new.added ≡ self.old.added + (if is_new then 1 else 0) }

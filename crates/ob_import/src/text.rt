@@ -1,4 +1,4 @@
-//! The imports: of a text, and of what a reader gives.
+//! The imports: of a text, and of a reader's content.
 ghost use Rattle.std.specs.Prelude.{◌≡◌, ◌↔◌, None, Some, Err, IsSome, IfErr};
 ghost use Rattle.sqlite.specs.Held.{state};
 ghost use Rattle.sqlite.specs.State.{HasCleanDisk};
@@ -21,16 +21,18 @@ use sqlite::Alter;
 use std::alloc::Global;
 use std::io::Read;
 
-/// Imports the commands of a CSV text, RFC 4180: its header is that of `ob_csv::column_names`, and each row after it
-/// acts on its own, in their order. The first refusal stops the import, and the rows before it stand.
+/// Imports the commands of a CSV text, RFC 4180. Its header is that of `ob_csv::column_names`, and
+/// each row after it is applied on its own, in order. The first refusal stops the import, and the
+/// rows before it stay in the book.
 ///
-/// A text without the header stops at row 0 by `BadField(0)`, a row with another number of fields than the header stops by
-/// `BadField(0)` too, and the row 1,000,001 by `Full(1000000)`.
+/// A text without the header stops at row 0 with `BadField(0)`. A row with another number of fields
+/// than the header also stops it with `BadField(0)`, and row 1,000,001 with `Full(1000000)`.
 ///
 /// # Errors
 ///
-/// `Fault::Reopen` where the keeper has no book, `Fault::OutOfMemory`, `Fault::Store`. The rows that acted before
-/// stand; after a fault of the store the one in work may stand too, which the next `load` shows.
+/// `Fault::Reopen` if the keeper has no book, `Fault::OutOfMemory`, `Fault::Store`. The rows
+/// applied before stay in the book. After a fault of the store the row being applied may be in it
+/// too, which the next `load` shows.
 pub fn import_text<S: Alter, T: Timeline>(
     alloc: Global,
     text: &[u8],
@@ -53,13 +55,14 @@ pub fn import_text<S: Alter, T: Timeline>(
     import_rows(alloc, &mut rows, true, keeper, &mut Silent)
 }
 
-/// Imports the commands of the CSV text that a reader gives, as `import_text` does. The text has at most
-/// `ob_csv::MOST_BYTES` bytes; an interrupted read is tried again, 65,536 times in all.
+/// Imports the commands of the CSV text from a reader, as `import_text`. The text has at most
+/// `ob_csv::MOST_BYTES` bytes. Interrupted reads are repeated, 65,536 times in all.
 ///
 /// # Errors
 ///
-/// Those of `import_text`, and `Fault::Input` where the reader fails or the text is longer: all the whole rows of what it
-/// gave have acted then, and stand. The last row is whole where its line end is there.
+/// Those of `import_text`, and `Fault::Input` if the reader fails or the text is longer. All
+/// complete rows read by then have been applied and stay in the book. The last row is complete if
+/// its line end is there.
 pub fn import<R: Read, S: Alter, T: Timeline>(
     alloc: Global,
     reader: &mut Watched<R>,
@@ -70,8 +73,8 @@ pub fn import<R: Read, S: Alter, T: Timeline>(
     import_with_progress(alloc, reader, keeper, &mut Silent)
 }
 
-/// Imports the commands of the CSV text that a reader gives, as `import` does, and tells each row that has acted, after its
-/// commit.
+/// Imports the commands of the CSV text from a reader, as `import`, and reports each applied row to
+/// `progress` after its commit.
 ///
 /// # Errors
 ///
@@ -105,12 +108,12 @@ pub fn import_with_progress<R: Read, S: Alter, T: Timeline, P: Progress>(
     run
 }
 
-/// How many line ends a text has.
+/// The number of line ends in a text.
 fn lines_of(text: &[u8]) -> u64 {
     text.iter().filter(|byte| **byte == b'\n').count() as u64
 }
 
-/// There is no book to import into.
+/// The fault of an import without a book.
 fn fault_without_book() -> ImportFault
     ensures { Err result ≡ no_book }
 {
@@ -121,8 +124,8 @@ fn fault_without_book() -> ImportFault
     }
 }
 
-/// An import of a text makes one thing of a book; and a text that is imported again leaves the state that its own
-/// import left, and adds nothing. It does nothing when it runs.
+/// States that an import of a text has exactly one result for a book, and that importing the text
+/// again leaves that state and adds nothing. Does nothing at run time.
 pub fn import_law()
     ensures one { ImportsMakeOneThing }
     ensures again { ImportedAgain }

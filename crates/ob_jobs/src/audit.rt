@@ -17,7 +17,8 @@ use sqlite::Alter;
 use std::alloc::{AllocError, Global};
 use std::io::Write;
 
-/// Compares the tables of a book with its commands, as [`run_audit`]. A table that differs leaves it unfinished.
+/// Compares the tables of a book with its commands, as [`run_audit`]. Ends as `Unfinished::Differs`
+/// if a table differs.
 pub fn audit_book<S: Alter, T: Timeline, W: Write>(
     alloc: Global,
     keeper: &mut Keeper<S, T>,
@@ -28,12 +29,13 @@ pub fn audit_book<S: Alter, T: Timeline, W: Write>(
     end_of_audit(run_audit(alloc, keeper, writer))
 }
 
-/// Compares the tables with what the commands in them give, as [`Keeper::audit`], and writes `audit ok`, or `audit differs`
-/// and the name of the first table that differs, and LF. It answers that table.
+/// Compares the tables with those of a book of their commands, as [`Keeper::audit`], and writes
+/// `audit ok`, or `audit differs` and the name of the first table that differs, and LF. Returns
+/// that table.
 ///
 /// # Errors
 ///
-/// Those of [`Keeper::audit`], and then nothing is written; `Fault::Output` where the writer fails.
+/// Those of [`Keeper::audit`], and then nothing is written; `Fault::Output` if the writer fails.
 pub fn run_audit<S: Alter, T: Timeline, W: Write>(
     alloc: Global,
     keeper: &mut Keeper<S, T>,
@@ -55,7 +57,7 @@ fn audit_tables<S: Alter, T: Timeline>(keeper: &mut Keeper<S, T>) -> Result<Opti
     keeper.audit()
 }
 
-/// The line that tells what was found.
+/// The line with the result.
 fn line_of(alloc: Global, found: Option<Table>) -> Result<String, AllocError>
     ensures { IfOk result (λ line. string_bytes line ≡ audit_line found) }
 {

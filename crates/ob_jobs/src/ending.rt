@@ -7,7 +7,7 @@ use ob_cli::Unfinished;
 use ob_import::ImportReport;
 use ob_tables::Table;
 
-/// The end of a job that is done or stopped.
+/// The end of a job that was done, refused, or met a fault.
 pub(crate) fn end_of_job<X: Copy>(job: Result<X, Stop>) -> Result<(), Unfinished>
     ensures { result ≡ job_end job }
 {
@@ -30,7 +30,7 @@ pub(crate) fn end_of_import(job: Result<ImportReport, Stop>) -> Result<(), Unfin
     }
 }
 
-/// The end of an audit, which has told what it found.
+/// The end of an audit, which has printed its result.
 pub(crate) fn end_of_audit(job: Result<Option<Table>, Stop>) -> Result<(), Unfinished>
     ensures { result ≡ audit_end job }
 {

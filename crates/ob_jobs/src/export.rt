@@ -1,4 +1,4 @@
-//! The job that writes what a book's commands moved.
+//! The job that writes the changes of amounts that a book's commands made.
 ghost use Rattle.std.specs.Prelude.{◌≡◌, IfOk, string_bytes};
 ghost use Rattle.ob_jobs.specs.Books.{ExportsFromBook};
 ghost use Rattle.ob_jobs.specs.Importing.{ExportOf, TellsExport, export_line};
@@ -17,7 +17,8 @@ use sqlite::Alter;
 use std::alloc::{AllocError, Global};
 use std::io::Write;
 
-/// Loads a book, then makes the output anew, and writes what the commands moved into it, as [`run_export`].
+/// Loads a book, then creates or replaces the output, and writes the changes of amounts into it, as
+/// [`run_export`].
 pub fn export_from_book<O: OpenOutput, S: Alter, T: Timeline, P: Progress, W: Write>(
     alloc: Global,
     keeper: &mut Keeper<S, T>,
@@ -36,12 +37,13 @@ pub fn export_from_book<O: OpenOutput, S: Alter, T: Timeline, P: Progress, W: Wr
     end_of_job(run_export(alloc, keeper, &mut file, writer))
 }
 
-/// Writes what the accepted commands moved into a file, as [`ob_jobs::export_moves`], and then `rows`, how many amounts they
-/// are, and LF.
+/// Writes the changes of amounts by the accepted commands into a file, as
+/// [`ob_jobs::export_moves`]. Then writes `rows`, their number, and LF to `writer`.
 ///
 /// # Errors
 ///
-/// Those of [`ob_jobs::export_moves`], and then nothing is told; `Fault::Output` also where the writer fails.
+/// Those of [`ob_jobs::export_moves`], and then nothing is written to `writer`; `Fault::Output`
+/// also if `writer` fails.
 pub fn run_export<F: Write, S: Alter, T: Timeline, W: Write>(
     alloc: Global,
     keeper: &mut Keeper<S, T>,
@@ -68,7 +70,7 @@ fn export_rows<F: Write, S: Alter, T: Timeline>(
     export_moves(alloc, keeper, file)
 }
 
-/// The line that tells how many amounts were written.
+/// The line with the number of changes that were written.
 fn line_of(alloc: Global, rows: u64) -> Result<String, AllocError>
     ensures { IfOk result (λ line. string_bytes line ≡ export_line rows) }
 {

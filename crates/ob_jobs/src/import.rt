@@ -1,4 +1,4 @@
-//! The job that acts the commands of a CSV file on a book.
+//! The job that applies the commands of a CSV file to a book.
 ghost use Rattle.std.specs.Prelude.{◌≡◌, Ok, IfOk, string_bytes};
 ghost use Rattle.ob_jobs.specs.After.{TellsAfter};
 ghost use Rattle.ob_jobs.specs.Books.{ImportsIntoBook};
@@ -17,14 +17,15 @@ use sqlite::Alter;
 use std::alloc::{AllocError, Global};
 use std::io::Write;
 
-/// Loads a book, then opens the input, and acts the commands of the CSV text that it gives, as
-/// [`ob_import::import_with_progress`]. It writes `added`, how many rows added a command, `again`, how many named one that the
-/// book had, and LF; also where a row was refused, which leaves it unfinished.
+/// Loads a book, then opens the input, and applies the commands of its CSV text, as
+/// [`ob_import::import_with_progress`]. Writes `added`, the number of rows that added a command,
+/// `again`, the number of rows whose command the book had already, and LF. Writes this line also if
+/// a row was refused; the job then ends as `Unfinished::Stopped`.
 ///
 /// # Errors
 ///
-/// Those of a load, `Fault::Input` where the input can't be opened, and the fault that ended the import; then nothing is
-/// written. `Fault::Output` where the writer fails, and then the import is done.
+/// Those of loading, `Fault::Input` if the input can't be opened, and the fault that ended the
+/// import; then nothing is written. `Fault::Output` if the writer fails; the import is done then.
 pub fn import_into_book<O: OpenInput, S: Alter, T: Timeline, P: Progress, W: Write>(
     alloc: Global,
     keeper: &mut Keeper<S, T>,
@@ -42,12 +43,12 @@ pub fn import_into_book<O: OpenInput, S: Alter, T: Timeline, P: Progress, W: Wri
     let mut reader = Watched::new(opened);
     match import_with_progress(alloc, &mut reader, keeper, progress) {
         Ok(report) => end_of_import(tell_report(alloc, report, writer)),
-        // the counts up to a fault aren't told
+        // the counts up to a fault aren't printed
         Err(failed) => Err(Unfinished::from(Stop::Fault(failed.fault))),
     }
 }
 
-/// Tells how many rows were taken, and answers the report as it was.
+/// Writes the number of rows applied, and returns the report unchanged.
 fn tell_report<W: Write>(
     alloc: Global,
     report: ImportReport,
@@ -61,7 +62,7 @@ fn tell_report<W: Write>(
     Ok(report)
 }
 
-/// The line that tells how many rows were taken.
+/// The line with the number of rows applied.
 fn line_of(alloc: Global, report: &ImportReport) -> Result<String, AllocError>
     ensures { IfOk result (λ line. string_bytes line ≡ import_line report.now) }
 {

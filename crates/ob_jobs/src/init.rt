@@ -1,4 +1,4 @@
-//! The job that makes a book.
+//! The job that creates a book.
 ghost use Rattle.std.specs.Prelude.{◌≡◌};
 ghost use Rattle.ob_jobs.specs.Books.{MakesBook};
 ghost use Rattle.ob_jobs.specs.Lines.{created_line};
@@ -15,7 +15,7 @@ use ob_sweep::Timeline;
 use sqlite::Alter;
 use std::io::Write;
 
-/// Makes the book of a period, as [`run_init`].
+/// Creates the book of a period, as [`run_init`].
 pub fn make_book<S: Alter, T: Timeline, W: Write>(
     keeper: &mut Keeper<S, T>,
     first: &[u8],
@@ -29,12 +29,12 @@ pub fn make_book<S: Alter, T: Timeline, W: Write>(
     end_of_job(run_init(keeper, first, days, zone, writer))
 }
 
-/// Makes the book of a period, as [`Keeper::create`], and writes `created` and LF.
+/// Creates the book of a period, as [`Keeper::create`], and writes `created` and LF.
 ///
 /// # Errors
 ///
-/// Those of [`Keeper::create`], and then nothing is written; `Fault::Output` where the writer fails, and then the book is
-/// made.
+/// Those of [`Keeper::create`], and then nothing is written; `Fault::Output` if the writer fails,
+/// and then the book exists.
 pub fn run_init<S: Alter, T: Timeline, W: Write>(
     keeper: &mut Keeper<S, T>,
     first: &[u8],
@@ -49,7 +49,7 @@ pub fn run_init<S: Alter, T: Timeline, W: Write>(
     tell(writer, b"created\n".as_slice())
 }
 
-/// The making.
+/// Creates the tables.
 fn make_tables<S: Alter, T: Timeline>(
     keeper: &mut Keeper<S, T>,
     first: &[u8],

@@ -1,12 +1,11 @@
-//! The program's jobs on a kept book: to make one, to import commands and export what they moved, to print its annual table,
-//! to compare its tables with its commands, to make one of version 1 one of version 2, and to serve it.
+//! The program's jobs on a book: create one, import commands, export the changes of amounts, print
+//! the annual table, audit, migrate and serve it.
 //!
-//! Keeps two public functions for each job: its work over a keeper that has its book, a reader or writer, and a writer for what
-//! is told; and the job from the opened store to its end, which first loads the book where the work needs one, and only then
-//! has the input or the output opened. The work of an import is `ob_import`'s, so that only the job is here; that of an export
-//! is here, a line of CSV for each amount that an accepted command moved, in order. Promises of each what it leaves of the
-//! keeper and of the writers: the whole text where it is done, less of it where the writer fails, and nothing where it stops
-//! before; and how it ends. One function does the job of a name. Above it stands the program.
+//! Has two public functions for each job. One does its work on a keeper; `ob_import` has that of an
+//! import. The other first loads the book if the work needs it, and only then opens the input or
+//! the output. Promises what each job leaves of the keeper and of the writers, and how it ends. If
+//! the job is done its whole text is written, a part if the writer fails, and nothing if it ends
+//! before. The program `outagebook` uses this crate.
 #![tactic(auto)]
 
 mod audit;

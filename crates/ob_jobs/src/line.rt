@@ -1,4 +1,4 @@
-//! The line of an amount that a command moved, made in memory by `csv`.
+//! The line of a change of an amount, made in memory by `csv`.
 ghost use Rattle.std.specs.Prelude.{◌≡◌, map, string_bytes, IfOk};
 ghost use Rattle.std.specs.Fmt.{decimal, signed_decimal};
 ghost use Rattle.csv.specs.Writing.{default_writer, row_text};
@@ -32,7 +32,7 @@ fn record_text(alloc: Global, fields: &[&[u8]]) -> Result<Vec<u8>, Error>
     }
 }
 
-/// A number in decimals.
+/// A number in decimal.
 fn decimal_text(alloc: Global, number: u32) -> Result<String, Error>
     ensures { IfOk result (λ text. string_bytes text ≡ decimal number) }
 {
@@ -42,7 +42,7 @@ fn decimal_text(alloc: Global, number: u32) -> Result<String, Error>
     }
 }
 
-/// A number in decimals, with a sign where it is below 0.
+/// A number in decimal, with a sign if it is negative.
 fn signed_text(alloc: Global, number: i64) -> Result<String, Error>
     ensures { IfOk result (λ text. string_bytes text ≡ signed_decimal number) }
 {
@@ -52,7 +52,7 @@ fn signed_text(alloc: Global, number: i64) -> Result<String, Error>
     }
 }
 
-/// The line of an amount that a command moved.
+/// The line of a change of an amount by a command.
 pub(crate) fn line_of(alloc: Global, cmd: u32, m: &Moved) -> Result<Vec<u8>, Error>
     ensures { IfOk result (λ line. line.items ≡ moved_line cmd m.now) }
 {

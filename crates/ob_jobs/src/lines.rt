@@ -1,4 +1,4 @@
-//! A sink that writes a line for each amount.
+//! A sink that writes a line for each change of an amount.
 ghost use Rattle.std.specs.Prelude.{◌≡◌};
 ghost use Rattle.ob_jobs.specs.Text.{moved_line};
 ghost use Rattle.ob_jobs.specs.Exporting.{PutsLine};
@@ -11,7 +11,7 @@ use ob_stream::{Retries, Watched, write_text};
 use std::alloc::Global;
 use std::io::Write;
 
-/// Writes the line of an amount that a command moved.
+/// Writes the line of a change of an amount by a command.
 fn put_line<W: Write>(
     alloc: Global,
     writer: &mut Watched<W>,
@@ -27,7 +27,7 @@ fn put_line<W: Write>(
     }
 }
 
-/// Writes a line for each amount.
+/// Writes a line for each change of an amount.
 #[derive(Drop)]
 pub(crate) struct Lines<'w, W: Write> {
     alloc: Global,
@@ -36,7 +36,7 @@ pub(crate) struct Lines<'w, W: Write> {
 }
 
 impl<'w, W: Write> Lines<'w, W> {
-    /// A sink that writes to this writer.
+    /// Creates a sink that writes to this writer.
     pub(crate) fn new(alloc: Global, writer: &'w mut Watched<W>, retries: Retries) -> Lines<'w, W>
         ensures same_reference { result.writer.ghost_name ≡ writer.entry.ghost_name }
         ensures writer { result.writer.now ≡ writer.old }

@@ -1,4 +1,4 @@
-//! The job that makes a book of version 1 one of version 2.
+//! The job that upgrades a book of version 1 to version 2.
 ghost use Rattle.std.specs.Prelude.{◌≡◌};
 ghost use Rattle.ob_jobs.specs.Books.{MigratesBook};
 ghost use Rattle.ob_jobs.specs.Lines.{migrate_line};
@@ -15,7 +15,7 @@ use ob_sweep::Timeline;
 use sqlite::Alter;
 use std::io::Write;
 
-/// Makes a book of version 1 one of version 2, as [`run_migrate`].
+/// Upgrades a book of version 1 to version 2, as [`run_migrate`].
 pub fn migrate_book<S: Alter, T: Timeline, W: Write>(
     keeper: &mut Keeper<S, T>,
     writer: &mut Watched<W>,
@@ -25,13 +25,14 @@ pub fn migrate_book<S: Alter, T: Timeline, W: Write>(
     end_of_job(run_migrate(keeper, writer))
 }
 
-/// Makes the tables of version 1 those of version 2, as [`Keeper::migrate`], and writes `migrated`, or `version 2` where they
-/// are so already, and LF. It answers whether they were of version 1. No book is loaded.
+/// Upgrades the tables of version 1 to version 2, as [`Keeper::migrate`], and writes `migrated`, or
+/// `version 2` if they had that version already, and LF. Returns whether they were of version 1.
+/// Loads no book.
 ///
 /// # Errors
 ///
-/// Those of [`Keeper::migrate`], and then nothing is written; `Fault::Output` where the writer fails, and then the tables are
-/// of version 2.
+/// Those of [`Keeper::migrate`], and then nothing is written; `Fault::Output` if the writer fails,
+/// and then the tables are of version 2.
 pub fn run_migrate<S: Alter, T: Timeline, W: Write>(
     keeper: &mut Keeper<S, T>,
     writer: &mut Watched<W>,
@@ -51,7 +52,7 @@ fn migrate_tables<S: Alter, T: Timeline>(keeper: &mut Keeper<S, T>) -> Result<bo
     keeper.migrate()
 }
 
-/// The line that tells whether the tables were of version 1.
+/// The line that states whether the tables were of version 1.
 fn line_of(migrated: bool) -> &'static [u8]
     ensures { result.now ≡ migrate_line migrated }
 {

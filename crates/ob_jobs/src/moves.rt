@@ -1,4 +1,4 @@
-//! The export of what accepted commands moved.
+//! Exports the changes of amounts that accepted commands made.
 ghost use Rattle.std.specs.Prelude.{◌≡◌, ◌≢◌, ◌↔◌, None, Err, IsSome, IfErr, OnOk};
 ghost use Rattle.sqlite.specs.Held.{state};
 ghost use Rattle.sqlite.specs.State.{HasCleanDisk, Survives};
@@ -18,7 +18,8 @@ use sqlite::Alter;
 use std::alloc::Global;
 use std::io::Write;
 
-/// Writes a line for each amount that the accepted commands moved, and tells how many they are.
+/// Writes a line for each change of an amount by an accepted command, and returns how many there
+/// are.
 fn write_lines<W: Write, S: Alter, T: Timeline>(
     alloc: Global,
     keeper: &mut Keeper<S, T>,
@@ -42,10 +43,11 @@ fn write_lines<W: Write, S: Alter, T: Timeline>(
     keeper.moves_out(&mut lines)
 }
 
-/// Writes what the accepted commands moved: the header `cmd,dim,key,delta`, and then a line for each amount, by number,
-/// dimension and key, as `26,cause,3,-1200`. Tells how many amounts they are. `Reopen` where there is no book, and then
-/// nothing is written; `Output` where the writer fails. After a fault of the store the keeper has no book; else it has the
-/// one that it had.
+/// Writes the changes of amounts by the accepted commands: the header `cmd,dim,key,delta`, and then
+/// a line for each change, by number, dimension and key, as `26,cause,3,-1200`. Returns the number
+/// of changes. `Fault::Reopen` if there is no book, and then nothing is written; `Fault::Output` if
+/// the writer fails. After a fault of the store the keeper has no book; otherwise it has the book
+/// that it had.
 pub fn export_moves<W: Write, S: Alter, T: Timeline>(
     alloc: Global,
     keeper: &mut Keeper<S, T>,

@@ -31,7 +31,8 @@ pub fn print_book<S: Alter, T: Timeline, P: Progress, W: Write>(
 ///
 /// # Errors
 ///
-/// `Fault::Reopen` where the keeper has no book, `Fault::OutOfMemory`, `Fault::Output` where the writer fails.
+/// `Fault::Reopen` if the keeper has no book, `Fault::OutOfMemory`, `Fault::Output` if the writer
+/// fails.
 pub fn run_table<S: Alter, T: Timeline, W: Write>(
     keeper: &Keeper<S, T>,
     writer: &mut Watched<W>,

@@ -18,31 +18,31 @@ use std::io::Write;
 /// A job on a book, with the input, the output or the port that it opens.
 #[derive(Drop)]
 pub enum Task<'w, I, O, V> {
-    /// The book of a period is made.
+    /// Creates the book of a period.
     Init {
         /// The first day.
         first: &'w [u8],
-        /// How many days it has.
+        /// The number of days.
         days: u16,
         /// The time zone.
         zone: &'w [u8],
     },
-    /// The commands of an input are imported.
+    /// Imports the commands of an input.
     Import(I),
-    /// What the commands moved is written into an output.
+    /// Writes the changes of amounts that the commands made into an output.
     Export(O),
-    /// The annual table is printed.
+    /// Prints the annual table.
     Table,
-    /// The tables are compared with the commands.
+    /// Compares the tables with the commands.
     Audit,
-    /// A book of version 1 is made one of version 2.
+    /// Upgrades a book of version 1 to version 2.
     Migrate,
-    /// The book is served.
+    /// Serves the book.
     Serve(V),
 }
 
 impl<I, O, V> Task<'_, I, O, V> {
-    /// Whether the job makes the book.
+    /// Whether the job creates the book.
     pub fn makes_book(&self) -> bool
         ensures { result ≡ makes_book self.now }
     {
@@ -57,7 +57,7 @@ impl<I, O, V> Task<'_, I, O, V> {
         }
     }
 
-    /// Whether the job may write into the book.
+    /// Whether the job may write to the book.
     pub fn may_write(&self) -> bool
         ensures { result ≡ may_write self.now }
     {
@@ -68,7 +68,7 @@ impl<I, O, V> Task<'_, I, O, V> {
     }
 }
 
-/// Does a job on the book that a keeper's tables hold, which isn't loaded yet.
+/// Does a job on the book in a keeper's tables, which isn't loaded yet.
 pub fn run_task<
     I: OpenInput + Drop,
     O: OpenOutput + Drop,

@@ -1,11 +1,11 @@
-//! The text of a job that was done.
+//! Writes the text of a job that was done.
 ghost use Rattle.ob_jobs.specs.Telling.{Told};
 
 use ob_base::Stop;
 use ob_stream::{Retries, Watched, write_text};
 use std::io::Write;
 
-/// Writes the text of a job that was done: whole, or less of it where the writer fails.
+/// Writes the text of a job that was done: completely, or a part of it if the writer fails.
 pub(crate) fn tell<W: Write>(writer: &mut Watched<W>, text: &[u8]) -> Result<(), Stop>
     ensures { Told W.contents writer.old writer.new text.now result }
 {

@@ -1,4 +1,5 @@
-//! The reliability indices, over all interruptions and over the unmarked ones.
+//! The reliability indices as JSON: over all interruptions, and over those that don't begin on a
+//! major event day.
 ghost use Rattle.std.specs.Prelude.{◌≡◌, map, IfOk, IfErr};
 ghost use Rattle.ob_base.specs.Stop.{out_of_memory};
 ghost use Rattle.serde_json.specs.Data.{array};
@@ -11,8 +12,9 @@ use ob_index::{Fraction, Indices};
 use serde_json::{Value, json};
 use std::alloc::{AllocError, Global};
 
-/// The indices over all interruptions and over the unmarked ones, `{"all":{..},"unmarked":{..}}`, each a text `p/q` in
-/// lowest terms or `undefined`. The error is that memory was refused.
+/// Returns the indices over all interruptions and over those that don't begin on a major event day:
+/// `{"all":{..},"unmarked":{..}}`. Each index is a text `p/q` in lowest terms, or `undefined`.
+/// Fails only if an allocation fails.
 pub fn indices_text(alloc: Global, all: &Indices, unmarked: &Indices) -> Result<Vec<u8>, Stop>
     ensures text { IfOk result (λ text. text.items ≡ definition.indices_text all.now unmarked.now) }
     ensures err { IfErr result (λ stop. stop ≡ out_of_memory) }
@@ -21,14 +23,14 @@ pub fn indices_text(alloc: Global, all: &Indices, unmarked: &Indices) -> Result<
     Ok(both.to_vec(alloc)?)
 }
 
-// Both as JSON.
+// Both sets of indices as JSON.
 fn both(alloc: Global, all: &Indices, unmarked: &Indices) -> Result<Value, AllocError>
     ensures { IfOk result (λ v. view v ≡ both_data all.now unmarked.now) }
 {
     json!(in alloc; {"all": indices(alloc, all)?, "unmarked": indices(alloc, unmarked)?})
 }
 
-// The indices as JSON.
+// One set of indices as JSON.
 fn indices(alloc: Global, indices: &Indices) -> Result<Value, AllocError>
     ensures { IfOk result (λ v. view v ≡ indices_data indices.now) }
 {
@@ -44,7 +46,7 @@ fn indices(alloc: Global, indices: &Indices) -> Result<Value, AllocError>
     })
 }
 
-// Several indices as JSON.
+// A list of indices as a JSON array.
 fn list(alloc: Global, indices: &[Option<Fraction>]) -> Result<Value, AllocError>
     ensures { IfOk result (λ v. view v ≡ array (items_of (map index_data indices.now))) }
 {
@@ -55,7 +57,7 @@ fn list(alloc: Global, indices: &[Option<Fraction>]) -> Result<Value, AllocError
     Ok(Value::Array(values))
 }
 
-// An index as JSON.
+// One index as JSON.
 fn index(alloc: Global, index: Option<Fraction>) -> Result<Value, AllocError>
     ensures { IfOk result (λ v. view v ≡ index_data index) }
 {

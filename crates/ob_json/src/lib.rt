@@ -1,7 +1,8 @@
 //! The JSON texts of the book's views, RFC 8259.
 //!
-//! Keeps which members a text has and in what order, with no space between them. Promises each text byte for byte, as
-//! a function of what it shows. Above it stands the desk, which sends them; of the two only this crate names `serde_json`.
+//! Defines which members each text has and in what order, without spaces between them. Promises
+//! each text byte for byte, as a function of the values that it shows. `ob_book` uses this crate
+//! for the totals and the indices. `ob_replies` makes the other JSON texts.
 #![tactic(auto)]
 
 mod indices;

@@ -1,4 +1,4 @@
-//! The totals: the customer-seconds without supply by cause, day and home feeder.
+//! The totals as JSON: the customer-seconds without supply by cause, day and home feeder.
 ghost use Rattle.std.specs.Prelude.{◌≡◌, ◌≤◌, ◌<◌, ◌-◌, ℕ, [], ◌∷◌, ◌++◌, map, IfOk, IfErr, OnOk};
 ghost use Rattle.std.specs.List.{filter, range_with_len};
 ghost use Rattle.ob_base.specs.Stop.{out_of_memory};
@@ -14,8 +14,9 @@ use ob_post::{Dim, Postings};
 use serde_json::{Value, json};
 use std::alloc::{AllocError, Global};
 
-/// The amounts under each cause, day and home feeder that has one, by rising keys, and their total over the days:
-/// `{"cause":[[3,9000]],"day":[[0,9000]],"feeder":[[1,9000]],"total":9000}`. The error is that memory was refused.
+/// Returns the amount under each cause, day and home feeder that isn't 0, by rising keys, and the
+/// total over the days: `{"cause":[[3,9000]],"day":[[0,9000]],"feeder":[[1,9000]],"total":9000}`.
+/// Fails only if an allocation fails.
 pub fn totals_text(alloc: Global, postings: &Postings, days: u16) -> Result<Vec<u8>, Stop>
     requires days { days ≡ day_count postings.now }
     ensures text { IfOk result (λ text. text.items
@@ -41,7 +42,8 @@ fn totals(alloc: Global, postings: &Postings, days: u16) -> Result<Value, AllocE
     })
 }
 
-// The amounts that aren't 0 under the keys of a dimension, which are those from the first up to the end.
+// The rows of a dimension, for the keys from the first up to the end, without those whose amount is
+// 0.
 fn rows(
     alloc: Global,
     postings: &Postings,
@@ -62,7 +64,7 @@ fn rows(
     Ok(Value::Array(rows))
 }
 
-// Puts a row for the key behind the others, where its amount isn't 0.
+// Appends the row of a key if its amount isn't 0.
 fn push_row(alloc: Global, rows: &mut Vec<Value>, key: u16, amount: u64) -> Result<(), AllocError>
     ensures data { OnOk result (map view rows.new.items
         ≡ map view rows.old.items ++ map row_data (filter has_amount ((key, amount) ∷ []))) }
@@ -73,7 +75,7 @@ fn push_row(alloc: Global, rows: &mut Vec<Value>, key: u16, amount: u64) -> Resu
     Ok(())
 }
 
-// A key with its amount.
+// The row of a key and its amount, as JSON.
 fn row(alloc: Global, key: u16, amount: u64) -> Result<Value, AllocError>
     ensures { IfOk result (λ v. view v ≡ row_data (key, amount)) }
 {

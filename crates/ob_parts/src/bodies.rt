@@ -1,4 +1,4 @@
-//! The body texts of today that the commands of version 1 are to have.
+//! Today's body texts for the commands of a book of version 1.
 ghost use Rattle.std.specs.Prelude.{◌≡◌, ◌++◌, ◌≤◌, length, IfOk, IfErr, OnOk};
 ghost use Rattle.ob_base.specs.Stop.{out_of_memory};
 ghost use Rattle.ob_compare.specs.Listing.{filed_of};
@@ -10,8 +10,9 @@ use ob_commit::NewBody;
 use ob_compare::Filed;
 use std::alloc::Global;
 
-/// Today's body texts of the commands that add devices, in order, under the numbers of the commands, which count from 1. Those
-/// of other commands are the ones that they had. The error is that memory was refused.
+/// Returns today's body texts of the commands that add devices, in order, under the numbers of the
+/// commands, which count from 1. Other commands keep their texts. Fails only if an allocation
+/// fails.
 pub fn new_bodies(alloc: Global, commands: &[Filed]) -> Result<Vec<NewBody>, Stop>
     requires few { length commands.now ≤ 1_000_000 }
     ensures texts { IfOk result (λ bodies. texts_of bodies.items
@@ -25,7 +26,7 @@ pub fn new_bodies(alloc: Global, commands: &[Filed]) -> Result<Vec<NewBody>, Sto
     Ok(bodies)
 }
 
-// With the body text of a command under its number, where it adds a device.
+// Appends the body text of a command under its number, if it adds a device.
 fn add_body(
     alloc: Global,
     bodies: &mut Vec<NewBody>,

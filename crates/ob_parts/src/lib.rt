@@ -1,10 +1,11 @@
-//! What the tables hold of a book: each table against the part of the book that it holds, today and in version 1.
+//! Compares each table with the part of a book that it holds, in today's version and in version 1.
 //!
-//! Says of each part of a book which rows its table has in each version of the tables, place by place, and compares the two
-//! by the loop of `ob_compare`; and which body texts the commands of a book of version 1 are to have today. Promises that a
-//! table passes just where its rows are those of the book, that nothing is written, and that the ten tables of version 1
-//! become today's by those texts, a life for each device and the number of the version. The tables of the commands and of what
-//! they moved are compared by `ob_compare` itself. The store stands above.
+//! Defines, for each part of a book, which rows its table has in each version, place by place, and
+//! compares them with the loop of `ob_compare`. Defines today's body texts for the commands of a
+//! book of version 1. Promises that a table passes exactly if its rows are those of the book, and
+//! that nothing is written. Promises that these texts, an in-service interval for each device and
+//! the version number turn the ten tables of version 1 into today's. `ob_compare` compares the
+//! tables of commands and of moved amounts. `ob_store` uses this crate.
 #![tactic(auto)]
 
 mod bodies;

@@ -1,4 +1,4 @@
-//! Tables of what stands under the numbers from 0 on: nodes, devices and their lives.
+//! Tables whose rows are numbered from 0 on: nodes, devices and in-service intervals.
 ghost use Rattle.std.specs.Prelude.{◌≡◌, ◌↔◌, ℕ, IsTrue};
 ghost use Rattle.std.specs.List.Sorted.{IsStrictlySortedBy};
 ghost use Rattle.ob_tables.specs.declared.table.Table.{Table as ATable};
@@ -14,22 +14,22 @@ use ob_net::{Device, Node};
 use ob_tables::{Table, is_device_row, is_life_row, is_node_row};
 use sqlite::{Alter, Connection, Row};
 
-/// A table that has a row for each element of a list, by the number of its place.
+/// A table that has a row for each element of a list, by its number in the list.
 pub(crate) trait Kind {
-    /// What the list has.
+    /// The type of the elements.
     type Element;
 
     /// The table.
     ghost table: { ATable };
 
-    /// The row of an element under a number.
+    /// The row of an element with this number.
     ghost row_of: { ℕ → Self.Element → Columns };
 
     /// The table.
     fn table() -> Table
         ensures { result ≡ table };
 
-    /// Whether a row is that of an element under a number.
+    /// Whether a row is that of an element with this number.
     fn is_row(row: &Row, number: u64, element: &Self::Element) -> bool
         ensures { IsTrue result ↔ (row.now ≡ row_of number element.now) };
 }
@@ -78,7 +78,7 @@ impl Kind for Devices {
     }
 }
 
-/// The table of the lives of devices.
+/// The table of the in-service intervals of devices.
 pub(crate) struct Lives;
 
 impl Kind for Lives {
@@ -131,7 +131,8 @@ impl<'b, K: Kind> Listed for Numbered<'b, K> {
     }
 }
 
-/// Whether the table of a kind holds just the rows of these elements, by number. Nothing is written.
+/// Whether the table of a kind holds exactly the rows of these elements, by number. Nothing is
+/// written.
 pub(crate) fn holds_numbered<S: Alter, K: Kind>(
     conn: &mut Connection<S>,
     elements: &[K::Element],

@@ -1,4 +1,4 @@
-//! Each table against what a book has of it.
+//! Compares each table with the part of a book that it holds.
 ghost use Rattle.std.specs.Prelude.{◌≡◌, [], ◌∷◌};
 ghost use Rattle.ob_time.specs.Calendar.{day_count};
 ghost use Rattle.ob_time.specs.Dates.{day_text};
@@ -24,7 +24,8 @@ use ob_tables::{Table, Version};
 use ob_time::Period;
 use sqlite::{Alter, Connection};
 
-/// Whether the table of the heading holds that of a period in this version. Nothing is written.
+/// Whether the table `meta` holds exactly the heading of this period and version. Nothing is
+/// written.
 fn holds_period<S: Alter>(
     conn: &mut Connection<S>,
     period: &Period,
@@ -36,7 +37,7 @@ fn holds_period<S: Alter>(
         conn.new result }
 {
     let days = period.days();
-    // A `?` converts the stop on its way, and the clauses say which it is.
+    // No `?` here: it would convert the error, and the contract states which error it is.
     match period.date_text(0) {
         Ok(first_day) => holds_heading(
             conn,
@@ -61,9 +62,10 @@ fn holds_posted<S: Alter, T: Timeline>(
     holds_amounts(conn, book.postings(), book.period().days())
 }
 
-/// Whether a table of a version holds what a book has of it: any table that the version has but those of commands and
-/// of what they moved. The layout has the nodes and the devices of the book's network. Nothing is written. A database
-/// without the table is refused as no book's.
+/// Whether a table of a version holds exactly its part of a book. It may be any table of the
+/// version except those of commands and of moved amounts. The layout has the nodes and the devices
+/// of the book's network. Nothing is written. Refuses with `BadBook` if the database lacks the
+/// table.
 pub fn holds_part<S: Alter, T: Timeline>(
     conn: &mut Connection<S>,
     book: &Book<T>,
@@ -87,7 +89,7 @@ pub fn holds_part<S: Alter, T: Timeline>(
         Table::Entry => holds_entries(conn, book.sheet()),
         Table::Mark => holds_marks(conn, book.marks(), book.period().days()),
         Table::Posting => holds_posted(conn, book),
-        // No part of a book, by a premise.
+        // Excluded by the precondition.
         Table::Command | Table::Moved => unreachable!(),
     }
 }

@@ -1,4 +1,4 @@
-//! Each table against the part of a book that it holds.
+//! Compares each table with the part of a book that it holds.
 ghost use Rattle.std.specs.Prelude.{◌≡◌, ◌<◌, ◌+◌, [], ◌∷◌, Some, length, map, slice_get};
 ghost use Rattle.ob_tables.specs.declared.table.Table.{Table as ATable};
 ghost use Rattle.ob_tables.specs.declared.version.Version.{Version as AVersion};
@@ -58,8 +58,8 @@ impl<'b> Listed for HeadingRow<'b> {
     }
 }
 
-/// Whether the table of the heading holds that of this version with this first day, so many days and this zone, and
-/// no more. Nothing is written.
+/// Whether the table `meta` holds exactly the heading of this version with this first day, count of
+/// days and zone. Nothing is written.
 pub(crate) fn holds_heading<S: Alter>(
     conn: &mut Connection<S>,
     version: u32,
@@ -80,7 +80,7 @@ pub(crate) fn holds_heading<S: Alter>(
     holds(conn, &heading)
 }
 
-/// The customers of a roll, by number.
+/// The customers of a register, by number.
 #[derive(Drop)]
 struct Customers<'b> {
     roll: &'b Roll,
@@ -112,18 +112,18 @@ impl<'b> Listed for Customers<'b> {
     }
 }
 
-/// Whether the table of customers holds those of a roll. Nothing is written.
+/// Whether the table of customers holds exactly those of a register. Nothing is written.
 pub(crate) fn holds_customers<S: Alter>(conn: &mut Connection<S>, roll: &Roll) -> Result<bool, Stop>
     ensures { (v : AVersion) → Has v ATable.Customer
         → Compares S.Store v ATable.Customer (map customer_row roll.now.customers) conn.old
         conn.new result }
 {
-    // They rise by number, by a clause of this call.
+    // This call's contract states that the customers rise by number.
     let _ = roll.customers();
     holds(conn, &Customers { roll })
 }
 
-/// The entries of a sheet, by number.
+/// The entries of a switching log, by number.
 #[derive(Drop)]
 struct Entries<'b> {
     sheet: &'b Sheet,
@@ -151,7 +151,7 @@ impl<'b> Listed for Entries<'b> {
     }
 
     fn is_row(&self, at: usize, row: &Row) -> bool {
-        // They are few, by a clause of this call.
+        // This call's contract bounds the number of entries.
         let _ = self.sheet.len();
         let Some(entry) = self.sheet.entry(at as u32 + 1) else {
             return false;
@@ -160,13 +160,13 @@ impl<'b> Listed for Entries<'b> {
     }
 }
 
-/// Whether the table of entries holds those of a sheet. Nothing is written.
+/// Whether the table of entries holds exactly those of a switching log. Nothing is written.
 pub(crate) fn holds_entries<S: Alter>(conn: &mut Connection<S>, sheet: &Sheet) -> Result<bool, Stop>
     ensures { (v : AVersion) → Has v ATable.Entry
         → Compares S.Store v ATable.Entry (map entry_row sheet.now.entries) conn.old conn.new
         result }
 {
-    // They are numbered, by a clause of this call.
+    // This call's contract states that the entries are numbered.
     let _ = sheet.entry(0);
     holds(conn, &Entries { sheet })
 }
@@ -191,7 +191,7 @@ impl<'b, T: Timeline> Listed for Causes<'b, T> {
     }
 
     fn count(&self) -> usize {
-        // There is a place for each code, by a clause of this call.
+        // This call's contract states that there is a place for each code.
         let _ = self.book.accepted();
         64
     }
@@ -210,7 +210,7 @@ impl<'b, T: Timeline> Listed for Causes<'b, T> {
     }
 }
 
-/// Whether the table of causes holds those of a book. Nothing is written.
+/// Whether the table of causes holds exactly those of a book. Nothing is written.
 pub(crate) fn holds_causes<S: Alter, T: Timeline>(
     conn: &mut Connection<S>,
     book: &Book<T>,
@@ -222,7 +222,7 @@ pub(crate) fn holds_causes<S: Alter, T: Timeline>(
     holds(conn, &Causes { book })
 }
 
-/// The marked days of so many.
+/// The major event days, for a period of `days` days.
 #[derive(Drop)]
 struct Days<'b> {
     marks: &'b Marks,
@@ -259,7 +259,7 @@ impl<'b> Listed for Days<'b> {
     }
 }
 
-/// The number of the day at a place, of so many.
+/// The number of the day at a place, in a period of `days` days.
 fn day_at(at: usize, days: u16) -> u16
     requires { at < days }
     ensures { result ≡ at }
@@ -268,7 +268,8 @@ fn day_at(at: usize, days: u16) -> u16
     at as u16
 }
 
-/// Whether the table of marked days holds these marks, of so many days. Nothing is written.
+/// Whether the table `mark` holds exactly these major event days, for a period of `days` days.
+/// Nothing is written.
 pub(crate) fn holds_marks<S: Alter>(
     conn: &mut Connection<S>,
     marks: &Marks,
@@ -281,7 +282,7 @@ pub(crate) fn holds_marks<S: Alter>(
     holds(conn, &Days { marks, days })
 }
 
-/// The amounts under all keys, with so many days.
+/// The amounts under all keys, for a period of `days` days.
 #[derive(Drop)]
 struct Amounts<'b> {
     postings: &'b Postings,
@@ -322,13 +323,14 @@ impl<'b> Listed for Amounts<'b> {
     }
 }
 
-/// How many causes come before the feeders.
+/// The number of causes. They come before the feeders.
 const FIRST_FEEDER: usize = 64;
 
-/// How many causes and feeders come before the days.
+/// The number of causes and feeders together. They come before the days.
 const FIRST_DAY: usize = 319;
 
-/// The key at a place among all keys, with so many days: the causes from 0, the feeders from 1, the days from 0.
+/// Returns the key at a place among all keys, for a period of `days` days: the causes from 0, then
+/// the feeders from 1, then the days from 0.
 fn key_at(at: usize, days: u16) -> (Dim, u16)
     requires { at < 319 + days }
     ensures key { slice_get (all_keys days) at ≡ Some (result.0, result.1) }
@@ -343,7 +345,8 @@ fn key_at(at: usize, days: u16) -> (Dim, u16)
     }
 }
 
-/// Whether the table of amounts holds these, with so many days. Nothing is written.
+/// Whether the table of amounts holds exactly these amounts, for a period of `days` days. Nothing
+/// is written.
 pub(crate) fn holds_amounts<S: Alter>(
     conn: &mut Connection<S>,
     postings: &Postings,

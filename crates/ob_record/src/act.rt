@@ -1,4 +1,4 @@
-//! The rows of a whole command, and laws of the states that a book of accepted commands can have.
+//! The rows of an accepted command, and laws of the states that a book can reach.
 ghost use Rattle.std.specs.Prelude.{◌≡◌, ◌+◌, true};
 ghost use Rattle.ob_base.specs.Identifier.{is_identifier};
 ghost use Rattle.ob_post.specs.MoveLaws.{AreSmall};
@@ -21,7 +21,8 @@ use ob_post::laws::move_laws;
 use ob_state::Resolved;
 use ob_sweep::Timeline;
 
-/// The rows of an accepted command: its number, reference and body, what it comes to, and the amounts that it moves.
+/// Returns the rows of an accepted command: its number, reference and body, its resolved form, and
+/// the amounts that it changes.
 pub fn act_of<'t, T: Timeline>(
     book: &Book<T>,
     plan: &'t Plan<T>,
@@ -54,7 +55,7 @@ pub fn act_of<'t, T: Timeline>(
     }
 }
 
-/// The crew of an entry that a command withdraws is an identifier. This does nothing when it runs.
+/// States that the crew of a withdrawn entry is an identifier. Does nothing at run time.
 fn crew_law(resolved: &Resolved)
     ensures { (was entry : Entry) → resolved.now ≡ Resolved.Withdrawn was entry
         → is_identifier 16 entry.crew ≡ true }
@@ -64,8 +65,9 @@ fn crew_law(resolved: &Resolved)
     }
 }
 
-/// A new book is reached, and an accepted command leads on from what is; what is reached is the state of its commands
-/// and counts them; and a new book has the rows that it begins with. This does nothing when it runs.
+/// States that a new book is reached, and that an accepted command leads from one reached book to
+/// another. A reached book has the state of its commands and counts them. A new book has the first
+/// rows of the tables. Does nothing at run time.
 pub fn reached_law()
     ensures starts { StartIsReached }
     ensures goes_on { AcceptedIsReached }

@@ -1,4 +1,8 @@
-//! The rows of a book: what the eleven tables hold of its accepted commands, and what each further one makes of them.
+//! The rows of a book: the content of its eleven tables.
+//!
+//! Defines what the tables hold of the accepted commands, and how each further command changes
+//! them. Promises that the rows determine the commands. `ob_compare`, `ob_parts`, `ob_store`,
+//! `ob_import` and `ob_desk` use this crate.
 #![tactic(auto)]
 
 mod act;

@@ -1,12 +1,12 @@
-//! What the rows of commands say of them, and how many there are.
+//! Laws of the rows of commands: that they determine the commands, and how many there are.
 ghost use Rattle.ob_record.specs.Naming.{RowsNameCommands};
 ghost use Rattle.ob_record.specs.Reached.{ReachedAreFew};
 
 use ob_book::acts_law;
 use ob_command::bodies_law;
 
-/// The rows of commands name them, and a reached book has no more of them than it takes. This does nothing when it
-/// runs.
+/// States that the rows of commands determine the commands, and that a reached book has no more of
+/// them than a book may accept. Does nothing at run time.
 pub fn naming_law()
     ensures named { RowsNameCommands }
     ensures few { ReachedAreFew }

@@ -13,8 +13,8 @@ use ob_sheet::Entry;
 use serde_json::{Value, json};
 use std::alloc::{AllocError, Global};
 
-/// The body of the reply to an accepted command, `{"moved":[["cause",3,-1200],..],"no":26}`: its number, and what it
-/// moved. The error is that memory was refused.
+/// Returns the body of the reply to an accepted command: its number, and the changes of amounts
+/// that it made, as `{"moved":[["cause",3,-1200],..],"no":26}`. Fails only if an allocation fails.
 pub fn accepted_text(alloc: Global, no: u32, moved: &[Moved]) -> Result<Vec<u8>, Stop>
     ensures text { IfOk result (λ text. text.items ≡ definition.accepted_text «no» moved.now) }
     ensures err { IfErr result (λ stop. stop ≡ out_of_memory) }
@@ -55,8 +55,8 @@ fn word_of_dim(dim: Dim) -> &'static str
     }
 }
 
-/// The body of the reply to a refused command, `{"detail":2,"name":"Stale","refused":7}`, without `detail` where the
-/// refusal has none. The error is that memory was refused.
+/// Returns the body of the reply to a refused command, `{"detail":2,"name":"Stale","refused":7}`.
+/// `detail` is left out if the refusal has none. Fails only if an allocation fails.
 pub fn refused_text(alloc: Global, refusal: &Refusal) -> Result<Vec<u8>, Stop>
     ensures text { IfOk result (λ text. text.items ≡ definition.refused_text refusal.now) }
     ensures err { IfErr result (λ stop. stop ≡ out_of_memory) }
@@ -76,9 +76,10 @@ fn refused_value(alloc: Global, refusal: &Refusal) -> Result<Value, AllocError>
     }
 }
 
-/// The body of the reply to an import, `{"added":1,"again":3,"stopped":null}`: how many commands it added, how many
-/// were there already, and the row and the refusal that stopped it, `{"name":"NameTaken","refused":3,"row":4}` with
-/// `detail` first where there is one. The error is that memory was refused.
+/// Returns the body of the reply to an import, `{"added":1,"again":3,"stopped":null}`: how many
+/// commands it added, and how many the book had already. If a refusal stopped it, `stopped` is the
+/// row and the refusal, `{"name":"NameTaken","refused":3,"row":4}`, with `detail` first if there is
+/// one. Fails only if an allocation fails.
 pub fn report_text(
     alloc: Global,
     added: u32,
@@ -119,9 +120,10 @@ fn stop_of(alloc: Global, stopped: Option<(u32, Refusal)>) -> Result<Value, Allo
     }
 }
 
-/// The body of the reply that shows an entry of the device with this name, `{"cause":3,"crew":"K1","device":"B1",
-/// "kept":true,"no":1,"position":"open","revision":1,"second":1704070800}`, on one line; the position is the one that
-/// the entry leaves, `open` or `closed`. The error is that memory was refused.
+/// Returns the body of the reply that shows an entry of the device with this name, on one line:
+/// `{"cause":3,"crew":"K1","device":"B1","kept":true,"no":1,"position":"open","revision":1,
+/// "second":1704070800}`. `position` is the device's position after the entry, `open` or `closed`.
+/// Fails only if an allocation fails.
 pub fn entry_text(alloc: Global, entry: &Entry, device: &Name) -> Result<Vec<u8>, Stop>
     ensures text { IfOk result (λ text. text.items ≡ definition.entry_text entry.now device.now) }
     ensures err { IfErr result (λ stop. stop ≡ out_of_memory) }

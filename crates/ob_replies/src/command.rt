@@ -1,4 +1,4 @@
-//! Commands as JSON, RFC 8259.
+//! Reads commands from JSON, RFC 8259.
 ghost use Rattle.std.specs.Prelude.{◌≡◌, [], IfErr, IfOk, map, option_map, unwrap_or};
 ghost use Rattle.serde_json.specs.Find.{as_object, get};
 ghost use Rattle.serde_json.specs.View.{members_view, view};
@@ -11,10 +11,11 @@ use ob_csv::{COLUMNS, RowFields, column_names};
 use serde_json::{Map, Value};
 use std::alloc::Global;
 
-/// Reads a reference and a command from an object whose members are texts under the names of a row's columns, where
-/// absent ones are empty, as `read_row` does. The refusal is `BadField` of the leftmost bad column, also where its
-/// member is no text, and of 0 where the body is no JSON, no object, or has another member. The fault is that memory
-/// was refused.
+/// Reads a reference and a command from a JSON object. Its members are texts under the names of a
+/// row's columns, and an absent member counts as empty, as in `read_row`. Refuses with `BadField`
+/// of the leftmost bad column; a member that is no text makes its column bad. Refuses with
+/// `BadField(0)` if the body is no JSON, no object, or has another member. The only fault is a
+/// failed allocation.
 pub fn read_command(alloc: Global, body: &[u8]) -> Result<(Ref, Command), Stop>
     ensures { ReadsJsonCommand body.now result }
 {
@@ -24,15 +25,17 @@ pub fn read_command(alloc: Global, body: &[u8]) -> Result<(Ref, Command), Stop>
     }
 }
 
-/// What a body says is one thing: a reference and a command, or the refusal of one column.
+/// States that a body has exactly one reading: a reference and a command, or the refusal of one
+/// column.
 pub fn json_commands_law()
     ensures { JsonCommandsSayOneThing }
 {
-    // A row says one thing.
+    // Contract of this call: a row has exactly one reading.
     rows_law();
 }
 
-// The value that a body is, where it is UTF-8 and JSON; the error is that memory was refused.
+// The JSON value of a body; None if the body isn't UTF-8 or isn't JSON. Fails only if an allocation
+// fails.
 #[tactic(auto, using(crate::proofs::Values::json_is, crate::proofs::Values::json_is_none))]
 fn json(alloc: Global, body: &[u8]) -> Result<Option<Value>, Stop>
     ensures value { IfOk result (λ v. option_map view v ≡ json_in body.now) }
@@ -104,7 +107,7 @@ fn texts_in(value: &Value) -> [Option<&[u8]>; COLUMNS]
     texts
 }
 
-// The text of a member, empty where it is absent; None where it is no text.
+// The text of a member, empty if the member is absent; None if it is no text.
 fn text<'v>(value: &'v Value, name: &str) -> Option<&'v [u8]>
     ensures { option_map (λ t. t.now) result ≡ text_of (get name.now (view value.now)) }
 {
@@ -117,7 +120,7 @@ fn text<'v>(value: &'v Value, name: &str) -> Option<&'v [u8]>
     }
 }
 
-// The row of these texts, empty where a column holds none.
+// The row of these texts; a column that is None becomes empty.
 fn row_of<'t>(texts: &[Option<&'t [u8]>; COLUMNS]) -> RowFields<'t>
     ensures { map (λ f. f.now) result ≡ map (λ t. unwrap_or (option_map (λ s. s.now) t) []) texts.now }
 {
@@ -137,7 +140,7 @@ fn or_empty(text: Option<&[u8]>) -> &[u8]
     }
 }
 
-// The first column, from 1, that holds no text.
+// The number of the first column, counted from 1, that is no text.
 fn textless(texts: &[Option<&[u8]>; COLUMNS]) -> Option<u8>
     ensures { result ≡ first_textless 1 (map (λ t. option_map (λ s. s.now) t) texts.now) }
 {
@@ -151,7 +154,7 @@ fn textless(texts: &[Option<&[u8]>; COLUMNS]) -> Option<u8>
     None
 }
 
-// What a row says, where a column that holds no text is bad too.
+// The reading of a row, in which a column that is no text is bad too.
 fn take_leftmost(
     textless: Option<u8>,
     row: Result<(Ref, Command), Refusal>,

@@ -1,11 +1,12 @@
-//! The replies without a body, which take no memory.
+//! The replies without a body. They are constants and need no allocation.
 ghost use Rattle.std.specs.Prelude.{◌≡◌, [], true, false};
 ghost use Rattle.ob_replies.specs.Reply.{reply_text};
 ghost use Rattle.ob_replies.specs.declared.reply.MediaType.{MediaType};
 
 use crate::{Allow, Status};
 
-/// The bytes of a reply with an empty body, which has no type: those of `reply_text`.
+/// Returns the bytes of a reply with an empty body, which has no media type. They equal those of
+/// `reply_text`.
 pub fn empty_reply(status: Status, closes: bool) -> &'static [u8]
     ensures { (media : MediaType) → result.now ≡ reply_text status media [] closes }
 {
@@ -16,7 +17,7 @@ pub fn empty_reply(status: Status, closes: bool) -> &'static [u8]
     }
 }
 
-// A reply after which the stream goes on.
+// A reply after which the stream stays open.
 #[tactic(auto, unfolding(crate::proofs::OnLiterals::replies_on_literals))]
 fn further_reply(status: Status) -> &'static [u8]
     ensures { (media : MediaType) → result.now ≡ reply_text status media [] false }

@@ -1,8 +1,10 @@
-//! The replies of the desk, byte for byte, and the commands that it is sent as JSON.
+//! The replies of the desk (the book's HTTP server), byte for byte, and the commands that clients
+//! send to it as JSON.
 //!
-//! Keeps the status, the fields and the JSON bodies of replies, and what a JSON body says. Promises each reply's bytes
-//! as a function of what it tells, the same for those that take no memory, and that a body is read as its reference
-//! and its command or refused for its leftmost bad column. It knows no store and no stream; the desk stands above.
+//! Defines the status, the header fields and the JSON body of each reply, and how a JSON body is
+//! read. Promises each reply's bytes as a function of its content, also for the constant replies.
+//! Promises that a body is read as its reference and command, or refused for its leftmost bad
+//! column. Knows no store and no stream. `ob_routes` and `ob_desk` use it.
 #![tactic(auto)]
 
 mod body;

@@ -8,7 +8,7 @@ use crate::{Allow, Status};
 use ob_base::Stop;
 use std::alloc::{AllocError, Global};
 
-/// The type of a body, RFC 9110, section 8.3.1.
+/// The media type of a body, RFC 9110, section 8.3.1.
 #[derive(Clone, Copy, PartialEq, Eq)]
 pub enum MediaType {
     /// `application/json`.
@@ -17,9 +17,9 @@ pub enum MediaType {
     PlainText,
 }
 
-/// The bytes of a reply, RFC 9112: the status line; `Content-Type` where the body isn't empty; `Content-Length`;
-/// `Allow` for 405; `Connection: close` where the stream ends after it; an empty line; the body. The error is that
-/// memory was refused.
+/// Returns the bytes of a reply, RFC 9112: the status line; `Content-Type` if the body isn't empty;
+/// `Content-Length`; `Allow` for 405; `Connection: close` if the stream ends after it; an empty
+/// line; the body. Fails only if an allocation fails.
 pub fn reply_text(
     alloc: Global,
     status: Status,

@@ -5,7 +5,7 @@ ghost use Rattle.ob_replies.specs.Status.{refusal_status as the_refusal_status, 
 use http::StatusCode;
 use ob_base::Refusal;
 
-/// The method that a route takes, the value of the field Allow, RFC 9110, section 10.2.1.
+/// The method that a route takes: the value of the field `Allow`, RFC 9110, section 10.2.1.
 #[derive(Clone, Copy, PartialEq, Eq)]
 pub enum Allow {
     Get,
@@ -21,15 +21,15 @@ pub enum Status {
     BadRequest,
     /// 404: there is no such route, entry or command.
     NotFound,
-    /// 405: the route takes this method alone.
+    /// 405: the route takes only this method.
     MethodNotAllowed(Allow),
-    /// 409: refused for what the book holds by now.
+    /// 409: refused because of what the book holds.
     Conflict,
     /// 411: a POST without a length.
     LengthRequired,
     /// 413: the body is too long.
     PayloadTooLarge,
-    /// 422: refused for what was asked.
+    /// 422: refused because of the command itself.
     UnprocessableEntity,
     /// 431: the head is too long.
     RequestHeaderFieldsTooLarge,
@@ -43,7 +43,7 @@ impl Status {
     ghost use Rattle.std.specs.Prelude.{◌≡◌};
     ghost use Rattle.ob_replies.specs.Status.{status_code};
 
-    /// Its code.
+    /// The numeric code.
     pub(crate) fn code(&self) -> StatusCode
         ensures { result ≡ status_code self.now }
     {
@@ -63,8 +63,8 @@ impl Status {
     }
 }
 
-/// The status of the reply to a refused command: 409 where the book as it stands is in the way, 422 where the
-/// command is.
+/// Returns the status of the reply to a refused command: 409 if the present content of the book is
+/// the reason, 422 if the command itself is.
 pub fn refusal_status(refusal: &Refusal) -> Status
     ensures { result ≡ the_refusal_status refusal.now }
 {
@@ -79,7 +79,8 @@ pub fn refusal_status(refusal: &Refusal) -> Status
     }
 }
 
-/// The status of the reply to an import: 200 where each row was accepted, 422 where a refusal stopped it.
+/// Returns the status of the reply to an import: 200 if each row was accepted, 422 if a refusal
+/// stopped it.
 pub fn report_status(stopped: Option<(u32, Refusal)>) -> Status
     ensures { result ≡ the_report_status stopped }
 {

@@ -1,4 +1,4 @@
-//! The answer to one request.
+//! Answers one request.
 ghost use Rattle.std.specs.Prelude.{◌≡◌, ◌↔◌, Some, None, Err, IsSome, IfSome, IfErr};
 ghost use Rattle.sqlite.specs.Held.{state};
 ghost use Rattle.sqlite.specs.State.{HasCleanDisk};
@@ -20,13 +20,15 @@ use ob_sweep::Timeline;
 use sqlite::Alter;
 use std::alloc::Global;
 
-/// Answers a request over a keeper: acts it where it is a POST, and makes the bytes of the reply, which tells whether the
-/// stream ends after it. A path without a route is answered 404, and another method 405, whatever the keeper and the memory.
+/// Answers a request from a keeper's book: applies it if it is a POST, and returns the bytes of the
+/// reply. `closes` decides whether the reply states that the stream ends after it. A path without a
+/// route is answered 404, and a method that the route doesn't take 405, whatever the keeper and the
+/// memory.
 ///
 /// # Errors
 ///
-/// `Fault::Reopen` where a route needs the book and there is none, `Fault::OutOfMemory`, `Fault::Store`. A command, or the rows
-/// of an import, may then stand without a reply.
+/// `Fault::Reopen` if a route needs the book and there is none, `Fault::OutOfMemory`,
+/// `Fault::Store`. A command, or the rows of an import, may then be in the book without a reply.
 pub fn answer<S: Alter, T: Timeline>(
     alloc: Global,
     routes: &Routes,
@@ -51,7 +53,7 @@ pub fn answer<S: Alter, T: Timeline>(
     answer_route(alloc, keeper, request.method, route, &request.body, closes)
 }
 
-/// Answers a method at a route, where there is one.
+/// Answers a method at a route, if there is one.
 fn answer_route<S: Alter, T: Timeline>(
     alloc: Global,
     keeper: &mut Keeper<S, T>,

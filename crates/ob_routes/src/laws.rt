@@ -1,11 +1,11 @@
-//! What is true of all answers.
+//! Laws of all answers.
 ghost use Rattle.ob_routes.specs.Answers.{BooklessAnswersStay, RequestsAreAnsweredOneThing};
 
 use ob_import::import_law;
 use ob_replies::json_commands_law;
 
-/// A request is answered one thing, which leaves one state; an answer that needs no book changes nothing. It does nothing
-/// when it runs.
+/// States that a request has exactly one answer, which leaves exactly one state, and that an answer
+/// that needs no book changes nothing. Does nothing at run time.
 pub fn answers_law()
     ensures one { RequestsAreAnsweredOneThing }
     ensures bookless { BooklessAnswersStay }

@@ -1,8 +1,9 @@
-//! What the desk answers to one request over a keeper, and what then stands.
+//! Answers one request to the desk (the book's HTTP server) from a keeper's book.
 //!
-//! Keeps the routes, the answer to each, and the bytes of its reply. Promises that a reply is that of the book, whose next
-//! state then stands; that a fault leaves the state as it was, or with the command, or with the first rows of an import; and
-//! that nothing changes where there is no book. It knows no stream: above it stands the run of a stream.
+//! Defines the routes, the answer of each, and the bytes of its reply. Promises that a reply is
+//! that of the book, whose next state is then in the store. A fault leaves the state before the
+//! request, or the state with the command, or with the first rows of an import. Without a book
+//! nothing changes. This crate knows no stream: `ob_desk` uses it and serves the streams.
 #![tactic(auto)]
 
 mod desk;

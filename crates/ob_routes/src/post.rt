@@ -1,4 +1,4 @@
-//! Commands and imports, and the replies to them.
+//! Applies commands and imports, and replies to them.
 ghost use Rattle.std.specs.Prelude.{Some, None, IsSome};
 ghost use Rattle.ob_store.specs.Acting.{under};
 ghost use Rattle.ob_routes.specs.Answering.{ActGives, RouteAnswered, Serves};
@@ -15,7 +15,7 @@ use ob_sweep::Timeline;
 use sqlite::Alter;
 use std::alloc::Global;
 
-/// Acts a command under a reference, and answers it.
+/// Applies a command under a reference, and replies to it.
 fn act<S: Alter, T: Timeline>(
     alloc: Global,
     keeper: &mut Keeper<S, T>,
@@ -35,7 +35,7 @@ fn act<S: Alter, T: Timeline>(
     }
 }
 
-/// Acts the command that a body says, and answers it. `Reopen` where there is no book.
+/// Applies the command in a body, and replies to it. `Fault::Reopen` if there is no book.
 pub(crate) fn post_command<S: Alter, T: Timeline>(
     alloc: Global,
     keeper: &mut Keeper<S, T>,
@@ -56,7 +56,8 @@ pub(crate) fn post_command<S: Alter, T: Timeline>(
     }
 }
 
-/// Imports the commands of a body, and answers with the report. `Reopen` where there is no book.
+/// Imports the commands in a body, and replies with the report. `Fault::Reopen` if there is no
+/// book.
 pub(crate) fn post_import<S: Alter, T: Timeline>(
     alloc: Global,
     keeper: &mut Keeper<S, T>,

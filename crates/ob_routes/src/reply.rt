@@ -1,4 +1,4 @@
-//! The bytes of a reply, made or constant.
+//! The bytes of a reply, constant or allocated.
 ghost use Rattle.std.specs.Prelude.{◌≡◌, Some, Ok};
 ghost use Rattle.ob_store.specs.Acting.{reply_as};
 ghost use Rattle.ob_routes.specs.Answers.{answer_text, empty, found as found_of, outcome, refused as refused_of, report_answer};
@@ -16,9 +16,9 @@ use std::alloc::Global;
 /// The bytes of a reply.
 #[derive(Drop)]
 pub enum ReplyText {
-    /// A constant, which takes no memory.
+    /// A constant, which needs no allocation.
     Constant(&'static [u8]),
-    /// One that was made.
+    /// An allocated reply.
     Made(Vec<u8>),
 }
 
@@ -60,7 +60,7 @@ fn with_body(
     }
 }
 
-/// The reply that shows what was found.
+/// The reply that shows a result.
 pub(crate) fn shown_reply(
     alloc: Global,
     media: MediaType,

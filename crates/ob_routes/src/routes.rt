@@ -1,4 +1,4 @@
-//! The routes of the desk.
+//! The routes of the desk, the book's HTTP server.
 ghost use Rattle.std.specs.Prelude.{◌≡◌, IfOk, option_map};
 ghost use Rattle.matchit.specs.Seek.{first};
 ghost use Rattle.ob_base.specs.Fields.{number_in};
@@ -8,25 +8,25 @@ use matchit::{InsertError, Router};
 use ob_base::read_number;
 use std::alloc::Global;
 
-/// What a path stands for.
+/// The route of a path.
 #[derive(Clone, Copy)]
 pub enum Route {
-    /// Commands, one a request.
+    /// Commands, one in each request.
     Commands,
-    /// An import of commands.
+    /// Imports of commands.
     Import,
     /// The stored reply of the command of a number.
     Command(u32),
-    /// What the book shows.
+    /// A view of the book.
     View(View),
 }
 
-/// What a book shows.
+/// A view of the book.
 #[derive(Clone, Copy)]
 pub enum View {
     /// The customer-seconds without supply.
     Totals,
-    /// Both sets of indices.
+    /// The indices over all interruptions and over those that don't begin on a major event day.
     Indices,
     /// The annual table.
     Table,
@@ -57,14 +57,15 @@ impl Routes {
     ghost use Rattle.std.specs.Prelude.{◌≡◌, string_bytes};
     ghost use Rattle.ob_routes.specs.Routes.{desk_routes, route_of};
 
-    /// The table. The error is that memory was refused.
+    /// Builds the table. Fails only if an allocation fails.
     pub fn new(alloc: Global) -> Result<Routes, InsertError> {
         let router = table(alloc)?;
         Ok(Routes { router })
     }
 
-    /// What a path stands for: `/commands`, `/import`, `/totals`, `/indices`, `/table`, and `/commands/{no}` and
-    /// `/entries/{no}` with 1 to 10 digits, which write at most 4,294,967,295. None of any other.
+    /// Returns the route of a path: `/commands`, `/import`, `/totals`, `/indices`, `/table`, and
+    /// `/commands/{no}` and `/entries/{no}`, where `no` has 1 to 10 digits and is at most
+    /// 4,294,967,295. None for any other path.
     pub fn route_of(&self, path: &str) -> Option<Route>
         ensures { result ≡ route_of path.now }
     {
@@ -90,7 +91,7 @@ fn table(alloc: Global) -> Result<Router<Place>, InsertError>
     Ok(router)
 }
 
-/// What a path of a row stands for.
+/// Returns the route of a path that matches a row of the table.
 fn route_at(place: Place, path: &str) -> Option<Route>
     ensures { result ≡ route_at place path.now }
 {
@@ -111,7 +112,7 @@ fn route_at(place: Place, path: &str) -> Option<Route>
     }
 }
 
-/// The number that follows so many bytes of a path.
+/// Returns the number that begins at this byte of a path.
 fn number_at(path: &str, at: usize) -> Option<u32>
     ensures { result ≡ number_at at path.now }
 {
@@ -125,7 +126,7 @@ fn number_at(path: &str, at: usize) -> Option<u32>
     }
 }
 
-/// What some paths stand for. It does nothing when it runs.
+/// States the routes of some paths. Does nothing at run time.
 pub fn routes_law()
     ensures totals { route_of (codes "/totals") ≡ Some (Route.View View.Totals) }
     ensures commands { route_of (codes "/commands") ≡ Some Route.Commands }

@@ -1,4 +1,4 @@
-//! What a book shows, and the replies that show it.
+//! The views of a book, and the replies that show them.
 ghost use Rattle.std.specs.Prelude.{◌≡◌, None, IfOk, IfErr, option_map};
 ghost use Rattle.ob_base.specs.Stop.{out_of_memory};
 ghost use Rattle.ob_sheet.specs.Order.{entry_of};
@@ -16,19 +16,19 @@ use ob_sweep::Timeline;
 use sqlite::Alter;
 use std::alloc::Global;
 
-/// The entry of a number, and the name of its device; None where there is none.
+/// Returns the entry of a number and the name of its device; None if there is no such entry.
 fn named_entry<T: Timeline>(book: &Book<T>, no: u32) -> Option<(Entry, Name)>
     ensures { result ≡ option_map (λ e. (e, name_of_device book.now.state e.device))
         (entry_of book.now.state.entries «no») }
 {
-    // What the devices of entries are, by a clause of this call.
+    // This call's contract states that the devices of entries exist.
     let _ = book.accepted();
     let entry = book.sheet().entry(no)?;
     let device = book.net().device_name(entry.device);
     Some((entry, device))
 }
 
-/// The entry of a number, as it is shown; None where there is none.
+/// Returns the text of the entry of a number; None if there is no such entry.
 fn entry_shown<T: Timeline>(alloc: Global, book: &Book<T>, no: u32) -> Result<Option<Vec<u8>>, Stop>
     ensures text { IfOk result (λ text. option_map (λ t. t.items) text
         ≡ option_map (shown_entry book.now.state) (entry_of book.now.state.entries «no»)) }
@@ -40,7 +40,7 @@ fn entry_shown<T: Timeline>(alloc: Global, book: &Book<T>, no: u32) -> Result<Op
     }
 }
 
-/// What a book shows.
+/// Returns the text of a view of a book.
 fn view_text<T: Timeline>(
     alloc: Global,
     book: &Book<T>,
@@ -68,7 +68,7 @@ fn media_of_view(view: View) -> MediaType
     }
 }
 
-/// The reply that shows a view of a book.
+/// Returns the reply that shows a view of a book.
 fn show<T: Timeline>(
     alloc: Global,
     book: &Book<T>,
@@ -84,7 +84,7 @@ fn show<T: Timeline>(
     }
 }
 
-/// The reply that shows a view of the keeper's book. `Reopen` where there is none.
+/// Returns the reply that shows a view of the keeper's book. `Fault::Reopen` if there is none.
 pub(crate) fn show_view<S: Alter, T: Timeline>(
     alloc: Global,
     keeper: &Keeper<S, T>,
@@ -100,7 +100,8 @@ pub(crate) fn show_view<S: Alter, T: Timeline>(
     }
 }
 
-/// The reply that shows the stored reply of the command of a number. `Reopen` where there is no book.
+/// Returns the reply that shows the stored reply of the command of a number. `Fault::Reopen` if
+/// there is no book.
 pub(crate) fn show_command<S: Alter, T: Timeline>(
     alloc: Global,
     keeper: &mut Keeper<S, T>,

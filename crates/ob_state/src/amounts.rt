@@ -1,4 +1,4 @@
-//! How large the amounts of a state can be. It does nothing when it runs.
+//! A bound on the amounts of a state. Its function does nothing at run time.
 ghost use Rattle.std.specs.Prelude.{◌≡◌, None};
 ghost use Rattle.ob_post.specs.MoveLaws.{AreSmall};
 ghost use Rattle.ob_state.specs.Amounts.{amount};
@@ -9,7 +9,7 @@ use crate::state::State;
 use ob_command::Command;
 use ob_post::laws::total_laws;
 
-/// The amounts before and after a command that is accepted are below 2^63.
+/// States that all amounts before and after an accepted command are below 2^63.
 pub fn amounts_are_small(state: &State, command: &Command)
     requires accepted { refusal state.now.state command.now ≡ None }
     ensures before { AreSmall (amount state.now.state) }

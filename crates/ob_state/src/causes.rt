@@ -1,11 +1,11 @@
-//! The causes of the book by their codes.
+//! The causes of the book, by code.
 ghost use Rattle.std.specs.Prelude.{◌≡◌, codes};
 
 use crate::MOST_CAUSES;
 use ob_base::Name;
 use std::marker::Model;
 
-/// The names of the causes by code, from 0, which is unassigned.
+/// The names of the causes by code. Code 0 is the unassigned cause.
 #[derive(Drop)]
 pub struct Causes {
     names: [Option<Name>; MOST_CAUSES],
@@ -25,7 +25,7 @@ impl Causes {
     ghost use Rattle.std.specs.Prelude.{◌≡◌, ◌<◌, Some, set};
     ghost use Rattle.ob_state.specs.State.{unassigned_alone, cause_name_of, has_cause_name};
 
-    /// Cause 0 alone.
+    /// The causes of a new book: only cause 0.
     pub fn new() -> Causes
         ensures { result ≡ unassigned_alone }
     {
@@ -34,7 +34,7 @@ impl Causes {
         Causes { names }
     }
 
-    /// The name of the cause with a code, where there is one.
+    /// The name of the cause with this code, if there is one.
     pub fn name(&self, code: u8) -> Option<Name>
         ensures { result ≡ cause_name_of self.now code }
     {
@@ -44,7 +44,7 @@ impl Causes {
         }
     }
 
-    /// Whether a cause has the name.
+    /// Whether a cause has this name.
     pub fn has_name(&self, name: &Name) -> bool
         ensures { result ≡ has_cause_name self.now name.now }
     {
@@ -54,7 +54,7 @@ impl Causes {
         })
     }
 
-    /// Names the cause with a code below 64.
+    /// Sets the name of the cause with this code, which is below 64.
     pub fn put(&mut self, code: u8, name: Name)
         requires { code < 64 }
         ensures { self.new ≡ set self.old code (Some name) }
@@ -63,13 +63,13 @@ impl Causes {
     }
 }
 
-/// The name of the cause of code 0.
+/// The name of cause 0.
 pub fn unassigned() -> Name
     ensures { result ≡ codes "UNASSIGNED" }
 {
     match Name::read(b"UNASSIGNED") {
         Some(name) => name,
-        // It is a name: ten bytes of A-Z.
+        // The bytes are a valid name: ten letters A-Z.
         None => unreachable!(),
     }
 }

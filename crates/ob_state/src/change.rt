@@ -1,4 +1,5 @@
-//! The one change of an accepted command. No memory is asked for here: room was made.
+//! The change that an accepted command makes to the state. Nothing here allocates: `reserve_one`
+//! reserved the memory.
 use crate::resolved::Resolved;
 use crate::state::State;
 use ob_base::{Crew, Life, Name};
@@ -14,7 +15,7 @@ impl State {
     ghost use Rattle.ob_state.specs.Effects.{with_network};
     ghost use Rattle.ob_state.specs.Resolved.{CanTake, IsCorrection, IsNewCustomer, IsNextEntry, IsOtherService, IsWithdrawal, changed_by, next_by};
 
-    /// Makes the change that an accepted command comes to.
+    /// Makes the change of an accepted command.
     pub fn change(&mut self, resolved: &Resolved)
         requires takes { CanTake self.old.state resolved.now }
         requires few { self.old.state.accepted < 1_000_000 }
@@ -27,7 +28,7 @@ impl State {
         self.accepted += 1;
     }
 
-    // Makes the change, all but the number of accepted commands.
+    // Makes the change, except for the number of accepted commands.
     fn change_parts(&mut self, resolved: &Resolved)
         requires takes { CanTake self.old.state resolved.now }
         requires room { 0 < self.old.room }
@@ -58,7 +59,7 @@ impl State {
         self.causes.put(code.get(), name);
     }
 
-    /// Adds a node whose name is free.
+    /// Adds a node whose name is not in use.
     pub(crate) fn add_node(&mut self, node: Node)
         requires room { 0 < self.old.room }
         requires free { node_refusal self.old.state.network node.name ≡ None }
@@ -71,7 +72,7 @@ impl State {
         self.net.add_node(node);
     }
 
-    /// Adds a device that the network can take.
+    /// Adds a device that the network accepts.
     pub(crate) fn join(&mut self, device: Device)
         requires room { 0 < self.old.room }
         requires joins { CanJoin self.old.state.network device }
@@ -83,7 +84,7 @@ impl State {
         self.net.join(device);
     }
 
-    /// Sets the life of a device.
+    /// Sets the in-service interval (`life`) of a device.
     pub(crate) fn set_life(&mut self, device: u16, life: Life)
         requires device { device < length self.old.state.network.devices }
         requires life { life_refusal life ≡ None }
@@ -143,7 +144,7 @@ impl State {
         self.sheet.replace(old, new);
     }
 
-    // Marks a day for an engineer, or takes its mark away.
+    // Sets the major event day flag of a day, with the engineer's name, or clears it.
     fn mark(&mut self, day: u16, engineer: Option<Crew>)
         requires { day < length self.old.state.marks }
         ensures state { self.new.state

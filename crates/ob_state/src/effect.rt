@@ -1,4 +1,4 @@
-//! What an accepted command moves, and what it does to the runs.
+//! What an accepted command changes in the amounts and in the outage intervals.
 ghost use Rattle.std.specs.Prelude.{◌≡◌, ◌≤◌, ◌+◌, IfOk, IfErr};
 ghost use Rattle.ob_base.specs.Stop.{out_of_memory};
 ghost use Rattle.ob_state.specs.States.{AreRunsOf};
@@ -16,15 +16,15 @@ use ob_post::Moved;
 use ob_sweep::{Change, Timeline};
 use std::alloc::Global;
 
-/// What a command moves, and what it does to the runs.
+/// The changes of amounts that a command makes, and the change to the outage intervals.
 #[derive(Drop)]
 pub struct Effect {
     pub moves: Vec<Moved>,
     pub retiming: Retiming,
 }
 
-/// The effect, on a state with these runs, of what an accepted command comes to. The state is left as it was. The
-/// error is that memory was refused.
+/// Computes the effect of an accepted command on a state with these outage intervals. The state is
+/// unchanged afterwards. Fails only if an allocation fails.
 pub fn effect_of<T: Timeline>(
     alloc: Global,
     state: &mut State,

@@ -1,11 +1,11 @@
-//! The state of a book: what it refuses, what an accepted command changes, and what that moves.
+//! The state of a book: which commands it refuses, what an accepted command changes, and how the
+//! amounts change with it.
 //!
-//! Keeps the network, the causes, the roll, the switching sheet and the marked days of one period, and how many commands
-//! were accepted. A command is looked up once: what it comes to has numbers in place of names, and by it the state changes.
-//! Promises that a command is refused exactly where the definition refuses it, that an accepted one changes the state as the
-//! definition says, and that its effect, which is found beforehand and leaves the state as it was, is the difference of the
-//! definition's customer-seconds and what leads to the new runs. The book stands above it: it keeps the runs and the amounts
-//! beside the state.
+//! Holds, for one period, the network, the causes, the customer register, the switching log, the
+//! major event days, and the number of accepted commands. Promises that a command is refused
+//! exactly if the definition refuses it, and that an accepted one changes the state as defined. Its
+//! effect is computed beforehand, from a state that stays unchanged. `ob_book`, which adds the
+//! outage intervals and the amounts, and most crates after it use this crate.
 #![tactic(auto)]
 
 mod amounts;
@@ -27,8 +27,8 @@ pub use resolved::Resolved;
 pub use retiming::{Retiming, retime};
 pub use state::State;
 
-/// How many commands a book may accept.
+/// The largest number of commands that a book accepts.
 pub const MOST_COMMANDS: u32 = 1_000_000;
 
-/// How many causes there are at most, the unassigned one among them.
+/// The largest number of causes, the unassigned one included.
 pub const MOST_CAUSES: usize = 64;

@@ -1,4 +1,5 @@
-//! What a change of the network moves: a part more, or another life of a device.
+//! The effect of a change of the network: a new bus, section or device, or another in-service
+//! interval of a device.
 ghost use Rattle.std.specs.Prelude.{◌≡◌, ◌+◌, ◌≤◌, ◌<◌, ℕ, None, IfOk, IfErr, IsSome, OnOk, length};
 ghost use Rattle.ob_base.specs.Stop.{out_of_memory};
 ghost use Rattle.ob_net.specs.Network.{node_refusal, HasFeederOrNone};
@@ -24,8 +25,8 @@ use ob_post::laws::{section_laws, total_laws};
 use ob_sweep::{Change, Delta, Timeline};
 use std::alloc::Global;
 
-/// The effect of a bus or a section more: there are no customers on it yet, and a section has runs. The error is that
-/// memory was refused.
+/// Computes the effect of a new bus or section. It has no customers yet, but a section has outage
+/// intervals. Fails only if an allocation fails.
 pub fn with_node<T: Timeline>(
     alloc: Global,
     state: &mut State,
@@ -54,7 +55,7 @@ pub fn with_node<T: Timeline>(
     })
 }
 
-/// The effect of a device more. The error is that memory was refused.
+/// Computes the effect of a new device. Fails only if an allocation fails.
 pub fn with_device<T: Timeline>(
     alloc: Global,
     state: &mut State,
@@ -83,7 +84,8 @@ pub fn with_device<T: Timeline>(
     effect
 }
 
-/// The effect of another life of a device. The error is that memory was refused.
+/// Computes the effect of another in-service interval of a device. Fails only if an allocation
+/// fails.
 pub fn with_life<T: Timeline>(
     alloc: Global,
     state: &mut State,
@@ -109,7 +111,7 @@ pub fn with_life<T: Timeline>(
     effect
 }
 
-// The change that a node with this home feeder more is.
+// The change of the network that adds a node with this home feeder, or with none.
 fn change_of_node(feeder: Option<u8>) -> Change
     ensures { result ≡ node_change feeder }
 {
@@ -119,7 +121,8 @@ fn change_of_node(feeder: Option<u8>) -> Change
     }
 }
 
-// The effect of a change of the devices that was made, where a timeline holds the runs before it.
+// The effect of a change of the devices that the state already has. `timeline` holds the outage
+// intervals before it.
 fn effect_on_network<T: Timeline>(
     alloc: Global,
     state: &mut State,
@@ -149,7 +152,8 @@ fn effect_on_network<T: Timeline>(
     })
 }
 
-// What a change of the network that was made alters in the runs, where a timeline holds those before it.
+// The changes of the outage intervals under a change of the network that the state already has.
+// `timeline` holds the intervals before it.
 fn plan_change<T: Timeline>(state: &mut State, timeline: &T, change: &Change) -> Result<Delta, Stop>
     requires part { changed change.now state.old.state.entries ≡ state.old.state.entries }
     requires applies { Applies change.now state.old.state.entries }
@@ -166,7 +170,8 @@ fn plan_change<T: Timeline>(state: &mut State, timeline: &T, change: &Change) ->
     timeline.plan(&mut state.net, &state.sheet, &state.period, change)
 }
 
-// What is posted for a change of the devices that was made: the runs of the sections that it touches.
+// The changes of amounts under a change of the devices that the state already has: those of the
+// sections that it touches.
 fn post_sections<T: Timeline>(
     alloc: Global,
     state: &State,
@@ -193,7 +198,7 @@ fn post_sections<T: Timeline>(
     Ok(posting)
 }
 
-// Posts the runs of a touched section anew.
+// Replaces the amounts of a touched section by those of its new outage intervals.
 fn repost<T: Timeline>(
     posting: &mut Posting,
     state: &State,
@@ -219,7 +224,7 @@ fn repost<T: Timeline>(
 {
     section_laws();
     let (sheet, roll, period) = (&state.sheet, &state.roll, &state.period);
-    // No section: it has no customers, and nothing is posted.
+    // A bus, not a section: it has no customers, so no amount changes.
     let Some(feeder) = state.net.feeder_of(node) else {
         return Ok(());
     };

@@ -1,5 +1,5 @@
-//! What a command comes to: why it isn't accepted, or what it changes, by numbers. No memory is
-//! asked for here.
+//! Looks up a command in a state: why the state refuses it, or what it changes, by numbers. Nothing
+//! here allocates.
 use crate::MOST_COMMANDS;
 use crate::resolved::Resolved;
 use crate::state::State;
@@ -23,7 +23,7 @@ impl State {
     ghost use Rattle.ob_state.specs.Refusals.{day_refusal, first, if_outside, if_unknown_cause, refusal, refusals};
     ghost use Rattle.ob_state.specs.Resolved.{Resolves};
 
-    /// What a command comes to, or why it isn't accepted.
+    /// Returns the change that a command makes, or the reason for which it is refused.
     pub fn resolve(&self, command: &Command) -> Result<Resolved, Refusal>
         ensures refused { result_err result ≡ refusal self.now.state command.now }
         ensures resolved { IfOk result (Resolves self.now.state command.now) }
@@ -36,7 +36,7 @@ impl State {
         Ok(resolved)
     }
 
-    // What a command comes to, or its kind's first refusal.
+    // The change that a command makes, or the first refusal of its kind.
     fn resolve_kind(&self, command: &Command) -> Result<Resolved, Refusal>
         ensures refused { result_err result ≡ first (refusals self.now.state command.now) }
         ensures resolved { IfOk result (Resolves self.now.state command.now) }
@@ -76,7 +76,7 @@ impl State {
         Ok(Resolved::Cause { code, name })
     }
 
-    // A bus, or a section with its home feeder.
+    // Looks up a new bus, or a new section with its home feeder.
     fn resolve_node(&self, name: Name, feeder: Option<FeederNumber>) -> Result<Resolved, Refusal>
         ensures refused { result_err result
             ≡ first (node_refusal self.now.state.network name ∷ []) }
@@ -153,7 +153,8 @@ impl State {
         Ok(Resolved::Customer(customer))
     }
 
-    // The number of the section with a name; None where no node has it, or one that is no section.
+    // The number of the section with this name; None if no node has the name, or if the node is a
+    // bus.
     fn section_named(&self, name: &Name) -> Option<u16>
         ensures section { result ≡ section_of self.now.state.network name.now }
         ensures fed { IfSome result (λ v. IsSome (home_feeder self.now.state.network v)) }
@@ -274,7 +275,7 @@ impl State {
         Ok(Resolved::Unmarked { day })
     }
 
-    // An operation lies in the period, and its cause has a name.
+    // Checks that an operation lies in the period and that its cause has a name.
     fn check_operation(&self, second: Moment, cause: CauseCode) -> Result<(), Refusal>
         ensures refused { result_err result ≡ first (if_outside self.now.state.period second
             ∷ if_unknown_cause self.now.state.causes cause ∷ []) }

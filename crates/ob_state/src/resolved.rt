@@ -1,34 +1,34 @@
-//! What a command that a state accepts comes to.
+//! An accepted command with numbers in place of names.
 use ob_base::{Crew, Life, Name};
 use ob_command::CauseCode;
 use ob_cust::Customer;
 use ob_net::{Device, Node};
 use ob_sheet::Entry;
 
-/// A command that a state accepts, with numbers in place of names, and with the entry or the
-/// customer of which it speaks.
+/// An accepted command, with numbers in place of names, and with the entry or the customer that it
+/// concerns.
 #[derive(Clone, Copy)]
 pub enum Resolved {
-    /// A cause more.
+    /// Adds a cause.
     Cause { code: CauseCode, name: Name },
-    /// A bus or a section more, behind all other nodes.
+    /// Adds a bus or a section, after all other nodes.
     Node { number: u16, node: Node },
-    /// A device more, behind all others.
+    /// Adds a device, after all others.
     Device { number: u16, device: Device },
-    /// A device has another life from now on.
+    /// Gives a device another in-service interval.
     Life { device: u16, old: Life, new: Life },
-    /// A customer more.
+    /// Adds a customer.
     Customer(Customer),
-    /// A customer has another service from now on.
+    /// Gives a customer another service interval.
     Service { old: Customer, new: Customer },
-    /// A new entry, behind all others by number.
+    /// Adds an entry, with the number after the last.
     Entered(Entry),
-    /// An entry says something else from now on.
+    /// Corrects an entry: `new` replaces `old`.
     Corrected { old: Entry, new: Entry },
-    /// An entry no longer counts.
+    /// Withdraws an entry, which then no longer counts.
     Withdrawn { old: Entry, new: Entry },
-    /// A day of the period is marked.
+    /// Marks a day of the period as a major event day.
     Marked { day: u16, engineer: Crew },
-    /// A day's mark is taken away.
+    /// Removes the major event day flag of a day.
     Unmarked { day: u16 },
 }

@@ -1,4 +1,4 @@
-//! What a command does to the runs of the sections.
+//! What a command changes in the outage intervals of the sections.
 ghost use Rattle.std.specs.Prelude.{◌≡◌};
 ghost use Rattle.ob_state.specs.Retimings.{FitsTo, LeadsTo};
 ghost use Rattle.ob_state.specs.State.{BookState};
@@ -6,16 +6,16 @@ ghost use Rattle.ob_state.specs.States.{AreRunsOf};
 
 use ob_sweep::{Delta, Timeline};
 
-/// What a command does to the runs of the sections.
+/// What a command changes in the outage intervals of the sections.
 #[derive(Drop)]
 pub enum Retiming {
-    /// They stay.
+    /// Nothing.
     Same,
-    /// Those of the sections that a change of the sheet or of the network touches.
+    /// The intervals of the sections that a change of the switching log or of the network touches.
     By(Delta),
 }
 
-/// Takes over what a command does to the runs.
+/// Applies a command's change of the outage intervals to a timeline.
 pub fn retime<T: Timeline>(timeline: &mut T, retiming: Retiming)
     requires fits { FitsTo (T.content timeline.old) retiming }
     ensures runs { (b c : BookState) → c.period ≡ b.period → AreRunsOf b (T.content timeline.old)

@@ -1,4 +1,4 @@
-//! What a customer that is connected, or gets another service, moves.
+//! The effect of a new customer, or of another service interval of a customer.
 ghost use Rattle.std.specs.Prelude.{◌≡◌, ℕ, ◌∷◌, [], IsSome, false, IfOk, IfErr, OnOk};
 ghost use Rattle.ob_net.specs.Network.{home_feeder};
 ghost use Rattle.ob_base.specs.Stop.{out_of_memory};
@@ -21,7 +21,7 @@ use ob_post::laws::{roll_laws, section_laws, total_laws};
 use ob_sweep::Timeline;
 use std::alloc::Global;
 
-/// The effect of a customer more. The error is that memory was refused.
+/// Computes the effect of a new customer. Fails only if an allocation fails.
 pub fn effect_of_connect<T: Timeline>(
     alloc: Global,
     state: &State,
@@ -45,7 +45,8 @@ pub fn effect_of_connect<T: Timeline>(
     })
 }
 
-/// The effect of another service of a customer. The error is that memory was refused.
+/// Computes the effect of another service interval of a customer. Fails only if an allocation
+/// fails.
 pub fn effect_of_revise<T: Timeline>(
     alloc: Global,
     state: &State,
@@ -71,7 +72,7 @@ pub fn effect_of_revise<T: Timeline>(
     })
 }
 
-// Takes back the amounts of one customer.
+// Subtracts the amounts of one customer.
 fn take_customer<T: Timeline>(
     alloc: Global,
     state: &State,
@@ -91,7 +92,7 @@ fn take_customer<T: Timeline>(
 {
     section_laws();
     roll_laws();
-    // No section, so nothing is posted.
+    // The node is no section, so no amount changes.
     let Some(feeder) = state.net.feeder_of(customer.section) else {
         return Ok(());
     };
@@ -100,7 +101,7 @@ fn take_customer<T: Timeline>(
     posting.take(runs, &state.sheet, feeder, &roll, &state.period)
 }
 
-// Gives the amounts of one customer.
+// Adds the amounts of one customer.
 fn give_customer<T: Timeline>(
     alloc: Global,
     state: &State,
@@ -120,7 +121,7 @@ fn give_customer<T: Timeline>(
 {
     section_laws();
     roll_laws();
-    // No section, so nothing is posted.
+    // The node is no section, so no amount changes.
     let Some(feeder) = state.net.feeder_of(customer.section) else {
         return Ok(());
     };

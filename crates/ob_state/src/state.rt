@@ -1,4 +1,5 @@
-//! The state of a book: everything but the runs and the amounts, which follow from it.
+//! The state of a book: everything except the outage intervals and the amounts, which follow from
+//! it.
 use crate::causes::Causes;
 use ob_base::{Name, Stop};
 use ob_cust::Roll;
@@ -10,7 +11,8 @@ use ob_time::Period;
 use std::alloc::Global;
 use std::marker::Model;
 
-/// The period, the network, the causes, the roll, the sheet, the marked days, and how many commands were accepted.
+/// The period, the network, the causes, the customer register, the switching log, the major event
+/// days, and the number of accepted commands.
 #[derive(Drop)]
 pub struct State {
     pub(crate) period: Period,
@@ -48,7 +50,7 @@ impl State {
     ghost use Rattle.ob_state.specs.Searches.{searches_of_state};
     ghost use Rattle.ob_state.specs.States.{AreRunsOf, IsSoundState};
 
-    /// A new book's state.
+    /// The state of a new book.
     pub fn new(alloc: Global, period: Period) -> Result<State, Stop>
         ensures state { IfOk result (λ s. s.state ≡ empty_book period) }
         ensures searches { IfOk result (λ s. s.searches ≡ 0) }
@@ -67,7 +69,7 @@ impl State {
         })
     }
 
-    /// Makes room for the change of one command.
+    /// Reserves the memory for the change of one command.
     pub fn reserve_one(&mut self) -> Result<(), Stop>
         ensures room { OnOk result (0 < self.new.room) }
         ensures err { IfErr result (λ stop. stop ≡ out_of_memory) }
@@ -80,7 +82,7 @@ impl State {
         Ok(())
     }
 
-    /// How many commands were accepted. Its clause `sound` says what each state keeps to.
+    /// The number of accepted commands. The postcondition `sound` states what holds for each state.
     pub fn accepted(&self) -> u32
         ensures accepted { result ≡ self.now.state.accepted }
         ensures sound { IsSoundState self.now.state }
@@ -104,28 +106,28 @@ impl State {
         &self.net
     }
 
-    /// The customers.
+    /// The customer register.
     pub fn roll(&self) -> &Roll
         ensures { result.now.customers ≡ self.now.state.customers }
     {
         &self.roll
     }
 
-    /// The switching sheet.
+    /// The switching log.
     pub fn sheet(&self) -> &Sheet
         ensures { result.now.entries ≡ self.now.state.entries }
     {
         &self.sheet
     }
 
-    /// The marked days.
+    /// The major event days.
     pub fn marks(&self) -> &Marks
         ensures { result.now ≡ self.now.state.marks }
     {
         &self.marks
     }
 
-    // Says what each state keeps to, by the clauses of its parts, and does nothing.
+    // States what holds for each state, from the contracts of its parts. Does nothing at run time.
     fn sound(&self)
         ensures { IsSoundState self.now.state }
     {
@@ -133,15 +135,15 @@ impl State {
         let _ = (self.roll.customers().len(), self.sheet.entry(1));
     }
 
-    /// The name of the cause with a code; None where there is none.
+    /// The name of the cause with this code; None if there is no such cause.
     pub fn cause_name(&self, code: u8) -> Option<Name>
         ensures { result ≡ cause_name_of self.now.state.causes code }
     {
         self.causes.name(code)
     }
 
-    /// The runs of the state's sections, found from scratch by no more searches of the network than one sweep takes; the
-    /// error is that memory was refused.
+    /// Computes the outage intervals of all sections from scratch. The number of searches of the
+    /// network is at most that of one sweep. Fails only if an allocation fails.
     pub fn build<T: Timeline>(&mut self, alloc: Global) -> Result<T, Stop>
         ensures runs { IfOk result (λ t. AreRunsOf self.old.state (T.content t)) }
         ensures err { IfErr result (λ stop. stop ≡ out_of_memory) }
@@ -153,7 +155,7 @@ impl State {
         T::build(alloc, &mut self.net, &self.sheet, &self.period)
     }
 
-    /// Takes back the node that was added last, which no device joins and of which there is no customer.
+    /// Removes the node that was added last. No device is connected to it and no customer is on it.
     pub(crate) fn take_back_node(&mut self)
         requires some { 1 < length self.old.state.network.nodes }
         requires free { All (JoinsTwo (length self.old.state.network.nodes - 1))
@@ -166,7 +168,7 @@ impl State {
         self.net.take_back_node();
     }
 
-    /// Takes back the device that was added last, of which there is no entry.
+    /// Removes the device that was added last, for which there is no entry.
     pub(crate) fn take_back_device(&mut self)
         requires some { 0 < length self.old.state.network.devices }
         requires entries { All (λ e. e.device < length self.old.state.network.devices - 1)

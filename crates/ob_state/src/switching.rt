@@ -1,4 +1,4 @@
-//! What a change of the switching sheet moves.
+//! The effect of a change of the switching log.
 ghost use Rattle.std.specs.Prelude.{◌≡◌, ◌+◌, ◌<◌, ◌≤◌, IfOk, IfErr, IsSome, IsTrue, OnOk, length};
 ghost use Rattle.ob_base.specs.Stop.{out_of_memory};
 ghost use Rattle.ob_sweep.specs.Changed.{changed, of_sheet, Applies};
@@ -20,7 +20,7 @@ use ob_post::{Moved, Posting};
 use ob_sweep::{Change, Delta, Timeline};
 use std::alloc::Global;
 
-/// The effect of a change of the sheet. The error is that memory was refused.
+/// Computes the effect of a change of the switching log. Fails only if an allocation fails.
 pub fn effect_on_sheet<T: Timeline>(
     alloc: Global,
     state: &mut State,
@@ -47,7 +47,8 @@ pub fn effect_on_sheet<T: Timeline>(
     })
 }
 
-// What a change of the sheet moves, which alters the runs by the delta.
+// The changes of amounts under a change of the switching log that changes the outage intervals by
+// `delta`.
 fn moves_by_change<T: Timeline>(
     alloc: Global,
     state: &State,
@@ -86,7 +87,8 @@ fn gives_another_cause(change: &Change) -> bool
     }
 }
 
-// What a change posts that gives no entry another cause: the runs of the sections that it touches.
+// The changes of amounts if no entry gets another cause: those of the sections that the change
+// touches.
 fn posted_where_touched<T: Timeline>(
     alloc: Global,
     state: &State,
@@ -117,7 +119,8 @@ fn posted_where_touched<T: Timeline>(
     Ok(posting)
 }
 
-// What a change posts: the runs that it alters, and in every section the one whose cause changes.
+// The changes of amounts if an entry gets another cause: the outage intervals that change, and in
+// every section the interval whose cause changes.
 fn posted_everywhere<T: Timeline>(
     alloc: Global,
     state: &State,
@@ -145,7 +148,8 @@ fn posted_everywhere<T: Timeline>(
     Ok(posting)
 }
 
-// Posts the runs of a node, where it is a section: those that change, else the one whose cause changes.
+// Adds the changes of amounts of a node, if it is a section: those of the outage intervals that
+// change, or else of the interval whose cause changes.
 fn post_node<T: Timeline>(
     posting: &mut Posting,
     state: &State,
@@ -185,7 +189,7 @@ fn post_node<T: Timeline>(
     )
 }
 
-// Posts those runs of a touched section that change.
+// Adds the changes of amounts of a touched section: those of the outage intervals that change.
 fn post_touched<T: Timeline>(
     posting: &mut Posting,
     state: &State,
@@ -209,7 +213,7 @@ fn post_touched<T: Timeline>(
     ensures err { IfErr result (λ stop. stop ≡ out_of_memory) }
 {
     section_laws();
-    // No section: it has no customers, and nothing is posted.
+    // A bus, not a section: it has no customers, so no amount changes.
     let Some(feeder) = state.net.feeder_of(node) else {
         return Ok(());
     };

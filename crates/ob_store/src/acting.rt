@@ -1,4 +1,5 @@
-//! A command under a reference: what the book answers, and what then stands in the store and in memory.
+//! Applies a command under a reference: the reply, and the state of the store and of the book
+//! afterwards.
 ghost use Rattle.std.specs.Prelude.{◌≡◌, ◌≢◌, ◌≤◌, false, None, IfErr, OnErr};
 ghost use Rattle.sqlite.specs.Held.{state};
 ghost use Rattle.sqlite.specs.State.{HasCleanDisk, Survives};
@@ -19,7 +20,8 @@ use ob_sweep::Timeline;
 use sqlite::{Alter, Connection};
 use std::alloc::Global;
 
-/// Acts a command under a reference: answers it again where the reference is known, else decides on it.
+/// Applies a command under a reference. If the reference is known, returns its stored reply or
+/// refuses; otherwise decides on the command.
 pub(crate) fn act_on<S: Alter, T: Timeline>(
     alloc: Global,
     conn: &mut Connection<S>,
@@ -37,7 +39,7 @@ pub(crate) fn act_on<S: Alter, T: Timeline>(
         → KeepsBook (state S.Store conn.old) b → book.old.state ≡ b.book
         → Acts S.Store conn.new book.old.state book.new.state b (under reference.now command.now)
         result }
-    // the store is told to have failed only where it has, or where the rows of the command were undone
+    // `Fault::Store` is returned only if the store failed, or rolled the command's rows back
     ensures cause { HasCleanDisk (state S.Store conn.new) → (b : ActState)
         → KeepsBook (state S.Store conn.old) b → KeepsNumbers (state S.Store conn.old)
         → book.old.state ≡ b.book → HasActCause S.Store conn.old conn.new b

@@ -1,4 +1,4 @@
-//! A new book, in an empty database and in memory.
+//! Creates a new book, in an empty database and in memory.
 ghost use Rattle.std.specs.Prelude.{◌≡◌, false, OnOk};
 ghost use Rattle.sqlite.specs.Held.{state};
 ghost use Rattle.sqlite.specs.State.{HasCleanDisk};
@@ -14,7 +14,7 @@ use ob_time::Period;
 use sqlite::{Alter, Connection};
 use std::alloc::Global;
 
-/// Makes the tables of a new book in an empty database, and the book.
+/// Creates the tables of a new book in an empty database, and returns the book.
 pub(crate) fn create_on<S: Alter, T: Timeline>(
     alloc: Global,
     conn: &mut Connection<S>,
@@ -27,7 +27,7 @@ pub(crate) fn create_on<S: Alter, T: Timeline>(
     ensures clean { HasCleanDisk (state S.Store conn.new) → HasCleanDisk (state S.Store conn.old) }
     ensures limit { conn.new.step_limit ≡ conn.old.step_limit }
     ensures creates { Creates S.Store conn.old conn.new first.now days zone.now result }
-    // the store is told to have failed only where it has, or where the rows of the book were undone
+    // `Fault::Store` is returned only if the store failed, or rolled the book's rows back
     ensures cause { HasCleanDisk (state S.Store conn.new)
         → HasCreateCause S.Store conn.old conn.new first.now days zone.now result }
     ensures numbered { OnOk result (KeepsNumbers (state S.Store conn.new)) }

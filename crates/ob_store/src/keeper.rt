@@ -1,4 +1,4 @@
-//! The keeper: a book, and the connection to the store that keeps its tables.
+//! The storage layer (`Keeper`): a book in memory, and the connection to the store of its tables.
 ghost use Rattle.std.specs.Option.{option_map};
 ghost use Rattle.ob_store.specs.Keeping.{IsBookAfter};
 
@@ -77,7 +77,7 @@ impl<S: Alter, T: Timeline> Keeper<S, T> {
     ghost use Rattle.ob_store.specs.Versions.{IsLoadFault, Outdated};
     ghost use Rattle.std.specs.Option.{option_map};
 
-    /// A keeper over a connection with no open transaction; it has no book yet.
+    /// Creates a keeper over a connection without an open transaction. It has no book yet.
     pub fn adopt_connection(alloc: Global, conn: Connection<S>) -> Keeper<S, T>
         requires idle { conn.in_transaction ≡ false }
         ensures conn { result.conn ≡ conn }
@@ -90,19 +90,19 @@ impl<S: Alter, T: Timeline> Keeper<S, T> {
         }
     }
 
-    /// Makes the tables of a new book in a database that holds none, and the book: of so many days (1 to 366) from the date
-    /// `YYYY-MM-DD` on, in the zone of a POSIX rule. `BadPeriod` where there is no such period, `BadBook` where the database
-    /// holds a table.
+    /// Creates the tables of a new book in an empty database, and the book: of `days` days (1 to
+    /// 366) from the date `YYYY-MM-DD` on, in a zone given as a POSIX TZ rule. Refuses with
+    /// `BadPeriod` if there is no such period, and with `BadBook` if the database isn't empty.
     pub fn create(&mut self, first: &[u8], days: u16, zone: &[u8]) -> Result<(), Stop>
         ensures lost { result ≡ Err (Stop.Fault Fault.Store) → self.new.book ≡ None }
         ensures clean { HasCleanDisk (state S.Store self.new.conn)
             → HasCleanDisk (state S.Store self.old.conn) }
         ensures limit { self.new.conn.step_limit ≡ self.old.conn.step_limit }
         ensures created { Created S.Store self.old self.new first.now days zone.now result }
-        // the store is told to have failed only where it has, or where the rows of the book were undone
+        // `Fault::Store` is returned only if the store failed, or rolled the book's rows back
         ensures cause { HasCleanDisk (state S.Store self.new.conn) → HasCreateCause S.Store
             self.old.conn self.new.conn first.now days zone.now result }
-        // whatever a crash leaves then has hidden row numbers 1, 2, 3 and so on
+        // the hidden row numbers are 1, 2, 3 and so on in whatever a crash leaves afterwards
         ensures numbered { OnOk result (KeepsNumbers (state S.Store self.new.conn)) }
     {
         match create_on(self.alloc, &mut self.conn, first, days, zone) {
@@ -117,9 +117,10 @@ impl<S: Alter, T: Timeline> Keeper<S, T> {
         }
     }
 
-    /// Acts a command under a reference, in one transaction: it is decided on, its rows are written and committed, and then
-    /// the book adopts it. Under a known reference an equal command is answered its reply again and changes nothing, and
-    /// another one is refused as `RefConflict`. `Reopen` where there is no book.
+    /// Applies a command under a reference in one transaction: decides on it, writes and commits
+    /// its rows, and then adopts it in the book. If the reference is known, an equal command gets
+    /// its stored reply and changes nothing; any other command is refused as `RefConflict`.
+    /// `Fault::Reopen` if the keeper has no book.
     pub fn act(&mut self, reference: Ref, command: Command) -> Result<Reply, Stop>
         ensures reopen { (self.old.book ≡ None) ↔ (result ≡ Err (Stop.Fault Fault.Reopen)) }
         ensures unopened { self.old.book ≡ None → self.new ≡ self.old }
@@ -132,13 +133,13 @@ impl<S: Alter, T: Timeline> Keeper<S, T> {
         ensures acted { HasCleanDisk (state S.Store self.new.conn) → (b : ActState)
             → Ties S.Store self.old b → IsSome self.old.book
             → Acted S.Store self.old self.new b (under reference command) result }
-        // where a crash leaves hidden row numbers 1, 2, 3 and so on, the store is told to have failed only where it has, or
-        // where the rows of the command were undone
+        // if the hidden row numbers are consecutive, `Fault::Store` is returned only if the store
+        // failed, or rolled the command's rows back
         ensures cause { HasCleanDisk (state S.Store self.new.conn) → (b : ActState)
             → Ties S.Store self.old b → KeepsNumbers (state S.Store self.old.conn)
             → IsSome self.old.book → HasActCause S.Store self.old.conn self.new.conn b
             (under reference command) result }
-        // and they go on so
+        // the row numbers stay consecutive
         ensures numbered { (b : ActState) → Ties S.Store self.old b
             → KeepsNumbers (state S.Store self.old.conn)
             → KeepsNumbers (state S.Store self.new.conn) }
@@ -155,8 +156,8 @@ impl<S: Alter, T: Timeline> Keeper<S, T> {
         }
     }
 
-    /// The stored reply of the accepted command of a number, from 1; None where there is none. `Reopen` where there is no
-    /// book.
+    /// Returns the stored reply of the accepted command of this number, counted from 1; None if
+    /// there is none. `Fault::Reopen` if the keeper has no book.
     pub fn reply_of(&mut self, no: u32) -> Result<Option<Reply>, Stop>
         ensures reopen { (self.old.book ≡ None) ↔ (result ≡ Err (Stop.Fault Fault.Reopen)) }
         ensures unopened { self.old.book ≡ None → self.new ≡ self.old }
@@ -170,7 +171,7 @@ impl<S: Alter, T: Timeline> Keeper<S, T> {
         ensures replied { HasCleanDisk (state S.Store self.new.conn) → (b : ActState)
             → Ties S.Store self.old b → IsSome self.old.book
             → Replied S.Store self.old self.new b no result }
-        // the store is told to have failed only where it has
+        // `Fault::Store` is returned only if the store failed
         ensures cause { HasCleanDisk (state S.Store self.new.conn) → (b : ActState)
             → Ties S.Store self.old b → IsSome self.old.book → HasFaultCause
             (state S.Store self.old.conn) (state S.Store self.new.conn) result }
@@ -187,16 +188,16 @@ impl<S: Alter, T: Timeline> Keeper<S, T> {
         }
     }
 
-    /// Reads the book that the tables hold. `OldVersion` where the heading tells that the book is of version 1, which is
-    /// looked at first. The tables are those of its accepted commands, all eleven of them, or it is refused as `BadBook`; a
-    /// book that the keeper had goes then on as before. Nothing is written.
+    /// Loads the book in the tables. The version in the heading is checked first: `OldVersion` if
+    /// it is 1. `BadBook` if the eleven tables aren't exactly those of their accepted commands; the
+    /// keeper then still has the book that it had. Nothing is written.
     pub fn load(&mut self) -> Result<(), Stop>
         ensures { Loads S.Store self.old self.new result }
     {
         self.load_with_progress(&mut Silent)
     }
 
-    /// Reads the book that the tables hold, as [`Keeper::load`], and tells one who listens how far it is.
+    /// Loads the book in the tables, as [`Keeper::load`], and reports to `progress`.
     pub fn load_with_progress<P: Progress>(&mut self, progress: &mut P) -> Result<(), Stop>
         ensures { Loads S.Store self.old self.new result }
     {
@@ -204,7 +205,7 @@ impl<S: Alter, T: Timeline> Keeper<S, T> {
         self.read_book(progress)
     }
 
-    /// Reads the book that the tables hold, and tells one who listens how far it is.
+    /// Loads the book in the tables and reports to `progress`.
     fn read_book<P: Progress>(&mut self, progress: &mut P) -> Result<(), Stop>
         ensures found { OnOk result (IsSome self.new.book) }
         ensures dropped { IfErr result (IsBookAfter self.old.book self.new.book) }
@@ -220,7 +221,7 @@ impl<S: Alter, T: Timeline> Keeper<S, T> {
             → self.old.conn.schema ≡ old_schema → Outdated S.Store self.old self.new result }
     {
         prove!(self.conn.is_autocommit());
-        // what is open is a whole database
+        // an open connection shows a complete database
         let _schema = self.conn.schema();
         progress.begin(Work::Opening, 0);
         let read = load_on(self.alloc, &mut self.conn, progress);
@@ -237,10 +238,10 @@ impl<S: Alter, T: Timeline> Keeper<S, T> {
         }
     }
 
-    /// The first of the eleven tables, in the order of `Table`, that differs from what the heading's period and the commands,
-    /// in the order of their numbers, give; None where none does. `OldVersion` where the heading tells that the book is of
-    /// version 1, which is looked at first; `BadBook` where period and commands give no book. It needs no book, and nothing
-    /// is written.
+    /// Returns the first of the eleven tables, in the order of `Table`, that differs from the
+    /// tables of a book of the heading's period and the commands in the order of their numbers.
+    /// None if all are equal. The version in the heading is checked first: `OldVersion` if it is 1.
+    /// `BadBook` if period and commands give no book. Needs no book, and writes nothing.
     pub fn audit(&mut self) -> Result<Option<Table>, Stop>
         ensures found { OnOk result (self.new.book ≡ self.old.book) }
         ensures dropped { IfErr result (IsBookAfter self.old.book self.new.book) }
@@ -249,7 +250,7 @@ impl<S: Alter, T: Timeline> Keeper<S, T> {
             → HasCleanDisk (state S.Store self.old.conn) }
         ensures survives { Survives (state S.Store self.old.conn) (state S.Store self.new.conn)
             (λ _. ⊥) }
-        // whatever the schema
+        // for every schema
         ensures answers { Answers S.Store self.old.conn self.new.conn result }
         ensures audited { HasCleanDisk (state S.Store self.new.conn)
             → self.old.conn.schema ≡ book_schema → Audited S.Store self.old self.new result }
@@ -265,18 +266,20 @@ impl<S: Alter, T: Timeline> Keeper<S, T> {
         }
     }
 
-    /// Makes the tables of version 1 those of version 2, in one transaction: every device then lives without end from the first
-    /// second on. It answers true; false where the heading tells version 2, and then nothing is changed. `BadBook` where the
-    /// tables aren't those of a book of version 1. It needs no book, and the one that the keeper has stays as it is.
+    /// Upgrades the tables of version 1 to version 2 in one transaction. Each device then is in
+    /// service from the first second on without end. Returns true; or false, without a change, if
+    /// the heading states version 2. `BadBook` if the tables aren't those of a book of version 1.
+    /// Needs no book, and the keeper's book, if any, stays as it is.
     pub fn migrate(&mut self) -> Result<bool, Stop>
         ensures found { OnOk result (self.new.book ≡ self.old.book) }
         ensures dropped { IfErr result (IsBookAfter self.old.book self.new.book) }
         ensures stops { IfErr result IsReadFault }
         ensures clean { HasCleanDisk (state S.Store self.new.conn)
             → HasCleanDisk (state S.Store self.old.conn) }
-        // whatever the schema
+        // for every schema
         ensures goes_on { MigratesOn S.Store self.old.conn self.new.conn result }
-        // a crash leaves no more than before, but for the tables of version 2 of the one book of version 1 that stood there
+        // a crash leaves what it could leave before, or the tables of version 2 of the one book of
+        // version 1 that was in the store
         ensures survives { Survives (state S.Store self.old.conn) (state S.Store self.new.conn)
             (LeavesKept (state S.Store self.old.conn)) }
         ensures migrated { HasCleanDisk (state S.Store self.new.conn)
@@ -289,7 +292,8 @@ impl<S: Alter, T: Timeline> Keeper<S, T> {
             → IsTrue (state S.Store self.old.conn).is_open → (b : ActState)
             → KeepsOldBook (state S.Store self.old.conn) b
             → MigratesKept S.Store self.new.conn b result }
-        // the book has the amounts and the counts that version 1 gave it, and its commands are accepted now as then
+        // the book has the amounts and counts of version 1, and its commands are accepted now as
+        // they were then
         ensures figures { SameFigures }
         ensures accepted { AcceptedByBoth }
         ensures crash { OldCrashLaw S.Store S.Store }
@@ -305,9 +309,9 @@ impl<S: Alter, T: Timeline> Keeper<S, T> {
         }
     }
 
-    /// Hands what the accepted commands moved to a sink, one amount at a time, by number, dimension and key, and tells how
-    /// many they are. A fault of the sink ends it and is answered as it is. Nothing is written. `Reopen` where there is no
-    /// book.
+    /// Passes each change of an amount by an accepted command to a sink, by number, dimension and
+    /// key, and returns how many there are. A fault of the sink ends it and is returned unchanged.
+    /// Nothing is written. `Fault::Reopen` if the keeper has no book.
     pub fn moves_out<V: MoveSink>(&mut self, sink: &mut V) -> Result<u64, Stop>
         ensures reopen { self.old.book ≡ None → result ≡ Err (Stop.Fault Fault.Reopen) }
         ensures unopened { self.old.book ≡ None → (self.new ≡ self.old) × (sink.new ≡ sink.old) }
@@ -337,14 +341,14 @@ impl<S: Alter, T: Timeline> Keeper<S, T> {
         }
     }
 
-    /// The book; None before `create` or `load` has succeeded, and after a fault of the store.
+    /// The book. None until `create` or `load` has succeeded, and after a fault of the store.
     pub fn book(&self) -> Option<&Book<T>>
         ensures { option_map (λ b. b.now.state) result ≡ self.now.book }
     {
         self.book.as_ref()
     }
 
-    /// The connection, which has no open transaction.
+    /// Returns the connection, which has no open transaction.
     pub fn into_connection(self) -> Connection<S>
         ensures conn { result ≡ self.conn }
         ensures idle { result.in_transaction ≡ false }

@@ -1,4 +1,4 @@
-//! The book that the commands in the tables lead to.
+//! Replays the commands in the tables on a new book.
 ghost use Rattle.std.specs.Prelude.{◌≡◌, ◌⊎◌, false, true, is_some, IfOk, IfErr, IfSome};
 ghost use Rattle.ob_base.specs.Stop.{out_of_memory};
 ghost use Rattle.ob_compare.specs.Reading.{bad_book};
@@ -17,18 +17,18 @@ use ob_time::Period;
 use sqlite::{Alter, Connection};
 use std::alloc::Global;
 
-/// A book, led along the commands that the tables hold, with the layout of its network.
+/// A book after the replay of the commands in the tables, with the layout of its network.
 #[derive(Drop)]
 pub(crate) struct Led<T: Timeline> {
     pub(crate) book: Book<T>,
     pub(crate) layout: Layout,
-    /// Whether the table of commands numbers them from 1, with no number left out.
+    /// Whether the table of commands numbers them from 1 without gaps.
     pub(crate) counted: bool,
-    /// Whether the table of moved amounts holds what the commands move.
+    /// Whether the table of moved amounts holds the changes that the commands make.
     pub(crate) moved: bool,
 }
 
-/// A new book of the period that the heading names.
+/// Creates a book of the period in the heading.
 fn new_book<T: Timeline>(alloc: Global, heading: &Heading) -> Result<Book<T>, Stop>
     ensures new { IfOk result (λ book. IsNewBook heading.now book.state) }
     ensures none { IfErr result (λ stop. stop ≡ bad_book → HasNoPeriodOf heading.now) }
@@ -39,14 +39,14 @@ fn new_book<T: Timeline>(alloc: Global, heading: &Heading) -> Result<Book<T>, St
         Err(Stop::Refused(_)) => return Err(BAD_BOOK),
         Err(stop) => return Err(stop),
     };
-    // the heading's date has no other spelling than this one
+    // the heading's date is spelled exactly like this
     match period.date_text(0) {
         Ok(_) => Book::new(alloc, period),
         Err(stop) => Err(stop),
     }
 }
 
-/// A new book of the heading's period, before the commands, with the layout of its network.
+/// Creates a book of the heading's period, before the commands, with the layout of its network.
 fn begin<T: Timeline>(alloc: Global, named: &Named) -> Result<Led<T>, Stop>
     ensures begun { IfOk result (λ led. IsBegun named.now led.book.state led.layout) }
     ensures counted { IfOk result (λ led. led.counted ≡ named.now.counted) }
@@ -69,8 +69,8 @@ fn begin<T: Timeline>(alloc: Global, named: &Named) -> Result<Led<T>, Stop>
     }
 }
 
-/// A new book, led along the commands of a version while what they move is compared with its table; None where that has other
-/// rows, or the version doesn't accept a command.
+/// Replays the commands of a version on a new book, and compares the changes that they make with
+/// their table. None if the table has other rows, or the version doesn't accept a command.
 pub(crate) fn follow<S: Alter, T: Timeline, P: Progress>(
     alloc: Global,
     conn: &mut Connection<S>,
@@ -106,7 +106,7 @@ pub(crate) fn follow<S: Alter, T: Timeline, P: Progress>(
     }
 }
 
-/// A new book, led along the commands alone.
+/// Replays the commands on a new book without that comparison.
 fn again<T: Timeline>(alloc: Global, named: &Named) -> Result<Led<T>, Stop>
     ensures led { IfOk result (λ led. IsLedBy AVersion.Two named.now led.book.state
         × (led.layout ≡ led.book.state.network) × (led.moved ≡ false)
@@ -125,8 +125,8 @@ fn again<T: Timeline>(alloc: Global, named: &Named) -> Result<Led<T>, Stop>
     }
 }
 
-/// Reads the heading and the commands, and leads a book along them. They are those of no book where the heading names no
-/// period, a reference stands twice, or a command isn't accepted in its turn.
+/// Reads the heading and the commands and replays them. Refuses with `BadBook` if the heading names
+/// no period, a reference occurs twice, or a command isn't accepted in its turn.
 pub(crate) fn read_led<S: Alter, T: Timeline, P: Progress>(
     alloc: Global,
     conn: &mut Connection<S>,

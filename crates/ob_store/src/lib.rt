@@ -1,5 +1,10 @@
-//! The keeper of a book: its accepted commands in a store, and the book in memory.
-//! A stop is passed on by an arm of its own: behind `?` the proofs would know less of it.
+//! The storage layer: keeps the accepted commands of a book in a database, and the book in memory.
+//!
+//! A `Keeper` creates, loads, audits and migrates a book, applies commands to it, and exports the
+//! changes of amounts. Promises that book and tables stay in step. After a crash a keeper loads the
+//! book that the store kept, or the book before or after the command being applied. Errors are passed
+//! on by a `match`, since `?` would hide from the proofs which error it is. `ob_import`, `ob_routes`,
+//! `ob_desk`, `ob_jobs` and the program use this crate.
 #![tactic(auto)]
 
 mod acting;

@@ -1,4 +1,4 @@
-//! The book that the tables hold, and the first of them that differs from one.
+//! Loads the book in the tables, and finds the first table that differs from the book.
 ghost use Rattle.std.specs.Prelude.{◌≡◌, Ok};
 ghost use Rattle.ob_tables.specs.declared.version.Version.{Version as AVersion};
 ghost use Rattle.ob_store.specs.Finding.{Finds, HasNoBook};
@@ -19,8 +19,8 @@ use ob_tables::Table;
 use sqlite::{Alter, Connection};
 use std::alloc::Global;
 
-/// The first table that differs from those of the book whose period and commands they name; a book of version 1 is refused
-/// first.
+/// Returns the first table that differs from the book of the period and the commands in the tables.
+/// Refuses a book of version 1 first.
 pub(crate) fn audit_on<S: Alter, T: Timeline>(
     alloc: Global,
     conn: &mut Connection<S>,
@@ -34,7 +34,7 @@ pub(crate) fn audit_on<S: Alter, T: Timeline>(
     }
 }
 
-/// The first table that differs from those of the book whose period and commands they name.
+/// Returns the first table that differs from the book of the period and the commands in the tables.
 fn find_off<S: Alter, T: Timeline>(
     alloc: Global,
     conn: &mut Connection<S>,
@@ -48,10 +48,11 @@ fn find_off<S: Alter, T: Timeline>(
     first_off(conn, &led)
 }
 
-/// Refuses a led book as `BadBook` where its tables aren't those that stand. Nothing is written.
+/// Refuses a replayed book as `BadBook` if the tables in the store aren't its tables. Nothing is
+/// written.
 fn check_led<S: Alter, T: Timeline>(conn: &mut Connection<S>, led: &Led<T>) -> Result<(), Stop>
     requires layout { led.now.layout ≡ led.now.book.state.network }
-    // where the led book was read so before
+    // if the replayed book was read from the same tables before
     ensures { (first : _) → Finds S.Store AVersion.Two
         (λ trees l. IsLed trees l.book.state l.counted l.moved) HasNoBook first conn.old
         (Ok led.now) → Finds S.Store AVersion.Two (λ trees done. Holding trees led.now.book.state)
@@ -64,13 +65,13 @@ fn check_led<S: Alter, T: Timeline>(conn: &mut Connection<S>, led: &Led<T>) -> R
     }
     match are_apart(conn) {
         Ok(true) => Ok(()),
-        // two rows under one row number: the file is broken
+        // two rows have the same row number: the file is corrupt
         Ok(false) => Err(Stop::Fault(Fault::Store)),
         Err(stop) => Err(stop),
     }
 }
 
-/// The book that the tables hold, all eleven of them; a book of version 1 is refused first.
+/// Returns the book in the eleven tables. Refuses a book of version 1 first.
 pub(crate) fn load_on<S: Alter, T: Timeline, P: Progress>(
     alloc: Global,
     conn: &mut Connection<S>,
@@ -86,7 +87,7 @@ pub(crate) fn load_on<S: Alter, T: Timeline, P: Progress>(
     }
 }
 
-/// The book that the tables hold.
+/// Returns the book in the tables.
 fn load_tables<S: Alter, T: Timeline, P: Progress>(
     alloc: Global,
     conn: &mut Connection<S>,

@@ -1,4 +1,4 @@
-//! The tables of version 1 made those of version 2.
+//! Upgrades the tables of version 1 to those of version 2.
 ghost use Rattle.std.specs.Prelude.{◌≡◌, ◌↔◌, ◌≤◌, false, true, length, Ok, IsTrue, IfOk, IfErr};
 ghost use Rattle.ob_base.specs.Stop.{out_of_memory};
 ghost use Rattle.ob_compare.specs.Listing.{filed_of};
@@ -34,7 +34,7 @@ use ob_upgrade::version_law;
 use sqlite::{Alter, Connection};
 use std::alloc::Global;
 
-/// The tables of version 1 but for that of commands and that of what they moved.
+/// The tables of version 1, except those of commands and of moved amounts.
 const OLD_PARTS: [Table; 8] = [
     Table::Meta,
     Table::Cause,
@@ -46,16 +46,17 @@ const OLD_PARTS: [Table; 8] = [
     Table::Posting,
 ];
 
-/// What makes the tables of version 1 those of version 2.
+/// What is written to upgrade the tables of version 1.
 #[derive(Drop)]
 pub(crate) struct Upgrade {
-    /// The body texts that commands have from now on.
+    /// The new body texts of commands.
     pub(crate) bodies: Vec<NewBody>,
-    /// How many devices there are.
+    /// The number of devices.
     pub(crate) devices: u16,
 }
 
-/// What the commands of a book of version 1 lead to, and what their rows tell. It does nothing when it runs.
+/// States which book the commands of a book of version 1 give, and what their rows determine. Does
+/// nothing at run time.
 fn old_books_law()
     ensures { Laws AVersion.One }
 {
@@ -66,8 +67,8 @@ fn old_books_law()
     upgrade_law();
 }
 
-/// Whether the heading tells version 2. If not it tells version 1, and the tables have the names of that version, or they are
-/// those of no book of version 1.
+/// Whether the heading states version 2. If it doesn't, it states version 1 and the tables have the
+/// names of version 1; anything else is refused as `BadBook`.
 fn tell_heading<S: Alter>(conn: &mut Connection<S>, is_old: bool) -> Result<bool, Stop>
     requires { IsTrue is_old ↔ IsShapeOf AVersion.One conn.old.schema }
     ensures finds { (v : AVersion) → Finds S.Store v (IsTold v) (IsUntold v) conn.old conn.new
@@ -90,7 +91,8 @@ fn tell_heading<S: Alter>(conn: &mut Connection<S>, is_old: bool) -> Result<bool
     if is_old { Ok(false) } else { Err(BAD_BOOK) }
 }
 
-/// The same, where the store is open. Nothing is written.
+/// Whether the heading states version 2, as `tell_heading`; checks first that the connection is
+/// open. Nothing is written.
 fn tells_new<S: Alter>(conn: &mut Connection<S>) -> Result<bool, Stop>
     ensures finds { (v : AVersion) → Finds S.Store v (IsTold v) (IsUntold v) conn.old conn.new
         result }
@@ -111,7 +113,8 @@ fn tells_new<S: Alter>(conn: &mut Connection<S>) -> Result<bool, Stop>
     tell_heading(conn, is_old)
 }
 
-/// Whether the tables of version 1, those of commands and of what they moved aside, have the rows of a led book.
+/// Whether the tables of version 1, except those of commands and of moved amounts, have the rows of
+/// a replayed book.
 fn has_old_rows<S: Alter, T: Timeline>(conn: &mut Connection<S>, led: &Led<T>) -> Result<bool, Stop>
     requires layout { led.now.layout ≡ led.now.book.state.network }
     ensures { Finds S.Store AVersion.One (λ trees is. IsTrue is
@@ -128,7 +131,8 @@ fn has_old_rows<S: Alter, T: Timeline>(conn: &mut Connection<S>, led: &Led<T>) -
     Ok(true)
 }
 
-/// Refuses a led book as `BadBook` where its tables of version 1 aren't those that stand. Nothing is written.
+/// Refuses a replayed book as `BadBook` if the tables in the store aren't its tables of version 1.
+/// Nothing is written.
 fn check_old<S: Alter, T: Timeline>(conn: &mut Connection<S>, led: &Led<T>) -> Result<(), Stop>
     requires layout { led.now.layout ≡ led.now.book.state.network }
     ensures { Finds S.Store AVersion.One (λ trees done. HasOldParts trees led.now.book.state)
@@ -141,20 +145,21 @@ fn check_old<S: Alter, T: Timeline>(conn: &mut Connection<S>, led: &Led<T>) -> R
     }
     match are_apart(conn) {
         Ok(true) => Ok(()),
-        // two rows under one row number: the file is broken
+        // two rows have the same row number: the file is corrupt
         Ok(false) => Err(Stop::Fault(Fault::Store)),
         Err(stop) => Err(stop),
     }
 }
 
-/// Leads a new book along the commands of version 1 that were read, while what they move is compared with its table.
+/// Replays the commands of version 1 on a new book, and compares the changes that they make with
+/// their table.
 fn lead_old<S: Alter, T: Timeline>(
     alloc: Global,
     conn: &mut Connection<S>,
     named: &Named,
 ) -> Result<Led<T>, Stop>
     ensures layout { IfOk result (λ led. led.layout ≡ led.book.state.network) }
-    // where the commands were read so before
+    // if the commands were read from the same tables before
     ensures finds { (first : _) → Finds S.Store AVersion.One (IsNamed AVersion.One) HoldsNoOldBook
         first conn.old (Ok named.now) → Finds S.Store AVersion.One
         (λ trees led. IsNamed AVersion.One trees named.now
@@ -177,7 +182,7 @@ fn lead_old<S: Alter, T: Timeline>(
     }
 }
 
-/// Today's body texts of the commands that add devices, and how many devices they lead to.
+/// Returns today's body texts of the commands that add devices, and the number of devices.
 fn upgrade_of<T: Timeline>(alloc: Global, named: &Named, led: &Led<T>) -> Result<Upgrade, Stop>
     requires few { length named.now.commands.items ≤ 1_000_000 }
     ensures texts { IfOk result (λ it. texts_of it.bodies.items
@@ -192,7 +197,8 @@ fn upgrade_of<T: Timeline>(alloc: Global, named: &Named, led: &Led<T>) -> Result
     }
 }
 
-/// What makes the tables of version 1 those of version 2, where they are those of a book. Nothing is written.
+/// Returns what is to be written to upgrade the tables of version 1, if they are those of a book.
+/// Nothing is written.
 fn find_old<S: Alter, T: Timeline>(alloc: Global, conn: &mut Connection<S>) -> Result<Upgrade, Stop>
     ensures { Finds S.Store AVersion.One Upgradable HoldsNoOldBook conn.old conn.new result }
 {
@@ -212,7 +218,7 @@ fn find_old<S: Alter, T: Timeline>(alloc: Global, conn: &mut Connection<S>) -> R
     }
 }
 
-/// Makes the tables of version 1 of the book that was found those of version 2, in one transaction.
+/// Upgrades the tables of version 1 of the book that was found, in one transaction.
 fn write_upgrade<S: Alter>(conn: &mut Connection<S>, it: &Upgrade) -> Result<(), Stop>
     requires mode { conn.old.in_transaction ≡ false }
     ensures mode { conn.new.in_transaction ≡ false }
@@ -221,7 +227,7 @@ fn write_upgrade<S: Alter>(conn: &mut Connection<S>, it: &Upgrade) -> Result<(),
         (LeavesWritten S.Store conn.old it.now) }
     ensures upgraded { HasCleanDisk (state S.Store conn.new)
         → OfUpgraded S.Store conn.old it.now (λ b. Upgraded S.Store conn.old conn.new b result) }
-    // the store is told to have failed only where it has, or where the rows of version 2 were undone
+    // `Fault::Store` is returned only if the store failed, or rolled the rows of version 2 back
     ensures cause { HasCleanDisk (state S.Store conn.new) → KeepsNumbers (state S.Store conn.old)
         → OfUpgraded S.Store conn.old it.now
         (λ b. HasWriteCause S.Store conn.old conn.new (tables_of b) result) }
@@ -229,13 +235,15 @@ fn write_upgrade<S: Alter>(conn: &mut Connection<S>, it: &Upgrade) -> Result<(),
         (λ b. KeepsNumbers (state S.Store conn.new)) }
 {
     upgrade_law();
-    // outside a transaction what a connection shows is what was committed, and what is open is a whole database
+    // outside a transaction a connection shows what was committed, and an open connection shows a
+    // complete database
     prove!(conn.is_autocommit());
     let _schema = conn.schema();
     commit_upgrade(conn, &it.bodies, it.devices)
 }
 
-/// Makes the tables of version 1 those of version 2: true; false where the heading tells version 2, and nothing is written.
+/// Upgrades the tables of version 1 to version 2. Returns true; or false, without writing, if the
+/// heading states version 2.
 pub(crate) fn migrate_on<S: Alter, T: Timeline>(
     alloc: Global,
     conn: &mut Connection<S>,

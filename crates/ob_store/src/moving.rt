@@ -1,4 +1,4 @@
-//! What accepted commands moved, handed out row by row.
+//! Exports the changes of amounts that accepted commands made, row by row.
 ghost use Rattle.std.specs.Prelude.{◌≡◌, ◌<◌, false, ℤ, List, [], length, map, IsSome, IsTrue, IfOk, IfErr, IfSome, OnOk};
 ghost use Rattle.sqlite.specs.Order.{Row as ARow, column};
 ghost use Rattle.sqlite.specs.Held.{state};
@@ -26,26 +26,27 @@ use ob_tables::stop_of;
 use sqlite::{Alter, Connection, Row, Rows};
 use sqlite_value::value::ValueRef;
 
-/// Takes amounts that commands moved, one after another.
+/// Receives the changes of amounts that commands made, one after another.
 pub trait MoveSink {
     ghost use Rattle.std.specs.Prelude.{⊤, ℕ, Result};
     ghost use Rattle.ob_post.specs.declared.Moved.{Moved as AMoved};
     ghost use Rattle.ob_base.specs.declared.stop.Fault.{Fault as AFault};
 
-    /// What a take makes of a sink, whether it fails or not.
+    /// What a take changes in a sink, whether it fails or not.
     ghost takes: { Self → ℕ → AMoved → Result ⊤ AFault → Self → Type 0 };
 
-    /// Takes an amount that the command of a number moved.
+    /// Takes a change of an amount that the command of this number made.
     fn take(&mut self, cmd: u32, m: &Moved) -> Result<(), Fault>
         ensures { takes self.old cmd m.now result self.new };
 }
 
-/// A law of what commands moved: row by row it is the table of moved amounts.
+/// States that the changes of amounts, row by row, are the table of moved amounts.
 pub(crate) fn moves_law()
     ensures { MovesAreRows }
 {}
 
-/// A law of what commands moved: the numbers and the keys are such as rows are read for, and a count takes them all.
+/// States that the numbers and keys of the changes fit the types that rows are read into, and that
+/// a `u64` can count them all.
 fn few_moves_law()
     ensures { MovesAreFew }
 {
@@ -54,15 +55,15 @@ fn few_moves_law()
     naming_law();
 }
 
-/// Why a handing out ended early.
+/// Why an export ended early.
 pub(crate) enum Halt {
     /// The sink failed.
     Sink(Fault),
-    /// Memory was refused, or the store failed.
+    /// An allocation failed, or the store failed.
     Store(Stop),
 }
 
-/// The number in a column.
+/// Returns the number in a column.
 fn int_at(row: &Row, at: usize) -> Option<i64>
     ensures value { IfSome result (λ n. column row.now at ≡ Int n) }
     ensures readable { (n : ℤ) → at < length row.now → column row.now at ≡ Int n → IsSome result }
@@ -73,7 +74,7 @@ fn int_at(row: &Row, at: usize) -> Option<i64>
     }
 }
 
-/// The dimension of a number.
+/// Returns the dimension of a number.
 fn dim_of(n: i64) -> Option<Dim>
     ensures value { IfSome result (λ dim. Int n ≡ number (dim_number dim)) }
     ensures readable { (dim : ADim) → Int n ≡ number (dim_number dim) → IsSome result }
@@ -86,7 +87,7 @@ fn dim_of(n: i64) -> Option<Dim>
     }
 }
 
-/// What a row says that a command moved, under the number of the command.
+/// Reads a change of an amount from a row, with the number of the command that made it.
 fn read_moved(row: &Row) -> Option<(u32, Moved)>
     ensures told { IfSome result (λ it. row.now ≡ row_of_move it) }
     ensures readable { IsMoveRow row.now → IsSome result }
@@ -128,7 +129,8 @@ fn advance<S: Alter>(rows: &mut Rows<'_, S>) -> Result<(), Stop>
     }
 }
 
-/// What the next row says that a command moved, under the number of the command; None where no row is left.
+/// Reads a change of an amount from the next row, with the number of the command; None if no row is
+/// left.
 fn next_moved<S: Alter>(rows: &mut Rows<'_, S>) -> Result<Option<(u32, Moved)>, Stop>
     ensures same_reference { rows.new.conn.ghost_name ≡ rows.old.conn.ghost_name }
     ensures survives { Survives (state S.Store rows.old.conn.now) (state S.Store rows.new.conn.now)
@@ -161,7 +163,7 @@ fn next_moved<S: Alter>(rows: &mut Rows<'_, S>) -> Result<Option<(u32, Moved)>, 
     }
 }
 
-/// Hands the rows to come to a sink, one at a time, and tells how many they are.
+/// Passes the rows still to be read to a sink, one at a time, and returns how many there are.
 fn hand_rows<S: Alter, V: MoveSink>(rows: &mut Rows<'_, S>, sink: &mut V) -> Result<u64, Halt>
     ensures same_reference { rows.new.conn.ghost_name ≡ rows.old.conn.ghost_name }
     ensures survives { Survives (state S.Store rows.old.conn.now) (state S.Store rows.new.conn.now)
@@ -195,7 +197,8 @@ fn hand_rows<S: Alter, V: MoveSink>(rows: &mut Rows<'_, S>, sink: &mut V) -> Res
     Err(Halt::Store(Stop::Fault(Fault::Store)))
 }
 
-/// Hands what the accepted commands moved to a sink: by number, dimension and key. Nothing is written.
+/// Passes the changes that the accepted commands made to a sink: by number, dimension and key.
+/// Nothing is written.
 pub(crate) fn hand_out<S: Alter, V: MoveSink>(
     conn: &mut Connection<S>,
     sink: &mut V,

@@ -1,4 +1,4 @@
-//! The heading and the commands that the tables hold.
+//! Reads the heading and the commands in the tables.
 ghost use Rattle.std.specs.Prelude.{◌≤◌, length, IfOk};
 ghost use Rattle.ob_store.specs.Finding.{Finds, HasNoBookIn, IsNamed};
 
@@ -8,15 +8,15 @@ use ob_tables::Version;
 use sqlite::{Alter, Connection};
 use std::alloc::Global;
 
-/// The tables are those of no book.
+/// The refusal of tables that are those of no book.
 pub(crate) const BAD_BOOK: Stop = Stop::Refused(Refusal::BadBook);
 
-/// What the tables name: a period by its texts, and commands under references.
+/// The content that identifies a book: the texts of its period, and its commands under references.
 #[derive(Drop)]
 pub(crate) struct Named {
     pub(crate) heading: Heading,
     pub(crate) commands: Vec<Filed>,
-    /// Whether the commands are numbered from 1, with no number left out.
+    /// Whether the commands are numbered from 1 without gaps.
     pub(crate) counted: bool,
 }
 

@@ -1,4 +1,4 @@
-//! The first table that differs from what a led book has.
+//! Finds the first table that differs from a replayed book.
 ghost use Rattle.std.specs.Prelude.{◌≡◌};
 ghost use Rattle.ob_book.specs.Acts.{ActState};
 ghost use Rattle.ob_parts.specs.Parts.{IsPart};
@@ -25,7 +25,8 @@ const FIRST_PARTS: [Table; 8] = [
     Table::Mark,
 ];
 
-/// The table, where it hasn't the rows of the book. It isn't that of commands nor that of what they moved.
+/// Returns the table if its rows aren't those of the book. It is neither the table of commands nor
+/// that of moved amounts.
 fn part_off<S: Alter, T: Timeline>(
     conn: &mut Connection<S>,
     led: &Led<T>,
@@ -43,7 +44,7 @@ fn part_off<S: Alter, T: Timeline>(
     }
 }
 
-/// The first of the tables before that of commands that hasn't the rows of the book.
+/// Returns the first table before that of commands whose rows aren't those of the book.
 fn first_part_off<S: Alter, T: Timeline>(
     conn: &mut Connection<S>,
     led: &Led<T>,
@@ -62,8 +63,8 @@ fn first_part_off<S: Alter, T: Timeline>(
     Ok(None)
 }
 
-/// The first of the eleven tables, in their order, that hasn't the rows of a led book, whose commands are those of the table
-/// of commands. Nothing is written.
+/// Returns the first of the eleven tables, in their order, whose rows aren't those of a replayed
+/// book. The book's commands are those of the table of commands. Nothing is written.
 pub(crate) fn first_off<S: Alter, T: Timeline>(
     conn: &mut Connection<S>,
     led: &Led<T>,

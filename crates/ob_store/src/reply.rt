@@ -5,7 +5,7 @@ ghost use Rattle.ob_post.specs.declared.Moved.{Moved as AMoved};
 use ob_post::Moved;
 use std::marker::Model;
 
-/// What a command moved: amounts by cause, feeder and day, and then by key.
+/// The changes of amounts that a command made: by cause, feeder and day, and then by key.
 #[derive(Drop)]
 pub struct Moves {
     list: Vec<Moved>,
@@ -18,14 +18,14 @@ impl Model for Moves {
 }
 
 impl Moves {
-    /// The amounts of a list.
+    /// Wraps a list of changes.
     pub(crate) fn new(list: Vec<Moved>) -> Moves
         ensures { result ≡ list.items }
     {
         Moves { list }
     }
 
-    /// The amounts in their order.
+    /// The changes in their order.
     pub fn as_slice(&self) -> &[Moved]
         ensures { result.now ≡ self.now }
     {
@@ -33,7 +33,7 @@ impl Moves {
     }
 }
 
-/// The number of an accepted command, from 1, and what it moved.
+/// The number of an accepted command, counted from 1, and the changes of amounts that it made.
 #[derive(Drop)]
 pub struct Reply {
     pub no: u32,

@@ -18,7 +18,7 @@ use ob_sweep::Timeline;
 use sqlite::{Alter, Connection};
 use std::alloc::Global;
 
-/// The reply of the accepted command of a number, as the tables hold it. Nothing is written.
+/// Returns the reply of the accepted command of this number, from the tables. Nothing is written.
 pub(crate) fn stored_reply<S: Alter>(
     alloc: Global,
     conn: &mut Connection<S>,
@@ -48,7 +48,8 @@ pub(crate) fn stored_reply<S: Alter>(
     }
 }
 
-/// The reply of the accepted command of a number; None where there is none. Nothing is written.
+/// Returns the reply of the accepted command of this number; None if there is none. Nothing is
+/// written.
 pub(crate) fn reply_at<S: Alter, T: Timeline>(
     alloc: Global,
     conn: &mut Connection<S>,

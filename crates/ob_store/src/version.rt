@@ -1,4 +1,4 @@
-//! The version of a book, which is looked at before its tables are read.
+//! Checks the version of a book before its tables are read.
 ghost use Rattle.std.specs.Prelude.{◌≡◌, ◌↔◌, map, IsTrue, OnOk};
 ghost use Rattle.sqlite.specs.Held.{state};
 ghost use Rattle.sqlite.specs.State.{HasCleanDisk};
@@ -18,13 +18,13 @@ use ob_tables::Table;
 use sqlite::{Alter, Connection, Error, ErrorCode};
 use sqlite_schema::schema;
 
-/// The version before this one.
+/// The version before today's.
 pub(crate) const OLD: u32 = 1;
 
-/// This version.
+/// Today's version.
 pub(crate) const NEW: u32 = 2;
 
-/// The tables of version 1, in the order in which they are made.
+/// The tables of version 1, in the order in which they are created.
 pub(crate) const OLD_TABLES: [Table; 10] = [
     Table::Meta,
     Table::Cause,
@@ -38,7 +38,8 @@ pub(crate) const OLD_TABLES: [Table; 10] = [
     Table::Posting,
 ];
 
-/// The tables of this version, in the order in which they are made: that of lives is the last.
+/// The tables of today's version, in the order in which they are created. That of in-service
+/// intervals is the last.
 const TABLES: [Table; 11] = [
     Table::Meta,
     Table::Cause,
@@ -53,10 +54,11 @@ const TABLES: [Table; 11] = [
     Table::Life,
 ];
 
-/// How many indexes the tables of either version have, those that keep names, references and keys of several columns apart.
+/// The number of indexes in the tables of either version. They keep names, references and keys of
+/// several columns unique.
 const INDEXES: usize = 6;
 
-/// Whether the tables have the names of these, in this order, and there is no other one.
+/// Whether the tables have exactly these names, in this order.
 fn are_named(tables: &[schema::Table], known: &[Table]) -> bool
     ensures { IsTrue result ↔ (map (λ t. t.name) tables.now ≡ map table_name known.now) }
 {
@@ -71,8 +73,8 @@ fn are_named(tables: &[schema::Table], known: &[Table]) -> bool
     true
 }
 
-/// Whether the tables have the names of these, in this order, with as many indexes as a version's have, and there is no other
-/// one and no view.
+/// Whether the tables have exactly these names, in this order, with as many indexes as the tables
+/// of a version have, and without a view.
 pub(crate) fn has_shape<S: Alter>(conn: &Connection<S>, known: &[Table]) -> bool
     ensures { IsTrue result ↔ HasShape known.now (state S.Store conn.now).now.schema }
 {
@@ -86,7 +88,8 @@ pub(crate) fn has_shape<S: Alter>(conn: &Connection<S>, known: &[Table]) -> bool
     are_named(schema.tables.as_slice(), known)
 }
 
-/// Why the columns of a heading weren't found: the tables lack them, as those of no book, or the store failed.
+/// Returns why the columns of a heading weren't found: `BadBook` if the tables lack them, or else a
+/// fault of the store.
 fn stop_of_look(error: Error) -> Stop
     ensures faults { IsReadFault result }
     ensures foreign { result ≡ bad_book → IsInputError error }
@@ -100,12 +103,12 @@ fn stop_of_look(error: Error) -> Stop
     }
 }
 
-/// Looks for the columns of a heading, before anything is read: a store that is shut answers nothing. They are those that the
-/// version is read from next.
+/// Looks up the columns of a heading before anything is read; a closed connection fails here. They
+/// are the columns from which the version is read next.
 pub(crate) fn look_at<S: Alter>(conn: &mut Connection<S>) -> Result<(), Stop>
     ensures { Looks S.Store conn.old conn.new result }
 {
-    // what is open is a whole database
+    // an open connection shows a complete database
     let _schema = conn.schema();
     if let Err(error) = conn.prepare("SELECT id, version, day0, days, zone FROM meta ORDER BY id") {
         return Err(stop_of_look(error));
@@ -113,8 +116,8 @@ pub(crate) fn look_at<S: Alter>(conn: &mut Connection<S>) -> Result<(), Stop>
     Ok(())
 }
 
-/// Refuses a book of version 1 as `OldVersion`, where its heading is the only one and tells that version; and then whatever
-/// hasn't the names of this version's tables as `BadBook`. Nothing is written.
+/// Refuses with `OldVersion` if the heading is the only one and states version 1, and with
+/// `BadBook` if the tables don't have the names of today's version. Nothing is written.
 fn tell_version<S: Alter>(conn: &mut Connection<S>, is_book: bool) -> Result<(), Stop>
     requires { IsTrue is_book ↔ IsShapeOf AVersion.Two conn.old.schema }
     ensures tells { Tells S.Store AnyTrees NoneSo conn.old conn.new result }
@@ -130,7 +133,7 @@ fn tell_version<S: Alter>(conn: &mut Connection<S>, is_book: bool) -> Result<(),
     if is_book { Ok(()) } else { Err(BAD_BOOK) }
 }
 
-/// The same, where the store is open. Nothing is written.
+/// Refuses as `tell_version`, and checks first that the connection is open. Nothing is written.
 pub(crate) fn check_version<S: Alter>(conn: &mut Connection<S>) -> Result<(), Stop>
     ensures tells { Tells S.Store AnyTrees NoneSo conn.old conn.new result }
     ensures asks { Asks S.Store conn.old conn.new result }

@@ -1,4 +1,4 @@
-//! What the rows of a text say. The leftmost bad column is refused.
+//! Reads commands from the rows of a text. Refuses the leftmost bad column.
 ghost use Rattle.std.specs.Prelude.{◌≡◌, ◌≢◌, ◌≤◌, map, IfOk, IfSome};
 ghost use Rattle.ob_base.specs.Fields.{unix_second_in, until_in};
 ghost use Rattle.ob_csv.specs.Header.{columns};
@@ -29,29 +29,29 @@ pub enum Kind {
     Switch,
 }
 
-/// What a row after the first says.
+/// The command in a row after the first.
 #[derive(Clone, Copy)]
 pub enum Command {
-    /// A cause, for which a total has no use.
+    /// A cause, which doesn't affect a total.
     Cause,
     /// A bus.
     Bus(Name),
     /// A section and its home feeder.
     Section(Name, u8),
-    /// A device, its two nodes, its normal position and its life.
+    /// A device, its two nodes, its normal position and its in-service interval.
     Device(Name, Name, Name, Pos, Life),
-    /// The life that a device has from now on in the place of the one that it had.
+    /// A new in-service interval that replaces the one that a device had.
     Life(Name, Life),
-    /// A customer's number, section and service.
+    /// A customer's number, section and service interval.
     Connect(u32, Name, Second, Option<Second>),
     /// A device's position from a second on, with cause and crew.
     Switch(Name, Pos, Second, u8, Crew),
 }
 
-/// The longest that a span may be, plus one, in seconds.
+/// One more than the greatest length of a span, in seconds.
 const SPAN_LIMIT: u64 = 1 << 25;
 
-/// The span that the first row says.
+/// Reads the span from the first row.
 pub fn span_in(row: &Row) -> Result<Span, Refusal>
     ensures span { result ≡ span_of row.now }
     ensures valid { IfOk result IsSpan }
@@ -62,7 +62,7 @@ pub fn span_in(row: &Row) -> Result<Span, Refusal>
     }
 }
 
-/// The command that a row after the first says.
+/// Reads the command from a row after the first.
 pub fn command_in(row: &Row) -> Result<Command, Refusal>
     ensures command { result ≡ command_of row.now }
     ensures valid { IfOk result IsCommand }
@@ -125,7 +125,7 @@ fn read_kind(text: &[u8]) -> Option<Kind>
     }
 }
 
-/// The end of a span: above its first second, by less than `SPAN_LIMIT`.
+/// Reads the end of a span: after its first second, by less than `SPAN_LIMIT`.
 fn read_span_end(first: Second, text: &[u8]) -> Option<Second>
     requires { first ≤ 99_999_999_999 }
     ensures end { result ≡ span_end_in first text.now }
@@ -178,7 +178,7 @@ fn read_device(row: &RowFields<'_>) -> Result<Command, Refusal>
     Ok(Command::Device(name, a, b, normal, Life { since, until }))
 }
 
-/// The second node of a device, which isn't the first.
+/// Reads the second node of a device, which isn't the first node.
 fn read_other_node(a: &Name, text: &[u8]) -> Option<Name>
     ensures node { result ≡ other_node_in a.now text.now }
     ensures apart { IfSome result (λ b. a.now ≢ b) }
@@ -201,7 +201,7 @@ fn read_life(row: &RowFields<'_>) -> Result<Command, Refusal>
     complete(Command::Life(name, Life { since, until }), row, 6)
 }
 
-/// The beginning of a life as Unix seconds, 0 where it isn't named.
+/// Reads the beginning of an in-service interval as Unix seconds; 0 if the field is empty.
 fn read_since(text: &[u8]) -> Option<Second>
     ensures { result ≡ since_in text.now }
 {
@@ -223,7 +223,7 @@ fn read_connect(row: &RowFields<'_>) -> Result<Command, Refusal>
     complete(Command::Connect(customer, section, since, until), row, 7)
 }
 
-/// An end of a life or a service as Unix seconds, or none.
+/// Reads the end of an in-service or service interval as Unix seconds, or none.
 fn read_end(text: &[u8]) -> Option<Option<Second>>
     ensures { result ≡ until_in unix_second_in text.now }
 {
@@ -242,7 +242,7 @@ fn read_switch(row: &RowFields<'_>) -> Result<Command, Refusal>
     complete(Command::Switch(device, pos, second, cause, crew), row, 8)
 }
 
-/// The value, where the columns from `first` on are empty.
+/// Returns the value if the columns from `first` on are empty.
 fn complete<T: Copy>(value: T, row: &RowFields<'_>, first: usize) -> Result<T, Refusal>
     requires numbered { 1 ≤ first }
     requires exists { first ≤ columns }
@@ -257,7 +257,7 @@ fn complete<T: Copy>(value: T, row: &RowFields<'_>, first: usize) -> Result<T, R
     Ok(value)
 }
 
-/// The field of a column; columns are numbered from 1.
+/// Returns the field of a column; columns are numbered from 1.
 fn column<'a>(row: &RowFields<'a>, number: usize) -> &'a [u8]
     requires numbered { 1 ≤ number }
     requires exists { number ≤ columns }

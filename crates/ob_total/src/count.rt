@@ -1,4 +1,5 @@
-//! The plain count: one search for each second, one for each customer without supply.
+//! Counts second by second: one search of the network for each second, and one for each customer
+//! without supply.
 ghost use Rattle.std.specs.Prelude.{◌≡◌, ◌<◌, ◌≤◌, [], not, false, length, slice_index_or, IfOk, IfErr};
 ghost use Rattle.std.specs.List.{All, count_by};
 ghost use Rattle.ob_base.specs.Seconds.{seconds};
@@ -19,7 +20,8 @@ use ob_net::Net;
 use ob_sheet::Sheet;
 use std::alloc::Global;
 
-/// The customer-seconds without supply in a span, where `entered` are at first the normal positions.
+/// Counts the customer-seconds without supply in a span. `entered` holds the normal positions at
+/// first.
 pub fn count_seconds(
     alloc: Global,
     net: &mut Net,
@@ -49,7 +51,7 @@ pub fn count_seconds(
     Ok(total)
 }
 
-/// How many customers are without supply at a second, where `entered` are the positions entered up to it.
+/// Counts the customers without supply at a second. `entered` holds the positions entered up to it.
 fn count_second(
     alloc: Global,
     net: &mut Net,
@@ -71,7 +73,7 @@ fn count_second(
     Ok(count_without(customers, second, &supplied))
 }
 
-/// The positions entered, but open where the device isn't alive at a second.
+/// Returns the positions entered, but open for each device that is not in service at this second.
 fn positions_at(alloc: Global, net: &Net, second: Second, entered: &[Pos]) -> Result<Vec<Pos>, Stop>
     requires { length entered.now ≡ length net.now.network.devices }
     ensures positions { IfOk result (λ p. p.items
@@ -85,7 +87,7 @@ fn positions_at(alloc: Global, net: &Net, second: Second, entered: &[Pos]) -> Re
     Ok(positions)
 }
 
-/// How many customers are in service at a second, on a node that isn't supplied.
+/// Counts the customers that are in service at a second, on a node without supply.
 fn count_without(customers: &[Customer], second: Second, supplied: &[bool]) -> u64
     requires { All (λ c. c.section < length supplied.now) customers.now }
     ensures count { result ≡ count_by (λ c. is_without_supply

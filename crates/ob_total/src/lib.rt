@@ -1,8 +1,9 @@
-//! The total of a text: the customer-seconds without supply, counted second by second.
+//! Computes the total of a text: the customer-seconds without supply, counted second by second.
 //!
-//! Reads a span, a network, a roll and a switching sheet from CSV rows, makes one search for each
-//! second of the span and adds up the customers in service without supply. The count stays this
-//! plain: other bodies are compared with it. The program stands above it.
+//! Reads a span, a network, a customer register and a switching log from CSV rows, searches the
+//! network once for each second of the span, and adds up the customers in service without supply.
+//! The count is kept this simple because other implementations are compared with it. The program
+//! uses this crate for `outagebook total`.
 #![tactic(auto)]
 
 mod command;

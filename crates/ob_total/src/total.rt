@@ -1,4 +1,4 @@
-//! The run over a text: from the bytes that are read to the line that is written.
+//! Computes the total of a text, from the bytes that are read to the line that is written.
 ghost use Rattle.std.specs.Prelude.{◌≡◌, ◌≢◌, ◌⊎◌, string_bytes, None, Some, Ok, true, IfOk, IfErr, OnOk};
 ghost use Rattle.std.specs.Io.KnownBytes.{Appends, Keeps};
 ghost use Rattle.ob_base.specs.Stop.{out_of_memory};
@@ -20,25 +20,25 @@ use ob_stream::{Retries, Watched, read_text, write_text};
 use std::alloc::{AllocError, Global};
 use std::io::{Read, Write};
 
-/// Why a run stops, and at which row: 0 is the header, and the rows after it are numbered from 1.
-/// A fault has no row.
+/// Why a run ended early, and at which row: 0 is the header, and the rows after it are numbered
+/// from 1. A fault has no row.
 #[derive(Clone, Copy, Debug, PartialEq, Eq)]
 pub struct TotalStop {
     pub stop: Stop,
     pub row: Option<u32>,
 }
 
-/// Reads a text of a span, a network, customers and a switching sheet, and writes `W n` and LF, where
-/// n is the customer-seconds without supply in the span. It answers n.
+/// Reads a text of a span, a network, customers and a switching log, and writes `W n` and LF. n is
+/// the number of customer-seconds without supply in the span; it is also returned.
 ///
-/// The text is CSV (RFC 4180) of at most `ob_csv::MOST_BYTES` bytes and `ob_csv::MOST_ROWS` rows after
-/// the header.
+/// The text is CSV (RFC 4180) of at most `ob_csv::MOST_BYTES` bytes and `ob_csv::MOST_ROWS` rows
+/// after the header.
 ///
 /// # Errors
 ///
-/// The first refusal in the text with its row; `Fault::Input` where the reader fails or the text is too
-/// long, `Fault::Output` where the writer fails, `Fault::OutOfMemory`. Nothing is written but where
-/// the writer fails, and then no more than a front of the line.
+/// The first refusal in the text with its row; `Fault::Input` if the reader fails or the text is
+/// too long, `Fault::Output` if the writer fails, `Fault::OutOfMemory`. Nothing is written, except
+/// if the writer fails: then at most the beginning of the line.
 pub fn run_total<R: Read, W: Write>(
     alloc: Global,
     reader: &mut Watched<R>,
@@ -103,7 +103,7 @@ fn total_of_rows<R: Read>(
     total_after(rows, row, &mut world)
 }
 
-/// The total of a world and the rows after the span.
+/// The total of the rows after the span. `world` is that of the span.
 fn total_after<R: Read>(
     rows: &mut RowReader<R>,
     row: &mut Row,
@@ -126,7 +126,7 @@ fn total_after<R: Read>(
     total_of_world(world)
 }
 
-/// The next row into `row`, and whether there was one.
+/// Reads the next row into `row`, and returns whether there was one.
 fn take_row<R: Read>(rows: &mut RowReader<R>, row: &mut Row) -> Result<bool, TotalStop>
     ensures takes { IfOk result (λ found. TakesRow (rows_left R.remaining rows.old)
         (rows_left R.remaining rows.new) found row.new) }
@@ -138,7 +138,7 @@ fn take_row<R: Read>(rows: &mut RowReader<R>, row: &mut Row) -> Result<bool, Tot
     }
 }
 
-/// The world of the span that the first row says.
+/// Creates the world of the span in the first row.
 fn begin(alloc: Global, row: &Row) -> Result<World, TotalStop>
     ensures ok { IfOk result (λ world. begun (span_of row.now) ≡ Ok world) }
     ensures stop { IfErr result (λ e. StopsAtRow e.stop e.row 1 (begun (span_of row.now))) }
@@ -153,7 +153,7 @@ fn begin(alloc: Global, row: &Row) -> Result<World, TotalStop>
     }
 }
 
-/// Makes the change of the command that a row says.
+/// Applies the command in a row to the world.
 fn act_row(world: &mut World, row: &Row, number: u32) -> Result<(), TotalStop>
     ensures ok { OnOk result (stepped world.old (command_of row.now) ≡ Ok world.new) }
     ensures stop { IfErr result (λ e. StopsAtRow e.stop e.row number
@@ -181,7 +181,7 @@ fn total_of_world(world: &mut World) -> Result<u64, TotalStop>
     }
 }
 
-/// The line that says a total.
+/// The line with a total.
 fn line_of(alloc: Global, total: u64) -> Result<String, AllocError>
     ensures { IfOk result (λ line. string_bytes line ≡ total_line total) }
 {

@@ -1,4 +1,5 @@
-//! What a text has said so far: the span, the network, the sheet and the roll.
+//! What the rows read so far define: the span, the network, the switching log and the customer
+//! register.
 ghost use Rattle.std.specs.Prelude.{◌≡◌};
 
 use crate::command::{Command, Span};
@@ -10,7 +11,8 @@ use ob_sheet::{MOST_ENTRIES, Sheet};
 use std::alloc::Global;
 use std::marker::Model;
 
-/// The span, and the network, the sheet and the roll that the commands so far have made.
+/// The span, and the network, the switching log and the customer register after the commands so
+/// far.
 #[derive(Drop)]
 pub struct World {
     span: Span,
@@ -43,7 +45,7 @@ impl World {
     ghost use Rattle.ob_total.specs.Worlds.{empty_world, next, customer_seconds_of};
     ghost use Rattle.ob_total.specs.Steps.{StepsAs};
 
-    /// A span, GRID alone, nothing entered and nobody connected.
+    /// Creates a world with this span, GRID as the only node, no entry and no customer.
     pub fn new(alloc: Global, span: Span) -> Result<World, Stop>
         requires { IsSpan span }
         ensures world { IfOk result (λ w. w ≡ empty_world span) }
@@ -58,7 +60,7 @@ impl World {
         })
     }
 
-    /// Makes a command's one change. After an error the world is as before.
+    /// Applies a command. After an error the world is unchanged.
     pub fn act(&mut self, command: &Command) -> Result<(), Stop>
         requires { IsCommand command.now }
         ensures said { StepsAs result self.new (next self.old command.now) }
@@ -79,7 +81,7 @@ impl World {
         }
     }
 
-    /// The customer-seconds without supply in the span, counted second by second.
+    /// Counts the customer-seconds without supply in the span, second by second.
     pub fn count(&mut self) -> Result<u64, Stop>
         ensures total { IfOk result (λ n. n ≡ customer_seconds_of self.old) }
         ensures err { IfErr result (λ stop. stop ≡ out_of_memory) }

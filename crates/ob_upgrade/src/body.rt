@@ -1,4 +1,4 @@
-//! Reading the body texts of version 1, in which nothing was told of a device behind its normal position.
+//! Reads the body texts of version 1. There, the text of a device ends with its normal position.
 ghost use Rattle.std.specs.Prelude.{◌≡◌, ◌↔◌, Some, true, take, IfOk, IfErr};
 ghost use Rattle.ob_base.specs.Stop.{out_of_memory};
 ghost use Rattle.ob_command.specs.Commands.{IsCommand};
@@ -11,9 +11,9 @@ use ob_base::Stop;
 use ob_command::{Command, plain_end, read_body};
 use std::alloc::Global;
 
-/// Reads a body text of version 1. That of a device is today's without `plain_end`, and gives a plain device, which lives
-/// without end from the first second on. None for every text that isn't the body text of a command of version 1. The error is
-/// that memory was refused.
+/// Reads a body text of version 1. The text of a device is today's without `plain_end`; it gives a
+/// device that is in service from the first second on, without end. None for every text that isn't
+/// the body text of a command of version 1. Fails only if an allocation fails.
 pub fn read_old_body(alloc: Global, text: &[u8]) -> Result<Option<Command>, Stop>
     ensures read { IfOk result (λ found. (c : AnyCommand)
         → (found ≡ Some c) ↔ (IsCommand c × (is_old c ≡ true) × (text.now ≡ old_body_text c))) }
@@ -36,7 +36,7 @@ fn read_old_device(alloc: Global, text: &[u8]) -> Result<Option<Command>, Stop>
     Ok(device_alone(read_body(&whole)))
 }
 
-// It, where it is a device of version 1.
+// The command, if it adds a device and is one of version 1.
 fn device_alone(found: Option<Command>) -> Option<Command>
     ensures { result ≡ kept_if is_old_device found }
 {
@@ -48,7 +48,7 @@ fn device_alone(found: Option<Command>) -> Option<Command>
     }
 }
 
-// It, where it is another command of version 1.
+// The command, if it is any other command of version 1.
 fn other_alone(found: Option<Command>) -> Option<Command>
     ensures { result ≡ kept_if is_old_other found }
 {
@@ -72,7 +72,7 @@ fn is_of_device(text: &[u8]) -> bool
     front(text) == b"device ".as_slice()
 }
 
-// The first seven bytes, or all.
+// The first seven bytes, or all if there are fewer.
 fn front(text: &[u8]) -> &[u8]
     ensures { result.now ≡ take 7 text.now }
 {

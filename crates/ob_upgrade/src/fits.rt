@@ -8,9 +8,10 @@ use crate::laws::version_law;
 use ob_command::Command;
 use ob_sheet::Sheet;
 
-/// Whether version 1 had the command, where the sheet is this one: a device lived without end from the first second on, no life
-/// could be set, and once the sheet held an entry, kept or withdrawn, the network took no more parts. Of these commands version
-/// 1 accepted those that are accepted today.
+/// Whether version 1 had this command, over this switching log. In version 1 a device was in
+/// service from the first second on, without end, and no in-service interval could be set. Once the
+/// log held an entry, kept or withdrawn, version 1 refused further buses, sections and devices. Of
+/// the commands that it had, version 1 accepted those that are accepted today.
 pub fn fits_version_one(sheet: &Sheet, command: &Command) -> bool
     ensures fits { result ≡ fits_old sheet.now.entries command.now }
     ensures accepted { (b : BookState) → b.entries ≡ sheet.now.entries
@@ -31,7 +32,7 @@ pub(crate) fn is_old(command: &Command) -> bool
     }
 }
 
-// Whether it adds a part to the network.
+// Whether it adds a bus, a section or a device to the network.
 fn is_part(command: &Command) -> bool
     ensures { result ≡ is_part command.now }
 {

@@ -1,7 +1,7 @@
 //! The jobs on the file of a book.
 //!
-//! A keeper of a file is a large type, and what holds one is proved with all of its parts. So one function opens the file and
-//! closes it, and the jobs are functions over any keeper.
+//! `FileKeeper` is a large type, and a function that holds one is proved with all of its parts. So
+//! only one function opens and closes the file, and the jobs are functions over any keeper.
 ghost use Rattle.ob_jobs.specs.Tasks.{RunsTask};
 ghost use Rattle.outagebook.specs.Opening.{OpensFile};
 
@@ -18,13 +18,14 @@ use sqlite::{Alter, Connection, Error, ErrorCode, FileFrom, FileStore, Unknown};
 use std::fs::File;
 use std::io::{self, Read, Write};
 
-/// A keeper of the book in a file.
+/// The keeper of a book in a file.
 type FileKeeper = Keeper<FileStore<FileFrom<Unknown>>, Windowed>;
 
 /// A job on the book in a file.
 pub(crate) type FileTask<'w> = Task<'w, InputFile<'w>, OutputFile<'w>, Server<'w>>;
 
-/// Opens the file of a book, which only the job that makes a book makes where there is none, and does a job on it.
+/// Opens the file of a book and does a job on it. If there is no file, only the job that creates a
+/// book creates one.
 pub(crate) fn run_on_book(
     rt: &HostRuntime,
     book: &Word,
@@ -46,7 +47,7 @@ pub(crate) fn run_on_book(
     run
 }
 
-/// Does a job over a keeper, and tells it to a writer.
+/// Does a job on a keeper and writes its text to a writer.
 fn run_over<S: Alter, T: Timeline, W: Write>(
     rt: &HostRuntime,
     keeper: &mut Keeper<S, T>,
@@ -63,12 +64,12 @@ fn run_over<S: Alter, T: Timeline, W: Write>(
     run_task(rt.alloc(), keeper, task, &mut telling, writer)
 }
 
-/// Whether there is such a file, which can be read. The store makes one where there is none.
+/// Whether there is such a file and it can be read. The store would create a missing one.
 fn is_there(rt: &HostRuntime, book: &Word) -> bool {
     File::open(rt, book.as_str()).is_ok()
 }
 
-/// Opens the file of a book, which is made where there is none.
+/// Opens the file of a book, or creates it if there is none.
 fn keeper_of(rt: &HostRuntime, book: &Word) -> Result<FileKeeper, Stop>
     ensures { OpensFile result }
 {
@@ -81,12 +82,13 @@ fn keeper_of(rt: &HostRuntime, book: &Word) -> Result<FileKeeper, Stop>
     }
 }
 
-/// Copies what was committed from the log beside the file into the file. Where that fails, the log keeps it.
+/// Copies what was committed from the log next to the file into the file. If that fails, it stays
+/// in the log.
 fn fold(keeper: FileKeeper) {
     let _ = keeper.into_connection().close();
 }
 
-/// Refuses a period that can't be, so that no file is made for it.
+/// Refuses an impossible period, so that no file is created for it.
 pub(crate) fn look_at_period(
     rt: &HostRuntime,
     first: &Word,

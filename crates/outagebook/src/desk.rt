@@ -11,7 +11,7 @@ use ob_sweep::Timeline;
 use sqlite::Alter;
 use std::net::{Ipv4Addr, TcpListener};
 
-/// Tells on standard error the faults that ended streams.
+/// Prints on standard error the faults that ended streams.
 #[derive(Drop)]
 struct Complaints<'r> {
     rt: &'r HostRuntime,
@@ -27,8 +27,8 @@ impl FaultLog for Complaints<'_> {
     }
 }
 
-/// Serves a book over HTTP at a port of 127.0.0.1, so many streams one after another, and tells at which port: with 0 it is one
-/// that was free.
+/// Serves a book over HTTP at a port of 127.0.0.1, a given number of streams one after another, and
+/// prints the port. If the given port is 0, it takes a free one.
 #[derive(Drop)]
 pub(crate) struct Server<'r> {
     pub(crate) rt: &'r HostRuntime,
@@ -59,7 +59,7 @@ impl<S: Alter, T: Timeline> ServeBook<S, T> for Server<'_> {
     }
 }
 
-/// How a desk's end stops the job.
+/// Returns how the end of the desk ends the job.
 fn stop_of(end: Result<(), Unserved>) -> Result<(), Stop>
     ensures { result ≡ stop_of_end end }
 {
@@ -69,7 +69,7 @@ fn stop_of(end: Result<(), Unserved>) -> Result<(), Stop>
     }
 }
 
-/// Binds a port of this machine alone, and tells it.
+/// Binds a port on 127.0.0.1, which only this machine reaches, and prints it.
 fn listen(rt: &HostRuntime, port: u16) -> Result<TcpListener, Stop>
     ensures { IsPortTaken result }
 {

@@ -1,8 +1,9 @@
-//! The program `outagebook`: it reads its words and runs the job that they name.
+//! The program `outagebook`: it reads its arguments and does the job that they name.
 //!
-//! It ends with status 0 where the job was done or told its version, 1 after a fault, 2 after a refusal and 64 where the
-//! words name no job. The jobs themselves are public functions over readers and writers, and their
-//! contracts say what they do; nothing stands above this crate.
+//! The exit status is 0 if the job was done, or help or the version was printed. It is 1 after a
+//! fault, 2 after a refusal or an audit that found a difference, and 64 if the arguments name no
+//! job. The jobs are public functions of `ob_jobs`, `ob_desk` and `ob_total` over readers and
+//! writers, and their contracts define what they do. No crate uses this one.
 #![tactic(auto)]
 
 mod books;
@@ -54,7 +55,7 @@ fn main(rt: HostRuntime) -> ExitCode {
     ExitCode::from(status_of_run(&tell_end(rt, run)))
 }
 
-/// The job that the words of the command line name.
+/// Returns the job that the arguments of the command line name.
 fn job_of<R: Env + AllocGlobal>(rt: &R) -> Result<Job, WrongWords> {
     let words = match words_of(rt) {
         Ok(words) => words,
@@ -66,7 +67,7 @@ fn job_of<R: Env + AllocGlobal>(rt: &R) -> Result<Job, WrongWords> {
     }
 }
 
-/// Makes the book of a period.
+/// Creates the book of a period.
 fn init(
     rt: &HostRuntime,
     book: &Word,
@@ -79,7 +80,7 @@ fn init(
     run_on_book(rt, book, Task::Init { first, days, zone })
 }
 
-/// The words of the command line, the program's name first.
+/// Returns the arguments of the command line, the program's name first.
 fn words_of<R: Env + AllocGlobal>(rt: &R) -> io::Result<Vec<String>> {
     Ok(env::args(rt)?.collect(rt.alloc())?)
 }
@@ -88,7 +89,7 @@ fn texts_of(alloc: Global, words: &[String]) -> Result<Vec<&str>, AllocError> {
     words.iter().map(|word| word.as_str()).collect(alloc)
 }
 
-/// Why the words can't be read: they are no texts, or there was no memory for them.
+/// Returns why the arguments can't be read: they are not valid texts, or an allocation failed.
 fn unread_words(alloc: Global, error: &io::Error) -> WrongWords {
     if error.kind() == io::ErrorKind::OutOfMemory {
         return WrongWords::Fault(Fault::OutOfMemory);
@@ -109,8 +110,8 @@ fn total<R: Input + Print + AllocGlobal>(rt: &R) -> Result<(), Unfinished> {
     }
 }
 
-/// Tells help or the version on standard output, or on standard error why the job wasn't done. It answers
-/// the run as it was, but a text asked for that can't be printed is a fault.
+/// Prints help or the version on standard output, or on standard error why the job wasn't done.
+/// Returns the run unchanged, except that a help or version text that can't be printed is a fault.
 fn tell_end<R: Print + Eprint + AllocGlobal>(
     rt: &R,
     run: Result<(), Unfinished>,
@@ -130,13 +131,13 @@ fn tell_end<R: Print + Eprint + AllocGlobal>(
             tell_stop(rt, &Stop::Fault(*fault), None);
         }
         Err(Unfinished::Stopped(stop, row)) => tell_stop(rt, stop, *row),
-        // The audit has told it.
+        // The audit has printed it.
         Err(Unfinished::Differs) => {}
     }
     run
 }
 
-/// Tells why a job stopped.
+/// Prints why a job ended early.
 pub(crate) fn tell_stop<R: Eprint + AllocGlobal>(rt: &R, stop: &Stop, row: Option<u32>) {
     if let Ok(line) = complaint_of(rt.alloc(), stop, row) {
         let _ = eprintln!(rt; "{line}");

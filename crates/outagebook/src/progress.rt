@@ -1,21 +1,22 @@
-//! How far a long work is, told on a terminal.
+//! Shows the progress of long work on a terminal.
 use ob_jobs::{Progress, Work};
 use std::io::IsTerminal;
 use std::time::Instant;
 
-// The line is written anew after so many milliseconds at least.
+// The shortest time between two updates of the line, in milliseconds.
 const PAUSE: u128 = 200;
-// The steps of so many milliseconds at least, and at most twice as many, tell how fast the others will go.
+// The time left is estimated from the steps of at least this many milliseconds, and at most twice
+// as many.
 const LATELY: u128 = 5_000;
 
-// A moment of a work, and how many of its steps were done by then.
+// A moment, and the number of steps done by then.
 #[derive(Clone, Copy)]
 struct Mark {
     at: Instant,
     step: u32,
 }
 
-// When the line was written last, and two moments before it, apart by what counts as lately.
+// When the line was last written, and two earlier moments, at least `LATELY` milliseconds apart.
 #[derive(Clone, Copy)]
 struct Times {
     written: Instant,
@@ -23,16 +24,17 @@ struct Times {
     newer: Mark,
 }
 
-/// Tells on standard error, where that is a terminal, what is under way: that a book is opened, how many of its commands were
-/// led along or how many rows of a text have acted, of about how many, and about how long the others will take, and that tables
-/// are compared. It is one line, written anew five times a second at most while steps are counted, which is cleared in the end.
-/// Elsewhere it tells nothing.
+/// Shows on standard error what is being done, if that is a terminal. It shows that a book is being
+/// opened or its tables compared, or how many commands were replayed or rows applied. With these
+/// counts it shows about how many there are and about how long the rest will take. It is a single
+/// line, rewritten at most five times a second while steps are counted, and cleared at the end.
+/// Shows nothing if standard error is no terminal.
 #[derive(Drop)]
 pub(crate) struct Telling<'r> {
     rt: &'r HostRuntime,
-    // None where nothing is told.
+    // None if nothing is shown.
     times: Option<Times>,
-    // What a step is called.
+    // The name of a step.
     step: &'static str,
     // About how many steps there are.
     steps: u64,
@@ -40,7 +42,7 @@ pub(crate) struct Telling<'r> {
 }
 
 impl Telling<'_> {
-    /// Nothing is told yet.
+    /// Creates it with nothing shown yet.
     pub(crate) fn new(rt: &HostRuntime) -> Telling<'_> {
         Telling {
             rt,
@@ -51,7 +53,7 @@ impl Telling<'_> {
         }
     }
 
-    // The line with a text.
+    // Writes the line with this text.
     fn write(&mut self, text: &str) {
         let _ = eprint!(self.rt; "\r{text}\x1b[K");
         self.is_written = true;
@@ -103,7 +105,7 @@ impl Progress for Telling<'_> {
     }
 }
 
-// The times of a work that begins now.
+// The times of work that begins now.
 fn first_times(now: Instant) -> Times {
     let mark = Mark { at: now, step: 0 };
     Times {
@@ -113,7 +115,7 @@ fn first_times(now: Instant) -> Times {
     }
 }
 
-// The times once the line was written now, after so many steps.
+// The times after the line was written now, at this step.
 fn moved_on(times: Times, now: Instant, step: u32) -> Times {
     if now.duration_since(times.newer.at).as_millis() < LATELY {
         return Times {
@@ -128,7 +130,7 @@ fn moved_on(times: Times, now: Instant, step: u32) -> Times {
     }
 }
 
-/// How many seconds the steps that are left take, if they go as those since a moment did.
+/// Returns how many seconds the remaining steps will take at the speed since an earlier moment.
 fn seconds_left(since: &Mark, now: Instant, step: u32, steps: u64) -> u128 {
     let millis = now.duration_since(since.at).as_millis();
     let done = u128::from(step.saturating_sub(since.step));
