@@ -1,4 +1,4 @@
-//! The annual table.
+//! Tests of the annual table.
 ghost use Rattle.ob_index.specs.Short.{AreShort};
 
 use crate::made::period_of;
@@ -13,7 +13,7 @@ fn name(rt: &impl Abort, text: &[u8]) -> Name {
     Name::read(text).expect(rt, "a name")
 }
 
-// What ten customers in service for a day come to, five of them without supply for half an hour.
+// The indices of ten customers in service for a day, five of them without supply for half an hour.
 fn half_an_hour() -> Indices
     ensures { AreShort result }
 {
@@ -27,7 +27,7 @@ fn half_an_hour() -> Indices
     indices(&counts, 864_000, 86_400)
 }
 
-// What no customers come to over three days.
+// The indices of three days without customers.
 fn nobody() -> Indices
     ensures { AreShort result }
 {
