@@ -1,5 +1,5 @@
-//! Readers and writers that are interrupted many times: a stream has 65,536 tries more in all, whichever request and whichever
-//! of the two they are spent on.
+//! Tests of readers and writers that are interrupted many times: a stream has 65,536 retries in
+//! all, shared by all its requests and by the reader and the writer.
 use crate::desk::{Stream, over_a_book};
 use crate::exchange::Streams;
 use crate::streams::{WHOLE, Way};
@@ -19,7 +19,8 @@ HTTP/1.1 200 OK\r\nContent-Type: application/json\r\nContent-Length: 19\r\n\r\n{
 HTTP/1.1 200 OK\r\nContent-Type: application/json\r\nContent-Length: 19\r\nConnection: close\r\n\r\n\
 {\"moved\":[],\"no\":2}";
 
-// The stream of both requests, one a read, where each read is interrupted so many times and each reply so many.
+// The stream of both requests, one a read, with `reads` interruptions of each read and `writes` of
+// each reply.
 fn interrupted(
     reads: u32,
     writes: u32,
@@ -42,7 +43,8 @@ fn interrupted(
     }
 }
 
-// 65,536 interruptions are got over, and not two or four more: of two reads, of two replies, and of both.
+// A stream survives 65,536 interruptions, but not two or four more: of two reads, of two replies,
+// and of both.
 #[test]
 fn interrupted_in_two_requests(rt: HostRuntime) -> Result<(), AllocError> {
     let rows = &[

@@ -43,7 +43,7 @@ fn comes_to_its_end(rt: &impl Abort, alloc: Global, task: Task) {
     assert!(rt; has(third, COMMANDS));
 }
 
-// Answers whether at least this much is kept.
+// Answers whether the amount that is certainly kept is `least`.
 fn has(kept: Option<Kept>, least: u32) -> bool {
     match kept {
         Some(kept) => kept.least == least,
