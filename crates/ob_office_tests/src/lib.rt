@@ -1,10 +1,12 @@
-//! Tests of imports into a book, of exports from one and of the program's jobs, over a store in memory: what is added, what is
-//! there already, which row stops, and what readers, writers and sinks that fail leave behind; what each job tells, the status
-//! that it ends with, and when an input is opened; and files of version 1, which are made files of version 2 first.
+//! Tests of imports into a book, of exports from one and of the program's jobs, over a store in
+//! memory. They cover what is added, what is there already, which row stops an import, and what
+//! readers, writers and sinks that fail leave; what each job prints, its exit status, and when an
+//! input is opened; and files of version 1, which are migrated to version 2 first.
 //!
-//! It holds tests alone. The reports, rows, lines and amounts are worked out by hand from the definitions; annual tables, and
-//! the moves of the sample fortnight, are those of the plain model in `benches/`. The files of version 1 were made by the
-//! program of that version, and their tables were printed by it.
+//! This crate holds only tests, and no other crate uses it. The reports, rows, lines and amounts
+//! are worked out by hand from the definitions. The annual tables, and the moves of the sample
+//! fortnight (examples/fortnight/), are those of the plain model in `benches/`. The program of
+//! version 1 made the files of version 1 and printed their tables.
 #![tactic(auto)]
 
 #[cfg(test)]
