@@ -1,5 +1,5 @@
 //! The outage intervals of a year, updated in windows while devices get other in-service intervals
-//! (lives).
+//! (lives). The window of a change is the seconds in which the change can alter the supply.
 ghost use Rattle.std.specs.Prelude.{◌≡◌, ◌⊎◌, IfSome, length};
 ghost use Rattle.bench_calls.specs.Builds.{case_of};
 ghost use Rattle.bench_calls.specs.Lives.{AddsUpLives, HasRuns, life_from, with_lives, with_one_life};

@@ -12,8 +12,9 @@ use ob_time::Period;
 use std::alloc::Global;
 
 /// Replays a year on a book of the 366 days from 2024-01-01 in UTC, whose outage intervals are
-/// updated in windows. The text has the body texts of its commands, each followed by a line feed.
-/// It answers all customer-seconds without supply, and writes how often the network was searched.
+/// updated in windows (`Windowed`). The text has the body texts of its commands, each followed by a
+/// line feed. It answers all customer-seconds without supply, and writes how often the network was
+/// searched.
 ///
 /// It answers 0 if memory is refused, if a line is no command, or if a command isn't accepted in
 /// its turn.

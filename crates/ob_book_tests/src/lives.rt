@@ -63,7 +63,7 @@ const AFTER_OUTAGE: &'static [(&'static str, u64)] = &[
     (CLOSED_BEFORE_ITS_LIFE, 9_000),
 ];
 
-// The tie's life ends while the tie supplies S2; then the life gets no end again.
+// The tie's life ends while the tie supplies S2; then the life is set without an end.
 const TIE_STAYS: &'static str = "\
 life T1 0 1704073200 => cause 0 241200, feeder 1 241200, day 0 241200
 life T1 0 - => cause 0 -241200, feeder 1 -241200, day 0 -241200

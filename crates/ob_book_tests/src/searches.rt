@@ -8,7 +8,7 @@ use std::alloc::Global;
 use std::process::Abort;
 use std::test::Fail;
 
-// Checks that after a script on the two feeders a line takes at most so many searches.
+// Checks that after a script on the two feeders a line takes at most `most` searches.
 fn takes<'t>(
     rt: &impl Abort,
     alloc: Global,
@@ -100,7 +100,8 @@ fn many(alloc: Global) -> Result<String, Fail> {
     Ok(script)
 }
 
-// The window of the correction contains only the closing itself and the next opening.
+// The window of the correction (the seconds in which it can alter the supply) contains only the
+// closing itself and the next opening.
 fn correct_one(rt: &impl Abort, alloc: Global) -> Result<(), Fail> {
     let script = many(alloc)?;
     let line = "correct 400 1 close 1704087240 3 K1 => cause 3 -50, feeder 2 -50, day 0 -50";

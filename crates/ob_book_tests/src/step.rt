@@ -15,8 +15,8 @@ pub enum Step<'t> {
     Take(&'t str),
     /// Applies the commands of a script, whatever they move.
     Enter(&'t str),
-    /// Applies the lines of a script, for which the book that finds outage intervals in windows
-    /// searches its network at most so often; adopting searches nothing.
+    /// Applies the lines of a script. The book that finds outage intervals in windows may search
+    /// its network at most this often for them; adopting searches nothing.
     Within(&'t str, u128),
     /// Checks the totals, that both books have the same outage intervals, and that a replay of the
     /// accepted commands shows the same.

@@ -110,8 +110,8 @@ fn heads_that_are_refused(rt: HostRuntime) -> Result<(), AllocError> {
 // The front of a request without its last line.
 const FRONT: &'static [u8] = b"GET /nothing HTTP/1.1\r\nHost: a\r\n";
 
-// A target whose first 16,384 bytes have no end, and one that is cut a byte earlier; 63 field lines
-// next to Host, and 64.
+// A request line whose first 16,384 bytes have no end, and one that is cut a byte earlier; a head
+// with 63 field lines next to Host, and one with 64.
 const BOUNDS: &[Row] = &[
     (
         Ask::Many((b"GET /", b"a", 16_379, b"")),

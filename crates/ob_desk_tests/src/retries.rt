@@ -7,7 +7,8 @@ use crate::texts::FIRST;
 use ob_base::Fault;
 use std::alloc::AllocError;
 
-// Two causes in requests of equal length, after the second of which the connection ends; and their replies.
+// Two causes in requests of equal length, and their replies; the second request ends the
+// connection.
 const BOTH: &'static [u8] = b"\
 POST /commands HTTP/1.1\r\nHost: localhost\r\nContent-Length: 49\r\nUser-Agent: tests\r\n\r\n\
 {\"kind\":\"cause\",\"ref\":\"R1\",\"f1\":\"3\",\"f2\":\"STORM\"}\

@@ -5,7 +5,7 @@ use ob_base::Fault;
 use std::alloc::{AllocError, Global};
 use std::process::Abort;
 
-/// A front, a middle text, how often it is repeated, and an end.
+/// A front, a middle text, the number of its repetitions, and an end.
 pub type Many = (&'static [u8], &'static [u8], u32, &'static [u8]);
 
 /// The bytes of a stream.

@@ -110,7 +110,8 @@ fn table_of_one_day(rt: HostRuntime) -> Result<(), Fail> {
     Ok(())
 }
 
-// The beginning of the table of three days without customers, two of them marked, and the last line.
+// The beginning of the table of three days without customers, two of them marked, and its last
+// line.
 const DAYS: &[u8] = b"OUTAGE BOOK 2024-02-28 days 3 zone UTC0
 P 259200 S 0 W 1
 day 2024-02-28                                   0 marked

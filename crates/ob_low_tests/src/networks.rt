@@ -172,7 +172,7 @@ fn a_device_is_taken_back(rt: HostRuntime) -> Result<(), Fail> {
     tie_anew(&rt, &mut net)
 }
 
-// Adds a node that must not be refused.
+// Adds a node, which may not be refused.
 fn put_node(net: &mut Net, name: Name, feeder: u8) -> Result<(), Stop>
     requires { 1 ≤ feeder }
 {
@@ -187,7 +187,7 @@ fn put_node(net: &mut Net, name: Name, feeder: u8) -> Result<(), Stop>
     Ok(())
 }
 
-// Adds a device that must not be refused, and answers the numbers of its ends.
+// Adds a device, which may not be refused, and answers the numbers of its ends.
 fn put_device(net: &mut Net, device: &NewDevice) -> Result<(u16, u16), Stop> {
     let (a, b) = (device.ends.a(), device.ends.b());
     net.reserve_one()?;

@@ -64,7 +64,7 @@ fn reads_none(
     assert!(rt; reader.has_failed() == failed);
 }
 
-// Reads the text with so many bytes a read, within a limit.
+// Reads the text with at most `step` bytes a read, within a limit.
 fn reads_by_steps(rt: &impl Abort, alloc: Global, rows: &[(usize, usize)]) {
     for (step, limit) in rows {
         let mut reader = source_of(TEXT, *step, Interrupted::Never);
@@ -126,7 +126,7 @@ fn two_texts_are_read_with_one_interruption(rt: HostRuntime) {
     }
 }
 
-// Writes the text with so many bytes a write.
+// Writes the text with at most `step` bytes a write.
 fn writes(rt: &impl Abort, alloc: Global, step: usize) {
     let mut writer = sink_of(alloc, step, 100, None);
     assert!(rt; write_text(&mut writer, &mut Retries::new(), TEXT) == Ok(()));

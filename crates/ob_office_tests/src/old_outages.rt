@@ -1,7 +1,8 @@
 //! A small book of version 1, made by the program of that version: the file that it left, and what
 //! it printed.
 
-/// The file, as text: three outages and a momentary one on two feeders with a tie, a correction and a marked day.
+/// The file, as text: three outages and a momentary one on two feeders with a tie, a correction and
+/// a marked day.
 pub const OUTAGES_FILE: &'static str = "\
 CREATE TABLE meta (id INTEGER PRIMARY KEY CHECK (id = 1), version INTEGER NOT NULL, day0 TEXT NOT NULL, days \
     INTEGER NOT NULL, zone TEXT NOT NULL) STRICT;

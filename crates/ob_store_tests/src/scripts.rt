@@ -95,7 +95,7 @@ N23 connect 11 S9 1704067200 - => 23: cause 0 86400, feeder 9 86400, day 0 86400
 ";
 
 /// After the outage: the tie's life ends while the tie supplies S2, which is sent twice; then the
-/// life gets no end again.
+/// life is set without an end.
 pub const TIE_STAYS: &'static str = "\
 N26 life T1 0 1704073200 => 26: cause 0 241200, feeder 1 241200, day 0 241200
 N26 life T1 0 1704073200 => 26: cause 0 241200, feeder 1 241200, day 0 241200

@@ -50,9 +50,10 @@ pub struct Built {
 }
 
 /// Lives of devices, the commands of the switching log, and the effect of one more command: the
-/// searches it takes on a timeline that finds outage intervals from scratch and on the one that
-/// finds them in windows, the sections that it touches, and the outage intervals of the sections S1
-/// to S5 after it.
+/// searches it takes on a timeline that finds outage intervals from scratch (`Scratch`) and on one
+/// that finds them in windows (`Windowed`), the sections that it touches, and the outage intervals
+/// of the sections S1 to S5 after it. The window of a change is the seconds in which the change can
+/// alter the supply.
 #[derive(Clone, Copy)]
 pub struct Case {
     pub title: &'static str,

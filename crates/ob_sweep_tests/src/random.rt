@@ -77,14 +77,14 @@ impl Random {
         })
     }
 
-    // A command that gives another life to one of so many devices.
+    // A command that gives another life to one of this many devices.
     fn other_life(&mut self, devices: u16) -> Option<Command> {
         let device = Name::read(self.name(devices)?.as_bytes())?;
         let life = self.life()?;
         Some(Command::Life { device, life })
     }
 
-    // A command that adds the device with this number between two of so many nodes.
+    // A command that adds the device with this number between two of this many nodes.
     fn device(&mut self, number: u16, nodes: u16) -> Option<Command> {
         let name = name_at(&DEVICES, u64::from(number))?;
         let ends = self.ends(nodes)?;
@@ -105,7 +105,7 @@ impl Random {
         Ends::new(name_at(&NODES, a)?, name_at(&NODES, b)?)
     }
 
-    // The name of one of so many devices.
+    // The name of one of this many devices.
     fn name(&mut self, devices: u16) -> Option<&'static str> {
         let number = self.below(u64::from(devices.max(1))) as usize;
         DEVICES.get(number).copied()

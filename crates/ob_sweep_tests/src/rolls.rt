@@ -108,7 +108,7 @@ fn revises_the_service_of_one_customer(rt: HostRuntime) -> Result<(), Fail> {
     Ok(())
 }
 
-// Connects a customer that must not be refused, and ends its service at a second.
+// Connects a customer, which may not be refused, and ends its service at a second.
 fn add_and_serve(
     rt: &impl Abort,
     roll: &mut Roll,

@@ -11,7 +11,7 @@ use ob_time::{CivilDays, Period};
 use std::alloc::Global;
 use std::test::Fail;
 
-/// A period of so many days in UTC from the date of the first one.
+/// A period of this many days in UTC from the date of the first one.
 pub fn period_of(alloc: Global, first: &[u8], days: u16) -> Result<Period, Fail> {
     Ok(Period::from_text(alloc, first, days, b"UTC0")?)
 }

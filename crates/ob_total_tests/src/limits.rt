@@ -1,4 +1,4 @@
-//! Tests of the most rows, nodes, devices, customers and entries.
+//! Tests of the limits on rows, nodes, devices, customers and entries.
 use crate::commands::FEEDER;
 use crate::script::script;
 use std::alloc::{AllocError, Global};

@@ -32,7 +32,8 @@ fn show_rest<R: Read>(
     Ok(())
 }
 
-// A row with a field for each column, each field in `<>`, an empty one as `.`; any other row as `-`.
+// Shows a row with a field for each column by its fields, each in `<>`, an empty one as `.`; any
+// other row as `-`.
 fn show(row: &Row, out: &mut Vec<u8>) -> Result<(), Stop> {
     let Some(fields) = row.fields() else {
         out.push(b'-')?;

@@ -114,8 +114,8 @@ fn readers_that_fail(rt: HostRuntime) {
     }
 }
 
-// Answers whether `total` stops with an output fault for a writer with room for so many bytes,
-// after it wrote that many.
+// Answers whether `total` stops with an output fault for a writer with room for `room` bytes, after
+// it wrote that many.
 fn stops_for_output(alloc: Global, room: usize, full: Option<ErrorKind>) -> bool {
     let line = b"W 10\n".as_slice();
     let mut reader = Watched::new(SMALL);

@@ -58,8 +58,8 @@ fn first_run_and(rt: &impl Abort, alloc: Global, rows: &str, wanted: &str) -> Re
     says(rt, alloc, text.as_bytes(), wanted)
 }
 
-// The tie's life ends at 6000, so three customers lose supply for 4,000 seconds; then the life gets
-// no end again.
+// The tie's life ends at 6000, so three customers lose supply for 4,000 seconds; then the life is
+// set without an end.
 #[test]
 fn first_run_without_its_tie(rt: HostRuntime) -> Result<(), Fail> {
     let ends = "life,L1,T1,,6000,,,\n";
