@@ -44,8 +44,8 @@ fn interrupted(
     }
 }
 
-// A stream survives 65,536 interruptions, but not two or four more: of two reads, of two replies,
-// and of both.
+// A stream goes on after 65,536 interruptions, but not after two or four more: of two reads, of two
+// replies, and of both.
 #[test]
 fn interrupted_in_two_requests(rt: HostRuntime) -> Result<(), AllocError> {
     let rows = &[

@@ -1,14 +1,10 @@
 //! Lists of calls on the storage layer (`Keeper`), proved from the contracts of its public calls
-//! alone. Nothing here is part of the program: this crate is what a client of the storage layer can
-//! prove, and no other crate uses it.
-//!
-//! Each function is one call or a short list of calls, imports and served streams among them. Its
-//! contract states what the call makes of a book that the store may have, and the laws join calls
-//! into lists. The calls may have crashes between any two of them, each followed by a new `Keeper`
-//! over what the crash left. On a disk that returns what was written, the store then has a book,
-//! and a load finds it. The book contains each acknowledged command, in the order in which they
-//! were sent, and the commands of the rows that an import counted. It may contain any of the
-//! commands that a store fault left in doubt.
+//! alone. This crate is not a part of the program: it is what a client of the storage layer can
+//! prove, and no other crate uses it. Laws join calls, imports and served streams into lists;
+//! between any two calls there may be a crash, followed by a new `Keeper` over what it left. On a
+//! disk that returns what was written, a load then finds a book. The book contains each
+//! acknowledged command, in the order in which they were sent, and the commands of the rows that an
+//! import counted. It may also contain commands that a store fault left in doubt.
 #![tactic(auto)]
 
 mod calls;

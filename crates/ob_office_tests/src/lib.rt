@@ -1,12 +1,11 @@
 //! Tests of imports into a book, of exports from one and of the program's jobs, over a store in
-//! memory. They cover what is added, what is there already, which row stops an import, and what
-//! readers, writers and sinks that fail leave; what each job prints, its exit status, and when an
-//! input is opened; and files of version 1, which are migrated to version 2 first.
-//!
-//! This crate holds only tests, and no other crate uses it. The reports, rows, lines and amounts
-//! are worked out by hand from the definitions. The annual tables, and the moves of the sample
-//! fortnight (examples/fortnight/), are those of the plain model in `benches/`. The program of
-//! version 1 made the files of version 1 and printed their tables.
+//! memory: what is added or there already, which row stops an import, what failing readers, writers
+//! and sinks leave, what each job prints, its exit status, when an input is opened, and the
+//! migration of files of version 1. The reports, rows, lines and amounts are worked out by hand
+//! from the definitions. The annual tables, and the moves of the sample fortnight
+//! (examples/fortnight/), are those of the plain model in `benches/`. The program of version 1 made
+//! the files of version 1 and printed their tables. This crate holds only tests, and no other crate
+//! uses it.
 #![tactic(auto)]
 
 #[cfg(test)]

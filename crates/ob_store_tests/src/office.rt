@@ -15,8 +15,7 @@ pub const BAD_BOOK: Result<(), Stop> = Err(Stop::Refused(Refusal::BadBook));
 /// The tables are those of a book of version 1.
 pub const OLD_VERSION: Result<(), Stop> = Err(Stop::Refused(Refusal::OldVersion(1)));
 
-/// The tables aren't those of a book of version 1, and neither are the migrated ones those of
-/// version 2.
+/// The tables aren't those of a book of version 1, and their version isn't 2 either.
 pub const NO_OLD_BOOK: Result<bool, Stop> = Err(Stop::Refused(Refusal::BadBook));
 
 /// The answer to a call that needs a book while there is none.

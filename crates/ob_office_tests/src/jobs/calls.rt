@@ -158,8 +158,7 @@ pub fn lacks_export<S: Alter, T: Timeline>(alloc: Global, keeper: &mut Keeper<S,
     run == Err(REOPEN) && is_silent
 }
 
-/// Answers whether the annual table isn't printed because there is no book, and nothing else is
-/// either.
+/// Answers whether printing the annual table stops because there is no book, and writes nothing.
 pub fn lacks_table<S: Alter, T: Timeline>(alloc: Global, keeper: &mut Keeper<S, T>) -> bool {
     let mut told = Watched::new(Sink::new(alloc, 100, FULL));
     let run = run_table(keeper, &mut told);
