@@ -6,9 +6,9 @@ pub type Span = (&'static [u8], u16, &'static [u8]);
 /// The first day of 2024 in UTC.
 pub const ONE_DAY: Span = (b"2024-01-01", 1, b"UTC0");
 
-/// A step. A line of a script is the body text of a command, ` => `, and the amounts that it has to
-/// move, as `cause 3 600, feeder 1 600, day 0 600`, or its refusal, as `Stale 2`; a body text alone
-/// has to move nothing.
+/// A step. A line of a script is the body text of a command, ` => `, and the expected result. The
+/// result is the moved amounts, as `cause 3 600, feeder 1 600, day 0 600`, or the refusal, as
+/// `Stale 2`. A body text alone has to move nothing.
 #[derive(Clone, Copy)]
 pub enum Step<'t> {
     /// Applies the lines of a script and checks what they move.

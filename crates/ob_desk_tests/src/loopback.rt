@@ -32,8 +32,9 @@ const CUT: &'static [u8] = b"POST /commands HTTP/1.1\r\nHost: a\r\nContent-Lengt
 type Client = (&'static [u8], bool, Option<&'static [u8]>);
 
 // Clients that have written, one after the other, before the desk serves this number of streams, or
-// all; how the service ends; the number of recorded faults, and the last one; whether a client is
-// left, whose stream can still be accepted; and the number of commands that the book then has.
+// all, and how the service ends. Then the number of recorded faults, and the last one; whether a
+// client is left, whose stream can still be accepted; and the number of commands that the book then
+// has.
 #[derive(Drop)]
 struct Case {
     clients: &'static [Client],

@@ -1,5 +1,5 @@
 //! Tests of periods and their days. Expected seconds are those of GNU `date` (`TZ=RULE date -d
-//! "DATE 00:00" +%s`) and of Python's `zoneinfo`, or are worked out by hand: the second of a
+//! "DATE 00:00" +%s`) and of Python's `zoneinfo`, or are worked out by hand. The second of a
 //! midnight is 86,400 for each day from 1970-01-01 on, less the offset in seconds east of UTC.
 use jiff::civil::Date;
 use jiff::tz::TimeZone;

@@ -1,11 +1,10 @@
 //! Tests of imports into a book, of exports from one and of the program's jobs, over a store in
-//! memory: what is added or there already, which row stops an import, what failing readers, writers
-//! and sinks leave, what each job prints, its exit status, when an input is opened, and the
-//! migration of files of version 1. The reports, rows, lines and amounts are worked out by hand
-//! from the definitions. The annual tables, and the moves of the sample fortnight
-//! (examples/fortnight/), are those of the plain model in `benches/`. The program of version 1 made
-//! the files of version 1 and printed their tables. This crate holds only tests, and no other crate
-//! uses it.
+//! memory: reports, refused rows, failing readers, writers and sinks, printed lines and exit
+//! statuses. Also when a job opens its input, and the migration of files of version 1. The reports,
+//! rows, lines and amounts are worked out by hand from the definitions. The annual tables, and the
+//! moves of the sample fortnight (examples/fortnight/), are those of the plain model in `benches/`.
+//! The program of version 1 made the files of version 1 and printed their tables. This crate holds
+//! only tests, and no other crate uses it.
 #![tactic(auto)]
 
 #[cfg(test)]

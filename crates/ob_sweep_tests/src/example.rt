@@ -49,11 +49,11 @@ pub struct Built {
     pub runs: &'static str,
 }
 
-/// Lives of devices, the commands of the switching log, and the effect of one more command: the
-/// searches it takes on a timeline that finds outage intervals from scratch (`Scratch`) and on one
-/// that finds them in windows (`Windowed`), the sections that it touches, and the outage intervals
-/// of the sections S1 to S5 after it. The window of a change is the seconds in which the change can
-/// alter the supply.
+/// Lives of devices, the commands of the switching log, and the effect of one more command. The
+/// effect is the searches, the touched sections, and the outage intervals of the sections S1 to S5
+/// afterwards. There are two numbers of searches: on a timeline that finds outage intervals from
+/// scratch (`Scratch`), and on one that finds them in windows (`Windowed`). The window of a change
+/// is the seconds in which the change can alter the supply.
 #[derive(Clone, Copy)]
 pub struct Case {
     pub title: &'static str,
@@ -180,8 +180,8 @@ pub fn build(rt: &impl Abort, alloc: Global, cases: &[Built]) -> Result<(), Fail
 }
 
 // The effect of a change: the searches it took, the sections it touched with their planned new
-// outage intervals and with the intervals they had afterwards, the outage intervals of the sections
-// S1 to S5, and whether all intervals equal those built from scratch.
+// outage intervals, and the intervals that these sections had afterwards. Also the outage intervals
+// of the sections S1 to S5, and whether all intervals equal those built from scratch.
 #[derive(Drop)]
 struct Effect {
     searches: u128,
