@@ -326,8 +326,8 @@ fn shows_help(rt: HostRuntime) {
     assert!(rt; show(alloc, &["outagebook", "serve", "-h"], "--streams <K>"));
 }
 
-// What is told of the version: the program's, that of its books, and the toolchain's.
-const VERSION: &str = "outagebook 2 (books of version 2, rattle-kit-13f)\n";
+// The version that is printed: the program's, and that of its books.
+const VERSION: &str = "outagebook 2 (books of version 2)\n";
 
 #[test]
 fn tells_its_version(rt: HostRuntime) {
