@@ -1,6 +1,7 @@
 """Which must-fail edits are tried: those of what changed since they were last seen refused, and others by turn.
 
     python3 ci/edits.py plan [--all]         # crate by crate, why its edits are tried or not
+    python3 ci/edits.py apply                # whether each edit's text is found once in its file
     python3 ci/edits.py record [NAME ..]     # runs `rt ci` over these crates (those whose line doesn't hold), and writes their lines
 
 ci/edits.txt has lines for each crate that has edits: its name, a sum of all that their checks read (sums.py), and how
@@ -19,7 +20,7 @@ from dataclasses import dataclass
 from enum import Enum
 from pathlib import Path
 
-from crates import edits_of
+from crates import edits_of, read_crates
 from parts import run
 from rt_output import tried_edits, unrefused
 from sums import edit_sums
@@ -114,6 +115,33 @@ def write_seen(root: Path, sums: dict[str, str], lost: dict[str, list[str]]) -> 
     write_lines(root, lines)
 
 
+def misfits(root: Path, name: str) -> list[str]:
+    """Those of a crate's edits whose text isn't found once in its file, as far as reading shows: each with why."""
+    found, crate = [], root / "crates" / name
+    for edit in edits_of(root, name):
+        texts: dict[Path, str] = {}
+        file, old = crate, ""
+        for line in (crate / "must-fail" / edit).read_text(encoding="utf-8").splitlines():
+            key, _, text = line.partition(":")
+            if key == "file":
+                file = crate / text.strip()
+                texts.setdefault(file, file.read_text(encoding="utf-8") if file.is_file() else "")
+            elif key == "old":
+                old = text.removeprefix(" ")
+                if texts.get(file, "").count(old) != 1:
+                    found.append(f"{name}/{edit}: found {texts.get(file, '').count(old)} times: {old}")
+            elif key == "new" and file in texts:
+                texts[file] = texts[file].replace(old, text.removeprefix(" "), 1)
+    return found
+
+
+def apply(root: Path) -> int:
+    """Prints the edits that can't be applied."""
+    wrong = [line for name in read_crates(root) for line in misfits(root, name)]
+    print("\n".join([*wrong, f"{len(wrong)} edits can't be applied"]))
+    return 1 if wrong else 0
+
+
 def record(root: Path, names: list[str]) -> int:
     """Runs `rt ci` over some crates and writes the lines of those whose edits it refused, each of them."""
     kit = kit_of(root)
@@ -143,9 +171,12 @@ def main() -> int:
     planning = jobs.add_parser("plan", help="say, crate by crate, why its edits are tried or not")
     planning.add_argument("--all", action="store_true", help="as in a run that tries all")
     planning.add_argument("root", type=Path, nargs="?", default=ROOT)
+    jobs.add_parser("apply", help="say which edits can't be applied")
     recording = jobs.add_parser("record", help="run rt ci over crates, and write the lines of those that it refused")
     recording.add_argument("names", nargs="*", metavar="NAME", help="crates (those whose line doesn't hold)")
     said = words.parse_args()
+    if said.job == "apply":
+        return apply(ROOT)
     if said.job == "record":
         return record(ROOT, said.names)
     root = said.root.resolve()

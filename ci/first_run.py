@@ -26,9 +26,9 @@ BOOK = "sample/fortnight.db"
 ROWS = "examples/fortnight/fortnight.csv"
 PERIOD = ("--first", "2025-03-24", "--days", "14", "--zone", "CET-1CEST,M3.5.0,M10.5.0/3")
 MEANINGS = {
-    "SAIDI": ("minutes", "so long was the average customer without supply"),
-    "SAIFI": ("times", "so often was the average customer interrupted"),
-    "CAIDI": ("minutes", "so long did the average interruption last"),
+    "SAIDI": ("minutes", "the average customer was without supply for so long"),
+    "SAIFI": ("times", "the average customer was interrupted so often"),
+    "CAIDI": ("minutes", "the average interruption lasted so long"),
 }
 
 
@@ -47,7 +47,7 @@ class Index:
     def line(self) -> str:
         """The index in words."""
         unit, meaning = MEANINGS[self.name]
-        return f"{self.name} {self.decimals:>8} {unit:<8}{meaning} ({self.fraction})"
+        return f"{self.name} {self.decimals:>8} {unit + ':':<9}{meaning} ({self.fraction})"
 
 
 def printed(program: Path, *words: str, given: Path | None = None) -> str:
@@ -63,6 +63,8 @@ def indices(table: str) -> list[Index]:
     """The three indices over all days, from the annual table."""
     rows = [line.split() for line in table.splitlines()]
     found = {row[0]: Index(row[0], row[2], row[3]) for row in rows if row[0] in MEANINGS and row[1] == "all"}
+    if len(found) < len(MEANINGS):
+        raise Failed(f"the annual table has no lines of {', '.join(MEANINGS)}")
     return [found[name] for name in MEANINGS]
 
 

@@ -13,5 +13,10 @@ if [ "${2:-}" = --list ]; then
 fi
 echo "installing what is missing of:" $packages
 export DEBIAN_FRONTEND=noninteractive
-apt-get update --quiet=2
-apt-get install --quiet=2 --yes --no-upgrade --no-install-recommends $packages
+log=$(mktemp)
+if ! { apt-get update && apt-get install --yes --no-upgrade --no-install-recommends $packages; } > "$log" 2>&1; then
+    tail -n 20 "$log"
+    rm "$log"
+    exit 1
+fi
+rm "$log"

@@ -61,11 +61,11 @@ def run(
     shows: bool = False,
     heard: Callable[[str], None] = unheard,
 ) -> Ran:
-    """Runs a command with no input. It is told while it runs where `shows`, and each line then heard by `heard`; else the caller
-    has what it said.
+    """Runs a command with no input. `heard` hears each line as it comes, and with `shows` it is printed too.
 
-    Where it isn't told it writes to a file: a program that it leaves at work may keep that open, and nobody waits for it.
+    With neither it writes to a file: a program that it leaves at work may keep that open, and nobody waits for it.
     """
+    is_heard = shows or heard is not unheard
     begun = time.monotonic()
     with tempfile.TemporaryFile("w+", encoding="utf-8", errors="replace") as kept:
         child = subprocess.Popen(
@@ -73,7 +73,7 @@ def run(
             cwd=folder,
             env={**os.environ, **(more or {})},
             stdin=subprocess.DEVNULL,
-            stdout=subprocess.PIPE if shows else kept,
+            stdout=subprocess.PIPE if is_heard else kept,
             stderr=subprocess.STDOUT,
             encoding="utf-8",
             errors="replace",
@@ -82,8 +82,9 @@ def run(
             with child.stdout as told:
                 for line in told:
                     kept.write(line)
-                    sys.stdout.write(line)
-                    sys.stdout.flush()
+                    if shows:
+                        sys.stdout.write(line)
+                        sys.stdout.flush()
                     heard(line)
         _, status, used = os.wait4(child.pid, 0)
         child.returncode = os.waitstatus_to_exitcode(status)

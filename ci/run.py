@@ -49,8 +49,9 @@ class Report:
 
     def tell(self) -> int:
         """Prints the parts, the notes and the last line; answers the status to end with."""
-        say("\n".join(["", "== the gate", *[part.line() for part in self.parts], *self.notes]))
-        say(f"{sum(part.passed for part in self.parts)} passed, {self.failed} failed")
+        say("\n".join(["", "== all parts", *[part.line() for part in self.parts], *self.notes]))
+        left_out = [part.why for part in self.parts if part.why.endswith("not run")]
+        say("; ".join([*left_out, f"{sum(part.passed for part in self.parts)} passed, {self.failed} failed"]))
         return 1 if self.failed else 0
 
 

@@ -29,6 +29,10 @@ SHARES = (
 RAN = re.compile(r"^Ran ([0-9]+) tests? in ", re.MULTILINE)
 ENDED = re.compile(r"^(?:OK|FAILED)(?: \((.*)\))?$", re.MULTILINE)
 SKIPPED = re.compile(r"^(.*) \.\.\. skipped (.*)$", re.MULTILINE)
+OF_SCREEN = re.compile(
+    r"^screen: tested .*: ([0-9]+) of ([0-9]+) tests, ([0-9]+) failed, ([0-9]+) skipped$", re.MULTILINE
+)
+FIRST_RUN_SHOWN = "It ends with"  # the line of README.md before the block that has what run.sh prints
 PASTED = re.compile(r": ([0-9]+) commands pasted, ([0-9]+) print something else")
 
 
@@ -69,6 +73,34 @@ def by_commands(ran: Ran) -> Counts:
     return sum(count for count, _ in counted) - wrong, wrong, ""
 
 
+def by_screen(ran: Ran) -> Counts:
+    """The tests of the screen; those that its short part leaves out are named."""
+    found = OF_SCREEN.search(ran.said)
+    if found is None:
+        return 0, 1, f"status {ran.status}, and no end of tests is told"
+    number, of, failed, skipped = map(int, found.groups())
+    wrong = max(failed + skipped, 1 if ran.status else 0)
+    return max(0, number - wrong), wrong, f"{of - number} of the screen's {of} tests not run" if number < of else ""
+
+
+def first_run_shown(root: Path) -> str:
+    """What README.md shows that run.sh prints."""
+    page = (root / "README.md").read_text(encoding="utf-8")
+    return page.partition(f"\n{FIRST_RUN_SHOWN}\n")[2].partition("```text\n")[2].partition("```")[0]
+
+
+def by_first_run(root: Path) -> Callable[[Ran], Counts]:
+    """Whether run.sh prints what README.md shows."""
+
+    def counts(ran: Ran) -> Counts:
+        shown = first_run_shown(root)
+        if ran.status or not shown or not ran.said.endswith(shown):
+            return 0, 1, f"status {ran.status}; README.md shows:\n{shown}"
+        return 1, 0, ""
+
+    return counts
+
+
 def tests_in(folder: str, top: str, share: str = "") -> tuple[str | Path, ...]:
     """The tests of a folder, or those whose subject begins so."""
     return (sys.executable, "-m", "unittest", "discover", "-v", "-s", folder, "-t", top, "-p", f"test_{share}*.py")
@@ -89,6 +121,8 @@ def before_proofs(root: Path) -> list[Suite]:
     found = [Suite("black", ("black", "--check", "."), as_one), *typed(root)]
     found.append(Suite("tests of ci/", tests_in("ci/tests", "ci/tests"), by_tests))
     found.append(Suite("oracle's tests", (sys.executable, "oracle/test_model.py", "-v"), by_tests))
+    found.append(Suite("edits apply", (sys.executable, "ci/edits.py", "apply"), as_one))
+    found.append(Suite("links, lines, blocks", (sys.executable, "tests/check_pages.py"), as_one))
     found.append(Suite("made years", (sys.executable, "tests/test_made_years.py", "-v"), by_tests))
     return found
 
@@ -104,6 +138,9 @@ def with_program(root: Path) -> list[Suite]:
         Suite("program and oracle", (sys.executable, "oracle/compare.py"), as_one),
         Suite("pages", (*paste, *(page for page in pages if page not in with_server)), by_commands),
     ]
+    if first_run_shown(root):
+        words = ("sh", "run.sh", "--program", "crates/outagebook/out/outagebook")
+        found.append(Suite("run.sh", words, by_first_run(root)))
     if with_server:
         server = (sys.executable, "tools/tests/own_postgres.py")
         found.append(Suite("the warehouse's page", (*server, *paste, *with_server), by_commands))
@@ -113,7 +150,7 @@ def with_program(root: Path) -> list[Suite]:
 def screen(root: Path) -> list[Suite]:
     """The screen's tests in a real browser."""
     tests = root / "screen/tests/run.py"
-    return [Suite("screen", (sys.executable, tests.relative_to(root), "--short"), as_one)] if tests.exists() else []
+    return [Suite("screen", (sys.executable, tests.relative_to(root), "--short"), by_screen)] if tests.exists() else []
 
 
 def run_suite(suite: Suite, root: Path, program: Path | None = None) -> Part:

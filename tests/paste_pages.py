@@ -34,10 +34,11 @@ GIVEN = {"examples", "tools", "bin"}  # what the folder has before anything is p
 
 @dataclass
 class Block:
-    """A block of a page: the number of its first line, its lines, the text between it and the block before."""
+    """A block of a page: the number of its first line, the text between it and the block before, its kind and its lines."""
 
     number: int
     before: list[str]
+    kind: str = ""  # what follows the three marks, as sh or text
     lines: list[str] = field(default_factory=list)
 
     @property
@@ -61,7 +62,8 @@ def blocks_of(page: Path) -> Iterator[Block]:
         if line.startswith("```"):
             if block is not None:
                 yield block
-            block, between = (Block(number + 1, between), []) if block is None else (None, [])
+            opened = Block(number + 1, between, line[3:].strip())
+            block, between = (opened, []) if block is None else (None, [])
         elif block is not None:
             block.lines.append(line)
         elif line.strip():

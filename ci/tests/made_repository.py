@@ -16,7 +16,7 @@ sys.path.insert(1, str(TESTS.parent))
 
 from edits import turn_of  # noqa: E402
 
-STRONG, WEAK = "pub fn answer() ensures result == 42\n", "pub fn answer()\n"
+STRONG, WEAK = "pub fn answer() ensures result == 42\n", "pub fn answer() -> 42\n"
 EDIT = "file: src/lib.rt\nold: 42\nnew: 41\n"
 CRATES = "low:\nmiddle: low\nhigh: middle\nbeside:\noutagebook: high\n# tests alone\nhigh_tests: high\n"
 PROGRAM = "#!/bin/sh\necho 'audit ok'\n"
@@ -39,7 +39,7 @@ import sys
 from pathlib import Path
 
 ROOT = Path(__file__).resolve().parent.parent
-PROGRAM = Path(os.environ["OUTAGEBOOK"])
+PROGRAM = Path(os.environ.get("OUTAGEBOOK", "none"))
 DATA, EXAMPLES, FORTNIGHT = ROOT / "bench-data", ROOT / "examples", ("2025-03-24", 14, "UTC0")
 
 if __name__ == "__main__":
@@ -78,10 +78,18 @@ class MadeRepository:
             self.write(f"crates/{crate}/specs/Lib.antt", "")
             if crate not in ("outagebook", "high_tests"):
                 self.write(f"crates/{crate}/must-fail/wrong_answer.edit", EDIT)
-        for name in ("pyproject.toml", ".ci/run", "test.sh", "run.sh", "tests/paste_pages.py", "tests/places.py"):
+        for name in (
+            "pyproject.toml",
+            ".ci/run",
+            "test.sh",
+            "run.sh",
+            "tests/paste_pages.py",
+            "tests/check_pages.py",
+            "tests/places.py",
+        ):
             self.take(name)
         for file in (ROOT / "ci").iterdir():
-            if file.is_file() and file.name != "edits.txt":
+            if file.is_file() and file.name not in ("edits.txt", "README.md"):
                 self.take(f"ci/{file.name}")
         self.programs = self.folder / "programs"
         self.programs.mkdir()

@@ -112,7 +112,13 @@ class Edits(Whole):
 
     def test_edit_that_cannot_be_applied(self) -> None:
         self.made.write("crates/low/must-fail/other.edit", EDIT.replace("42", "43"))
-        self.fails("low: other.edit: BAD EDIT", "--record")
+        self.fails("low/other.edit: found 0 times: 43", "--record")
+        self.assertEqual(self.made.crates_tried(), [])
+
+    def test_edit_that_only_rt_finds_bad(self) -> None:
+        made_rt = self.made.programs / "rt"
+        made_rt.write_text(made_rt.read_text().replace("if old not in source:", "if 'low' in str(crate):"))
+        self.fails("low: wrong_answer.edit: BAD EDIT", "--record")
         lines = (self.made.root / "ci/edits.txt").read_text().splitlines()
         self.assertEqual([line.split()[0] for line in lines if line[0] != "#"], ["beside", "high", "middle"])
 

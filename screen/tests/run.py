@@ -59,12 +59,11 @@ def main() -> int:
         os.environ.setdefault(name, value)
     sys.path.insert(0, str(HERE))
     loader = unittest.defaultTestLoader
-    suite = loader.loadTestsFromNames(IN_SHORT) if short else loader.discover(str(HERE))
+    whole = loader.discover(str(HERE))
+    suite = loader.loadTestsFromNames(IN_SHORT) if short else whole
     warnings.simplefilter("ignore", ResourceWarning)  # the tests kill what they start
     result = unittest.TextTestRunner(verbosity=1).run(suite)
-    words_of = (
-        f"{result.testsRun} tests, {len(result.failures) + len(result.errors)} failed, {len(result.skipped)} skipped"
-    )
+    words_of = f"{result.testsRun} of {whole.countTestCases()} tests, {len(result.failures) + len(result.errors)} failed, {len(result.skipped)} skipped"
     print(f"screen: tested ({'the short part' if short else 'whole'}): {words_of}")
     return 0 if result.wasSuccessful() else 1
 
