@@ -25,6 +25,7 @@ from threading import Condition, Lock
 
 from crates import Crate, crates_below, edits_of, read_crates
 from parts import Ran, run
+from toolchain import takes_names
 
 DATABASE = "sqlite"
 MANY = 8  # as many crates stand on each of the trunk
@@ -148,7 +149,7 @@ def prove_beside(place: Path, beside: Beside, looking: Lock) -> float:
 def prove_behind_trunk(place: Path, lanes: int, whole: Callable[[], Ran]) -> Ran:
     """Proves the trunk and what goes beside it, then the whole: what that said, and the seconds of all."""
     calls, begun = calls_of(place), time.monotonic()
-    if not calls.trunk:
+    if not calls.trunk or not takes_names(place):
         return whole()
     beside, looking = Beside(calls.beside), Lock()
     with tempfile.TemporaryDirectory(prefix="outagebook-trunk-") as room, ThreadPoolExecutor(lanes) as pool:

@@ -13,7 +13,6 @@ a line holds: their edits are tried all the same, so that a line that was never 
 from __future__ import annotations
 
 import argparse
-import subprocess
 import sys
 from collections import defaultdict
 from dataclasses import dataclass
@@ -22,8 +21,9 @@ from pathlib import Path
 
 from crates import edits_of
 from parts import run
-from rt_output import counts_of, tried_edits, unrefused
+from rt_output import tried_edits, unrefused
 from sums import edit_sums
+from toolchain import kit_of, takes_names
 from tree import sum_of_tree
 
 ROOT = Path(__file__).resolve().parent.parent
@@ -64,11 +64,6 @@ class Planned:
     @property
     def is_tried(self) -> bool:
         return self.why is not Why.STANDS
-
-
-def kit_of(root: Path) -> str:
-    """The toolchain's name, as `rt version` says it."""
-    return subprocess.run(["rt", "version"], cwd=root, check=True, capture_output=True, text=True).stdout.strip()
 
 
 def read_lines(root: Path) -> dict[str, list[Line]]:
@@ -128,9 +123,7 @@ def record(root: Path, names: list[str]) -> int:
     if unknown or not wanted:
         print(f"no crate with edits: {' '.join(unknown)}" if unknown else "every line holds")
         return 1 if unknown else 0
-    ran = run(["rt", "ci", *wanted], root, shows=True)
-    if counts_of(ran.said) is None:  # a toolchain whose `rt ci` takes no names
-        ran = run(["rt", "must-fail", *wanted], root, shows=True)
+    ran = run(["rt", "ci" if takes_names(root) else "must-fail", *wanted], root, shows=True)
     tried = tried_edits(ran.said)
     if edit_sums(root, kit) != sums:
         print("files changed while rt ci ran: nothing is recorded")

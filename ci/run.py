@@ -1,8 +1,8 @@
 """The gate: every proof, test and program, must-fail edits by what changed, and all tests beside the crates.
 
-    sh .ci/run               # must-fail edits of crates that changed since they were last seen refused, and of others by turn
-    sh .ci/run --all         # all must-fail edits
-    sh .ci/run --record      # the same as either, and writes ci/edits.txt by what was seen refused
+    sh test.sh               # must-fail edits of crates that changed since they were last seen refused, and of others by turn
+    sh test.sh --all         # all must-fail edits
+    sh test.sh --record      # the same as either, and writes ci/edits.txt by what was seen refused
 
 The last line is 'N passed, M failed', and the status is 0 where nothing failed. README.md beside this file says more.
 """
@@ -10,7 +10,6 @@ The last line is 'N passed, M failed', and the status is 0 where nothing failed.
 from __future__ import annotations
 
 import argparse
-import os
 import re
 import shutil
 import sys
@@ -22,18 +21,18 @@ from pathlib import Path
 from threading import Event
 
 from ahead import prove_behind_trunk
-from edits import Planned, Why, kit_of, plan, turn_of, write_seen
-from packages import FOR_ALL, Missing, install_with, provided
+from build import PROGRAM, keep_program
+from edits import Planned, Why, plan, turn_of, write_seen
+from packages import FOR_ALL, install_with, lacks_of_machine, provided
 from parts import Part, Ran, run, say
 from rt_output import counts_of, tried_edits, unrefused
 from suites import before_proofs, run_suite, screen, with_program
 from sums import edit_sums
+from toolchain import NOT_FOUND, has_toolchain, jobs, jobs_asked, kit_of
 from tree import copy_tree
 
 ROOT = Path(__file__).resolve().parent.parent
-PROGRAM = Path("crates/outagebook/out/outagebook")
 PROGRAM_BUILT = re.compile(r"^rt: outagebook (?:proved$|is kept: )")
-KILOBYTES_A_LANE = 4_500_000
 COUNTED_BY_RT = ("NOT REFUSED", "NOT TRIED")
 
 
@@ -53,20 +52,6 @@ class Report:
         say("\n".join(["", "== the gate", *[part.line() for part in self.parts], *self.notes]))
         say(f"{sum(part.passed for part in self.parts)} passed, {self.failed} failed")
         return 1 if self.failed else 0
-
-
-def lanes_said() -> int:
-    """How many lanes RT_JOBS asks for; 0 where it doesn't say."""
-    said = os.environ.get("RT_JOBS", "")
-    return int(said) if said.isdigit() else 0
-
-
-def lanes() -> int:
-    """How much is done side by side: RT_JOBS, or one a processor as far as there is memory for each."""
-    if lanes_said():
-        return lanes_said()
-    memory = Path("/proc/meminfo").read_text(encoding="ascii").split("MemAvailable:")[1].split()[0]
-    return max(1, min(len(os.sched_getaffinity(0)), int(memory) // KILOBYTES_A_LANE))
 
 
 def of_plan(planned: list[Planned]) -> str:
@@ -107,9 +92,9 @@ def prove(place: Path, planned: list[Planned], report: Report, records: bool, bu
             built.set()
 
     def whole() -> Ran:
-        return run(["rt", "ci"], place, {"RT_JOBS": str(lanes())}, shows=True, heard=hear)
+        return run(["rt", "ci"], place, {"RT_JOBS": str(jobs())}, shows=True, heard=hear)
 
-    ran = prove_behind_trunk(place, lanes(), whole) if not lanes_said() and lanes() > 2 else whole()
+    ran = prove_behind_trunk(place, jobs(), whole) if not jobs_asked() and jobs() > 2 else whole()
     passed, failed = counts_of(ran.said) or (0, 1)
     why = f"status {ran.status}" if ran.status else ""
     report.parts.append(Part("rt ci", passed, max(failed, 1 if ran.status else 0), ran.clock, ran.processor, why))
@@ -128,39 +113,30 @@ def leave_out(place: Path, planned: list[Planned]) -> None:
             shutil.rmtree(place / "crates" / it.name / "must-fail")
 
 
-def suites_with_program(place: Path, lost: list[Missing], report: Report, built: Event) -> None:
-    """The suites that want the program, once it is built: some side by side, then the screen's. `rt ci` may still be at work."""
+def suites_with_program(place: Path, report: Report, built: Event) -> None:
+    """The suites that need the program, once it is built: some side by side, then the screen's. `rt ci` may still be at work."""
     built.wait()
     program = place / PROGRAM
     if not program.exists():
         report.parts.append(Part("with the program", 0, 1, why="rt ci left no program"))
         return
-    with ThreadPoolExecutor(max(2, lanes() // 2)) as pool:
+    with ThreadPoolExecutor(max(2, jobs() // 2)) as pool:
         report.parts += pool.map(lambda suite: run_suite(suite, place, program), with_program(place))
-    found, lacking = screen(place), [it for it in lost if it.part == "screen"]
-    if found and not lacking:
-        report.parts += [run_suite(suite, place, program) for suite in found]
-    elif found:
-        report.notes.append(f"the screen's tests didn't run: {install_with(lacking)}")
-
-
-def keep_program(place: Path) -> None:
-    """Leaves the program of a copy where the tools and pages look for it."""
-    if place != ROOT and (place / PROGRAM).exists():
-        (ROOT / PROGRAM).parent.mkdir(parents=True, exist_ok=True)
-        shutil.copy2(place / PROGRAM, f"{ROOT / PROGRAM}.new")
-        os.replace(f"{ROOT / PROGRAM}.new", ROOT / PROGRAM)
+    report.parts += [run_suite(suite, place, program) for suite in screen(place)]
 
 
 def gate(place: Path, said: argparse.Namespace, report: Report) -> None:
     """Runs all parts over a tree: what is cheap first, and no proof where that fails."""
-    lost = provided(place / "ci")
-    lacking = [it for it in lost if it.part == FOR_ALL]
+    lacking = provided(place / "ci")
     if lacking:
         names = ", ".join(it.name for it in lacking)
-        report.parts.append(Part("packages", 0, len(lacking), why=f"no {names}: {install_with(lacking)}"))
+        report.parts.append(Part("packages", 0, len(lacking), why=f"no {names}; {install_with(FOR_ALL)}"))
         return
-    with ThreadPoolExecutor(lanes()) as pool:
+    lacks = [*lacks_of_machine(), *([] if has_toolchain() else [NOT_FOUND])]
+    if lacks:
+        report.parts.append(Part("the machine", 0, len(lacks), why="; ".join(lacks)))
+        return
+    with ThreadPoolExecutor(jobs()) as pool:
         report.parts += pool.map(lambda suite: run_suite(suite, place), before_proofs(place))
     if report.failed:
         report.notes.append("rt ci didn't run, since what comes before it failed")
@@ -172,7 +148,7 @@ def gate(place: Path, said: argparse.Namespace, report: Report) -> None:
         leave_out(place, planned)
     built = Event()
     with ThreadPoolExecutor(1) as pool:
-        suites = pool.submit(suites_with_program, place, lost, report, built)
+        suites = pool.submit(suites_with_program, place, report, built)
         try:
             unseen = prove(place, planned, report, said.record, built)
         finally:
@@ -184,11 +160,11 @@ def gate(place: Path, said: argparse.Namespace, report: Report) -> None:
         write_seen(ROOT, sums, unseen)
         report.notes.append("ci/edits.txt is written by what was seen refused")
     if not report.failed:
-        keep_program(place)
+        keep_program(place, ROOT)
 
 
 def main() -> int:
-    words = argparse.ArgumentParser(prog=".ci/run", description="The gate.")
+    words = argparse.ArgumentParser(prog="test.sh", description="The gate.")
     words.add_argument("--all", action="store_true", help="try all must-fail edits, over the tree itself")
     words.add_argument("--record", action="store_true", help="write ci/edits.txt by what was seen refused")
     said = words.parse_args()

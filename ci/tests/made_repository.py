@@ -2,6 +2,7 @@
 
 from __future__ import annotations
 
+import json
 import os
 import shutil
 import subprocess
@@ -77,7 +78,7 @@ class MadeRepository:
             self.write(f"crates/{crate}/specs/Lib.antt", "")
             if crate not in ("outagebook", "high_tests"):
                 self.write(f"crates/{crate}/must-fail/wrong_answer.edit", EDIT)
-        for name in ("pyproject.toml", ".ci/run", "tests/paste_pages.py", "tests/places.py"):
+        for name in ("pyproject.toml", ".ci/run", "test.sh", "run.sh", "tests/paste_pages.py", "tests/places.py"):
             self.take(name)
         for file in (ROOT / "ci").iterdir():
             if file.is_file() and file.name != "edits.txt":
@@ -110,12 +111,12 @@ class MadeRepository:
         """Has the machine's own program of that name run in place of the stand-in."""
         (self.programs / name).unlink()
 
-    def run(self, *words: str | Path, is_ci: bool = False) -> subprocess.CompletedProcess[str]:
+    def run(self, *words: str | Path) -> subprocess.CompletedProcess[str]:
         """Runs a command at the top of the repository, where `rt` is the stand-in."""
-        env = {name: text for name, text in os.environ.items() if name not in ("CI", "OUTAGEBOOK")}
-        env |= {"PATH": f"{self.programs}:{env['PATH']}", "MADE_RT_TRIED": str(self.tried), "MADE_RT_KIT": self.kit}
-        env |= {"RT_JOBS": "2", **({"CI": "true"} if is_ci else {})}
-        env |= {} if self.takes_names else {"MADE_RT_NAMELESS": "1"}
+        env = {name: text for name, text in os.environ.items() if name != "OUTAGEBOOK"}
+        env |= {"PATH": f"{self.programs}:{env['PATH']}", "RT_JOBS": "2"}
+        settings = {"tried": str(self.tried), "kit": self.kit, "takes_names": self.takes_names}
+        (self.programs / "rt.json").write_text(json.dumps(settings), encoding="utf-8")
         self.tried.unlink(missing_ok=True)
         return subprocess.run([*map(str, words)], cwd=self.root, env=env, capture_output=True, text=True, check=False)
 

@@ -1,15 +1,18 @@
 #!/usr/bin/env python3
-"""A stand-in for `rt`: it says of made crates what `rt ci` would say, and builds a program of one line.
+"""A stand-in for Rattle's `rt`: it says of made crates what `rt ci` would say, and builds a program of one line.
 
 A crate's contract is its line `ensures`: with one an edit is refused, without one it isn't. An edit whose text isn't
-there is a bad one. The crates whose edits were tried are written to MADE_RT_TRIED. Under MADE_RT_NAMELESS `rt ci` takes no names.
+there is a bad one. Its settings are in rt.json, beside it: the toolchain's name, whether `rt ci` takes names, and the file to which
+the crates are written whose edits were tried.
 """
 
 from __future__ import annotations
 
-import os
+import json
 import sys
 from pathlib import Path
+
+SETTINGS = json.loads((Path(__file__).resolve().parent / "rt.json").read_text(encoding="utf-8"))
 
 
 def outcome(crate: Path, edit: str) -> str:
@@ -36,7 +39,7 @@ def check(names: list[str]) -> int:
             print(f"rt: must-fail {name}/{edit.name}: {said}")
             passed, failed = passed + said.startswith("refused"), failed + said.startswith("NOT")
             tried.append(name)
-    Path(os.environ["MADE_RT_TRIED"]).write_text("\n".join(sorted({*tried})), encoding="ascii")
+    Path(SETTINGS["tried"]).write_text("\n".join(sorted({*tried})), encoding="ascii")
     program = Path("crates/outagebook/out/outagebook")
     program.parent.mkdir(parents=True, exist_ok=True)
     program.write_text("#!/bin/sh\necho 'audit ok'\n", encoding="ascii")
@@ -47,8 +50,11 @@ def check(names: list[str]) -> int:
 
 if __name__ == "__main__":
     if sys.argv[1:] == ["version"]:
-        print(os.environ["MADE_RT_KIT"])
+        print(SETTINGS["kit"])
         sys.exit(0)
-    if sys.argv[1] == "ci" and sys.argv[2:] and "MADE_RT_NAMELESS" in os.environ:
+    if sys.argv[1:] == ["help"]:
+        print("  rt ci NAME..  some crates" if SETTINGS["takes_names"] else "  rt ci")
+        sys.exit(0)
+    if sys.argv[1] == "ci" and sys.argv[2:] and not SETTINGS["takes_names"]:
         sys.exit("usage: rt ci")
     sys.exit(check(sys.argv[2:]))

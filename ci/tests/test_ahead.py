@@ -89,7 +89,8 @@ class Order(unittest.TestCase):
             mock.patch.object(ahead, "run", self.rt),
             mock.patch.object(ahead, "LOOK", 0.01),
             mock.patch.object(ahead, "seconds_idle", self.idle),
-            mock.patch.object(gate, "lanes", lambda: lanes),
+            mock.patch.object(gate, "jobs", lambda: lanes),
+            mock.patch.object(ahead, "takes_names", lambda _: True),
         ):
             gate.prove(self.place, [], report, False, self.built)
         return report

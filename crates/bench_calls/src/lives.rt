@@ -1,4 +1,5 @@
-//! The runs of a year, kept up by windows while devices are given other lives.
+//! The outage intervals of a year, updated in windows while devices get other in-service intervals
+//! (lives). The window of a change is the seconds in which the change can alter the supply.
 ghost use Rattle.std.specs.Prelude.{◌≡◌, ◌⊎◌, IfSome, length};
 ghost use Rattle.bench_calls.specs.Builds.{case_of};
 ghost use Rattle.bench_calls.specs.Lives.{AddsUpLives, HasRuns, life_from, with_lives, with_one_life};
@@ -9,13 +10,15 @@ use ob_net::Life;
 use ob_sweep::{Change, Timeline, Windowed};
 use std::alloc::Global;
 
-/// Makes a network, a sheet and the year by `make`, and their runs by `Windowed::build`. Then, for each place of `lived`, it gives
-/// that device the life that begins and ends so many seconds after the year's first one, without end where `until` is `u32::MAX`:
-/// planned by its window, and adopted. It answers the seconds in the runs of all sections then, and writes into `searches`, at the
-/// place of each life, how often the network was searched for it.
+/// Makes a network, a switching log and the year by `make`, and their outage intervals by
+/// `Windowed::build`. Then, for each place of `lived`, it gives that device the life that begins
+/// and ends a number of seconds after the year's first one, without end if `until` is `u32::MAX`:
+/// the change is planned in its window, and adopted. It answers the seconds in the outage intervals
+/// of all sections after that, and writes into `searches`, at the place of each life, how often the
+/// network was searched for it.
 ///
-/// It answers 0 where memory is refused, where lists of one kind differ in length, where they say no network, no sheet over these
-/// days or no life of a device, or where the sum doesn't fit.
+/// It answers 0 if memory is refused, if lists of one kind differ in length, if they make no
+/// network, no switching log over these days or no life of a device, or if the sum doesn't fit.
 #[unsafe(no_mangle)]
 pub extern "C" fn bench_lives(
     alloc: Global,
@@ -52,7 +55,8 @@ pub extern "C" fn bench_lives(
     }
 }
 
-/// Gives one device after the other its life, in the network and in its runs, and writes how often the network was searched for each.
+/// Gives one device after the other its life, in the network and in its outage intervals, and
+/// writes how often the network was searched for each.
 fn live(
     made: &mut Made,
     timeline: &mut Windowed,
@@ -83,7 +87,7 @@ fn live(
     Some(())
 }
 
-/// Gives a device another life, in the network and in its runs.
+/// Gives a device another life, in the network and in its outage intervals.
 fn live_one(made: &mut Made, timeline: &mut Windowed, device: u16, life: Life) -> Option<()>
     requires runs { HasRuns (case_of made.old.net.network made.old.sheet.entries made.old.year)
         timeline.old }
@@ -110,7 +114,8 @@ fn live_one(made: &mut Made, timeline: &mut Windowed, device: u16, life: Life) -
     Some(())
 }
 
-/// The life that begins and ends so many seconds after a first one, without end where `until` is `u32::MAX`.
+/// The life that begins and ends a number of seconds after a first one, without end if `until` is
+/// `u32::MAX`.
 fn life_from(first: u64, since: u32, until: u32) -> Option<Life>
     ensures { IfSome result (λ life. life ≡ life_from first since until) }
 {

@@ -11,11 +11,13 @@ use ob_sweep::Windowed;
 use ob_time::Period;
 use std::alloc::Global;
 
-/// Replays a year on a book of the 366 days from 2024-01-01 in UTC, whose runs are kept up by windows. The text has the body
-/// texts of its commands, each with a line feed behind it. It answers all customer-seconds without supply, and writes
-/// how often the network was searched.
+/// Replays a year on a book of the 366 days from 2024-01-01 in UTC, whose outage intervals are
+/// updated in windows (`Windowed`). The text has the body texts of its commands, each followed by a
+/// line feed. It answers all customer-seconds without supply, and writes how often the network was
+/// searched.
 ///
-/// It answers 0 where memory is refused, where a line is no command, or where a command isn't accepted in its turn.
+/// It answers 0 if memory is refused, if a line is no command, or if a command isn't accepted in
+/// its turn.
 #[unsafe(no_mangle)]
 pub extern "C" fn bench_year(alloc: Global, text: &[u8], searches: &mut u64) -> u64
     ensures { (result ≡ 0) ⊎ ((b : BookState) × IsYear text.now b
@@ -28,9 +30,10 @@ pub extern "C" fn bench_year(alloc: Global, text: &[u8], searches: &mut u64) -> 
     book.postings().total(Dim::Cause)
 }
 
-/// Replays a year as `bench_year` does, writes its annual table at the front of `table` and answers how long it is.
+/// Replays a year as `bench_year` does, writes its annual table at the front of `table` and answers
+/// the length of the written table.
 ///
-/// It answers 0 where there is no such year, where memory is refused, or where the table is too short for it.
+/// It answers 0 if there is no such year, if memory is refused, or if `table` is too short.
 #[unsafe(no_mangle)]
 pub extern "C" fn bench_year_table(alloc: Global, text: &[u8], table: &mut [u8]) -> usize
     ensures { (result ≡ 0) ⊎ ((b : BookState) × IsYear text.now b
@@ -45,7 +48,7 @@ pub extern "C" fn bench_year_table(alloc: Global, text: &[u8], table: &mut [u8])
     }
 }
 
-/// Copies a text to the front of a place, and answers its length; 0 where it doesn't fit.
+/// Copies a text to the front of `place`, and answers its length, or 0 if it doesn't fit.
 fn copied(text: &[u8], place: &mut [u8]) -> usize
     ensures { (result ≡ 0) ⊎ (take result place.new ≡ text.now) }
 {
@@ -77,7 +80,7 @@ fn book_of(alloc: Global, text: &[u8]) -> Option<Book<Windowed>>
     if rest.is_empty() { Some(book) } else { None }
 }
 
-/// The line that a text begins with, and what stands behind its line feed.
+/// The first line of a text, and the rest after its line feed.
 #[tactic(auto, using(crate::proofs::Lines::cut_at))]
 fn cut_line(text: &[u8]) -> Option<(&[u8], &[u8])>
     ensures { IfSome result (λ p. text.now ≡ p.0.now ++ 10 ∷ p.1.now) }
@@ -86,7 +89,7 @@ fn cut_line(text: &[u8]) -> Option<(&[u8], &[u8])>
     Some((&text[..end], &text[end + 1..]))
 }
 
-/// Acts the command of a line.
+/// Applies the command of a line.
 fn act(book: &mut Book<Windowed>, line: &[u8]) -> Option<()>
     ensures { IfSome result (λ _. IsStep line.now book.old.state book.new.state) }
 {

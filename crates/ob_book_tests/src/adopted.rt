@@ -1,4 +1,5 @@
-//! The timeline of a book adopts each change of the sheet and of the network: the book keeps no other one in its place.
+//! Tests that the timeline of a book adopts each change of the switching log and of the network,
+//! and that the book doesn't replace the timeline.
 use crate::counting::Counting;
 use crate::example::act_on;
 use crate::feeders::{OUTAGE, TWO_FEEDERS};
@@ -39,7 +40,7 @@ fn counting_book(alloc: Global) -> Result<Book<Counting>, Fail> {
     Ok(book)
 }
 
-// Takes the lines of a script, each of which is adopted once.
+// Takes the lines of a script and checks that the timeline adopts each once.
 fn adopts(
     rt: &impl Abort,
     alloc: Global,
@@ -54,8 +55,8 @@ fn adopts(
     Ok(())
 }
 
-// On the two feeders each line of two scripts is adopted once, and for the second one the book searches its network so often at
-// most.
+// Checks on the two feeders that the timeline adopts each line of two scripts once, and that the
+// book searches its network at most so often for the second script.
 fn adopts_within(
     rt: &impl Abort,
     alloc: Global,
@@ -82,7 +83,7 @@ fn adopts_by(
     adopts_within(rt, alloc, &mut book, (first, then), most)
 }
 
-// The same, however often it searches.
+// Checks the same without a limit on the searches.
 fn adopts_after(rt: &impl Abort, alloc: Global, first: &str, then: &str) -> Result<(), Fail> {
     adopts_by(rt, alloc, first, then, u128::MAX)
 }
@@ -124,8 +125,8 @@ fn opened_in_the_last_second_of_its_life(rt: HostRuntime) -> Result<(), Fail> {
     adopts_by(&rt, rt.alloc(), BREAKER_GONE, OPENED_IN_ITS_LAST_SECOND, 4)
 }
 
-// The number of what a command speaks of: the code of a cause, the number of a node, of a device, of a customer, of an entry or
-// of a day.
+// The number that a command is about: the code of a cause, or the number of a node, a device, a
+// customer, an entry or a day.
 fn number_of(resolved: &Resolved) -> u32 {
     match *resolved {
         Resolved::Cause { code, .. } => u32::from(code.get()),
@@ -139,7 +140,7 @@ fn number_of(resolved: &Resolved) -> u32 {
     }
 }
 
-// After the outage: commands, and the number of what each speaks of.
+// Commands after the outage, and the number that each is about.
 const NUMBERS: &'static [(&'static str, u32)] = &[
     ("cause 9 HAIL", 9),
     ("bus BUS-B", 5),

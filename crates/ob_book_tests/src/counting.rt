@@ -5,7 +5,7 @@ use ob_sweep::{Change, Delta, Run, Timeline, Windowed};
 use ob_time::CivilDays;
 use std::alloc::Global;
 
-/// A timeline to which every call is handed on, and how many deltas it adopted.
+/// A timeline that passes every call on to a `Windowed` one and counts the adopted deltas.
 #[derive(Drop)]
 pub struct Counting {
     inner: Windowed,

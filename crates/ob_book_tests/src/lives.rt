@@ -1,4 +1,5 @@
-//! Devices that join and leave within the period: they are open outside their lives.
+//! Tests of devices whose in-service intervals (lives) begin and end within the period: outside its
+//! life a device is open.
 use crate::example::tell;
 use crate::feeders::{OUTAGE, TWO_FEEDERS, shows, shows_after_outage};
 use crate::step::{ONE_DAY, Step};
@@ -6,7 +7,7 @@ use std::alloc::Global;
 use std::process::Abort;
 use std::test::Fail;
 
-/// After the outage: the tie goes while it supplies S2, which no entry has cut off then.
+/// After the outage: the tie's life ends while the tie supplies S2, so no entry cut S2 off.
 pub const TIE_GOES: &'static str =
     "life T1 0 1704073200 => cause 0 241200, feeder 1 241200, day 0 241200";
 
@@ -15,7 +16,8 @@ fn the_tie_goes_while_it_supplies(rt: HostRuntime) -> Result<(), Fail> {
     shows_after_outage(&rt, rt.alloc(), TIE_GOES, 250_200)
 }
 
-/// After the outage: a tie that joins after the outage began, and takes S1 over.
+/// After the outage: the life of a new tie begins after the outage began, and the tie supplies S1
+/// from then on.
 pub const JOINS_IN_OUTAGE: &'static str =
     "device X1 BUS-A S1 closed 1704072200 - => cause 3 -4400, feeder 1 -4400, day 0 -4400";
 
@@ -32,13 +34,14 @@ fn a_tie_that_joins_after_an_outage_began(rt: HostRuntime) -> Result<(), Fail> {
     tell(&rt, rt.alloc(), ONE_DAY, &steps)
 }
 
-/// The breaker of S3 goes, and is told to open in the second in which it is gone.
+/// The life of S3's breaker ends, and an entry opens the breaker in the first second after its
+/// life.
 pub const BREAKER_GONE: &'static str = "\
 life B2 0 1704070800 => cause 0 414000, feeder 2 414000, day 0 414000
 switch B2 open 1704070800 4 K1
 ";
 
-/// After that: it opens in its last second, so that this opening is what cuts S3 off.
+/// After that: the breaker opens in the last second of its life, so this opening cuts S3 off.
 pub const OPENED_IN_ITS_LAST_SECOND: &'static str =
     "switch B2 open 1704070799 4 K1 => cause 0 -414000, cause 4 414005, feeder 2 5, day 0 5";
 
@@ -53,21 +56,21 @@ fn opened_where_its_life_ends_and_before(rt: HostRuntime) -> Result<(), Fail> {
     tell(&rt, rt.alloc(), ONE_DAY, &steps)
 }
 
-// What is acted after the outage, and the total that it leaves.
+// Commands after the outage, and the total that they leave.
 const AFTER_OUTAGE: &'static [(&'static str, u64)] = &[
     (TIE_STAYS, 9_000),
     (PARTS_JOIN, 9_000),
     (CLOSED_BEFORE_ITS_LIFE, 9_000),
 ];
 
-// The tie goes while it supplies, and stays after all.
+// The tie's life ends while the tie supplies S2; then the life is set without an end.
 const TIE_STAYS: &'static str = "\
 life T1 0 1704073200 => cause 0 241200, feeder 1 241200, day 0 241200
 life T1 0 - => cause 0 -241200, feeder 1 -241200, day 0 -241200
 ";
 
-// A bus and a section more move nothing; a customer of the section waits for the device that joins it to the bus, whose life is
-// then set twice.
+// A new bus and a new section move nothing; a customer of the section has no supply until a device
+// joins the section to the bus. Then the device's life is set twice.
 const PARTS_JOIN: &'static str = "\
 bus BUS-B
 section S9 9
@@ -77,8 +80,9 @@ life X9 1704070800 1704074400 => cause 0 79200, feeder 9 79200, day 0 79200
 life X9 0 - => cause 0 -82800, feeder 9 -82800, day 0 -82800
 ";
 
-// An entry closes X1 before it joins, so that it is closed from its first second on. Then it goes before the breaker is closed
-// again, and no entry has cut S1 off. Without its closing it never supplied S1.
+// An entry closes X1 before its life begins, so that it is closed from its first second on. Then
+// its life ends before the breaker is closed again, so no entry cut S1 off. Without the entry that
+// closes it, X1 never supplied S1.
 const CLOSED_BEFORE_ITS_LIFE: &'static str = "\
 device X1 BUS-A S1 open 1704072200 -
 switch X1 close 1704071200 3 K1 => cause 3 -4400, feeder 1 -4400, day 0 -4400
@@ -102,7 +106,7 @@ fn lives_after_an_outage(rt: HostRuntime) -> Result<(), Fail> {
     are_shown_after_outage(&rt, rt.alloc(), AFTER_OUTAGE)
 }
 
-// What is acted on the two feeders over so many days, and the total that it leaves.
+// Numbers of days, commands on the two feeders, and the total that they leave.
 const FROM_THE_START: &'static [(u16, &'static str, u64)] = &[
     (1, OPENED_AS_IT_JOINS, 18_000),
     (1, SET_AGAIN_AND_AGAIN, 414_000),
@@ -112,8 +116,9 @@ const FROM_THE_START: &'static [(u16, &'static str, u64)] = &[
     (2, OVER_MIDNIGHT, 0),
 ];
 
-// S3 waits for its breaker, which is opened in the second in which it joins: the run goes on, and it began with the period. With
-// the breaker there from the start, its opening is what cuts S3 off.
+// S3 has no supply until its breaker's life begins, and an entry opens the breaker in that second:
+// the outage interval goes on from the start of the period. With the breaker's life from the start,
+// this opening cuts S3 off.
 const OPENED_AS_IT_JOINS: &'static str = "\
 life B2 1704070800 - => cause 0 18000, feeder 2 18000, day 0 18000
 switch B2 open 1704070800 4 K1 => cause 0 414000, feeder 2 414000, day 0 414000
@@ -121,7 +126,8 @@ switch B2 close 1704074400 4 K1 => cause 0 -396000, feeder 2 -396000, day 0 -396
 life B2 0 - => cause 0 -36000, cause 4 18000, feeder 2 -18000, day 0 -18000
 ";
 
-// A breaker that was opened: its life begins after the opening, ends after it, with it, and one second behind it.
+// A breaker that was opened: its life begins after the opening, ends after it, ends in its second,
+// and ends one second later.
 const SET_AGAIN_AND_AGAIN: &'static str = "\
 switch B1 open 1704070800 3 K1 => cause 3 414000, feeder 1 414000, day 0 414000
 life B1 1704072200 - => cause 0 432000, cause 3 -414000, feeder 1 18000, day 0 18000
@@ -130,7 +136,8 @@ life B1 0 1704070800 => cause 0 414000, cause 3 -414000
 life B1 0 1704070801 => cause 0 -414000, cause 3 414000
 ";
 
-// A device takes the place of another in one second, then a little later, then goes together with it.
+// A device replaces another in one second, then a little later; then both lives end in the same
+// second.
 const TAKES_THE_PLACE: &'static str = "\
 life B1 0 1704071200 => cause 0 412000, feeder 1 412000, day 0 412000
 device X1 BUS-A S1 closed 1704071200 - => cause 0 -412000, feeder 1 -412000, day 0 -412000
@@ -138,7 +145,8 @@ life X1 1704072200 - => cause 0 5000, feeder 1 5000, day 0 5000
 life X1 0 1704071200 => cause 0 407000, feeder 1 407000, day 0 407000
 ";
 
-// A customer of a section whose breaker is gone; its service gets an end, and then ends as the breaker goes.
+// A customer of a section after the life of its breaker; its service gets an end, and then ends in
+// the second in which that life ends.
 const CONNECTED: &'static str = "\
 life B1 0 1704071200 => cause 0 412000, feeder 1 412000, day 0 412000
 connect 11 S1 1704072200 - => cause 0 81400, feeder 1 81400, day 0 81400
@@ -146,7 +154,8 @@ revise 11 1704072200 1704072800 => cause 0 -80800, feeder 1 -80800, day 0 -80800
 revise 11 1704067200 1704071200 => cause 0 -600, feeder 1 -600, day 0 -600
 ";
 
-// Lives that end with the period or a second before, that begin with it or a second later, and that lie outside it.
+// Lives that end with the period or a second before, that begin with it or a second later, and that
+// are outside it.
 const AT_THE_BOUNDS: &'static str = "\
 life B2 0 1704153600
 life B2 0 1704153599 => cause 0 5, feeder 2 5, day 0 5

@@ -1,4 +1,5 @@
-//! How often the network is searched for a change of the sheet that comes late, and for one of the network.
+//! Tests of how often the network is searched for a late change of the switching log, and for a
+//! change of the network.
 use crate::example::tell;
 use crate::feeders::{OUTAGE, TWO_FEEDERS};
 use crate::lives::{BREAKER_GONE, JOINS_IN_OUTAGE, OPENED_IN_ITS_LAST_SECOND, TIE_GOES};
@@ -7,7 +8,7 @@ use std::alloc::Global;
 use std::process::Abort;
 use std::test::Fail;
 
-// After a script on the two feeders a line takes so many searches at most.
+// Checks that after a script on the two feeders a line takes at most `most` searches.
 fn takes<'t>(
     rt: &impl Abort,
     alloc: Global,
@@ -36,7 +37,7 @@ fn for_a_closing_corrected(rt: HostRuntime) -> Result<(), Fail> {
     takes(&rt, rt.alloc(), OUTAGE, line, 2)
 }
 
-// W1 is closed while B1 is open, so that it ends no run.
+// W1 is closed while B1 is open, so it ends no outage interval.
 const WAITING: &'static str = "\
 switch B1 open 1704070800 3 K1 => cause 3 414000, feeder 1 414000, day 0 414000
 switch W1 close 1704071200 3 K1
@@ -61,8 +62,8 @@ fn for_an_opening_in_the_last_second_of_a_life(rt: HostRuntime) -> Result<(), Fa
     takes(&rt, rt.alloc(), BREAKER_GONE, OPENED_IN_ITS_LAST_SECOND, 4)
 }
 
-// After the outage: at the end of the tie's life or the beginning of a device's, and at the entry after it. Where no life of a
-// second of the period changes, nowhere.
+// After the outage the searches are at the end of the tie's life or the beginning of a device's,
+// and at the entry after it. If no life changes in a second of the period, there is no search.
 const OF_THE_NETWORK: &'static [(&'static str, u128)] = &[
     (TIE_GOES, 3),
     (JOINS_IN_OUTAGE, 3),
@@ -99,7 +100,8 @@ fn many(alloc: Global) -> Result<String, Fail> {
     Ok(script)
 }
 
-// The window of the correction has the closing itself and the next opening.
+// The window of the correction (the seconds in which it can alter the supply) contains only the
+// closing itself and the next opening.
 fn correct_one(rt: &impl Abort, alloc: Global) -> Result<(), Fail> {
     let script = many(alloc)?;
     let line = "correct 400 1 close 1704087240 3 K1 => cause 3 -50, feeder 2 -50, day 0 -50";

@@ -159,8 +159,8 @@ fn serve_command<'a>(alloc: Global) -> Result<Command<'a>, AllocError>
     .arg(streams_option(alloc))
 }
 
-/// The version of the program, that of the books which it keeps, and the toolchain that it is proved with.
-const VERSION: &str = "2 (books of version 2, rattle-kit-13f)";
+/// The version of the program, and that of the books that it keeps.
+const VERSION: &str = "2 (books of version 2)";
 
 fn bare_command<'a>(alloc: Global) -> Command<'a>
     ensures app { app_of result ≡ bare_app }

@@ -1,4 +1,4 @@
-//! Commands in JSON, their replies, and the refusals of them.
+//! Tests of commands in JSON, their replies, and their refusals.
 use crate::imports::TAKES_OUTAGE;
 use crate::script::{Ask, Reply, Row, are_answered};
 use std::alloc::AllocError;
@@ -69,7 +69,8 @@ fn a_correction(rt: HostRuntime) -> Result<(), AllocError> {
     are_answered(&rt, rt.alloc(), CORRECTIONS, 26)
 }
 
-// A bus, which is accepted behind the entries too, and refused commands, all under one reference, which stays free.
+// A bus, which is accepted after the entries too, and refused commands, all under one reference,
+// which stays free.
 const REFUSALS: &[Row] = &[
     TAKES_OUTAGE,
     (
@@ -205,7 +206,7 @@ const BRACKETS: &'static str = "\
 [[[[[[[[[[[[[[[[[[[[[[[[[[[[[[[[[[[[[[[[[[[[[[[[[[[[[[[[[[[[[[[[[[[[[[[[[[[[[[[[[[[[[[[[[[[[[[[[[[[[\
 ";
 
-// Bodies that are no command, the column that is bad, and a body with a byte that no text has.
+// Bodies that are no command, the column that is bad, and a body with a byte that no text contains.
 const BAD_BODIES: &[Row] = &[
     (
         Ask::Post("/commands", ""),

@@ -1,4 +1,5 @@
-//! A desk over a store in memory, what streams are answered by it, and what it is tried by.
+//! A desk (the book's HTTP server) over a store in memory, its answers to streams, and the trials
+//! that use it.
 use crate::log::Log;
 use crate::streams::{Sink, Source, WHOLE, Way};
 use ob_base::Fault;
@@ -13,7 +14,7 @@ use std::alloc::{AllocError, Global};
 use std::net::TcpListener;
 use std::process::Abort;
 
-/// How a stream ended, after so many replies or by a fault, and what was written.
+/// How a stream ended, after a number of replies or by a fault, and the bytes that were written.
 #[derive(Drop)]
 pub struct Heard {
     pub end: Result<u32, Fault>,
@@ -21,28 +22,29 @@ pub struct Heard {
 }
 
 impl Heard {
-    /// Whether it is this end, and these bytes were written.
+    /// Answers whether the stream ended this way and these bytes were written.
     pub fn is(&self, end: Result<u32, Fault>, bytes: &[u8]) -> bool {
         self.end == end && self.bytes.as_slice() == bytes
     }
 }
 
-/// What serves streams by a book, or without one. A test knows no more of a keeper than this: with the parts of a keeper each
-/// function that holds one is long to prove.
+/// Serves streams with a book, or without one. The tests use a `Keeper` only through this trait: a
+/// function that holds one with its parts takes long to prove.
 pub trait Desk {
-    /// Makes the book of 2024-01-01 in UTC.
+    /// Creates the book of 2024-01-01 in UTC.
     fn begins(&mut self) -> bool;
 
     /// Reads the book that the tables hold.
     fn loads(&mut self) -> bool;
 
-    /// How many commands the book has accepted; None where there is no book.
+    /// The number of commands that the book has accepted, or None if there is no book.
     fn commands(&self) -> Option<u32>;
 
-    /// Whether the book has so many commands, and no table differs from what they give.
+    /// Answers whether the book has this number of commands, and no table differs from what these
+    /// give.
     fn stands_with(&mut self, commands: u32) -> bool;
 
-    /// What a request is answered; the stream may end with the reply.
+    /// The answer to a request; the stream may end with the reply.
     fn replies(
         &mut self,
         alloc: Global,
@@ -51,10 +53,10 @@ pub trait Desk {
         closes: bool,
     ) -> Result<ReplyText, Fault>;
 
-    /// What a stream is answered that gives what a source gives, by this writer.
+    /// Serves a stream with the bytes of a source, and replies to this writer.
     fn hears(&mut self, alloc: Global, source: Source<'_>, sink: Sink) -> Heard;
 
-    /// Serves so many streams of a listener, one after the other.
+    /// Serves this number of streams of a listener, one after the other.
     fn serves(
         &mut self,
         alloc: Global,
@@ -118,12 +120,13 @@ impl<S: Alter, T: Timeline> Desk for Keeper<S, T> {
     }
 }
 
-/// What a stream of these bytes is answered.
+/// Serves a stream of these bytes.
 pub fn told<D: Desk>(alloc: Global, desk: &mut D, text: &[u8]) -> Heard {
     desk.hears(alloc, Source::new(text, &WHOLE), Sink::new(alloc, &WHOLE))
 }
 
-/// A stream and its way, how it ends, what is written, and how many commands the book then has; None where there is no book.
+/// A stream and its way; the expected end, written bytes and number of commands that the book then
+/// has, or None if there is no book.
 #[derive(Drop)]
 pub struct Stream<'b> {
     pub text: &'b [u8],
@@ -133,7 +136,7 @@ pub struct Stream<'b> {
     pub commands: Option<u32>,
 }
 
-/// The stream of this number ends so.
+/// Checks how the stream of this number ends.
 pub fn ends_so<D: Desk>(
     rt: &impl Abort,
     alloc: Global,
@@ -147,17 +150,17 @@ pub fn ends_so<D: Desk>(
     assert!(rt; desk.commands() == stream.commands, "stream {no}");
 }
 
-/// What a desk is tried by.
+/// A trial of a desk.
 pub trait Trial {
     fn run<A: Abort, D: Desk>(&self, rt: &A, alloc: Global, desk: &mut D) -> Result<(), AllocError>;
 }
 
-/// A desk over a new book is tried.
+/// Runs a trial with a desk over a new book.
 pub fn over_a_book<C: Trial>(rt: &impl Abort, alloc: Global, trial: &C) -> Result<(), AllocError> {
     over_a_store(rt, alloc, true, trial)
 }
 
-/// A desk over a store in memory is tried, with a new book or without one.
+/// Runs a trial with a desk over a store in memory, with a new book or without one.
 pub fn over_a_store<C: Trial>(
     rt: &impl Abort,
     alloc: Global,
@@ -170,8 +173,8 @@ pub fn over_a_store<C: Trial>(
     by_a_keeper::<MemStore, Windowed, C>(rt, alloc, conn, begins, trial)
 }
 
-// The one function that holds a keeper, of parts that it doesn't see. The keeper ends as its connection, so that no drop of a
-// book is proved here.
+// The only function that holds a `Keeper`, with the types of its parts left open. The `Keeper` ends
+// by giving up its connection, so that nothing about dropping a book has to be proved here.
 fn by_a_keeper<S: Alter + Drop, T: Timeline, C: Trial>(
     rt: &impl Abort,
     alloc: Global,
@@ -193,7 +196,7 @@ fn is_tried<D: Desk, C: Trial>(
     begins: bool,
     trial: &C,
 ) -> Result<(), AllocError> {
-    // Where memory is refused there is no book yet, and nothing is tried.
+    // If memory is refused there is no book yet, and the trial doesn't run.
     if begins && !desk.begins() {
         return Err(AllocError);
     }

@@ -1,4 +1,4 @@
-//! The worked exchange, whole and in pieces, cut, with readers and writers that fail.
+//! Tests of the worked exchange: whole, in pieces, cut, and with readers and writers that fail.
 use crate::desk::{Desk, Stream, Trial, ends_so, over_a_book, told};
 use crate::script::{Ask, Reply, Row, are_answered};
 use crate::streams::{WHOLE, Way};
@@ -8,7 +8,7 @@ use std::alloc::{AllocError, Global};
 use std::io::ErrorKind;
 use std::process::Abort;
 
-/// Streams, one after the other, and how many commands the book then has.
+/// Streams, one after the other, and the number of commands that the book then has.
 #[derive(Drop)]
 pub struct Streams<'r> {
     pub rows: &'r [Stream<'r>],
@@ -32,7 +32,7 @@ impl Trial for Streams<'_> {
     }
 }
 
-// The exchange by a way.
+// The exchange in a way.
 fn exchange(way: Way) -> Stream<'static> {
     Stream {
         text: STORM,
@@ -52,7 +52,7 @@ fn whole_and_in_pieces(rt: HostRuntime) -> Result<(), AllocError> {
     Ok(())
 }
 
-// Byte by byte, and the reader and the writer are interrupted before each.
+// Byte by byte; the reader and the writer are interrupted before each byte.
 const JOLTED: Way = Way {
     step: 1,
     reads: 1,
@@ -82,7 +82,7 @@ fn twice(rt: HostRuntime) -> Result<(), AllocError> {
     are_answered(&rt, rt.alloc(), TWICE, 1)
 }
 
-// A writer that fails behind each number of bytes of a reply of 90, and two that take none any more.
+// Writers that fail after each number of bytes of a reply of 90, and two that take no further byte.
 struct Writers;
 
 impl Trial for Writers {
@@ -102,8 +102,8 @@ impl Trial for Writers {
     }
 }
 
-// A writer with so much room is written just that front of a reply, there is one command more, and the repeat is answered by
-// its reply.
+// Checks a writer with this much room: it gets just that front of a reply, the book has one more
+// command, and the repeated request gets the reply.
 fn breaks_off<D: Desk>(
     rt: &impl Abort,
     alloc: Global,
@@ -164,7 +164,7 @@ fn writers_that_fail(rt: HostRuntime) -> Result<(), AllocError> {
     over_a_book(&rt, rt.alloc(), &Writers)
 }
 
-// The exchange, and behind it another cause under the reference R2; and their replies.
+// The exchange followed by another cause under the reference R2, and both replies.
 const BOTH: &'static [u8] = b"\
 POST /commands HTTP/1.1\r\nHost: localhost\r\nContent-Length: 49\r\n\r\n\
 {\"kind\":\"cause\",\"ref\":\"R1\",\"f1\":\"3\",\"f2\":\"STORM\"}\
@@ -175,7 +175,7 @@ const REPLIES: &'static [u8] = b"\
 HTTP/1.1 200 OK\r\nContent-Type: application/json\r\nContent-Length: 19\r\n\r\n{\"moved\":[],\"no\":1}\
 HTTP/1.1 200 OK\r\nContent-Type: application/json\r\nContent-Length: 19\r\n\r\n{\"moved\":[],\"no\":2}";
 
-// How many of two requests are whole in so many bytes of both.
+// The number of requests of the two that are whole in this many bytes of both.
 fn whole_in(count: usize, first: &[u8], both: &[u8]) -> u32 {
     if count < first.len() {
         0
@@ -186,7 +186,7 @@ fn whole_in(count: usize, first: &[u8], both: &[u8]) -> u32 {
     }
 }
 
-// What is written to so many of the two.
+// The replies to this many of the two requests.
 fn replies(whole: u32) -> &'static [u8] {
     match whole {
         0 => b"",
@@ -195,8 +195,8 @@ fn replies(whole: u32) -> &'static [u8] {
     }
 }
 
-// Fronts of the two requests by a way, of so many bytes to so many: each is a fault, and only the requests that are whole have
-// acted. A stream without a byte is none.
+// Fronts of the two requests in a way, from `first` to `last` bytes long. Each ends in a fault, and
+// only the whole requests have been applied. A stream without a byte ends without a fault.
 #[derive(Drop)]
 struct Fronts {
     first: usize,
@@ -257,13 +257,14 @@ fn readers_that_fail(rt: HostRuntime) -> Result<(), AllocError> {
     over_a_book(&rt, rt.alloc(), &fronts)
 }
 
-// All bytes at once, and then interruptions for ever.
+// All bytes at once, and then interruptions without end.
 const STUCK: Way = Way {
     failure: Some(ErrorKind::Interrupted),
     ..WHOLE
 };
 
-// A stream that is interrupted for ever behind these bytes is a fault; this is written, and the book has so many commands.
+// A stream that is interrupted without end after these bytes: it ends in a fault, these replies are
+// written, and the book has this number of commands.
 fn stuck(text: &'static [u8], written: &'static [u8], commands: u32) -> Stream<'static> {
     Stream {
         text,

@@ -1,4 +1,4 @@
-//! Heads that are refused, streams that end, and the interim reply.
+//! Tests of heads that are refused, streams that end, and the interim reply.
 use crate::script::{Ask, Reply, Row, are_answered};
 use crate::texts::{FIRST, NOT_FOUND, STORM};
 use ob_base::Fault;
@@ -19,7 +19,7 @@ const PAYLOAD_TOO_LARGE: &'static [u8] =
 const FIELDS_TOO_LARGE: &'static [u8] =
     b"HTTP/1.1 431 Request Header Fields Too Large\r\nContent-Length: 0\r\nConnection: close\r\n\r\n";
 
-// Requests that are refused by their heads, which ends the stream.
+// Requests that are refused because of their heads, which ends the stream.
 const REFUSED: &[Row] = &[
     (
         Ask::Last(b"GET /totals HTTP/1.1\r\n\r\n"),
@@ -110,7 +110,8 @@ fn heads_that_are_refused(rt: HostRuntime) -> Result<(), AllocError> {
 // The front of a request without its last line.
 const FRONT: &'static [u8] = b"GET /nothing HTTP/1.1\r\nHost: a\r\n";
 
-// A target of which 16,384 bytes have no end, and one that is cut a byte before; 63 field lines beside Host, and 64.
+// A request line whose first 16,384 bytes have no end, and one that is cut a byte earlier; a head
+// with 63 field lines next to Host, and one with 64.
 const BOUNDS: &[Row] = &[
     (
         Ask::Many((b"GET /", b"a", 16_379, b"")),
@@ -141,7 +142,7 @@ fn heads_at_the_bounds(rt: HostRuntime) -> Result<(), AllocError> {
 
 const TOTALS: &'static [u8] = b"GET /totals HTTP/1.1\r\nHost: a\r\n\r\n";
 
-// The totals of a book without an outage, and in the last reply of a stream.
+// The totals of a book without an outage, and the same as the last reply of a stream.
 const NOTHING: &'static [u8] = b"\
 HTTP/1.1 200 OK\r\nContent-Type: application/json\r\nContent-Length: 43\r\n\r\n\
 {\"cause\":[],\"day\":[],\"feeder\":[],\"total\":0}";
@@ -150,7 +151,7 @@ const LAST_NOTHING: &'static [u8] = b"\
 HTTP/1.1 200 OK\r\nContent-Type: application/json\r\nContent-Length: 43\r\nConnection: close\r\n\r\n\
 {\"cause\":[],\"day\":[],\"feeder\":[],\"total\":0}";
 
-// The 1,000th reply is the last, and what comes behind it isn't read.
+// The 1,000th reply is the last, and the desk doesn't read what follows it.
 const THOUSAND: &[Row] = &[(
     Ask::Many((b"", TOTALS, 1_001, b"")),
     Ok(1_000),
@@ -201,7 +202,7 @@ const CUT_BODY: &'static [u8] = b"{\"kind\":\"cause\",\"ref\":\"R1\",\"f1\":\"3\
 
 const CONTINUE: &'static [u8] = b"HTTP/1.1 100 Continue\r\n\r\n";
 
-// A client waits for the interim reply, and is cut off.
+// A client waits for the interim reply, and its stream is cut off.
 const CUT_OFF: Row = (
     Ask::Many((WAITING, CUT_BODY, 1, b"")),
     Err(Fault::Input),
@@ -210,7 +211,7 @@ const CUT_OFF: Row = (
 
 const CUT: &[Row] = &[CUT_OFF];
 
-// Another waits and sends its body whole.
+// Another client waits and sends its whole body.
 const WAITS: &[Row] = &[
     CUT_OFF,
     (
@@ -235,7 +236,7 @@ const REFUSALS: &'static [u8] = b"\
 HTTP/1.1 405 Method Not Allowed\r\nContent-Length: 0\r\nAllow: GET\r\n\r\n\
 HTTP/1.1 404 Not Found\r\nContent-Length: 0\r\n\r\n";
 
-// A stream goes on behind them.
+// A stream goes on after them.
 const GOES_ON: &[Row] = &[(
     Ask::Many((TWO, STORM, 1, b"")),
     Ok(3),

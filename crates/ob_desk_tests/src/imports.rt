@@ -1,4 +1,4 @@
-//! Imports by POST, and the texts that they take.
+//! Tests of imports by POST, and their texts.
 use crate::script::{Ask, Reply, Row, are_answered};
 use std::alloc::AllocError;
 
@@ -10,7 +10,7 @@ const NAME_TAKEN: &'static str =
 const NO_HEADER: &'static str =
     "{\"added\":0,\"again\":0,\"stopped\":{\"detail\":0,\"name\":\"BadField\",\"refused\":1,\"row\":0}}";
 
-// A row stops, and is changed.
+// A row is refused, and then changed.
 const CHANGED: &[Row] = &[
     (
         Ask::Post("/import", ONE_NAME_TWICE),
@@ -70,9 +70,10 @@ section,R3,S1,1,,,,
 section,R4,S2,1,,,,
 ";
 
-/// Two feeders of one bus with a tie between them, S1 and S2 behind the breaker B1 and S3 behind B2, with two, three and
-/// five customers. An hour after the start of 2024 B1 opens; ten minutes later W1 opens and the tie takes S2 over; an hour
-/// after its opening B1 closes.
+/// Two feeders of one bus with a tie between them: S1 and S2 supplied through the breaker B1 and S3
+/// through B2, with two, three and five customers. An hour after the start of 2024 B1 opens. Ten
+/// minutes later W1 opens and the tie closes, which supplies S2. An hour after its opening B1
+/// closes.
 pub const OUTAGE: &'static str = "\
 kind,ref,f1,f2,f3,f4,f5,f6
 cause,N1,3,STORM,,,,

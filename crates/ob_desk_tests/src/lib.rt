@@ -1,8 +1,10 @@
-//! Tests of the desk: requests as they are read, replies as they are written, and, over a store in memory, what a request is
-//! answered and the replies to whole streams, to streams in pieces and to cut ones, readers and writers that fail, every
-//! refusal of a head, and streams over a socket on this machine.
+//! Tests of the desk (the book's HTTP server): requests as they are read, replies as they are
+//! written, and, over a store in memory, the answers to requests and to whole streams. They cover
+//! streams in pieces and cut streams, readers and writers that fail, every refusal of a head, and
+//! streams over a socket on the local machine.
 //!
-//! It holds tests alone. The replies are worked out by hand from the formats and from RFC 9112.
+//! This crate holds only tests, and no other crate uses it. The replies are worked out by hand from
+//! the formats and from RFC 9112.
 #![tactic(auto)]
 
 #[cfg(test)]

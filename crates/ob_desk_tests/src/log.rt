@@ -1,8 +1,8 @@
-//! The faults that a listener's streams ended by.
+//! The faults that ended streams of a listener.
 use ob_base::Fault;
 use ob_desk::FaultLog;
 
-/// The last fault that was told, and how many were.
+/// The last recorded fault, and the number of recorded faults.
 #[derive(Drop)]
 pub struct Log {
     last: Option<Fault>,
@@ -17,7 +17,7 @@ impl Log {
         }
     }
 
-    /// Whether so many faults were told, this one last.
+    /// Answers whether this number of faults was recorded, this one last.
     pub fn is(&self, count: u32, last: Option<Fault>) -> bool {
         self.count == count && self.last == last
     }

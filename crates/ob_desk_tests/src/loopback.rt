@@ -1,4 +1,5 @@
-//! Streams over a socket, in one process: the client writes and hangs up or waits, and then the desk serves.
+//! Tests of streams over a socket, in one process: the client writes and hangs up or waits, and
+//! then the desk serves.
 use crate::desk::{Desk, Trial, over_a_store};
 use crate::log::Log;
 use ob_base::Fault;
@@ -26,11 +27,14 @@ HTTP/1.1 200 OK\r\nContent-Type: application/json\r\nContent-Length: 43\r\nConne
 
 const CUT: &'static [u8] = b"POST /commands HTTP/1.1\r\nHost: a\r\nContent-Length: 49\r\n\r\n{";
 
-// What a client writes, whether it hangs up then, and what it reads where it waits for the end.
+// The bytes that a client writes, whether it then hangs up, and the bytes that it reads if it waits
+// for the end.
 type Client = (&'static [u8], bool, Option<&'static [u8]>);
 
-// Clients that have written one after the other when the desk serves so many streams, or all, and how that ends; how many faults
-// are told, and the last; whether a client is left, whose stream can still be taken; and how many commands the book then has.
+// Clients that have written, one after the other, before the desk serves this number of streams, or
+// all, and how the service ends. Then the number of recorded faults, and the last one; whether a
+// client is left, whose stream can still be accepted; and the number of commands that the book then
+// has.
 #[derive(Drop)]
 struct Case {
     clients: &'static [Client],
@@ -69,14 +73,14 @@ fn clients(
     Ok(clients)
 }
 
-// Whether a client reads this, and then the end.
+// Answers whether a client reads these bytes, and then the end.
 fn is_told(alloc: Global, client: &mut TcpStream, wanted: &[u8]) -> io::Result<bool> {
     let mut reply = Vec::new(alloc);
     client.read_to_end(&mut reply)?;
     Ok(reply.as_slice() == wanted)
 }
 
-// Whether each client that waits reads its reply.
+// Answers whether each client that waits reads its reply.
 fn are_told(alloc: Global, clients: &mut [TcpStream], rows: &[Client]) -> io::Result<bool> {
     for (client, (_, _, reply)) in clients.iter_mut().zip(rows) {
         if let Some(wanted) = reply {
@@ -91,7 +95,7 @@ fn are_told(alloc: Global, clients: &mut [TcpStream], rows: &[Client]) -> io::Re
 fn is_served<D: Desk>(host: &HostRuntime, desk: &mut D, case: &Case) -> io::Result<bool> {
     let listener = TcpListener::bind(host, "127.0.0.1:0")?;
     let mut clients = clients(host, &listener, case.clients)?;
-    // Where no client waits, the next stream can't be taken.
+    // If no client waits, the next stream can't be accepted.
     listener.set_nonblocking(case.streams == 0)?;
     let mut log = Log::new();
     let end = desk.serves(host.alloc(), &listener, case.streams, &mut log);
@@ -123,7 +127,7 @@ impl Trial for Served<'_> {
     }
 }
 
-// A case over a new book, or without one.
+// Checks a case over a new book, or without one.
 fn is_well(
     rt: &impl Abort,
     host: &HostRuntime,
@@ -167,10 +171,10 @@ fn a_cut_stream_and_the_next(rt: HostRuntime) -> Result<(), AllocError> {
     is_well(&rt, &rt, true, &BEHIND_A_CUT)
 }
 
-// A client that asks for the totals of the empty book, and for no more.
+// A client that asks only for the totals of the empty book.
 const ASKS: Client = (TOTALS, false, Some(EMPTY_TOTALS));
 
-// Of three clients the first two are served, and the stream of the third is still there to be taken.
+// The first two of three clients are served, and the stream of the third can still be accepted.
 const TWO_OF_THREE: Case = Case {
     clients: &[ASKS, ASKS, (TOTALS, false, None)],
     streams: 2,
@@ -186,7 +190,7 @@ fn two_streams_of_three(rt: HostRuntime) -> Result<(), AllocError> {
     is_well(&rt, &rt, true, &TWO_OF_THREE)
 }
 
-// Without a number all clients are served, until no stream can be taken any more.
+// Without a number all clients are served, until no further stream can be accepted.
 const ALL: Case = Case {
     clients: &[ASKS, ASKS, ASKS],
     streams: 0,

@@ -1,4 +1,4 @@
-//! The worked exchange where one allocation is refused.
+//! Tests of the worked exchange with one allocation refused.
 use crate::desk::{Desk, Heard, Trial, over_a_book};
 use crate::streams::{Sink, Source, WHOLE};
 use crate::texts::{FIRST, STORM, UNAVAILABLE};
@@ -6,20 +6,20 @@ use ob_base::Fault;
 use std::alloc::{AllocError, Global};
 use std::process::Abort;
 
-// What the exchange is answered, by a writer that has its memory already.
+// Serves the exchange, with a writer that has its memory already.
 fn heard<D: Desk>(alloc: Global, desk: &mut D) -> Result<Heard, AllocError> {
     let mut sink = Sink::new(alloc, &WHOLE);
     sink.taken.reserve(200)?;
     Ok(desk.hears(alloc, Source::new(STORM, &WHOLE), sink))
 }
 
-// Whether this may be written by a stream that a fault ends: nothing, or 503.
+// Answers whether a stream that a fault ends may have written this: nothing, or 503.
 fn is_unanswered(bytes: &[u8]) -> bool {
     bytes.is_empty() || bytes == UNAVAILABLE
 }
 
-// Whether the exchange is answered. Where a fault ends the stream, nothing is written, or 503; after a fault of the store there
-// is no book until it is loaded again.
+// Answers whether the exchange was answered. If a fault ended the stream, nothing was written, or
+// 503; after a store fault there is no book until it is loaded again.
 fn is_answered<D: Desk>(rt: &impl Abort, desk: &mut D, heard: &Heard) -> bool {
     match heard.end {
         Ok(_) => {
@@ -35,12 +35,12 @@ fn is_answered<D: Desk>(rt: &impl Abort, desk: &mut D, heard: &Heard) -> bool {
     }
 }
 
-// Loads the book where there is none, at the second try where memory is refused to the first.
+// Loads the book if there is none, with a second try if the first was refused memory.
 fn has_book<D: Desk>(desk: &mut D) -> bool {
     desk.commands().is_some() || desk.loads() || desk.loads()
 }
 
-// Three times the exchange; the book is loaded where there is none.
+// The exchange three times; the book is loaded if there is none.
 struct Refused;
 
 impl Trial for Refused {
@@ -63,8 +63,8 @@ impl Trial for Refused {
     }
 }
 
-// Run with one allocation refused, it sees that the exchange acts once, and that a repeat is answered by its reply. Where
-// memory is refused to the test itself, it ends there.
+// Run with one allocation refused, this test checks that the exchange is applied once, and that a
+// repeated request gets the reply. If memory is refused to the test itself, it ends there.
 #[test]
 fn memory_refused(rt: HostRuntime) {
     let _ = over_a_book(&rt, rt.alloc(), &Refused);

@@ -1,4 +1,5 @@
-//! Replies, and commands as JSON. Expected texts are written by hand from the form of replies.
+//! Tests of replies, and of commands as JSON. Expected texts are written by hand from the form of
+//! replies.
 mod bodies;
 mod bytes;
 mod commands;

@@ -1,5 +1,5 @@
-//! Readers and writers that are interrupted many times: a stream has 65,536 tries more in all, whichever request and whichever
-//! of the two they are spent on.
+//! Tests of readers and writers that are interrupted many times: a stream has 65,536 retries in
+//! all, shared by all its requests and by the reader and the writer.
 use crate::desk::{Stream, over_a_book};
 use crate::exchange::Streams;
 use crate::streams::{WHOLE, Way};
@@ -7,7 +7,8 @@ use crate::texts::FIRST;
 use ob_base::Fault;
 use std::alloc::AllocError;
 
-// Two causes in requests of equal length, after the second of which the connection ends; and their replies.
+// Two causes in requests of equal length, and their replies; the second request ends the
+// connection.
 const BOTH: &'static [u8] = b"\
 POST /commands HTTP/1.1\r\nHost: localhost\r\nContent-Length: 49\r\nUser-Agent: tests\r\n\r\n\
 {\"kind\":\"cause\",\"ref\":\"R1\",\"f1\":\"3\",\"f2\":\"STORM\"}\
@@ -19,7 +20,8 @@ HTTP/1.1 200 OK\r\nContent-Type: application/json\r\nContent-Length: 19\r\n\r\n{
 HTTP/1.1 200 OK\r\nContent-Type: application/json\r\nContent-Length: 19\r\nConnection: close\r\n\r\n\
 {\"moved\":[],\"no\":2}";
 
-// The stream of both requests, one a read, where each read is interrupted so many times and each reply so many.
+// The stream of both requests, one a read, with `reads` interruptions of each read and `writes` of
+// each reply.
 fn interrupted(
     reads: u32,
     writes: u32,
@@ -42,7 +44,8 @@ fn interrupted(
     }
 }
 
-// 65,536 interruptions are got over, and not two or four more: of two reads, of two replies, and of both.
+// A stream goes on after 65,536 interruptions, but not after two or four more: of two reads, of two
+// replies, and of both.
 #[test]
 fn interrupted_in_two_requests(rt: HostRuntime) -> Result<(), AllocError> {
     let rows = &[

@@ -1,41 +1,41 @@
-//! Streams in their order, and what each is answered.
+//! Streams in their order, and the answer to each.
 use crate::desk::{Desk, Trial, over_a_book, told};
 use crate::texts::{STORM, get, json, many, post};
 use ob_base::Fault;
 use std::alloc::{AllocError, Global};
 use std::process::Abort;
 
-/// A text, so many times another, and a text.
+/// A front, a middle text, the number of its repetitions, and an end.
 pub type Many = (&'static [u8], &'static [u8], u32, &'static [u8]);
 
-/// What a stream says.
+/// The bytes of a stream.
 pub enum Ask {
     /// A GET of a path.
     Get(&'static str),
-    /// A POST to a path, of a body.
+    /// A POST to a path, with a body.
     Post(&'static str, &'static str),
     /// These bytes.
     Text(&'static [u8]),
-    /// These bytes, and behind them the request that enters a cause, which is not read any more.
+    /// These bytes, followed by a request that enters a cause, which the desk doesn't read.
     Last(&'static [u8]),
-    /// These bytes.
+    /// These bytes, with a repeated part.
     Many(Many),
 }
 
-/// What is written.
+/// The written bytes.
 pub enum Reply {
     /// A reply with this status and this body in JSON.
     Json(&'static str, &'static str),
     /// These bytes.
     Text(&'static [u8]),
-    /// These bytes.
+    /// These bytes, with a repeated part.
     Many(Many),
 }
 
-/// A stream, how it ends, after so many replies or by a fault, and what is written.
+/// A stream, how it ends, after a number of replies or by a fault, and the written bytes.
 pub type Row = (Ask, Result<u32, Fault>, Reply);
 
-/// Streams, one after the other, and how many commands the book then has.
+/// Streams, one after the other, and the number of commands that the book then has.
 #[derive(Drop)]
 pub struct Script<'r> {
     pub rows: &'r [Row],
@@ -86,7 +86,8 @@ impl Trial for Script<'_> {
     }
 }
 
-/// Streams are answered so by a desk over a new book, one after the other, and the book then has so many commands.
+/// Checks the answers of a desk over a new book to streams, one after the other, and the number of
+/// commands that the book then has.
 pub fn are_answered(
     rt: &impl Abort,
     alloc: Global,

@@ -1,5 +1,6 @@
-//! Devices that join and leave in time and lives that are set anew, by the desk: the replies, and what is shown of the book,
-//! the same once it is loaded again.
+//! Tests of devices whose in-service intervals (lives) begin and end, and of lives that are set
+//! again, with the desk: the replies, and what the book shows, which stays the same after it is
+//! loaded again.
 use crate::desk::{Desk, Trial, over_a_book};
 use crate::imports::{OUTAGE, TAKES_OUTAGE};
 use crate::script::{Ask, Reply, Row, Script, are_answered};
@@ -13,7 +14,8 @@ const UNPROCESSABLE: &'static str = "422 Unprocessable Entity";
 const OUTAGE_TOTALS: &'static str =
     "{\"cause\":[[3,9000]],\"day\":[[0,9000]],\"feeder\":[[1,9000]],\"total\":9000}";
 
-// The tie, over which S2 has its supply, leaves 100 minutes after the start of 2024; then it has its whole life again.
+// The life of the tie that supplies S2 ends 100 minutes after the start of 2024; then the life has
+// no bounds again.
 const LEFT: &'static str =
     "{\"moved\":[[\"cause\",0,241200],[\"feeder\",1,241200],[\"day\",0,241200]],\"no\":26}";
 
@@ -90,7 +92,8 @@ const TIE_LEFT: &[Row] = &[
     (Ask::Get("/commands/27"), Ok(1), Reply::Json("200 OK", BACK)),
 ];
 
-// A second way from the bus to S1 is there 5,000 seconds after the start of 2024, and supplies it.
+// The life of a second device from the bus to S1 begins 5,000 seconds after the start of 2024, and
+// the device supplies S1.
 const JOINED: &'static str =
     "{\"moved\":[[\"cause\",3,-4400],[\"feeder\",1,-4400],[\"day\",0,-4400]],\"no\":26}";
 
@@ -143,8 +146,9 @@ const DEVICE_JOINED: &[Row] = &[
     ),
 ];
 
-// Without an outage: the breaker of S3 leaves an hour after the start of 2024. An opening of that second finds it gone; one of
-// the second before cuts the supply, and the rest has its cause.
+// Without an outage: the life of S3's breaker ends an hour after the start of 2024. An opening in
+// that second is outside the life; one in the second before cuts the supply, and the rest counts
+// under its cause.
 const CUT: &'static str =
     "{\"moved\":[[\"cause\",0,-414000],[\"cause\",4,414005],[\"feeder\",2,5],[\"day\",0,5]],\"no\":24}";
 
@@ -212,8 +216,8 @@ const BREAKER_LEFT: &[Row] = &[
     (Ask::Get("/commands/24"), Ok(1), Reply::Json("200 OK", CUT)),
 ];
 
-// A bus, and a section on it with a customer, are there behind the outage; 40,000 seconds after the start of 2024 a device joins
-// the bus to the other one for 10,000 seconds.
+// A bus, and a section with a customer, are added after the outage; 40,000 seconds after the start
+// of 2024 a device joins the bus to the other one for 10,000 seconds.
 const BUILT: &'static str =
     "{\"moved\":[[\"cause\",0,-10000],[\"feeder\",9,-10000],[\"day\",0,-10000]],\"no\":30}";
 
@@ -286,7 +290,8 @@ const PARTS_JOINED: &[Row] = &[
     ),
 ];
 
-// Streams on a new book, how many commands it then has, and what is shown of it, also once it is loaded again.
+// Streams on a new book, the number of commands that it then has, and what it shows, also after it
+// is loaded again.
 #[derive(Drop)]
 struct Story {
     told: &'static [Row],
@@ -459,7 +464,8 @@ fn refused_devices_and_lives(rt: HostRuntime) -> Result<(), AllocError> {
     are_answered(&rt, rt.alloc(), REFUSED, 25)
 }
 
-// The network of the outage and its customers, without a switching. Each device is there from 0 on, which is to say always.
+// The network of the outage and its customers, without a switching. The life of each device begins
+// at 0 and has no end.
 const BASE: &'static str = "\
 kind,ref,f1,f2,f3,f4,f5,f6
 cause,N1,3,STORM,,,,
@@ -491,7 +497,7 @@ const TAKES_BASE: Row = (
     Reply::Json("200 OK", "{\"added\":21,\"again\":0,\"stopped\":null}"),
 );
 
-// The outage, whose devices have no columns of a life, behind its network.
+// The outage, whose devices have no columns of a life, after its network.
 const TAKES_REST: Row = (
     Ask::Post("/import", OUTAGE),
     Ok(1),

@@ -1,4 +1,4 @@
-//! A reader and a writer for tests, and the ways in which they give and take.
+//! A reader and a writer for tests, and the ways in which they give and take bytes.
 use std::alloc::Global;
 use std::io;
 use std::io::{ErrorKind, Read, Write};
@@ -6,16 +6,17 @@ use std::io::{ErrorKind, Read, Write};
 /// How the bytes of a stream come and go.
 #[derive(Clone, Copy)]
 pub struct Way {
-    /// At most so many bytes are read at once, after so many interruptions.
+    /// At most `step` bytes are read at once, each time after `reads` interruptions.
     pub step: usize,
     pub reads: u32,
-    /// Behind the bytes this error comes, for ever, or the end.
+    /// After the bytes this error comes at every read, or the end.
     pub failure: Option<ErrorKind>,
-    /// There is room for so many bytes of replies, of which at most `piece` are written at once, after so many interruptions.
+    /// There is room for `room` bytes of replies, of which at most `piece` are written at once,
+    /// each time after `writes` interruptions.
     pub room: usize,
     pub piece: usize,
     pub writes: u32,
-    /// Behind the room none are taken any more; else a write fails.
+    /// Once the room is used up, the writer takes no byte if this is set; otherwise a write fails.
     pub stands: bool,
 }
 

@@ -1,9 +1,9 @@
-//! Requests and replies.
+//! Texts of requests and replies.
 use crate::script::Many;
 use ob_requests::{Method, Request};
 use std::alloc::{AllocError, Global};
 
-/// A request that enters a cause under the reference R1, and its reply by a new book.
+/// A request that enters a cause under the reference R1, and the reply of a new book.
 pub const STORM: &'static [u8] = b"\
 POST /commands HTTP/1.1\r\nHost: localhost\r\nContent-Length: 49\r\n\r\n\
 {\"kind\":\"cause\",\"ref\":\"R1\",\"f1\":\"3\",\"f2\":\"STORM\"}";
@@ -20,11 +20,11 @@ pub const GET_ALONE: &'static [u8] =
 pub const POST_ALONE: &'static [u8] =
     b"HTTP/1.1 405 Method Not Allowed\r\nContent-Length: 0\r\nAllow: POST\r\n\r\n";
 
-/// The reply to a request that a fault kept from being answered.
+/// The reply to a request that can't be answered because of a fault.
 pub const UNAVAILABLE: &'static [u8] =
     b"HTTP/1.1 503 Service Unavailable\r\nContent-Length: 0\r\nConnection: close\r\n\r\n";
 
-/// Texts, one behind the other.
+/// Texts, one after the other.
 pub fn joined(alloc: Global, parts: &[&str]) -> Result<String, AllocError> {
     let mut text = String::new(alloc);
     for part in parts {
@@ -94,7 +94,7 @@ pub fn json(alloc: Global, status: &str, body: &str) -> Result<Vec<u8>, AllocErr
     Ok(text.into_bytes())
 }
 
-/// A text, so many times another, and a text.
+/// A front, a middle text repeated a number of times, and an end.
 pub fn many(alloc: Global, parts: &Many) -> Result<Vec<u8>, AllocError> {
     let (front, middle, count, back) = parts;
     let mut text = front.to_vec(alloc)?;

@@ -1,4 +1,4 @@
-//! What is shown of a book with an outage, and of a keeper without a book.
+//! Tests of what the desk shows of a book with an outage, and of a `Keeper` without a book.
 use crate::desk::{Desk, Stream, Trial, ends_so, over_a_store};
 use crate::imports::TAKES_OUTAGE;
 use crate::script::{Ask, Many, Reply, Row, Script, are_answered};
@@ -214,7 +214,7 @@ fn entries_and_commands_that_are_not_there(rt: HostRuntime) -> Result<(), AllocE
     are_answered(&rt, rt.alloc(), NOT_THERE, 25)
 }
 
-// What is answered without a book too.
+// Requests that are answered without a book too.
 const ROUTES: &[Row] = &[
     (Ask::Get("/"), Ok(1), Reply::Text(NOT_FOUND)),
     (Ask::Get("/nothing"), Ok(1), Reply::Text(NOT_FOUND)),
@@ -260,7 +260,8 @@ const NEEDY: &[&'static [u8]] = &[
     b"POST /import HTTP/1.1\r\nHost: a\r\nContent-Length: 0\r\n\r\n",
 ];
 
-// Without a book a request that needs one is answered 503, and ends its stream; also where that can't be written.
+// Without a book a request that needs one is answered 503, which ends its stream, also if that
+// reply can't be written.
 struct Needy;
 
 impl Trial for Needy {
@@ -290,10 +291,10 @@ impl Trial for Needy {
     }
 }
 
-// A request behind it, which is not read any more.
+// A request after it, which the desk doesn't read.
 const NOTHING: &'static [u8] = b"GET /nothing HTTP/1.1\r\nHost: a\r\n\r\n";
 
-// A writer that fails behind nine bytes.
+// A writer that fails after nine bytes.
 const NARROW: Way = Way { room: 9, ..WHOLE };
 
 #[test]

@@ -1,4 +1,5 @@
-//! Postings of two days whose amounts under cause 3, feeder 1 and day 0 are the same, and which have no other.
+//! Postings of two days (the customer-seconds counted under causes, feeders and days) whose amounts
+//! under cause 3, feeder 1 and day 0 are equal and whose other amounts are 0.
 ghost use Rattle.std.specs.Prelude.{◌≡◌, ◌≤◌, ◌∷◌, ◌+ℤ◌, ◌-ℤ◌, [], pos, IfOk};
 ghost use Rattle.std.specs.Int.RustNames.{unsigned_abs};
 ghost use Rattle.ob_index_tests.specs.Alike.{AreAlike, MoveAlike};
@@ -32,7 +33,7 @@ pub fn none() -> [Moved; 0]
     []
 }
 
-/// The three move alike.
+/// Rows that move the three amounts by the same difference.
 pub fn alike(delta: i64) -> [Moved; 3]
     requires { unsigned_abs delta ≤ 600000 }
     ensures { MoveAlike result delta }
@@ -40,7 +41,7 @@ pub fn alike(delta: i64) -> [Moved; 3]
     three(delta)
 }
 
-/// They move twice, in another order.
+/// Rows that move the three amounts twice, in another order.
 pub fn twice(first: i64, second: i64) -> [Moved; 6]
     requires first { unsigned_abs first ≤ 300000 }
     requires second { unsigned_abs second ≤ 300000 }

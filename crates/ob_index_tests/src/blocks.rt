@@ -1,4 +1,5 @@
-//! A section with 100,000 customers in three blocks, against the sum over its customers one by one.
+//! Tests of a section with 100,000 customers in three blocks, against the sum over its customers
+//! one by one.
 use crate::sums::sum_of;
 use ob_cust::{Customer, Roll};
 use ob_net::Second;
@@ -8,7 +9,8 @@ use ob_time::Period;
 use std::alloc::Global;
 use std::test::Fail;
 
-// The service of a customer: without bounds that matter, up to noon of 1970-01-02, or from a hundred seconds after it.
+// The service of a customer: without bounds that matter, up to noon of 1970-01-02, or from a
+// hundred seconds after that noon on.
 fn service_of(no: u32) -> (Second, Option<Second>) {
     if no <= 30_000 {
         (0, None)
@@ -34,7 +36,7 @@ fn three_blocks(alloc: Global) -> Result<Roll, Fail> {
     Ok(roll)
 }
 
-// The seconds of service in a run, summed over the customers one by one.
+// The seconds of service in an outage interval, summed over the customers one by one.
 fn plain_sum(customers: &[Customer], run: &Run) -> u64 {
     let mut sum: u64 = 0;
     for customer in customers {
@@ -50,7 +52,7 @@ fn day_of(alloc: Global, first: &[u8]) -> Result<Period, Fail> {
     Ok(Period::from_text(alloc, first, 1, b"UTC0")?)
 }
 
-// The amounts of a run in 1970-01-02, by cause 3 on feeder 7.
+// The amounts of an outage interval in 1970-01-02, with cause 3 and feeder 7.
 fn amounts_in(alloc: Global, run: &Run, roll: &Roll) -> Result<Vec<Moved>, Fail> {
     let day = day_of(alloc, b"1970-01-02")?;
     if run.since < day.first_second() || run.until <= run.since || day.end_second() < run.until {
@@ -60,7 +62,7 @@ fn amounts_in(alloc: Global, run: &Run, roll: &Roll) -> Result<Vec<Moved>, Fail>
     Ok(rows)
 }
 
-// A run across the end of a block and the beginning of another.
+// An outage interval across the end of a block and the beginning of another.
 const ACROSS: Run = Run {
     section: 1,
     since: 129_500,
@@ -101,7 +103,7 @@ fn roll_of(alloc: Global, services: &[(u32, Second, Option<Second>)]) -> Result<
     Ok(roll)
 }
 
-// One begins after the day, one at its end, and two are over before its first second.
+// Services that begin after the day or at its end, and two that are over before its first second.
 const OUT_OF_THE_DAY: [(u32, Second, Option<Second>); 4] = [
     (1, 172_801, None),
     (2, 172_800, Some(172_900)),

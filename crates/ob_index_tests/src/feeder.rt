@@ -1,4 +1,5 @@
-//! Worked outages of two feeders with a tie, by the amounts of their runs and by the plain count.
+//! Worked outages of two feeders with a tie, by the amounts of their outage intervals and by the
+//! brute-force count of `total`.
 use crate::made::Made;
 use crate::sums::{by_runs, by_seconds, sum_of};
 use ob_net::Pos;
@@ -25,7 +26,7 @@ fn add_devices(
     Ok(())
 }
 
-// Connects a customer to each section that is named, for good.
+// Connects a customer without an end of service to each of these sections.
 fn connect_to(alloc: Global, made: &mut Made, sections: &[u16]) -> Result<(), Fail> {
     let mut no: u32 = 0;
     for section in sections {
@@ -35,8 +36,9 @@ fn connect_to(alloc: Global, made: &mut Made, sections: &[u16]) -> Result<(), Fa
     Ok(())
 }
 
-// The bus is section 4, and has no customers. Devices 0 to 4 are the incomer, the breakers of sections 1 and 3 (1 and 3), the
-// switch between 1 and 2, and the open tie.
+// The bus is section 4 and has no customers. Device 0 is the incomer, devices 1 and 3 are the
+// breakers of sections 1 and 3, device 2 is the switch between sections 1 and 2, and device 4 is
+// the open tie.
 fn feeder_with_a_tie(alloc: Global, days: u16) -> Result<Made, Fail> {
     let mut made = Made::new(alloc, b"2024-01-01", days, b"UTC0")?;
     add_sections(alloc, &mut made, &[1, 2, 3, 4])?;
@@ -55,10 +57,10 @@ fn feeder_with_a_tie(alloc: Global, days: u16) -> Result<Made, Fail> {
     Ok(made)
 }
 
-/// A device, whether it is opened, how long after the period's first second, and the cause.
+/// A device, whether it is opened, the seconds since the period's first second, and the cause.
 pub type Switching = (u16, bool, u64, u8);
 
-// What is wanted under a dimension and key.
+// The amount expected under a dimension and key.
 type Wanted = (Dim, u16, u64);
 
 /// Enters the switchings.
@@ -75,7 +77,7 @@ pub fn enter(alloc: Global, made: &mut Made, sheet: &[Switching]) -> Result<(), 
     Ok(())
 }
 
-// Enters the switchings, and compares the amounts and the plain count.
+// Enters the switchings, and compares the amounts with the brute-force count.
 fn check(
     rt: &impl Abort,
     alloc: Global,
@@ -92,7 +94,7 @@ fn check(
     Ok(())
 }
 
-// The same on the feeder with the tie, over one day.
+// Does the same on the feeder with the tie, over one day.
 fn check_a_day(
     rt: &impl Abort,
     alloc: Global,
@@ -167,7 +169,8 @@ fn opened_at_the_first_second(rt: HostRuntime) -> Result<(), Fail> {
     )
 }
 
-// Closed and opened again in one second by another cause: one run, of the first.
+// Closed, and opened again in the same second for another cause: one outage interval, with the
+// first cause.
 #[test]
 fn closed_and_opened_by_another_cause(rt: HostRuntime) -> Result<(), Fail> {
     check_a_day(

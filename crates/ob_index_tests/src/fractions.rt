@@ -1,4 +1,4 @@
-//! Fractions in lowest terms, their texts, and the indices of counts.
+//! Tests of fractions in lowest terms, their texts, and the indices of counts.
 use ob_index::indices::indices;
 use ob_index::{Counts, Fraction, decimal3, reduced};
 use std::alloc::{AllocError, Global};
@@ -16,7 +16,7 @@ fn quotients_are_reduced(rt: HostRuntime) {
     assert!(rt; reduced(5, 0).is_none());
 }
 
-// The text of a fraction, and its three decimals.
+// Checks the text of a fraction, and its three decimals.
 fn shows(
     rt: &impl Abort,
     alloc: Global,
@@ -30,7 +30,7 @@ fn shows(
     Ok(())
 }
 
-// The same of a quotient.
+// Checks the same of a quotient.
 fn quotient_shows(
     rt: &impl Abort,
     alloc: Global,
@@ -71,7 +71,7 @@ fn one_interruption_of_a_day(rt: HostRuntime) {
     assert!(rt; found.sustained == 1 && found.momentary == 2);
 }
 
-// The greatest numbers that it takes.
+// The greatest numbers that `indices` takes.
 #[test]
 fn the_greatest_counts(rt: HostRuntime) {
     let most = (1 << 42) - 1;

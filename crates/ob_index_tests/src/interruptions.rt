@@ -1,4 +1,4 @@
-//! The counts of interruptions, and the seconds in service.
+//! Tests of the counts of interruptions, and of the seconds in service.
 ghost use Rattle.std.specs.Prelude.{◌≡◌, IfOk, IsTrue, length};
 ghost use Rattle.std.specs.List.{All};
 ghost use Rattle.ob_sweep.specs.Timeline.{IsSection};
@@ -20,7 +20,7 @@ use std::test::Fail;
 // 2024-01-01T00:00:00Z.
 const T: Second = 1_704_067_200;
 
-// Whether all customers are of sections.
+// Answers whether every customer is connected to a section.
 fn are_on_sections(net: &Net, roll: &Roll) -> bool
     ensures { IsTrue result → All (λ c. IsSection net.now.network c.section) roll.now.customers }
 {
@@ -32,7 +32,7 @@ fn are_on_sections(net: &Net, roll: &Roll) -> bool
     true
 }
 
-// The marks of the period's days, the first marked.
+// The major event day flags of the period's days, with the first day marked.
 fn marked(alloc: Global, engineer: Crew, period: &CivilDays) -> Result<Marks, Fail>
     ensures { IfOk result (λ marks. length marks ≡ day_count period.now) }
 {
@@ -41,7 +41,7 @@ fn marked(alloc: Global, engineer: Crew, period: &CivilDays) -> Result<Marks, Fa
     Ok(marks)
 }
 
-// The counts of the interruptions of all days or of those that aren't marked, where the first day is.
+// The counts of the interruptions of all days or of the unmarked days, with the first day marked.
 fn counts_of(alloc: Global, engineer: Crew, made: &mut Made, which: Which) -> Result<Counts, Fail> {
     if !are_on_sections(&made.net, &made.roll) {
         return Err("a customer out of place".into());
@@ -72,8 +72,8 @@ const OUTAGES: [Switching; 6] = [
 // A customer with its service.
 type Service = (u32, Second, Option<Second>);
 
-// A customer that is there all the time, one that comes within the first outage, after midnight, and one that goes as the
-// second begins.
+// A customer in service all the time, one whose service begins within the first outage, after
+// midnight, and one whose service ends as the second outage begins.
 const SERVICES: [Service; 3] = [
     (1, 0, None),
     (2, T + 87_000, None),
@@ -96,7 +96,7 @@ const UNMARKED: Counts = Counts {
     mi: 2,
 };
 
-// Section 1 behind device 0, over two days.
+// Section 1 supplied through device 0, over two days.
 fn section_1(alloc: Global) -> Result<Made, Fail> {
     let mut made = Made::new(alloc, b"2024-01-01", 2, b"UTC0")?;
     made.add_section(alloc, 1, 1)?;
@@ -111,7 +111,7 @@ fn connect(alloc: Global, made: &mut Made, services: &[Service]) -> Result<(), F
     Ok(())
 }
 
-// The same with its customers.
+// The same network with its customers.
 fn served(alloc: Global) -> Result<Made, Fail> {
     let mut made = section_1(alloc)?;
     connect(alloc, &mut made, &SERVICES)?;

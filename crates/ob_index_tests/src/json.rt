@@ -1,4 +1,4 @@
-//! The JSON texts of totals and indices.
+//! Tests of the JSON texts of totals and indices.
 use crate::alike::{alike, apply, nothing};
 use ob_index::indices::indices;
 use ob_index::{Counts, Indices};

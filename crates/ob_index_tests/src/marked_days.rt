@@ -1,10 +1,10 @@
-//! Marks of days.
+//! Tests of the major event day flags.
 use ob_index::Marks;
 use ob_net::{Crew, Refusal};
 use std::process::Abort;
 use std::test::Fail;
 
-/// The engineer of this text.
+/// The engineer named by this text.
 pub fn engineer(rt: &impl Abort, text: &[u8]) -> Crew {
     Crew::read(text).expect(rt, "an engineer")
 }

@@ -1,4 +1,4 @@
-//! Rows of amounts by what they say.
+//! Rows of amounts, written as tuples.
 ghost use Rattle.std.specs.Prelude.{◌≡◌};
 
 use ob_post::{Dim, Moved};
@@ -6,7 +6,7 @@ use ob_post::{Dim, Moved};
 /// A dimension, a key and a delta.
 pub type Row = (Dim, u16, i64);
 
-/// Whether the rows say this, in this order.
+/// Answers whether the rows equal these tuples, in this order.
 pub fn are(moved: &[Moved], wanted: &[Row]) -> bool {
     moved.len() == wanted.len()
         && moved
@@ -15,7 +15,7 @@ pub fn are(moved: &[Moved], wanted: &[Row]) -> bool {
             .all(|(row, wanted)| (row.dim, row.key, row.delta) == *wanted)
 }
 
-/// The row that says this.
+/// The row of a dimension, a key and a delta.
 pub fn row(dim: Dim, key: u16, delta: i64) -> Moved
     ensures { result ≡ record { dim = dim; key = key; delta = delta } }
 {

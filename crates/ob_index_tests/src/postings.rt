@@ -1,4 +1,4 @@
-//! What moves leave in postings, and the moves between amounts.
+//! Tests of the amounts that moves leave in postings, and of the moves from some amounts to others.
 ghost use Rattle.std.specs.Prelude.{◌≡◌, IsTrue};
 ghost use Rattle.std.specs.List.{All};
 ghost use Rattle.ob_index_tests.specs.Small.{IsSmall};
@@ -11,9 +11,9 @@ use std::alloc::Global;
 use std::process::Abort;
 use std::test::Fail;
 
-// The worked example: what an opening moves, a correction that moves nothing, an earlier closing and a
-// second supply leave 9,000 customer-seconds under cause 3, feeder 1 and day 0 alike. Then each of them moves
-// below 0 and back.
+// A worked example. An opening, a correction that moves nothing, an earlier closing and a second
+// supply leave 9,000 customer-seconds under each of cause 3, feeder 1 and day 0. Then each of these
+// amounts moves below 0 and back.
 #[test]
 fn moves_leave_the_amount(rt: HostRuntime) -> Result<(), Fail> {
     let mut postings = nothing(rt.alloc())?;
@@ -41,7 +41,7 @@ fn amounts_are(rt: &impl Abort, postings: &Postings, amount: u64)
     assert!(rt; postings.total(Dim::Day) == amount);
 }
 
-// Whether the row moves an amount that is kept, and by little.
+// Answers whether the row has a key that postings keep, and a small difference.
 fn is_small(row: &Moved) -> bool
     ensures { IsTrue result → IsSmall row.now }
 {
@@ -72,7 +72,7 @@ fn rows(alloc: Global, rows: &[Row]) -> Result<Vec<Moved>, Fail> {
     Ok(made)
 }
 
-// The moves between at most a hundred such rows each.
+// The moves between two lists of at most a hundred such rows each.
 fn small_moves(alloc: Global, taken: &[Moved], given: &[Moved]) -> Result<Vec<Moved>, Fail> {
     if taken.len() > 100 || given.len() > 100 || !are_small(taken) || !are_small(given) {
         return Err("rows that aren't small".into());
@@ -106,7 +106,8 @@ const MOVES: [Row; 4] = [
     (Dim::Day, 1, 3_000),
 ];
 
-// Rows in any order and several of a key: each key's difference once, in order, zeros left out.
+// Rows in any order, with several of one key, give each key's difference once, in order and without
+// zeros.
 #[test]
 fn moves_are_differences(rt: HostRuntime) -> Result<(), Fail> {
     let moved = moves_between(rt.alloc(), &TAKEN, &GIVEN)?;
@@ -123,7 +124,7 @@ fn dimensions_have_numbers(rt: HostRuntime) {
     assert!(rt; Dim::Day.number() == 3);
 }
 
-// They are for proofs: a call does nothing.
+// The laws are for proofs: a call does nothing.
 #[test]
 fn laws_can_be_called(_rt: HostRuntime) {
     laws::section_laws();

@@ -1,4 +1,4 @@
-//! The amounts of runs.
+//! Tests of the amounts of outage intervals.
 ghost use Rattle.std.specs.Prelude.{◌≡◌};
 
 use crate::made::period_of;
@@ -15,7 +15,7 @@ use std::test::Fail;
 // 2024-01-01T00:00:00Z.
 const T: Second = 1_704_067_200;
 
-// The customers of these numbers, sections and beginnings of service.
+// The register of customers with these numbers, sections and first seconds of service.
 fn roll(alloc: Global, customers: &[(u32, u16, Second)]) -> Result<Roll, Fail> {
     let mut roll = Roll::new(alloc);
     for (no, section, since) in customers {
@@ -30,7 +30,8 @@ fn roll(alloc: Global, customers: &[(u32, u16, Second)]) -> Result<Roll, Fail> {
     Ok(roll)
 }
 
-// Five customers on section 4 from T on, and one more on it and one on section 2 from `later` on.
+// Five customers on section 4 from T on, and two more from `later` on: one on section 4 and one on
+// section 2.
 fn seven(alloc: Global, later: Second) -> Result<Roll, Fail> {
     roll(
         alloc,
@@ -46,7 +47,7 @@ fn seven(alloc: Global, later: Second) -> Result<Roll, Fail> {
     )
 }
 
-// The amounts of a run of the roll's section under cause 3 and feeder 2.
+// The amounts of an outage interval of a section of the register, with cause 3 and feeder 2.
 fn amounts_in(
     alloc: Global,
     run: &Run,
@@ -60,7 +61,7 @@ fn amounts_in(
     Ok(amounts(alloc, run, 3, 2, roll, period)?)
 }
 
-// Whether these are the amounts.
+// Checks the amounts.
 fn have_amounts(
     rt: &impl Abort,
     alloc: Global,
@@ -74,7 +75,7 @@ fn have_amounts(
     Ok(())
 }
 
-// A run of section 4.
+// An outage interval of section 4.
 fn run(since: Second, until: Second, cutter: Option<u32>) -> Run
     ensures { result ≡ record { section = 4; since = since; until = until; cutter = cutter } }
 {
@@ -86,7 +87,7 @@ fn run(since: Second, until: Second, cutter: Option<u32>) -> Run
     }
 }
 
-// The amounts of a run of section 4, so long after T.
+// Checks the amounts of an outage interval of section 4 whose bounds are given in seconds after T.
 fn amounts_are(
     rt: &impl Abort,
     alloc: Global,
@@ -106,7 +107,7 @@ fn amounts_are(
     )
 }
 
-// The worked example of a run across midnight: 3,000 and 6,000 customer-seconds.
+// A worked example: an outage interval across midnight, with 3,000 and 6,000 customer-seconds.
 #[test]
 fn amounts_over_midnight(rt: HostRuntime) -> Result<(), Fail> {
     amounts_are(
@@ -123,7 +124,8 @@ fn amounts_over_midnight(rt: HostRuntime) -> Result<(), Fail> {
     )
 }
 
-// The worked example of a customer that joins during a run: five for an hour and one for half of it.
+// A worked example: a customer joins during an outage interval, so five customers count for an hour
+// and one for half of it.
 #[test]
 fn amounts_where_a_customer_joins(rt: HostRuntime) -> Result<(), Fail> {
     amounts_are(
@@ -139,7 +141,7 @@ fn amounts_where_a_customer_joins(rt: HostRuntime) -> Result<(), Fail> {
     )
 }
 
-// A run of one second at midnight.
+// An outage interval of one second at midnight.
 #[test]
 fn amounts_of_one_second(rt: HostRuntime) -> Result<(), Fail> {
     amounts_are(
@@ -151,8 +153,8 @@ fn amounts_of_one_second(rt: HostRuntime) -> Result<(), Fail> {
     )
 }
 
-// The worked example of a zone that loses an hour: a run of one customer over the first day, of 82,800
-// seconds, and an hour of the second.
+// A worked example: in a zone that loses an hour, an outage interval of one customer covers the
+// first day, of 82,800 seconds, and an hour of the second.
 #[test]
 fn amounts_of_a_short_day(rt: HostRuntime) -> Result<(), Fail> {
     let period = period_of(rt.alloc(), b"2024-03-10", 2, b"EST5EDT,M3.2.0,M11.1.0")?;
@@ -167,8 +169,9 @@ fn amounts_of_a_short_day(rt: HostRuntime) -> Result<(), Fail> {
     have_amounts(&rt, rt.alloc(), &run, &roll, &period, wanted)
 }
 
-// Appends what two runs of section 4 come to, ten minutes of cause 3 and then one of 300 seconds across midnight, which no
-// entry caused, and the first of them alone.
+// Appends the amounts of two outage intervals of section 4, one of ten minutes with cause 3 and one
+// of 300 seconds across midnight that no entry caused, and then again those of the first interval
+// alone.
 fn post(
     rt: &impl Abort,
     roll: &Roll,
@@ -184,7 +187,7 @@ fn post(
     Ok(())
 }
 
-// The first row was there.
+// The first row is the one that was there before.
 const POSTED: [Row; 11] = [
     (Dim::Cause, 3, -7),
     (Dim::Cause, 3, 3_000),

@@ -1,4 +1,4 @@
-//! The amounts of all runs, and the plain count of the same text.
+//! The amounts of all outage intervals, and the brute-force count of the same text.
 ghost use Rattle.std.specs.Prelude.{◌≤◌};
 
 use crate::made::Made;
@@ -9,7 +9,8 @@ use ob_total::run_total;
 use std::alloc::Global;
 use std::test::Fail;
 
-// The amounts of one run, where its cutter's cause counts.
+// Adds the amounts of one outage interval, counted under the cause of its cutter (the entry that
+// began it).
 fn add_run(
     alloc: Global,
     made: &Made,
@@ -32,7 +33,7 @@ fn add_run(
     Ok(())
 }
 
-/// The amounts of all sections' runs.
+/// The amounts of the outage intervals of all sections.
 pub fn by_runs(alloc: Global, made: &mut Made) -> Result<Vec<Moved>, Fail> {
     let scratch = Scratch::build(alloc, &mut made.net, &made.sheet, &made.period)?;
     let made = &*made;
@@ -48,7 +49,7 @@ pub fn by_runs(alloc: Global, made: &mut Made) -> Result<Vec<Moved>, Fail> {
     Ok(rows)
 }
 
-/// What the rows add up to under a dimension, or under one key of it.
+/// The sum of the rows under a dimension, or under one key of it.
 pub fn sum_of(rows: &[Moved], dim: Dim, key: Option<u16>) -> Result<u64, Fail> {
     let mut sum: u64 = 0;
     for row in rows {
@@ -60,7 +61,7 @@ pub fn sum_of(rows: &[Moved], dim: Dim, key: Option<u16>) -> Result<u64, Fail> {
     Ok(sum)
 }
 
-/// The customer-seconds without supply by the plain count of the text.
+/// The customer-seconds without supply that `run_total` counts for the text.
 pub fn by_seconds(alloc: Global, made: &Made) -> Result<u64, Fail> {
     let mut reader = Watched::new(made.text.as_slice());
     let mut writer = Watched::new(Vec::new(alloc));

@@ -1,4 +1,4 @@
-//! The annual table.
+//! Tests of the annual table.
 ghost use Rattle.ob_index.specs.Short.{AreShort};
 
 use crate::made::period_of;
@@ -13,7 +13,7 @@ fn name(rt: &impl Abort, text: &[u8]) -> Name {
     Name::read(text).expect(rt, "a name")
 }
 
-// What ten customers in service for a day come to, five of them without supply for half an hour.
+// The indices of ten customers in service for a day, five of them without supply for half an hour.
 fn half_an_hour() -> Indices
     ensures { AreShort result }
 {
@@ -27,7 +27,7 @@ fn half_an_hour() -> Indices
     indices(&counts, 864_000, 86_400)
 }
 
-// What no customers come to over three days.
+// The indices of three days without customers.
 fn nobody() -> Indices
     ensures { AreShort result }
 {
@@ -110,7 +110,8 @@ fn table_of_one_day(rt: HostRuntime) -> Result<(), Fail> {
     Ok(())
 }
 
-// The beginning of the table of three days without customers, two of them marked, and the last line.
+// The beginning of the table of three days without customers, two of them marked, and its last
+// line.
 const DAYS: &[u8] = b"OUTAGE BOOK 2024-02-28 days 3 zone UTC0
 P 259200 S 0 W 1
 day 2024-02-28                                   0 marked

@@ -1,4 +1,4 @@
-//! The calls on a keeper, each as a part of a list.
+//! The calls on the storage layer (`Keeper`), each as a part of a list of calls.
 ghost use Rattle.std.specs.Prelude.{[], ◌∷◌, List, Some, IsErr, option_map};
 ghost use Rattle.sqlite.specs.State.{HasCleanDisk};
 ghost use Rattle.sqlite.specs.Held.{state};
@@ -23,8 +23,9 @@ use sqlite::Alter;
 use std::alloc::Global;
 use std::io::{Read, Write};
 
-/// Sends a command: its reply acknowledges it, and a fault of the store leaves it in doubt. Where whatever a crash leaves has hidden
-/// row numbers 1, 2, 3 and so on, such a fault has a cause; and they go on so.
+/// Sends a command: its reply acknowledges it, and a store fault leaves it in doubt. If every state
+/// that a crash may leave has the hidden row numbers 1, 2, 3 and so on, such a fault has a cause,
+/// and the row numbers stay so.
 pub fn act<S: Alter, T: Timeline>(
     keeper: &mut Keeper<S, T>,
     reference: Ref,
@@ -44,7 +45,8 @@ pub fn act<S: Alter, T: Timeline>(
     keeper.act(reference, command)
 }
 
-/// Loads the book: it is one that there may be. Hidden row numbers that a crash leaves go on as they were.
+/// Loads the book, which is one of those that the calls may have left. Hidden row numbers that a
+/// crash may leave stay as they were.
 pub fn load<S: Alter, T: Timeline>(keeper: &mut Keeper<S, T>) -> Result<(), Stop>
     ensures goes { Goes S.Store S.Store [] keeper.old keeper.new }
     ensures loads { HasCleanDisk (state S.Store keeper.new.conn) → (b : ActState)
@@ -74,7 +76,7 @@ pub fn reply_of<S: Alter, T: Timeline>(
     keeper.reply_of(no)
 }
 
-/// Asks for what the accepted commands moved.
+/// Gives the amounts moved by the accepted commands to a sink.
 pub fn moves_out<S: Alter, T: Timeline, V: MoveSink>(
     keeper: &mut Keeper<S, T>,
     sink: &mut V,
@@ -84,14 +86,15 @@ pub fn moves_out<S: Alter, T: Timeline, V: MoveSink>(
     keeper.moves_out(sink)
 }
 
-/// Makes tables of version 1 those of version 2.
+/// Migrates tables of version 1 to version 2.
 pub fn migrate<S: Alter, T: Timeline>(keeper: &mut Keeper<S, T>) -> Result<bool, Stop>
     ensures { Goes S.Store S.Store [] keeper.old keeper.new }
 {
     keeper.migrate()
 }
 
-/// Makes a book where there may be one: it is refused, and what there was stays.
+/// Tries to create a book where one may exist: the call fails if there is one, and what existed
+/// stays.
 pub fn create_again<S: Alter, T: Timeline>(
     keeper: &mut Keeper<S, T>,
     first: &[u8],
@@ -105,7 +108,8 @@ pub fn create_again<S: Alter, T: Timeline>(
     keeper.create(first, days, zone)
 }
 
-/// Imports the commands of a CSV text: it tells how many rows it took, up to its end or to a fault.
+/// Imports the commands of a CSV text and reports how many rows it took, up to its end or to a
+/// fault.
 pub fn import_text<S: Alter, T: Timeline>(
     alloc: Global,
     text: &[u8],
@@ -130,7 +134,7 @@ pub fn import<R: Read, S: Alter, T: Timeline>(
     ob_import::import(alloc, reader, keeper)
 }
 
-/// Serves the requests of a stream: it tells how they were answered, up to its end or to a fault.
+/// Serves the requests of a stream and reports how they were answered, up to its end or to a fault.
 pub fn serve_stream<R: Read, W: Write, S: Alter, T: Timeline>(
     alloc: Global,
     reader: &mut Watched<R>,
@@ -145,7 +149,8 @@ pub fn serve_stream<R: Read, W: Write, S: Alter, T: Timeline>(
     ob_desk::serve_stream(alloc, reader, writer, keeper)
 }
 
-/// Serves the streams of a listener, whose bytes no contract knows: it tells that some commands may have acted.
+/// Serves the streams of a listener. No contract knows the bytes of these, so all that is recorded
+/// is that some commands may have been applied.
 pub fn run_serve<S: Alter, T: Timeline, L: FaultLog>(
     alloc: Global,
     listener: &mut Listener<'_>,

@@ -5,7 +5,8 @@ use ob_parts::upgrade_law;
 use ob_routes::answers_law;
 use sqlite::Alter;
 
-/// A process may end at any moment: a keeper over what the crash left of its store goes on where it was.
+/// A process may end at any moment: a `Keeper` over what the crash left of its store goes on from
+/// the same state.
 pub fn restart_law<S: Alter, R: Alter>()
     ensures { RestartLaw S.Store R.Store }
 {
@@ -17,8 +18,9 @@ pub fn join_law<S: Alter, M: Alter, R: Alter>()
     ensures { JoinLaw S.Store M.Store R.Store }
 {}
 
-/// Whatever book there may be once a list of calls was answered, each command that was acknowledged is in it, and so is the
-/// command of each row that an import counts, and each that a request of a stream posted and the book answered with a reply.
+/// Whatever book a list of answered calls may have left, it contains each command that was
+/// acknowledged, the command of each row that an import counts, and each command that a request of
+/// a stream posted and the book answered with a reply.
 pub fn told_law()
     ensures commands { ToldLaw }
     ensures rows { RowsLaw }

@@ -1,10 +1,10 @@
-//! Lists of calls on a keeper, by the clauses of its public calls alone.
-//!
-//! Nothing here is part of the program: it is what a client of the keeper can prove. Each function is one call, an import or a
-//! served stream among them, and promises what the call makes of a book that the store may have; the laws join them. Together they
-//! say of any list of calls, with crashes between any two of them and keepers over what these left, that on a disk that returns
-//! what was written the store has a book in which each acknowledged command is, in the order in which they were sent, and those of
-//! the rows that an import counted; and of those that a fault of the store left in doubt any; and that a load finds it.
+//! Lists of calls on the storage layer (`Keeper`), proved from the contracts of its public calls
+//! alone. This crate is not a part of the program: it is what a client of the storage layer can
+//! prove, and no other crate uses it. Laws join calls, imports and served streams into lists;
+//! between any two calls there may be a crash, followed by a new `Keeper` over what it left. On a
+//! disk that returns what was written, a load then finds a book. The book contains each
+//! acknowledged command, in the order in which they were sent, and the commands of the rows that an
+//! import counted. It may also contain commands that a store fault left in doubt.
 #![tactic(auto)]
 
 mod calls;

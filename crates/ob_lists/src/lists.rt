@@ -19,17 +19,18 @@ use ob_tables::Table;
 use sqlite::Alter;
 use std::alloc::Global;
 
-/// A process ends, and another one makes a keeper over what it left.
+/// The end of a process, and a `Keeper` that another process makes over what the first one left.
 pub trait Restart<S: Alter, R: Alter, T: Timeline> {
     ghost use Rattle.ob_lists.specs.Going.{Restarts};
 
-    /// The keeper of the process after a crash, at any moment at which no call is at work.
+    /// The `Keeper` of the process after a crash; the crash comes at a moment at which no call is
+    /// running.
     fn restart(&mut self, keeper: Keeper<S, T>) -> Keeper<R, T>
         ensures { Restarts S.Store R.Store keeper result };
 }
 
-/// A command, a load, and a load again: whatever the first two answered, the last finds a book in which the command is, if it was
-/// acknowledged.
+/// A command, a load, and another load: whatever the first two answered, the last finds a book that
+/// contains the command if it was acknowledged.
 pub fn act_load_load<S: Alter, T: Timeline>(
     keeper: &mut Keeper<S, T>,
     reference: Ref,
@@ -45,7 +46,7 @@ pub fn act_load_load<S: Alter, T: Timeline>(
     (sent, load(keeper))
 }
 
-/// A command, and then a new book where there is one: the last is refused, or it fails.
+/// A command, and then a new book while one exists: the second call is refused, or it fails.
 pub fn act_create<S: Alter, T: Timeline>(
     keeper: &mut Keeper<S, T>,
     reference: Ref,
@@ -62,8 +63,8 @@ pub fn act_create<S: Alter, T: Timeline>(
     (sent, create_again(keeper, first, days, zone))
 }
 
-/// A new book in a database that holds nothing, a crash, and a load: it finds the book that was made; where the store failed, that
-/// one or none; and else none.
+/// A new book in an empty database, a crash, and a load. The load finds the book that was created;
+/// if the store failed, it finds that book or none; otherwise it finds none.
 pub fn create_restart_load<S: Alter, R: Alter, T: Timeline, C: Restart<S, R, T>>(
     mut keeper: Keeper<S, T>,
     crash: &mut C,
@@ -81,9 +82,10 @@ pub fn create_restart_load<S: Alter, R: Alter, T: Timeline, C: Restart<S, R, T>>
     (made, next, found)
 }
 
-/// A new book, a command, a crash and a load: where the book was made it stands, with the command if that was acknowledged, and
-/// whatever a crash leaves has hidden row numbers 1, 2, 3 and so on. So where the next command is told as a fault of the store, that
-/// has a cause, as `act` says.
+/// A new book, a command, a crash and a load. If the book was created, it exists afterwards, with
+/// the command if that was acknowledged, and every state that a crash may leave has the hidden row
+/// numbers 1, 2, 3 and so on. So if the next command ends in a store fault, that fault has a cause,
+/// as the contract of `act` states.
 pub fn create_act_restart_load<S: Alter, R: Alter, T: Timeline, C: Restart<S, R, T>>(
     mut keeper: Keeper<S, T>,
     crash: &mut C,
@@ -106,7 +108,8 @@ pub fn create_act_restart_load<S: Alter, R: Alter, T: Timeline, C: Restart<S, R,
     (made, sent, next)
 }
 
-/// A migration that a crash ends, a migration after it, and a load: it finds the book, in the tables of either version.
+/// A migration, a crash, another migration, and a load: it finds the book, in the tables of either
+/// version.
 pub fn migrate_restart_migrate_load<S: Alter, R: Alter, T: Timeline, C: Restart<S, R, T>>(
     mut keeper: Keeper<S, T>,
     crash: &mut C,
@@ -123,7 +126,7 @@ pub fn migrate_restart_migrate_load<S: Alter, R: Alter, T: Timeline, C: Restart<
     (next, found)
 }
 
-/// A migration, a load and an audit: the audit ends as it may, and the book stands.
+/// A migration, a load and an audit: whatever the audit answers, the book is still stored.
 pub fn migrate_load_audit<S: Alter, T: Timeline>(
     keeper: &mut Keeper<S, T>,
 ) -> Result<Option<Table>, Stop>
@@ -136,8 +139,8 @@ pub fn migrate_load_audit<S: Alter, T: Timeline>(
     audit(keeper)
 }
 
-/// A command, an import, a crash, and a load: it finds a book in which the command is, if it was acknowledged, and what the import
-/// may have made of it.
+/// A command, an import, a crash, and a load: it finds a book that contains the command if it was
+/// acknowledged, and what the import may have made of it.
 pub fn act_import_restart_load<S: Alter, R: Alter, T: Timeline, C: Restart<S, R, T>>(
     alloc: Global,
     mut keeper: Keeper<S, T>,

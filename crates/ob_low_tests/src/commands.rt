@@ -1,5 +1,5 @@
-//! Commands and their texts. Expected texts are written by hand from the form of rows and of body texts; the bounds are those
-//! of the fields.
+//! Tests of commands and their texts. The expected texts are written by hand from the form of the
+//! rows and of the body texts; the bounds are those of the fields.
 use jiff::civil::Date;
 use ob_command::{
     CauseCode, CivilDate, Command, Ends, FeederNumber, Moment, NewDevice, Serial, Service,
@@ -11,7 +11,7 @@ use std::alloc::Global;
 use std::process::Abort;
 use std::test::Fail;
 
-// A body of each kind, and bounds of its fields.
+// One body of each kind, and bodies at the bounds of their fields.
 const BODIES: &'static str = "cause 3 STORM
 bus BUS-A
 section S1 255
@@ -33,7 +33,7 @@ mark 2024-02-29 K1
 unmark 2024-02-29 K1
 mark 0000-02-29 K1";
 
-// From one second until before another.
+// The interval from one second until before another.
 fn service(since: Second, until: Second) -> Option<Service> {
     Some(Service {
         since: Moment::new(since)?,
@@ -72,7 +72,7 @@ fn ends(a: &[u8], b: &[u8]) -> Option<Ends> {
     Ends::new(Name::read(a)?, Name::read(b)?)
 }
 
-// Each text is no body.
+// Checks that no text is a body.
 fn are_no_bodies(rt: &impl Abort, texts: &[&[u8]]) {
     for text in texts {
         assert!(rt; read_body(text).is_none());
@@ -96,7 +96,7 @@ fn has_body(rt: &impl Abort, alloc: Global, command: &Command, body: &[u8]) -> R
     Ok(())
 }
 
-// A row without quotes, and the reference and the body that it says.
+// A row without quotes, and the reference and the body expected from it.
 type RowRow<'t> = (&'t str, &'t [u8], &'t [u8]);
 
 fn says(rt: &impl Abort, alloc: Global, rows: &[RowRow<'_>]) -> Result<(), Fail> {
@@ -108,7 +108,7 @@ fn says(rt: &impl Abort, alloc: Global, rows: &[RowRow<'_>]) -> Result<(), Fail>
     Ok(())
 }
 
-// A row and its leftmost bad column.
+// Checks the leftmost bad column of each row.
 fn are_bad(rt: &impl Abort, rows: &[(&str, u8)]) {
     for (row, column) in rows {
         assert!(rt; read_row(&row_of(row)).err() == Some(Refusal::BadField(*column)));
@@ -287,7 +287,7 @@ fn no_bodies(rt: HostRuntime) {
     );
 }
 
-// A device and a life have a beginning and an end in their bodies.
+// The bodies of `device` and `life` need a beginning and an end.
 #[test]
 fn no_bodies_of_lives(rt: HostRuntime) {
     are_no_bodies(

@@ -1,4 +1,4 @@
-//! Dates as texts.
+//! Tests of dates as texts.
 use jiff::civil::Date;
 use ob_time::read_date;
 use std::process::Abort;

@@ -1,4 +1,4 @@
-//! Names, numbers and words as texts.
+//! Tests of names, numbers and keywords as texts.
 use ob_net::Pos::{Closed, Opened};
 use ob_net::{
     Crew, Name, Pos, Ref, Second, read_act, read_cause, read_feeder, read_normal, read_number,
@@ -54,7 +54,7 @@ fn identifiers(rt: HostRuntime) {
     assert!(rt; Crew::read(&long[..16]).is_some() && Crew::read(&long[..17]).is_none());
 }
 
-// A text, and what it is as a cause, a feeder, a serial number and a second.
+// A text, and its expected value as a cause, as a feeder, as a serial number and as a second.
 type NumberRow<'t> = (
     &'t [u8],
     Option<u8>,
@@ -107,7 +107,7 @@ fn numbers(rt: HostRuntime) {
     );
 }
 
-// Each text as a number of at most four digits from 5 to 9.
+// Reads each text as a number from 5 to 9 with at most four digits.
 fn are_5_to_9(rt: &impl Abort, rows: &[(&[u8], Option<u64>)]) {
     for (text, number) in rows {
         assert!(rt; read_number(text, 4, 5, 9) == *number);
@@ -128,7 +128,7 @@ fn numbers_in_a_range(rt: HostRuntime) {
     );
 }
 
-// A text, and the position that it names as an act and as a normal position.
+// A text, and the position that it names in a switching and as a normal position.
 type PositionRow<'t> = (&'t [u8], Option<Pos>, Option<Pos>);
 
 fn are_positions(rt: &impl Abort, rows: &[PositionRow<'_>]) {

@@ -1,10 +1,10 @@
-//! The longest intervals of seconds that are marked.
+//! Tests of the longest intervals of flagged seconds.
 use ob_net::{Interval, Second, longest_intervals};
 use std::alloc::Global;
 use std::process::Abort;
 use std::test::Fail;
 
-// Marks of the seconds from 10 on, and their longest intervals.
+// Flags of the seconds from 10 on, and their longest intervals.
 type MarksRow<'m> = (&'m [bool], &'m [Interval]);
 
 fn have_intervals(rt: &impl Abort, alloc: Global, rows: &[MarksRow<'_>]) -> Result<(), Fail> {

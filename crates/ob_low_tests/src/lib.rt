@@ -1,8 +1,8 @@
-//! Tests of the lowest crates: names, fields, refusals, streams and the network of `ob_net`, the periods and moments of
-//! `ob_time`, and the commands and their texts of `ob_command`.
+//! Tests of the lowest crates: names, fields, refusals, streams and the network of `ob_net`, the
+//! periods and moments of `ob_time`, and the commands and their texts of `ob_command`.
 //!
-//! It holds tests alone. Expected values are worked out by hand from the definitions, or come from the programs that stand
-//! beside them.
+//! This crate holds only tests, and no other crate uses it. The expected values are worked out by
+//! hand from the definitions, or come from the programs that the comments name.
 #![tactic(auto)]
 
 #[cfg(test)]

@@ -1,4 +1,5 @@
-//! Lives of devices: their seconds, the life that a network keeps for each device, and what is open outside it.
+//! Tests of the in-service intervals (lives) of devices: their seconds, the life that a network
+//! keeps for each device, and the devices that are open outside their lives.
 use ob_net::Pos::{Closed, Opened};
 use ob_net::{Life, Name, Net, Pos, Refusal, Second};
 use std::alloc::Global;
@@ -9,7 +10,7 @@ fn life(since: Second, until: Option<Second>) -> Life {
     Life { since, until }
 }
 
-// A life, a second, and whether it holds the second.
+// A life, a second, and whether the life contains the second.
 fn hold(rt: &impl Abort, rows: &[(Life, Second, bool)]) {
     for (life, second, wanted) in rows {
         assert!(rt; life.holds(*second) == *wanted);
@@ -55,7 +56,8 @@ fn ends_of_lives(rt: HostRuntime) {
     );
 }
 
-// A life, a second, the least of what comes after it, and the first of them at which the life turns or that it is.
+// A life, a second, a bound, and the expected answer: the first second after the given one at which
+// the life begins or ends, or the bound if it comes first.
 fn turn(rt: &impl Abort, rows: &[(Life, Second, Second, Second)]) {
     for (life, after, least, wanted) in rows {
         assert!(rt; life.next_turn(*after, *least) == *wanted);
@@ -84,10 +86,10 @@ fn name(text: &[u8]) -> Result<Name, Fail> {
     Ok(Name::read(text).ok_or("a name")?)
 }
 
-// A device by its name and its ends.
+// A device's name and the names of its two ends.
 type Ends<'r> = [&'r [u8]; 3];
 
-// Adds a closed device with a life; why it is refused, if it is.
+// Adds a closed device with a life; answers why it is refused, or None.
 fn add(net: &mut Net, device: &Ends<'_>, life: Life) -> Result<Option<Refusal>, Fail> {
     let (a, b) = (name(device[1])?, name(device[2])?);
     if a == b {
@@ -97,7 +99,7 @@ fn add(net: &mut Net, device: &Ends<'_>, life: Life) -> Result<Option<Refusal>, 
     Ok(net.add_device(name(device[0])?, a, b, Closed, life).err())
 }
 
-// Devices with their lives, and why each is refused, or None.
+// Adds devices with their lives; each row has the expected refusal, or None.
 fn answers(
     rt: &impl Abort,
     net: &mut Net,
@@ -116,7 +118,7 @@ fn with_a_bus(alloc: Global) -> Result<Net, Fail> {
     Ok(net)
 }
 
-// Three devices beside each other, with these lives.
+// The lives of three parallel devices.
 const LIVES: [Life; 3] = [
     Life {
         since: 0,
@@ -146,7 +148,7 @@ fn three(rt: &impl Abort, alloc: Global) -> Result<Net, Fail> {
     Ok(net)
 }
 
-// A device still has its name and its normal position, and this life.
+// Checks that a device has this name, this life and its normal position.
 fn is_device(rt: &impl Abort, net: &Net, device: u16, name: &[u8], life: Life) {
     assert!(rt; device < net.devices());
     assert!(rt; net.device_name(device).bytes() == name);
@@ -221,7 +223,7 @@ fn a_bad_life_before_the_limit(rt: HostRuntime) -> Result<(), Fail> {
     )
 }
 
-// A device, its new life, whether that is refused, and the lives of all three after it.
+// A device, its new life, the expected answer, and the lives of all three devices after it.
 type LifeRow = (u16, Life, Result<(), Refusal>, [Life; 3]);
 
 fn set_lives(rt: &impl Abort, net: &mut Net, rows: &[LifeRow]) {
@@ -260,7 +262,8 @@ fn give_life(rt: &impl Abort, net: &mut Net, device: u16, life: Life) {
     net.give_life(device, life);
 }
 
-// A second, positions, and those after each device was opened that isn't alive then.
+// A second, positions, and the same positions with each device open that is outside its life at
+// this second.
 type OpenRow = (Second, [Pos; 3], [Pos; 3]);
 
 fn opens_outside(
@@ -300,7 +303,8 @@ fn devices_are_open_outside_their_lives(rt: HostRuntime) -> Result<(), Fail> {
     Ok(())
 }
 
-// A second, an end, and the first second after the one, below the other, at which a life begins or ends; else the end.
+// A second, an end, and the first second after the given one and before the end at which a life
+// begins or ends, or else the end.
 fn turns(rt: &impl Abort, net: &Net, rows: &[(Second, Second, Second)]) {
     for (after, end, wanted) in rows {
         assert!(rt; *after < *end);

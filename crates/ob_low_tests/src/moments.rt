@@ -1,4 +1,5 @@
-//! Moments as texts. Expected seconds are those of GNU `date` and of Python's `zoneinfo`, or are worked out by hand.
+//! Tests of moments as texts. Expected seconds are those of GNU `date` and of Python's `zoneinfo`,
+//! or are worked out by hand.
 use ob_net::{Fault, LAST_SECOND, Second, Stop};
 use ob_time::{read_second, second_text};
 use std::alloc::Global;
@@ -68,7 +69,7 @@ fn no_moments(rt: HostRuntime) {
             b"2024-01-01T00:00:60Z",
             b"2024-01-01T00:00:00+24:00",
             b"2024-01-01T00:00:00+00:60",
-            // Not the form.
+            // Not in the required form.
             b"",
             b"+1",
             b"1 ",
@@ -111,7 +112,8 @@ fn texts_of_seconds(rt: HostRuntime) -> Result<(), Fail> {
     )
 }
 
-// With each allocation refused in turn the call either has its value or says that memory is refused.
+// With each allocation refused in turn, the call either returns its value or reports refused
+// memory.
 #[test]
 fn refused_memory(rt: HostRuntime) {
     match has_text(&rt, rt.alloc(), 1_704_067_200, "2024-01-01T00:00:00Z") {

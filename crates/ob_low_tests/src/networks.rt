@@ -1,4 +1,5 @@
-//! The network: its parts by name and by number, which nodes are supplied, and its limits.
+//! Tests of the network: its parts by name and by number, the nodes that are supplied, and its
+//! limits.
 ghost use Rattle.std.specs.Prelude.{◌≡◌, ◌≤◌, []};
 
 use ob_command::{Command, NewDevice, read_body};
@@ -23,7 +24,7 @@ device D3 BUS-B S3 closed 0 -
 device TIE S2 S3 open 0 -
 ";
 
-// Adds the part that a body text says; why it is refused, if it is.
+// Adds the part that a body text names; answers why it is refused, or None.
 fn add(net: &mut Net, body: &str) -> Result<Option<Refusal>, Fail> {
     let command = read_body(body.as_bytes()).ok_or("a command")?;
     net.reserve_one()?;
@@ -135,7 +136,7 @@ fn the_first_node(rt: HostRuntime) {
     assert!(rt; name.bytes() == b"GRID".as_slice() && feeder == None);
 }
 
-// Adds a bus to a network of GRID alone, and takes it back.
+// Adds a bus to a network of GRID alone, and removes it again.
 fn bus_and_none(rt: &impl Abort, net: &mut Net, bus: Name) -> Result<(), Fail>
     requires { net.old.network.devices ≡ [] }
 {
@@ -155,7 +156,7 @@ fn a_node_is_taken_back(rt: HostRuntime) -> Result<(), Fail> {
     bus_and_none(&rt, &mut net, bus)
 }
 
-// Takes the tie back and adds it anew.
+// Removes the tie and adds it again.
 fn tie_anew(rt: &impl Abort, net: &mut Net) -> Result<(), Fail> {
     assert!(rt; net.devices() == 6);
     net.take_back_device();
@@ -171,7 +172,7 @@ fn a_device_is_taken_back(rt: HostRuntime) -> Result<(), Fail> {
     tie_anew(&rt, &mut net)
 }
 
-// Adds a node that isn't refused.
+// Adds a node, which may not be refused.
 fn put_node(net: &mut Net, name: Name, feeder: u8) -> Result<(), Stop>
     requires { 1 ≤ feeder }
 {
@@ -186,7 +187,7 @@ fn put_node(net: &mut Net, name: Name, feeder: u8) -> Result<(), Stop>
     Ok(())
 }
 
-// Adds a device that isn't refused, and answers the numbers of its ends.
+// Adds a device, which may not be refused, and answers the numbers of its ends.
 fn put_device(net: &mut Net, device: &NewDevice) -> Result<(u16, u16), Stop> {
     let (a, b) = (device.ends.a(), device.ends.b());
     net.reserve_one()?;
@@ -195,7 +196,7 @@ fn put_device(net: &mut Net, device: &NewDevice) -> Result<(u16, u16), Stop> {
     Ok(ends)
 }
 
-// A section and a device of it.
+// A section and a device at it.
 #[test]
 fn parts_that_are_not_refused(rt: HostRuntime) -> Result<(), Fail> {
     let mut net = meshed(&rt, rt.alloc())?;
@@ -210,7 +211,7 @@ fn parts_that_are_not_refused(rt: HostRuntime) -> Result<(), Fail> {
     Ok(())
 }
 
-// How often the network was searched, positions of the devices, and the nodes that are supplied.
+// The number of network searches, the devices' positions, and whether each node is supplied.
 type SupplyRow<'r> = (u128, &'r [Pos], &'r [bool]);
 
 fn supplies(rt: &impl Abort, net: &mut Net, rows: &[SupplyRow<'_>]) -> Result<(), Fail> {
@@ -223,7 +224,8 @@ fn supplies(rt: &impl Abort, net: &mut Net, rows: &[SupplyRow<'_>]) -> Result<()
     Ok(())
 }
 
-// By number: CB-A, CB-B, D1, D2, D3, TIE; and GRID, BUS-A, BUS-B, S1, S2, S3.
+// The devices by number: CB-A, CB-B, D1, D2, D3, TIE. The nodes by number: GRID, BUS-A, BUS-B, S1,
+// S2, S3.
 #[test]
 fn supply(rt: HostRuntime) -> Result<(), Fail> {
     let mut net = meshed(&rt, rt.alloc())?;
@@ -231,7 +233,7 @@ fn supply(rt: HostRuntime) -> Result<(), Fail> {
         &rt,
         &mut net,
         &[
-            // as normal
+            // all devices in their normal positions
             (
                 0,
                 &[Closed, Closed, Closed, Closed, Closed, Opened],
@@ -243,31 +245,31 @@ fn supply(rt: HostRuntime) -> Result<(), Fail> {
                 &[Closed, Closed, Closed, Closed, Closed, Closed],
                 &[true, true, true, true, true, true],
             ),
-            // a feeder cut off behind its breaker
+            // a feeder without supply: its breaker is open
             (
                 2,
                 &[Closed, Closed, Opened, Closed, Closed, Opened],
                 &[true, true, true, false, false, true],
             ),
-            // and supplied over the tie
+            // the same feeder supplied over the tie
             (
                 3,
                 &[Closed, Closed, Opened, Closed, Closed, Closed],
                 &[true, true, true, true, true, true],
             ),
-            // its last section alone
+            // only the last section of the feeder supplied over the tie
             (
                 4,
                 &[Closed, Closed, Closed, Opened, Closed, Opened],
                 &[true, true, true, true, false, true],
             ),
-            // a bus cut off
+            // a bus without supply
             (
                 5,
                 &[Opened, Closed, Closed, Closed, Closed, Opened],
                 &[true, false, true, false, false, true],
             ),
-            // and supplied from behind
+            // the same bus supplied through its own feeder, over the tie
             (
                 6,
                 &[Opened, Closed, Closed, Closed, Closed, Closed],
@@ -279,7 +281,7 @@ fn supply(rt: HostRuntime) -> Result<(), Fail> {
                 &[Opened, Closed, Closed, Closed, Opened, Closed],
                 &[true, false, true, false, false, false],
             ),
-            // both buses cut off
+            // both buses without supply
             (
                 8,
                 &[Opened, Opened, Closed, Closed, Closed, Closed],
@@ -297,7 +299,7 @@ fn supply(rt: HostRuntime) -> Result<(), Fail> {
     Ok(())
 }
 
-// Bodies that are refused, and why, or None.
+// Adds the part of each body; each row has the expected refusal, or None.
 fn answers(rt: &impl Abort, net: &mut Net, rows: &[(&str, Option<Refusal>)]) -> Result<(), Fail> {
     for (body, refusal) in rows {
         assert!(rt; add(net, body)? == *refusal);

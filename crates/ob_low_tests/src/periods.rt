@@ -1,6 +1,6 @@
-//! Periods and their days. Expected seconds are those of GNU `date` (`TZ=RULE date -d "DATE 00:00" +%s`) and of Python's
-//! `zoneinfo`, or are worked out by hand beside them: a midnight's second is 86,400 for each day from 1970-01-01 on, less the
-//! offset in seconds east of UTC.
+//! Tests of periods and their days. Expected seconds are those of GNU `date` (`TZ=RULE date -d
+//! "DATE 00:00" +%s`) and of Python's `zoneinfo`, or are worked out by hand. The second of a
+//! midnight is 86,400 for each day from 1970-01-01 on, less the offset in seconds east of UTC.
 use jiff::civil::Date;
 use jiff::tz::TimeZone;
 use ob_net::{Fault, Refusal, Second, Stop};
@@ -19,13 +19,14 @@ const SANTIAGO: &[u8] = b"<-04>4<-03>,M9.1.6/24,M4.1.6/24";
 
 const HAVANA: &[u8] = b"CST5CDT,M3.2.0/0,M11.1.0/1";
 
-// A day of a period, its first second and the one after its last.
+// Checks the first second of a day of a period and the second after its last.
 fn is_day(rt: &impl Abort, period: &Period, day: u16, begin: Second, end: Second) {
     assert!(rt; period.day_bounds(day) == Some((begin, end)));
     assert!(rt; period.day_of(begin) == Some(day));
 }
 
-// A day of a period: the first date, the number of days, the zone, the day, its first second, its seconds.
+// A period's first date, its number of days and its zone; a day of it, the day's first second and
+// its length in seconds.
 type DayRow<'t> = (&'t [u8], u16, &'t [u8], u16, Second, u64);
 
 fn have_days(rt: &impl Abort, alloc: Global, rows: &[DayRow<'_>]) -> Result<(), Fail> {
@@ -55,21 +56,22 @@ fn days_of_zones(rt: HostRuntime) -> Result<(), Fail> {
             (b"2024-01-02", 1, b"<+2359>-23:59", 0, 1_704_067_260, 86_400),
             (b"2024-01-01", 366, b"UTC0", 0, 1_704_067_200, 86_400),
             (b"2024-01-01", 366, b"UTC0", 365, 1_735_603_200, 86_400),
-            // A gap from 00:00 to 01:00: by the offset before it the midnight is its beginning, so the
-            // day before has 24 hours and the day itself 23.
+            // A gap from 00:00 to 01:00: by the offset in force before the gap, the midnight is the
+            // beginning of the gap, so the day before has 24 hours and the day itself 23.
             (b"2023-09-30", 3, ASUNCION, 0, 1_696_046_400, 86_400),
             (b"2023-09-30", 3, ASUNCION, 1, 1_696_132_800, 82_800),
-            // Such a gap, named as 24:00 of the day before.
+            // Such a gap, which the rule gives as 24:00 of the day before.
             (b"2024-09-07", 2, SANTIAGO, 0, 1_725_681_600, 86_400),
             (b"2024-09-07", 2, SANTIAGO, 1, 1_725_768_000, 82_800),
-            // The clock falls back at midnight, for 25 hours of the day that ends.
+            // The clock falls back at midnight, so the day that ends has 25 hours.
             (b"2024-04-06", 2, SANTIAGO, 0, 1_712_372_400, 90_000),
             (b"2024-04-06", 2, SANTIAGO, 1, 1_712_462_400, 86_400),
             // A fold from 00:00 to 01:00: the day begins at the earlier of its two midnights.
             (b"2024-11-02", 2, HAVANA, 0, 1_730_520_000, 86_400),
             (b"2024-11-02", 2, HAVANA, 1, 1_730_606_400, 90_000),
-            // The first and the last dates that have bounds: second 0 is midnight in UTC and, a day
-            // earlier, 24 hours west of it; the last midnight is 99,999,999,999 less 09:46:39.
+            // The first and the last dates that have bounds: second 0 is midnight in UTC, and
+            // midnight of the day before in the zone 24 hours west of it; the last midnight is
+            // 99,999,999,999 less 09:46:39.
             (b"1970-01-01", 1, b"UTC0", 0, 0, 86_400),
             (b"1969-12-31", 1, b"AAA24", 0, 0, 86_400),
             (b"5138-11-15", 1, b"UTC0", 0, 99_999_878_400, 86_400),
@@ -77,7 +79,7 @@ fn days_of_zones(rt: HostRuntime) -> Result<(), Fail> {
     )
 }
 
-// The first second of a period, the one after its last, and how many it has.
+// Checks the first second of a period, the second after its last, and its length in seconds.
 fn spans(rt: &impl Abort, period: &Period, first: Second, end: Second, seconds: u64) {
     assert!(rt; period.first_second() == first);
     assert!(rt; period.end_second() == end);
@@ -153,7 +155,7 @@ fn a_year_in_utc(rt: HostRuntime) -> Result<(), Fail> {
     Ok(())
 }
 
-// A year's shifts cancel out.
+// The year's two clock changes cancel out.
 #[test]
 fn a_year_with_shifts(rt: HostRuntime) -> Result<(), Fail> {
     let period = Period::from_text(rt.alloc(), b"2024-01-01", 366, EASTERN)?;
@@ -161,7 +163,7 @@ fn a_year_with_shifts(rt: HostRuntime) -> Result<(), Fail> {
     Ok(())
 }
 
-// The first date, the number of days and the zone of no period.
+// First dates, numbers of days and zones that make no period.
 fn are_no_periods(rt: &impl Abort, alloc: Global, rows: &[(&[u8], u16, &[u8])]) {
     for (first, days, zone) in rows {
         let answer = Period::from_text(alloc, first, *days, zone);
@@ -180,7 +182,7 @@ fn no_periods(rt: HostRuntime) {
             (b"2023-02-29", 1, b"UTC0"),
             (b"2024-1-01", 1, b"UTC0"),
             (b"", 1, b"UTC0"),
-            // No rule of a zone.
+            // Not a POSIX TZ rule.
             (b"2024-01-01", 1, b""),
             (b"2024-01-01", 1, b"UTC"),
             (b"2024-01-01", 1, b"-"),
@@ -194,14 +196,15 @@ fn no_periods(rt: HostRuntime) {
             (b"0000-02-29", 1, b"UTC0"),
             (b"5138-11-15", 2, b"UTC0"),
             (b"9999-12-31", 1, b"UTC0"),
-            // Offsets that are two days apart: a midnight that isn't above the one before it.
+            // Offsets that differ by two days: a midnight that isn't later than the one before it.
             (b"2023-04-28", 5, b"AAA-24BBB24,J60,J120"),
             (b"2023-02-27", 5, b"AAA24BBB-24,J60,J120"),
         ],
     );
 }
 
-// The answer is there before memory is asked for: no day, too many, and a last day that ends past the last date.
+// These periods are refused before any memory is requested: no day, too many days, and a last day
+// that ends past the last date.
 #[test]
 fn no_periods_of_days(rt: HostRuntime) -> Result<(), Fail> {
     let first = Date::new(2024, 1, 1)?;
@@ -222,7 +225,7 @@ fn is_whole_or_without_memory(rt: &impl Abort, period: &Period) {
     }
 }
 
-// With each allocation refused in turn a call either has its value or says that memory is refused.
+// With each allocation refused in turn, a call either returns its value or reports refused memory.
 #[test]
 fn refused_memory(rt: HostRuntime) {
     match Period::from_text(rt.alloc(), b"2024-03-10", 2, EASTERN) {

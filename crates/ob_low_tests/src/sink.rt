@@ -4,8 +4,8 @@ use std::alloc::Global;
 use std::io;
 use std::io::{ErrorKind, Write};
 
-/// Takes at most `step` bytes a write while it has room, and then answers this error, or 0. The write of the number `interrupted`,
-/// from 0, is interrupted.
+/// Takes at most `step` bytes a write while it has room; once full it answers the error `full`, or
+/// 0 if there is none. The write with the number `interrupted`, counted from 0, is interrupted.
 #[derive(Drop)]
 pub struct Sink {
     pub taken: Vec<u8>,
@@ -28,7 +28,7 @@ pub fn sink_of(alloc: Global, step: usize, room: usize, full: Option<ErrorKind>)
     })
 }
 
-/// A sink of which one write is interrupted.
+/// A sink that interrupts one write.
 pub fn interrupted_at(alloc: Global, call: usize) -> Watched<Sink> {
     Watched::new(Sink {
         taken: Vec::new(alloc),

@@ -22,8 +22,8 @@ impl Interrupted {
     }
 }
 
-/// Gives at most `step` bytes a read. Behind its bytes it fails where `fails`, and else ends once and goes on with the next
-/// bytes.
+/// Gives at most `step` bytes a read. After its bytes it fails if `fails` is set; otherwise it
+/// reports the end once and goes on with the bytes of `next`.
 #[derive(Drop)]
 pub struct Source<'b> {
     pub rest: &'b [u8],
@@ -46,7 +46,7 @@ pub fn source_of(rest: &[u8], step: usize, interrupted: Interrupted) -> Watched<
     })
 }
 
-/// A source that fails behind its bytes.
+/// A source that fails after its bytes.
 pub fn failing(rest: &[u8], step: usize) -> Watched<Source<'_>> {
     Watched::new(Source {
         rest,
@@ -58,7 +58,7 @@ pub fn failing(rest: &[u8], step: usize) -> Watched<Source<'_>> {
     })
 }
 
-/// A source of two texts, with an end behind each, of which one read is interrupted.
+/// A source of two texts that reports an end after each and interrupts one read.
 pub fn two_texts<'b>(rest: &'b [u8], next: &'b [u8], call: usize) -> Watched<Source<'b>> {
     Watched::new(Source {
         rest,

@@ -1,4 +1,4 @@
-//! The numbers, names and details of refusals and faults.
+//! Tests of the numbers, names and details of refusals and faults.
 use ob_net::{Fault, Refusal, Stop};
 use std::alloc::AllocError;
 use std::process::Abort;

@@ -1,4 +1,4 @@
-//! Whole texts, read and written.
+//! Tests of whole texts, read and written.
 use crate::sink::{Sink, interrupted_at, sink_of};
 use crate::source::{Interrupted, Source, failing, source_of, two_texts};
 use ob_net::{Fault, Retries, Watched, read_some, read_text, write_text};
@@ -8,7 +8,7 @@ use std::process::Abort;
 
 const TEXT: &[u8] = b"0123456789";
 
-// The next read of at most four bytes gives these.
+// Checks that the next read of at most four bytes gives these bytes.
 fn gives(
     rt: &impl Abort,
     reader: &mut Watched<Source<'_>>,
@@ -36,7 +36,7 @@ fn a_single_read_that_fails(rt: HostRuntime) {
     assert!(rt; read == Err(Fault::Input));
 }
 
-// All that is left is this text, within the limit.
+// Checks that the rest of the reader is this text, within the limit.
 fn reads(
     rt: &impl Abort,
     alloc: Global,
@@ -50,7 +50,8 @@ fn reads(
     }
 }
 
-// What is left isn't read within the limit, which is the reader's failure or not.
+// Checks that reading the rest within the limit ends in an input fault, and whether the reader
+// itself has failed.
 fn reads_none(
     rt: &impl Abort,
     alloc: Global,
@@ -63,7 +64,7 @@ fn reads_none(
     assert!(rt; reader.has_failed() == failed);
 }
 
-// Texts that are read by so many bytes a read within a limit.
+// Reads the text with at most `step` bytes a read, within a limit.
 fn reads_by_steps(rt: &impl Abort, alloc: Global, rows: &[(usize, usize)]) {
     for (step, limit) in rows {
         let mut reader = source_of(TEXT, *step, Interrupted::Never);
@@ -114,7 +115,8 @@ fn texts_above_one_chunk(rt: HostRuntime) {
     }
 }
 
-// Four reads and the one that finds the end are the first text's without the interruption, and three the second's.
+// Without an interruption, the first text takes four reads and one more that finds the end, and the
+// second takes three.
 #[test]
 fn two_texts_are_read_with_one_interruption(rt: HostRuntime) {
     for call in 0..9 {
@@ -124,7 +126,7 @@ fn two_texts_are_read_with_one_interruption(rt: HostRuntime) {
     }
 }
 
-// A text that is written by so many bytes a write.
+// Writes the text with at most `step` bytes a write.
 fn writes(rt: &impl Abort, alloc: Global, step: usize) {
     let mut writer = sink_of(alloc, step, 100, None);
     assert!(rt; write_text(&mut writer, &mut Retries::new(), TEXT) == Ok(()));
@@ -139,7 +141,7 @@ fn texts_are_written(rt: HostRuntime) {
     }
 }
 
-// A text of which this front alone has room.
+// Writes the text to a writer that has room only for this front of it.
 fn writes_a_front(rt: &impl Abort, mut writer: Watched<Sink>, front: &[u8]) {
     let written = write_text(&mut writer, &mut Retries::new(), TEXT);
     assert!(rt; written == Err(Fault::Output) && writer.has_failed());
@@ -158,7 +160,7 @@ fn writes_that_fail_behind_a_front(rt: HostRuntime) {
     }
 }
 
-// Two writes, and one that is tried again as often as it may.
+// Two writes succeed, and the third is retried as often as the limit allows.
 #[test]
 fn interrupted_for_ever(rt: HostRuntime) {
     let mut writer = sink_of(rt.alloc(), 3, 4, Some(ErrorKind::Interrupted));
@@ -166,7 +168,7 @@ fn interrupted_for_ever(rt: HostRuntime) {
     assert!(rt; writer.into_parts().0.calls == 2 + 65_537);
 }
 
-// Four writes are the first text's without the interruption, and two the second's.
+// Without an interruption, the first text takes four writes and the second takes two.
 #[test]
 fn two_texts_are_written_with_one_interruption(rt: HostRuntime) {
     for call in 0..7 {

@@ -1,4 +1,4 @@
-//! Watched readers and writers, call by call.
+//! Tests of watched readers and writers, call by call.
 use crate::sink::{Flushed, Sink, sink_of};
 use crate::source::{Interrupted, Source, failing, source_of};
 use ob_net::{Retries, Watched};
@@ -6,7 +6,8 @@ use std::io;
 use std::io::{ErrorKind, Read, Write};
 use std::process::Abort;
 
-// A read of at most two bytes takes so many of them, or fails, and after it the reader has failed or not.
+// Makes reads of at most two bytes. Each row has the number of bytes read, or None for a failure,
+// and whether the reader has failed after it.
 fn reads(rt: &impl Abort, reader: &mut Watched<Source<'_>>, calls: &[(Option<usize>, bool)]) {
     let mut buf = [0; 2];
     for (count, failed) in calls {
@@ -41,7 +42,8 @@ fn bytes_of_a_read(rt: HostRuntime) {
     assert!(rt; buf == *b"ab");
 }
 
-// A write of these bytes takes so many of them, or fails, and after it the writer has failed or not.
+// Makes writes. Each row has the bytes, the number of bytes taken, or None for a failure, and
+// whether the writer has failed after it.
 fn writes(rt: &impl Abort, writer: &mut Watched<Sink>, calls: &[(&[u8], Option<usize>, bool)]) {
     for (bytes, count, failed) in calls {
         assert!(rt; writer.write(bytes).ok() == *count);

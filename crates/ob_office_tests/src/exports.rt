@@ -1,4 +1,4 @@
-//! Exports of what the commands moved, and sinks and writers that fail.
+//! Tests of exports of the amounts that the commands moved, and of sinks and writers that fail.
 use crate::office::Office;
 use crate::script::{A_DAY, Outcome, Step, Story, is_told};
 use crate::sinks::{Shelf, Sink};
@@ -25,7 +25,7 @@ const EXPORT: &'static str = "cmd,dim,key,delta
 26,day,0,-1200
 ";
 
-// How many rows the tables of the outage with its correction have.
+// The numbers of rows in the tables of the outage with its correction.
 const ROWS: &[i64] = &[1, 3, 5, 5, 5, 10, 4, 0, 26, 12, 320];
 
 const EXPORTED: Story<'static> = Story {
@@ -62,12 +62,13 @@ fn exports_of_nothing(rt: HostRuntime) -> Result<(), AllocError> {
     is_told(&rt, rt.alloc(), &OF_NOTHING, false)
 }
 
-// What the commands moved: the outage and its correction, each time the same by cause 3, feeder 1 and day 0.
+// The amounts that the outage and its correction moved, each the same under cause 3, feeder 1 and
+// day 0.
 const COMMANDS: &[(u32, i64)] = &[(22, 414_000), (24, -246_600), (25, -158_400), (26, -1_200)];
 
 const KEYS: &[(Dim, u16)] = &[(Dim::Cause, 3), (Dim::Feeder, 1), (Dim::Day, 0)];
 
-// How many amounts they moved.
+// The number of amounts that they moved.
 const AMOUNTS: usize = 12;
 
 // The amount at this place, from 0.
@@ -77,7 +78,7 @@ fn moved(place: usize) -> Option<(u32, Moved)> {
     Some((cmd, Moved { dim, key, delta }))
 }
 
-// Whether there are so many amounts, and they are the first ones.
+// Answers whether these are the first amounts, and as many as this.
 fn are_first(taken: &[(u32, Moved)], count: usize) -> bool {
     for (place, row) in taken.iter().enumerate() {
         if moved(place) != Some(*row) {
@@ -87,7 +88,8 @@ fn are_first(taken: &[(u32, Moved)], count: usize) -> bool {
     taken.len() == count
 }
 
-/// Whether a sink with so much room takes the first amounts, and its fault comes back where there are more.
+/// Answers whether a sink with this much room takes the first amounts, and its fault comes back if
+/// there are more.
 pub fn is_handed<O: Office>(alloc: Global, office: &mut O, room: usize) -> bool {
     let mut shelf = Shelf::new(alloc, room);
     let wanted = if room < AMOUNTS {
@@ -98,7 +100,8 @@ pub fn is_handed<O: Office>(alloc: Global, office: &mut O, room: usize) -> bool 
     office.hands(&mut shelf) == wanted && are_first(&shelf.taken, room)
 }
 
-/// Whether the stored replies of the 26 commands have the amounts, and there is no other reply.
+/// Answers whether the stored replies of the 26 commands have the amounts, and there is no other
+/// reply.
 pub fn are_told<O: Office>(alloc: Global, office: &mut O) -> bool {
     let mut shelf = Shelf::new(alloc, AMOUNTS);
     for no in 1..=26 {
@@ -109,7 +112,7 @@ pub fn are_told<O: Office>(alloc: Global, office: &mut O) -> bool {
     office.tells(27, &mut shelf) == Ok(false) && are_first(&shelf.taken, AMOUNTS)
 }
 
-// Sinks with room for each number of amounts, none to all twelve.
+// Sinks with room for each number of amounts, from none to all twelve.
 const SINKS: Story<'static> = Story {
     sql: "",
     first: &[
@@ -140,7 +143,8 @@ fn sinks_that_fail(rt: HostRuntime) -> Result<(), AllocError> {
     is_told(&rt, rt.alloc(), &SINKS, false)
 }
 
-/// Whether an export of this text to a writer with less room stops for a failed output when that is full.
+/// Answers whether an export of this text to a writer with less room stops with an output fault
+/// when the writer is full.
 pub fn breaks_off<O: Office>(
     alloc: Global,
     office: &mut O,
@@ -154,7 +158,7 @@ pub fn breaks_off<O: Office>(
         && text.starts_with(&written.bytes)
 }
 
-/// Whether it does with room for each number of bytes.
+/// Answers whether it does with room for each number of bytes.
 pub fn always_breaks_off<O: Office>(alloc: Global, office: &mut O, way: Way, text: &[u8]) -> bool {
     for room in 0..text.len() {
         if !breaks_off(alloc, office, way, text, room) {
@@ -164,14 +168,15 @@ pub fn always_breaks_off<O: Office>(alloc: Global, office: &mut O, way: Way, tex
     true
 }
 
-// One that is interrupted for ever.
+// A writer that is interrupted without end once it is full.
 const STUCK: Way = Way {
     step: 1,
     jolts: 1,
     end: Some(ErrorKind::Interrupted),
 };
 
-// Writers that fail behind each byte in turn, one that takes none any more, and one that is interrupted for ever.
+// Writers that fail after each byte in turn, one that takes no further byte, and one that is
+// interrupted without end.
 const WRITERS: Story<'static> = Story {
     sql: "",
     first: &[
@@ -193,7 +198,7 @@ fn writers_that_fail(rt: HostRuntime) -> Result<(), AllocError> {
 
 const LAST_LINE: &'static str = "26,day,0,-1200\n";
 
-// The header and twelve lines: their thirteen writes are tried again 65,536 times in all.
+// The thirteen writes of the header and twelve lines may be retried 65,536 times in all.
 const INTERRUPTED: Story<'static> = Story {
     sql: "",
     first: &[

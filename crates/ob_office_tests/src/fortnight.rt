@@ -1,4 +1,5 @@
-//! The sample fortnight of `examples/`, whose tables and moves a plain model of the book has computed.
+//! Tests of the sample fortnight (examples/fortnight/), whose tables and moves a plain model of the
+//! book has computed.
 use crate::fortnight_moves::{CORRECTED_MOVES, MOVES};
 use crate::fortnight_texts::{CORRECTED_TABLE, CORRECTIONS, FORTNIGHT, TABLE};
 use crate::office::Period;
@@ -22,7 +23,8 @@ const TOLD: Story<'static> = Story {
     rows: &[1, 9, 10, 12, 12, 33, 36, 1, 105, 236, 333],
 };
 
-// The annual tables and the moves of the fortnight, before and after its corrections, are those that stand beside it.
+// The annual tables and the moves of the fortnight, before and after its corrections, equal those
+// in examples/fortnight/.
 #[test]
 fn the_sample_fortnight(rt: HostRuntime) -> Result<(), AllocError> {
     is_told(&rt, rt.alloc(), &TOLD, false)

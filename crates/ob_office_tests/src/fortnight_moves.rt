@@ -1,6 +1,6 @@
-//! The sample fortnight of `examples/`: what its commands moved.
+//! The sample fortnight (examples/fortnight/): the amounts that its commands moved.
 
-/// What the commands of the fortnight moved: `fortnight.moves.csv`.
+/// The amounts that the commands of the fortnight moved: `fortnight.moves.csv`.
 pub const MOVES: &'static str = "\
 cmd,dim,key,delta
 61,cause,6,8697600
@@ -233,7 +233,7 @@ cmd,dim,key,delta
 102,day,13,7200
 ";
 
-/// What they and the corrections moved: `corrections.moves.csv`.
+/// The amounts that they and the corrections moved: `corrections.moves.csv`.
 pub const CORRECTED_MOVES: &'static str = "\
 cmd,dim,key,delta
 61,cause,6,8697600

@@ -1,6 +1,7 @@
-//! The sample fortnight of `examples/`: what was told to the book, and its annual tables.
+//! The sample fortnight (examples/fortnight/): the rows entered into the book, and its annual
+//! tables.
 
-/// All that was told to the book of the fortnight: `fortnight.csv`.
+/// All rows entered into the book of the fortnight: `fortnight.csv`.
 pub const FORTNIGHT: &'static str = "\
 kind,ref,f1,f2,f3,f4,f5,f6
 cause,CAUSE-1,1,STORM,,,,
@@ -107,7 +108,7 @@ switch,OUT-0405-6,CPL-1,open,2025-04-05T23:12:00+02:00,7,CONTROL,
 switch,OUT-0406-1,LBS-22,open,2025-04-06T23:20:00+02:00,5,CREW-3,
 ";
 
-/// What was corrected afterwards: `corrections.csv`.
+/// The corrections entered afterwards: `corrections.csv`.
 pub const CORRECTIONS: &'static str = "\
 kind,ref,f1,f2,f3,f4,f5,f6
 correct,COR-0409-1,28,1,open,2025-04-05T06:10:00+02:00,3,CREW-3

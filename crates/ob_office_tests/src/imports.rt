@@ -1,4 +1,4 @@
-//! Imports into new books, and texts that come twice.
+//! Tests of imports into new books, and of texts that are imported twice.
 use crate::office::Heard;
 use crate::script::{A_DAY, Outcome, Step, Story, is_told, is_told_both_ways};
 use crate::texts::{ONE_NAME_TWICE, OUTAGE, TWO_NAMES};
@@ -40,7 +40,8 @@ const TOLD: Heard = Heard {
     ended: true,
 };
 
-// An import of a text whose fourth row is refused, and who hears it; and once more.
+// An import of a text whose fourth row is refused, with a listener that follows its progress; and
+// the same once more.
 const HEARING: Story<'static> = Story {
     sql: "",
     first: &[
@@ -99,7 +100,7 @@ fn a_text_comes_twice(rt: HostRuntime) -> Result<(), AllocError> {
     is_told_both_ways(&rt, rt.alloc(), &TWICE)
 }
 
-// The book of the outage has this total, and each amount of it by cause, day and feeder.
+// The book of the outage has this total, the same by cause, by day and by feeder.
 const TOTALS: &'static str =
     "{\"cause\":[[3,9000]],\"day\":[[0,9000]],\"feeder\":[[1,9000]],\"total\":9000}";
 
@@ -149,7 +150,7 @@ SUSTAINED unmarked 5
 MOMENTARY unmarked 0
 ";
 
-// Another keeper loads the same book, to which the text adds nothing.
+// Another `Keeper` loads the same book, to which the text adds nothing.
 const IMPORTED: Story<'static> = Story {
     sql: "",
     first: &[

@@ -1,5 +1,6 @@
-//! The program's jobs: what each tells, the status that it ends with, when an input is opened, and what is left where a writer
-//! fails or memory is refused. The lines and statuses are worked out by hand from the definitions.
+//! Tests of the program's jobs: what each prints, its exit status, when an input is opened, and
+//! what is left after a writer fails or memory is refused. The lines and statuses are worked out by
+//! hand from the definitions.
 pub mod calls;
 mod host;
 mod memory;

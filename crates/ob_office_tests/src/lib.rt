@@ -1,10 +1,10 @@
-//! Tests of imports into a book, of exports from one and of the program's jobs, over a store in memory: what is added, what is
-//! there already, which row stops, and what readers, writers and sinks that fail leave behind; what each job tells, the status
-//! that it ends with, and when an input is opened; and files of version 1, which are made files of version 2 first.
-//!
-//! It holds tests alone. The reports, rows, lines and amounts are worked out by hand from the definitions; annual tables, and
-//! the moves of the sample fortnight, are those of the plain model in `benches/`. The files of version 1 were made by the
-//! program of that version, and their tables were printed by it.
+//! Tests of imports into a book, of exports from one and of the program's jobs, over a store in
+//! memory: reports, refused rows, failing readers, writers and sinks, printed lines and exit
+//! statuses. Also when a job opens its input, and the migration of files of version 1. The reports,
+//! rows, lines and amounts are worked out by hand from the definitions. The annual tables, and the
+//! moves of the sample fortnight (examples/fortnight/), are those of the plain model in `benches/`.
+//! The program of version 1 made the files of version 1 and printed their tables. This crate holds
+//! only tests, and no other crate uses it.
 #![tactic(auto)]
 
 #[cfg(test)]

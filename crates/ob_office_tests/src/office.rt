@@ -1,4 +1,4 @@
-//! What a test knows of a keeper, and what a keeper is tried by.
+//! The calls of a `Keeper` that the tests use, and the trials that use them.
 use crate::jobs::calls::{
     Ask, Told, audits, exports, imports, lacks_export, lacks_import, lacks_table, makes, migrates,
     prints, serves,
@@ -17,20 +17,21 @@ use sqlite::{Alter, Connection};
 use std::alloc::Global;
 use std::process::Abort;
 
-/// What an import answers.
+/// The answer to an import.
 pub type Report = Result<ImportReport, ImportFault>;
 
 /// The first day of a book, how many days it has, and its zone.
 pub type Period = (&'static str, u16, &'static str);
 
-/// What an export answers, and what its writer has taken.
+/// The answer to an export, and the bytes that its writer has taken.
 #[derive(Drop)]
 pub struct Written {
     pub end: Result<u64, Stop>,
     pub bytes: Vec<u8>,
 }
 
-/// What was heard of an import: the rows of its text, the last one that acted, how many did, and whether it ended.
+/// The reported progress of an import: the number of rows in its text, the last applied row, how
+/// many were applied, and whether it ended.
 #[derive(Clone, Copy, PartialEq)]
 pub struct Heard {
     pub expected: u64,
@@ -54,56 +55,59 @@ impl Progress for Heard {
     }
 }
 
-/// A book, or none, and the calls of its keeper without their clauses: with these each function that makes some is long to
-/// prove.
+/// A book, or none, and the calls of its `Keeper` without their contracts: with these each function
+/// that makes some calls takes long to prove.
 pub trait Office {
-    /// Makes a new book of a period.
+    /// Creates a book of a period.
     fn makes(&mut self, period: &Period) -> Result<(), Stop>;
 
     /// Reads the book that the tables hold.
     fn loads(&mut self) -> Result<(), Stop>;
 
-    /// Makes the tables of version 1 those of version 2. Answers whether they were of version 1.
+    /// Migrates the tables of version 1 to version 2. Answers whether they were of version 1.
     fn migrates(&mut self) -> Result<bool, Stop>;
 
-    /// Whether no table differs from what the commands in the tables give.
+    /// Answers whether no table differs from what the commands in the tables give.
     fn audits(&mut self) -> Result<bool, Stop>;
 
-    /// Puts what a command moved, by its stored reply, on a shelf. Answers whether there is such a reply.
+    /// Puts the amounts that a command moved, by its stored reply, on a `Shelf`. Answers whether
+    /// there is such a reply.
     fn tells(&mut self, no: u32, shelf: &mut Shelf) -> Result<bool, Stop>;
 
-    /// What a sink makes of the moved amounts.
+    /// Gives the moved amounts to a sink.
     fn hands(&mut self, shelf: &mut Shelf) -> Result<u64, Stop>;
 
-    /// What the import of a text is answered.
+    /// Imports a text.
     fn takes(&mut self, alloc: Global, text: &[u8]) -> Report;
 
-    /// What the import of what a reader gives is answered.
+    /// Imports the text that a reader gives.
     fn reads(&mut self, alloc: Global, source: Source<'_>) -> Report;
 
-    /// What is heard of the import of what a reader gives.
+    /// Imports the text that a reader gives, and answers the reported progress.
     fn hears(&mut self, alloc: Global, source: Source<'_>) -> Heard;
 
-    /// What an export to a writer is answered.
+    /// Exports to a writer.
     fn writes(&mut self, alloc: Global, sink: Sink) -> Written;
 
-    /// How many commands the book has accepted, and its customer-seconds; None where there is no book.
+    /// The number of commands that the book has accepted, and its customer-seconds; None if there
+    /// is no book.
     fn shows(&self) -> Option<(u32, u64)>;
 
-    /// Whether the book has these totals.
+    /// Answers whether the book has these totals.
     fn has_totals(&self, text: &[u8]) -> bool;
 
-    /// Whether the book has this annual table.
+    /// Answers whether the book has this annual table.
     fn has_table(&self, text: &[u8]) -> bool;
 
-    /// What a job tells this writer, and how it ends.
+    /// Does a job; answers what it prints to this writer, and how it ends.
     fn does(&mut self, alloc: Global, ask: Ask, sink: Sink) -> Told;
 
-    /// Whether the work of jobs on a book is refused for want of one, and nothing written.
+    /// Answers whether each job that works on a book stops because there is none, and writes
+    /// nothing.
     fn lacks_book(&mut self, alloc: Global) -> bool;
 }
 
-// Whether a text was printed, and is this.
+// Answers whether a text was printed that equals this one.
 fn is_text(printed: Result<Vec<u8>, Stop>, text: &[u8]) -> bool {
     matches!(printed, Ok(found) if found.as_slice() == text)
 }
@@ -211,12 +215,13 @@ impl<S: Alter, T: Timeline> Office for Keeper<S, T> {
     }
 }
 
-/// What a keeper is tried by.
+/// A trial of a `Keeper`.
 pub trait Trial {
     fn run<A: Abort, O: Office>(&mut self, rt: &A, alloc: Global, office: &mut O);
 }
 
-/// A keeper without a book over a database is tried. Answers the database that it leaves.
+/// Runs a trial with a `Keeper` without a book over a database. Answers the database that the trial
+/// leaves.
 pub fn over<S: Alter + Drop, C: Trial>(
     rt: &impl Abort,
     alloc: Global,

@@ -1,26 +1,28 @@
-//! Files of version 1 that are made files of version 2: what the program of that version printed of them is what is shown
-//! of them then.
+//! Tests of files of version 1 that are migrated to version 2: what the program of version 1
+//! printed of them is what is shown of them after the migration.
 use crate::old_fortnight::{OLD_FORTNIGHT, OLD_TABLE};
 use crate::old_outages::{OUTAGES, OUTAGES_FILE, OUTAGES_MOVES, OUTAGES_TABLE};
 use crate::script::{Outcome, Step, Story, is_told};
 use ob_net::Refusal;
 use std::alloc::AllocError;
 
-// An incomer and a breaker of the small book, with a life that begins at 0, which is to say always: they were told without one.
+// An incomer and a breaker of the small book, with a life that begins at 0 and has no end; they
+// were entered without a life.
 const LIVE_ALWAYS: &'static str = "\
 kind,ref,f1,f2,f3,f4,f5,f6
 device,A5,I1,GRID,BUS-A,closed,0,
 device,A6,B1,BUS-A,S1,closed,1970-01-01T00:00:00Z,
 ";
 
-// The breaker with another life isn't the command that it was; but from now on a life can be set.
+// The breaker with another life isn't the command that was entered; but after the migration a life
+// can be set.
 const LIVE_LATER: &'static str = "\
 kind,ref,f1,f2,f3,f4,f5,f6
 life,L1,T1,,1704240000,,,
 device,A6,B1,BUS-A,S1,closed,1704067200,
 ";
 
-// The rows that the old program was told are known, also where no columns of a life were written.
+// The rows that were entered with version 1 are known, also if no columns of a life were written.
 const SMALL_BOOK: Story<'static> = Story {
     sql: OUTAGES_FILE,
     first: &[

@@ -1,6 +1,7 @@
-//! The sample fortnight as a book of version 1, made by the program of that version.
+//! The sample fortnight (examples/fortnight/) as a book of version 1, made by the program of that
+//! version.
 
-/// What it left in the file: `examples/fortnight-version-1.sql`.
+/// The contents of the file that it left: `examples/fortnight/version-1.sql`.
 pub const OLD_FORTNIGHT: &'static str = "\
 -- The sample fortnight as a book of version 1: what the program of that version left in its file.
 CREATE TABLE meta (id INTEGER PRIMARY KEY CHECK (id = 1), version INTEGER NOT NULL, day0 TEXT NOT NULL, days \
@@ -234,7 +235,7 @@ INSERT INTO posting (dim, k, amount) VALUES
 (3, 11, 16140), (3, 12, 33800), (3, 13, 7200);
 ";
 
-/// The annual table that it printed: `examples/fortnight-version-1.table.txt`.
+/// The annual table that it printed: `examples/fortnight/version-1.table.txt`.
 pub const OLD_TABLE: &'static str = "\
 OUTAGE BOOK 2025-03-24 days 14 zone CET-1CEST,M3.5.0,M10.5.0/3
 P 1206000 S 37774800 W 376470

@@ -1,6 +1,8 @@
-//! A small book of version 1, made by the program of that version: what it left in the file, and what it printed.
+//! A small book of version 1, made by the program of that version: the file that it left, and what
+//! it printed.
 
-/// The file, as text: three outages and a momentary one on two feeders with a tie, a correction and a marked day.
+/// The file, as text: three outages and a momentary one on two feeders with a tie, a correction and
+/// a marked day.
 pub const OUTAGES_FILE: &'static str = "\
 CREATE TABLE meta (id INTEGER PRIMARY KEY CHECK (id = 1), version INTEGER NOT NULL, day0 TEXT NOT NULL, days \
     INTEGER NOT NULL, zone TEXT NOT NULL) STRICT;
@@ -101,7 +103,7 @@ INSERT INTO posting (dim, k, amount) VALUES
 (2, 252, 0), (2, 253, 0), (2, 254, 0), (2, 255, 0), (3, 0, 13440), (3, 1, 25200);
 ";
 
-/// What was imported.
+/// The imported text.
 pub const OUTAGES: &'static str = "\
 kind,ref,f1,f2,f3,f4,f5,f6
 cause,A1,3,STORM,,,,
@@ -176,7 +178,7 @@ SUSTAINED unmarked 5
 MOMENTARY unmarked 2
 ";
 
-/// What it exported of the moves.
+/// The moves that it exported.
 pub const OUTAGES_MOVES: &'static str = "\
 cmd,dim,key,delta
 13,cause,3,338400

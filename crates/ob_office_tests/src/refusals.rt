@@ -1,11 +1,11 @@
-//! Rows that can't be read, and other spellings of rows that can.
+//! Tests of rows that can't be read, and of other spellings of rows that can.
 use crate::office::Office;
 use crate::script::{A_DAY, Outcome, Step, Story, is_told};
 use crate::texts::OUTAGE;
 use ob_net::Refusal;
 use std::alloc::{AllocError, Global};
 
-/// Whether the import of this row under the header is refused in this column.
+/// Answers whether the import of this row under the header is refused because of this column.
 pub fn is_refused<O: Office>(alloc: Global, office: &mut O, row: &str, column: u8) -> bool {
     let wanted = Outcome::Stopped(0, 0, 1, Refusal::BadField(column)).report();
     match format!(in alloc; "kind,ref,f1,f2,f3,f4,f5,f6\n{row}") {
@@ -14,7 +14,7 @@ pub fn is_refused<O: Office>(alloc: Global, office: &mut O, row: &str, column: u
     }
 }
 
-// Each row is refused by a book that stays as it is.
+// A book refuses each row, and stays as it is.
 const BAD_ROWS: Story<'static> = Story {
     sql: "",
     first: &[
@@ -45,7 +45,7 @@ fn bad_rows(rt: HostRuntime) -> Result<(), AllocError> {
     is_told(&rt, rt.alloc(), &BAD_ROWS, false)
 }
 
-// A text with a leading mark, CRLF, quotes, an empty line, and no end of its last line.
+// A text with a byte order mark, CRLF, quotes, an empty line, and no end of its last line.
 const QUOTED: &'static str =
     "\u{FEFF}kind,\"ref\",f1,f2,f3,f4,f5,f6\r\n\"cause\",R1,\"3\",STORM,,,,\"\"\r\n\r\n\
 bus,R2,\"BUS-A\",,,,,\r\n\"section\",R3,S1,001,,,,";

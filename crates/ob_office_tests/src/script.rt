@@ -1,4 +1,4 @@
-//! Steps with a keeper, one after another, and what each is answered.
+//! Steps with a `Keeper`, one after another, and the answer to each.
 use crate::exports::{always_breaks_off, are_told, breaks_off, is_handed};
 use crate::office::{Heard, Office, Period, Report, Trial, over};
 use crate::refusals::is_refused;
@@ -12,19 +12,19 @@ use sqlite::{Alter, Connection};
 use std::alloc::{AllocError, Global};
 use std::process::Abort;
 
-/// What an import is answered.
+/// The expected answer to an import.
 #[derive(Clone, Copy)]
 pub enum Outcome {
-    /// So many rows were new, and so many were there already.
+    /// These numbers of rows were new and were there already.
     Took(u32, u32),
-    /// After so many new ones and so many that were there already this row was refused.
+    /// After these numbers of new rows and of rows that were there already, this row was refused.
     Stopped(u32, u32, u32, Refusal),
-    /// A fault came after so many new ones and so many that were there already.
+    /// A fault came after these numbers of new rows and of rows that were there already.
     Broken(u32, u32, Fault),
 }
 
 impl Outcome {
-    /// The report that says so.
+    /// The report with these numbers.
     pub fn report(&self) -> Report {
         match *self {
             Outcome::Took(added, again) => Ok(ImportReport {
@@ -49,45 +49,46 @@ impl Outcome {
 /// 2024-01-01 in UTC.
 pub const A_DAY: Period = ("2024-01-01", 1, "UTC0");
 
-/// A step with a keeper, and how it is answered.
+/// A step with a `Keeper`, and the expected answer.
 pub enum Step {
-    /// A new book of this period is made.
+    /// Creates a book of this period.
     Make(Period),
-    /// The book that the tables hold is read.
+    /// Loads the book in the tables.
     Load,
-    /// The tables aren't those of a book of today.
+    /// Checks that no book is loaded, since the tables aren't those of a book of version 2.
     LoadNone,
-    /// The tables of version 1 are made those of version 2, or this is answered.
+    /// Migrates the tables, with this answer.
     Migrate(Result<bool, Stop>),
-    /// This text is imported, from memory or from a reader.
+    /// Imports this text, from memory or from a reader.
     Import(&'static str, Outcome),
-    /// This text is imported from a reader that gives it in this way.
+    /// Imports this text from a reader that gives it in this way.
     Read(Way, &'static str, Outcome),
-    /// This text is imported from readers that fail behind each of its bytes in turn.
+    /// Imports this text from readers that fail after each of its bytes in turn.
     ReadFronts(&'static str),
-    /// The import of this row under the header is refused in this column.
+    /// Checks that the import of this row under the header is refused because of this column.
     Row(&'static str, u8),
-    /// This is heard of the import of this text.
+    /// Imports this text, with this reported progress.
     Hear(&'static str, Heard),
-    /// The book has these totals.
+    /// Checks that the book has these totals.
     Totals(&'static str),
-    /// The book has this annual table.
+    /// Checks that the book has this annual table.
     Table(&'static str),
-    /// An export writes this.
+    /// Exports this text, with this answer.
     Export(Result<u64, Stop>, &'static str),
-    /// An export to a writer with room for this text, which takes it in this way, writes it, less this end of it.
+    /// Exports to a writer that has room for this text and takes it in this way: the text without
+    /// this end of it is written.
     Write(Way, Result<u64, Stop>, &'static str, &'static str),
-    /// An export of this in this way to a writer with less room breaks off.
+    /// Checks that an export of this text in this way to a writer with less room breaks off.
     Break(Way, &'static str, usize),
-    /// It does with room for each number of bytes.
+    /// Checks the same with room for each number of bytes.
     BreakAlways(Way, &'static str),
-    /// A sink with so much room is handed the moves of the outage with its correction.
+    /// Gives the moves of the outage with its correction to a sink with this much room.
     Hand(usize),
-    /// The stored replies have these moves.
+    /// Checks that the stored replies have these moves.
     Replies,
 }
 
-// What the import of a text, which lies in memory or comes from a reader, is answered.
+// Imports a text that is in memory or comes from a reader.
 fn imported<O: Office>(alloc: Global, office: &mut O, by_reader: bool, text: &str) -> Report {
     if by_reader {
         office.reads(alloc, Source::new(text.as_bytes(), WHOLE))
@@ -96,7 +97,7 @@ fn imported<O: Office>(alloc: Global, office: &mut O, by_reader: bool, text: &st
     }
 }
 
-// Whether a step is answered as it says.
+// Answers whether a step gets the expected answer.
 fn holds<O: Office>(alloc: Global, office: &mut O, by_reader: bool, step: &Step) -> bool {
     match step {
         Step::Make(period) => office.makes(period) == Ok(()),
@@ -133,7 +134,7 @@ fn holds<O: Office>(alloc: Global, office: &mut O, by_reader: bool, step: &Step)
     }
 }
 
-// Whether an export to a writer is answered so, and these bytes are written.
+// Answers whether an export to a writer gets this answer and writes these bytes.
 fn is_written<O: Office>(
     alloc: Global,
     office: &mut O,
@@ -145,7 +146,8 @@ fn is_written<O: Office>(
     written.end == end && written.bytes.as_slice() == text.as_bytes()
 }
 
-// Whether no table differs from what the commands give, or there is no book in the tables, as there is none here.
+// Answers whether no table differs from what the commands give, or there is a book neither in the
+// tables nor in memory.
 fn is_sound<O: Office>(office: &mut O) -> bool {
     match office.audits() {
         Ok(is_same) => is_same,
@@ -153,7 +155,7 @@ fn is_sound<O: Office>(office: &mut O) -> bool {
     }
 }
 
-// Steps in their order. The texts lie in memory, or each comes from a reader.
+// Steps in their order. The texts are in memory, or each comes from a reader.
 #[derive(Clone, Copy)]
 struct Script<'s> {
     steps: &'s [Step],
@@ -173,8 +175,8 @@ impl Trial for Script<'_> {
     }
 }
 
-/// Statements, the steps of a keeper over the tables that they make, those of another one over the tables that it leaves, and
-/// how many rows these then have.
+/// Statements, the steps of a `Keeper` over the tables that they make, those of another one over
+/// the tables that the first leaves, and the numbers of rows that the tables then have.
 pub struct Story<'s> {
     pub sql: &'static str,
     pub first: &'s [Step],
@@ -182,8 +184,8 @@ pub struct Story<'s> {
     pub rows: &'s [i64],
 }
 
-// The steps are answered as they say by keepers over a database, and the tables then have so many rows. No table differs from
-// what the commands give, whenever a keeper has done its steps.
+// Checks the steps with two `Keeper`s over a database, and the numbers of rows afterwards. When a
+// `Keeper` has done its steps, no table may differ from what the commands give.
 fn is_told_over<S: Alter + Drop>(
     rt: &impl Abort,
     alloc: Global,
@@ -200,7 +202,7 @@ fn is_told_over<S: Alter + Drop>(
     has_rows(rt, alloc, &mut conn, story.rows);
 }
 
-/// A story over a store in memory. Its texts lie in memory, or each comes from a reader.
+/// Checks a story over a store in memory. Its texts are in memory, or each comes from a reader.
 pub fn is_told(
     rt: &impl Abort,
     alloc: Global,
@@ -216,7 +218,7 @@ pub fn is_told(
     }
 }
 
-/// A story where each text lies in memory, and where it comes from a reader.
+/// Checks a story with each text in memory, and then with each text from a reader.
 pub fn is_told_both_ways(
     rt: &impl Abort,
     alloc: Global,

@@ -10,7 +10,7 @@ use std::io::{ErrorKind, Write};
 /// Room for more than any text here.
 pub const WIDE: usize = 1_000_000;
 
-/// Takes its bytes in this way while it has room.
+/// A writer that takes its bytes in this way while it has room.
 #[derive(Drop)]
 pub struct Sink {
     pub taken: Vec<u8>,
@@ -20,7 +20,7 @@ pub struct Sink {
 }
 
 impl Sink {
-    /// Room for so many bytes.
+    /// A writer with room for this many bytes.
     pub fn new(alloc: Global, room: usize, way: Way) -> Sink {
         Sink {
             taken: Vec::new(alloc),
@@ -55,7 +55,7 @@ impl Write for Sink {
     }
 }
 
-/// Keeps the moved amounts that it is handed.
+/// A sink that keeps the moved amounts given to it.
 #[derive(Drop)]
 pub struct Shelf {
     pub taken: Vec<(u32, Moved)>,
@@ -63,7 +63,7 @@ pub struct Shelf {
 }
 
 impl Shelf {
-    /// Room for so many amounts.
+    /// A sink with room for this many amounts.
     pub fn new(alloc: Global, room: usize) -> Shelf {
         Shelf {
             taken: Vec::new(alloc),
@@ -71,7 +71,7 @@ impl Shelf {
         }
     }
 
-    /// Takes what a command moved.
+    /// Takes the amounts that a command moved.
     pub fn take_all(&mut self, cmd: u32, moved: &[Moved]) -> Result<(), Fault> {
         for row in moved {
             self.take(cmd, row)?;

@@ -2,8 +2,9 @@
 use std::io;
 use std::io::{ErrorKind, Read};
 
-/// How a reader gives its bytes, or a writer takes them: at most `step` bytes a call, each time after `jolts` interrupted calls.
-/// Behind the last of them it answers this error for ever, or that it is at its end.
+/// How a reader gives its bytes, or a writer takes them: at most `step` bytes a call, each time
+/// after `jolts` interrupted calls. After the last of them each call answers the error `end`, or
+/// the end if there is none.
 #[derive(Clone, Copy)]
 pub struct Way {
     pub step: usize,
@@ -32,7 +33,7 @@ pub const FAILING: Way = Way {
     end: Some(ErrorKind::Other),
 };
 
-/// Gives its bytes in this way.
+/// A reader that gives its bytes in this way.
 #[derive(Drop)]
 pub struct Source<'b> {
     rest: &'b [u8],
@@ -41,7 +42,7 @@ pub struct Source<'b> {
 }
 
 impl<'b> Source<'b> {
-    /// These bytes.
+    /// A reader of these bytes.
     pub fn new(rest: &'b [u8], way: Way) -> Source<'b> {
         Source {
             rest,

@@ -1,24 +1,25 @@
-//! Devices that join and leave in time and lives that are set anew, by import: what is accepted and refused, what each
-//! command moves, and the same book loaded again.
+//! Tests of devices whose in-service intervals (lives) begin and end, and of lives that are set
+//! again, by import: what is accepted and refused, the amounts that each command moves, and the
+//! same book loaded again.
 use crate::script::{A_DAY, Outcome, Step, Story, is_told};
 use crate::texts::{BASE, OUTAGE};
 use ob_net::Refusal;
 use std::alloc::AllocError;
 
-// Behind the outage: the tie, over which S2 has its supply, leaves 100 minutes after the start of 2024.
+// After the outage: the life of the tie that supplies S2 ends 100 minutes after the start of 2024.
 const LEAVES: &'static str = "\
 kind,ref,f1,f2,f3,f4,f5,f6
 life,L1,T1,,1704073200,,,
 ";
 
-// The same life in other spellings, and then another one under its reference.
+// The same life in another spelling, and then another life under its reference.
 const LEAVES_LATER: &'static str = "\
 kind,ref,f1,f2,f3,f4,f5,f6
 life,L1,T1,0,2024-01-01T02:40:00+01:00,,,
 life,L1,T1,,1704073201,,,
 ";
 
-// Lives that aren't accepted, behind the tie's whole life.
+// Lives that aren't accepted, each after a row that gives the tie a life without bounds.
 const ENDS_AS_IT_BEGINS: &'static str = "\
 kind,ref,f1,f2,f3,f4,f5,f6
 life,L2,T1,,,,,
@@ -84,13 +85,15 @@ const TIE_LEFT: &[Step] = &[
     Step::Import(LEAVES, Outcome::Took(0, 1)),
 ];
 
-// Behind the outage: a second way from the bus to S1 is there 5,000 seconds after the start of 2024, and supplies it.
+// After the outage: the life of a second device from the bus to S1 begins 5,000 seconds after the
+// start of 2024, and the device supplies S1.
 const JOINS: &'static str = "\
 kind,ref,f1,f2,f3,f4,f5,f6
 device,J1,X1,BUS-A,S1,closed,1704072200,
 ";
 
-// Devices that aren't accepted: between nodes that aren't there, under a name that is, and with no second of life.
+// Devices that aren't accepted: between nodes that don't exist, under a name that exists, and with
+// a life of no second.
 const TO_NO_NODE: &'static str = "\
 kind,ref,f1,f2,f3,f4,f5,f6
 device,J1,X1,BUS-A,S1,closed,2024-01-01T01:23:20Z,
@@ -169,8 +172,9 @@ const DEVICE_JOINED: &[Step] = &[
     Step::Import(JOINS, Outcome::Took(0, 1)),
 ];
 
-// Without an outage: the breaker of S3 leaves an hour after the start of 2024. An opening of that second finds it gone; one
-// of the second before cuts the supply, and the rest has its cause.
+// Without an outage: the life of S3's breaker ends an hour after the start of 2024. An opening in
+// that second is outside the life; one in the second before cuts the supply, and the rest counts
+// under its cause.
 const BREAKER: &'static str = "\
 kind,ref,f1,f2,f3,f4,f5,f6
 life,L1,B2,,1704070800,,,
@@ -207,8 +211,8 @@ const BREAKER_LEFT: &[Step] = &[
     Step::Import(BREAKER, Outcome::Took(0, 3)),
 ];
 
-// Behind the outage: a bus, and a section on it with a customer, are there; 40,000 seconds after the start of 2024 a device
-// joins the bus to the other one for 10,000 seconds.
+// After the outage: a bus, and a section with a customer, are added; 40,000 seconds after the start
+// of 2024 a device joins the bus to the other one for 10,000 seconds.
 const PARTS: &'static str = "\
 kind,ref,f1,f2,f3,f4,f5,f6
 bus,P1,BUS-B,,,,,
@@ -240,8 +244,8 @@ cmd,dim,key,delta
 30,day,0,-10000
 ";
 
-// The first 21 rows of the outage, whose devices have no columns of a life, add nothing to those of the base, whose devices
-// begin at 0.
+// The first 21 rows of the outage, whose devices have no columns of a life, add nothing to those of
+// the base, whose devices' lives begin at 0.
 const PARTS_JOIN: &[Step] = &[
     Step::Make(A_DAY),
     Step::Import(BASE, Outcome::Took(21, 0)),

@@ -1,4 +1,4 @@
-//! Imports from readers that fail or are interrupted.
+//! Tests of imports from readers that fail or are interrupted.
 use crate::office::Office;
 use crate::script::{A_DAY, Outcome, Step, Story, is_told};
 use crate::sources::{FAILING, JOLTING, Source, Way};
@@ -7,7 +7,7 @@ use ob_net::Fault;
 use std::alloc::{AllocError, Global};
 use std::io::ErrorKind;
 
-// How many whole rows follow the header in a front of a text of lines.
+// The number of whole rows that follow the header in a front of a text of lines.
 fn whole_rows(front: &[u8]) -> u32 {
     let mut lines = 0u32;
     for byte in front {
@@ -18,7 +18,8 @@ fn whole_rows(front: &[u8]) -> u32 {
     lines.saturating_sub(1)
 }
 
-/// Whether the rows of this text that are whole are imported from readers that fail behind each of its bytes in turn.
+/// Answers whether the whole rows of this text are imported from readers that fail after each of
+/// its bytes in turn.
 pub fn are_broken<O: Office>(alloc: Global, office: &mut O, text: &[u8]) -> bool {
     let mut before = 0;
     for count in 0..=text.len() {
@@ -45,7 +46,7 @@ fn readers_that_fail(rt: HostRuntime) -> Result<(), AllocError> {
     is_told(&rt, rt.alloc(), &FRONTS, false)
 }
 
-// Each byte of the outage after an interrupted read.
+// Each byte of the outage comes after an interrupted read.
 const EACH_BYTE: Story<'static> = Story {
     sql: "",
     first: &[
@@ -67,7 +68,7 @@ const FOR_EVER: Way = Way {
     end: Some(ErrorKind::Interrupted),
 };
 
-// The whole text, and then interrupted reads alone.
+// The whole text, and then only interrupted reads.
 const STUCK: Story<'static> = Story {
     sql: "",
     first: &[
@@ -95,7 +96,7 @@ const JUST_NOT: Way = Way {
     end: None,
 };
 
-// A text in one piece: its read and that of its end are tried again 65,536 times in all.
+// A text in one piece: its read and the read of its end may be retried 65,536 times in all.
 const INTERRUPTED: Story<'static> = Story {
     sql: "",
     first: &[

@@ -1,4 +1,4 @@
-//! What stands in the tables, by queries.
+//! The contents of the tables, found by queries.
 use sqlite::{Alter, Connection};
 use std::alloc::Global;
 use std::process::Abort;
@@ -9,8 +9,8 @@ const TABLES: &'static [&'static str] = &[
     "posting",
 ];
 
-/// The tables have so many rows: the period, causes, nodes, devices, their lives, customers, entries, marked days,
-/// commands, moves, amounts.
+/// Checks the numbers of rows in the tables: the period, causes, nodes, devices, their lives,
+/// customers, entries, marked days, commands, moves, amounts.
 pub fn has_rows<S: Alter>(
     rt: &impl Abort,
     alloc: Global,
@@ -22,7 +22,7 @@ pub fn has_rows<S: Alter>(
     }
 }
 
-// How many rows a table has.
+// The number of rows in a table.
 fn count<S: Alter>(alloc: Global, conn: &mut Connection<S>, table: &str) -> Option<i64> {
     match format!(in alloc; "SELECT count(*) FROM {table}") {
         Ok(sql) => number(conn, &sql),
@@ -30,7 +30,7 @@ fn count<S: Alter>(alloc: Global, conn: &mut Connection<S>, table: &str) -> Opti
     }
 }
 
-// The one number that a query answers.
+// The only number that a query finds.
 fn number<S: Alter>(conn: &mut Connection<S>, sql: &str) -> Option<i64> {
     match conn.query_row(sql, &[]) {
         Ok(row) => row.get(0).ok(),

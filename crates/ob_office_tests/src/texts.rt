@@ -1,4 +1,4 @@
-//! Texts that are imported.
+//! Texts for imports.
 
 /// A cause, a bus, and two sections of one name.
 pub const ONE_NAME_TWICE: &'static str = "\
@@ -18,9 +18,10 @@ section,R3,S1,1,,,,
 section,R4,S2,1,,,,
 ";
 
-/// Two feeders of one bus with a tie between them, S1 and S2 behind the breaker B1 and S3 behind B2, with two, three
-/// and five customers. An hour after the start of 2024 B1 opens; ten minutes later W1 opens and the tie takes S2 over;
-/// an hour after its opening B1 closes.
+/// Two feeders of one bus with a tie between them: S1 and S2 supplied through the breaker B1 and S3
+/// through B2, with two, three and five customers. An hour after the start of 2024 B1 opens. Ten
+/// minutes later W1 opens and the tie closes, which supplies S2. An hour after its opening B1
+/// closes.
 pub const OUTAGE: &'static str = "\
 kind,ref,f1,f2,f3,f4,f5,f6
 cause,N1,3,STORM,,,,
@@ -50,7 +51,8 @@ switch,N24,T1,close,1704071400,3,K1,
 switch,N25,B1,close,1704074400,3,K1,
 ";
 
-/// The network of the outage and its customers, without a switching. Each device is there from 0 on, which is to say always.
+/// The network of the outage and its customers, without a switching. The life of each device begins
+/// at 0 and has no end.
 pub const BASE: &'static str = "\
 kind,ref,f1,f2,f3,f4,f5,f6
 cause,N1,3,STORM,,,,
@@ -82,7 +84,8 @@ kind,ref,f1,f2,f3,f4,f5,f6
 correct,FIX1,4,1,close,1704073800,3,K1
 ";
 
-/// What makes of the tables of the outage those that version 1 had: no lives, and none in the bodies of the devices.
+/// Statements that turn the tables of the outage into those of version 1: no lives, and none in the
+/// bodies of the devices.
 pub const TO_VERSION_1: &'static str = "\
 DROP TABLE life;
 UPDATE cmd SET body = 'device I1 GRID BUS-A closed' WHERE id = 7;

@@ -1,11 +1,11 @@
-//! A new book that is made over files that may stop, and what is then kept.
+//! A new book that is created over files that may stop, and the book that is then kept.
 use crate::office::{A_DAY, Office};
 use crate::sending::failed;
 use crate::tasks::Kept;
 use ob_net::{Refusal, Stop};
 use std::process::Abort;
 
-/// Makes a new book: one may be there where the store failed, and one is where it was answered.
+/// Creates a book: after an answer the book exists, and after a store fault it may exist.
 pub fn make<O: Office>(rt: &impl Abort, office: &mut O) -> Kept {
     match office.makes(&A_DAY) {
         Ok(()) => Kept::all(1),
@@ -13,7 +13,7 @@ pub fn make<O: Office>(rt: &impl Abort, office: &mut O) -> Kept {
     }
 }
 
-// How many books the files hold.
+// The number of books that the files hold.
 fn found<O: Office>(rt: &impl Abort, office: &mut O) -> u32 {
     match office.loads() {
         Ok(()) => 1,
@@ -25,7 +25,8 @@ fn found<O: Office>(rt: &impl Abort, office: &mut O) -> u32 {
     }
 }
 
-/// Loads the new book, or makes it where there is none and none was acknowledged; it takes a command.
+/// Loads the new book, or creates it if there is none and none was acknowledged; the book then
+/// takes a command.
 pub fn holds_new<O: Office>(rt: &impl Abort, office: &mut O, kept: Kept) -> Kept {
     let found = found(rt, office);
     assert!(rt; kept.allows(found));

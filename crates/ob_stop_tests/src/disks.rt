@@ -1,4 +1,4 @@
-//! Files in memory that stop after so many calls, and what is left of them.
+//! Files in memory that stop after a number of calls, and what is left of them.
 use sqlite::Files;
 use sqlite_disk::{Crash, Disk, Fuse, Memory};
 use std::alloc::Global;
@@ -22,7 +22,7 @@ pub fn blank(alloc: Global) -> Pair {
     }
 }
 
-// A file of these bytes, synced, which stops after so many calls.
+// A file of these bytes, synced, which stops after this many calls.
 fn file_of(rt: &impl Abort, alloc: Global, bytes: &[u8], calls: u64) -> Fuse<Memory> {
     let mut file = Memory::new(alloc);
     assert!(rt; file.write_at(0, bytes).is_ok());
@@ -30,7 +30,7 @@ fn file_of(rt: &impl Abort, alloc: Global, bytes: &[u8], calls: u64) -> Fuse<Mem
     Fuse::new(file, calls)
 }
 
-/// Files of the same bytes, of which one stops after so many calls.
+/// Files with the same bytes, of which one stops after this many calls.
 pub fn copies(rt: &impl Abort, alloc: Global, files: &Pair, which: Which, calls: u64) -> Pair {
     let (log, db) = match which {
         Which::Log => (calls, u64::MAX),
@@ -42,7 +42,7 @@ pub fn copies(rt: &impl Abort, alloc: Global, files: &Pair, which: Which, calls:
     }
 }
 
-/// One of the files answers no further call.
+/// Answers whether one of the files answers no further call.
 pub fn have_stopped(files: &mut Pair) -> bool {
     has_stopped(&mut files.log) || has_stopped(&mut files.db)
 }
@@ -51,7 +51,7 @@ fn has_stopped(file: &mut Fuse<Memory>) -> bool {
     !file.may_be_used() || file.len().is_err()
 }
 
-/// A file loses what was not synced. Answers whether it is another file then.
+/// Drops from a file what was not synced. Answers whether this changed the file.
 pub fn crash(rt: &impl Abort, alloc: Global, file: &mut Fuse<Memory>) -> bool {
     let Ok(before) = file.inner().bytes().to_vec(alloc) else {
         panic!(rt; "no memory");
@@ -60,7 +60,7 @@ pub fn crash(rt: &impl Abort, alloc: Global, file: &mut Fuse<Memory>) -> bool {
     file.inner().bytes() != before.as_slice()
 }
 
-/// Files that can be used again: one whose syncing failed loses what was not synced.
+/// Makes the files usable again: a file whose syncing failed loses what was not synced.
 pub fn restart(files: &mut Pair) {
     recover(&mut files.log);
     recover(&mut files.db);

@@ -13,10 +13,10 @@ mark,FIX2,2024-01-01,E1,,,,
 correct,FIX3,4,2,close,1704074400,3,K1
 ";
 
-/// How many commands the book has with all rows.
+/// The number of commands that the book has with all rows.
 pub const IMPORTED: u32 = 28;
 
-// The customer-seconds of the book of so many commands.
+// The customer-seconds of the book with this many commands.
 fn total_of(accepted: u32) -> u64 {
     if BEFORE < accepted && accepted < IMPORTED {
         7_800
@@ -25,7 +25,8 @@ fn total_of(accepted: u32) -> u64 {
     }
 }
 
-/// Loads the book and imports the rows. Where the store fails, those that were acknowledged are kept, and perhaps one more.
+/// Loads the book and imports the rows. If the store fails, the acknowledged rows are kept, and
+/// perhaps one more.
 pub fn import<O: Office>(rt: &impl Abort, alloc: Global, office: &mut O) -> Kept {
     if let Err(stop) = office.loads() {
         return failed(rt, office, stop, Kept::all(BEFORE));
@@ -50,7 +51,8 @@ pub fn import<O: Office>(rt: &impl Abort, alloc: Global, office: &mut O) -> Kept
     }
 }
 
-/// Loads the book: it has the rows that were acknowledged, and at most one more. Then it takes the rest of them.
+/// Loads the book, which has the acknowledged rows and at most one more. Then it takes the rest of
+/// the rows.
 pub fn holds_rows<O: Office>(rt: &impl Abort, alloc: Global, office: &mut O, kept: Kept) -> Kept {
     assert!(rt; office.loads().is_ok());
     let (accepted, total) = office.shows().unwrap_or((0, 0));

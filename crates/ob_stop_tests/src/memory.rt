@@ -1,4 +1,4 @@
-//! What stands where memory was refused to a call.
+//! Checks of the book after a call that was refused memory.
 use crate::office::{Office, Views};
 use crate::scripts::total_of;
 use crate::sending::{STORE, is_without_book};
@@ -9,7 +9,7 @@ use std::process::Abort;
 /// Memory was refused.
 pub const NO_MEMORY: Stop = Stop::Fault(Fault::OutOfMemory);
 
-/// The book has so many of the commands, and their customer-seconds.
+/// Answers whether the book has a permitted number of the commands, and their customer-seconds.
 pub fn holds<O: Office>(office: &O, kept: Kept) -> bool {
     match office.shows() {
         Some((accepted, total)) => kept.allows(accepted) && total == total_of(accepted),
@@ -17,7 +17,7 @@ pub fn holds<O: Office>(office: &O, kept: Kept) -> bool {
     }
 }
 
-/// Loads the book. Where memory is refused to that, nothing has changed, and it is loaded again.
+/// Loads the book. If that is refused memory, nothing has changed, and the book is loaded again.
 pub fn load<O: Office>(rt: &impl Abort, office: &mut O) -> Result<(), Stop> {
     let before = office.views();
     let found = office.loads();
@@ -28,7 +28,7 @@ pub fn load<O: Office>(rt: &impl Abort, office: &mut O) -> Result<(), Stop> {
     office.loads()
 }
 
-// The book is as it was, and so are its tables.
+// Checks that the book and its tables are as they were.
 fn is_as_before<O: Office>(rt: &impl Abort, office: &mut O, before: Option<Views>) {
     assert!(rt; office.views() == before);
     assert!(rt; office.audits() == Ok(true));
@@ -36,7 +36,8 @@ fn is_as_before<O: Office>(rt: &impl Abort, office: &mut O, before: Option<Views
     assert!(rt; office.views() == before);
 }
 
-// There is no book until it is loaded, and then it has what is kept. False where it can't be read over these files.
+// Checks that there is no book until it is loaded, and that it then has what is kept. False if it
+// can't be read over these files.
 fn is_loaded_again<O: Office>(rt: &impl Abort, office: &mut O, kept: Kept) -> bool {
     assert!(rt; is_without_book(office));
     let found = office.loads();
@@ -49,8 +50,9 @@ fn is_loaded_again<O: Office>(rt: &impl Abort, office: &mut O, kept: Kept) -> bo
     true
 }
 
-/// After a call that memory was refused to the book has the least that is kept; where the store failed for it, the book is to
-/// be loaded, and has what is kept. False where it can't be read over these files.
+/// Checks the book after a call that was refused memory: it has the least that is kept. If the
+/// store failed because of that, the book has to be loaded, and then has what is kept. False if it
+/// can't be read over these files.
 pub fn goes_on<O: Office>(rt: &impl Abort, office: &mut O, stop: Stop, kept: Kept) -> bool {
     if stop == STORE {
         return is_loaded_again(rt, office, kept);

@@ -1,4 +1,4 @@
-//! What a keeper over files that may stop is tried by.
+//! The calls of a `Keeper` over files that may stop, and the trials that use them.
 use ob_command::{Command, read_body};
 use ob_desk::serve_stream;
 use ob_import::{ImportFault, ImportReport, import_text};
@@ -11,7 +11,7 @@ use sqlite::{Alter, Connection};
 use std::alloc::Global;
 use std::process::Abort;
 
-/// What an import answers.
+/// The answer to an import.
 pub type Report = Result<ImportReport, ImportFault>;
 
 /// The first day of a book, how many days it has, and its zone.
@@ -20,8 +20,8 @@ pub type Period = (&'static str, u16, &'static str);
 /// 2024-01-01 in UTC.
 pub const A_DAY: Period = ("2024-01-01", 1, "UTC0");
 
-/// What a book shows without asking for memory: its commands, its customer-seconds in all and by cause and feeder, and the
-/// indices.
+/// What a book shows without allocating: its commands, its customer-seconds in all and by cause and
+/// feeder, and the indices.
 #[derive(Clone, Copy, PartialEq)]
 pub struct Views {
     accepted: u32,
@@ -31,7 +31,7 @@ pub struct Views {
     indices: Indices,
 }
 
-/// Takes no moved amount.
+/// A sink that takes no moved amount.
 #[derive(Drop)]
 struct NoRoom;
 
@@ -45,40 +45,43 @@ impl MoveSink for NoRoom {
     }
 }
 
-/// A book, or none, and the calls of its keeper without their clauses: with these each function that makes some is long to
-/// prove.
+/// A book, or none, and the calls of its `Keeper` without their contracts: with these each function
+/// that makes some calls takes long to prove.
 pub trait Office {
-    /// Makes a new book of a period.
+    /// Creates a book of a period.
     fn makes(&mut self, period: &Period) -> Result<(), Stop>;
 
     /// Reads the book that the tables hold.
     fn loads(&mut self) -> Result<(), Stop>;
 
-    /// Makes the tables of version 1 those of version 2. Answers whether they were of version 1.
+    /// Migrates the tables of version 1 to version 2. Answers whether they were of version 1.
     fn migrates(&mut self) -> Result<bool, Stop>;
 
-    /// Whether no table differs from what the commands in the tables give.
+    /// Answers whether no table differs from what the commands in the tables give.
     fn audits(&mut self) -> Result<bool, Stop>;
 
-    /// The number under which the command of a line, a reference and a body text, is accepted or was so before.
+    /// Sends the command of a line, which is a reference and a body text. Answers the number under
+    /// which it is accepted, now or before.
     fn acts(&mut self, line: &str) -> Result<u32, Stop>;
 
-    /// Whether there is a stored reply of a number.
+    /// Answers whether there is a stored reply with this number.
     fn replies(&mut self, no: u32) -> Result<bool, Stop>;
 
-    /// What a sink without room makes of the moved amounts.
+    /// Gives the moved amounts to a sink without room.
     fn hands_on(&mut self) -> Result<u64, Stop>;
 
-    /// What the import of a text is answered.
+    /// Imports a text.
     fn takes(&mut self, alloc: Global, text: &[u8]) -> Report;
 
-    /// Serves a stream of these bytes. Answers what is written, and the fault that ended it.
+    /// Serves a stream of these bytes. Answers the written bytes, and the fault that ended the
+    /// stream.
     fn serves(&mut self, alloc: Global, bytes: &[u8]) -> (Vec<u8>, Option<Stop>);
 
-    /// How many commands the book has accepted, and its customer-seconds; None where there is no book.
+    /// The number of commands that the book has accepted, and its customer-seconds; None if there
+    /// is no book.
     fn shows(&self) -> Option<(u32, u64)>;
 
-    /// All that the book shows; None where there is no book.
+    /// All that the book shows, or None if there is no book.
     fn views(&self) -> Option<Views>;
 }
 
@@ -99,7 +102,7 @@ fn totals_of(postings: &Postings) -> [u64; 3] {
     ]
 }
 
-// Those of the first causes.
+// The customer-seconds of the first causes.
 fn causes_of(postings: &Postings) -> [u64; 5] {
     [
         postings.amount(Dim::Cause, 0),
@@ -110,7 +113,7 @@ fn causes_of(postings: &Postings) -> [u64; 5] {
     ]
 }
 
-// Those of the first feeders.
+// The customer-seconds of the first feeders.
 fn feeders_of(postings: &Postings) -> [u64; 3] {
     [
         postings.amount(Dim::Feeder, 1),
@@ -196,12 +199,13 @@ impl<S: Alter, T: Timeline> Office for Keeper<S, T> {
     }
 }
 
-/// What a keeper is tried by.
+/// A trial of a `Keeper`.
 pub trait Trial {
     fn run<A: Abort, O: Office>(&mut self, rt: &A, alloc: Global, office: &mut O);
 }
 
-/// A keeper without a book over a database is tried. Answers the database that it leaves.
+/// Runs a trial with a `Keeper` without a book over a database. Answers the database that the trial
+/// leaves.
 pub fn over<S: Alter + Drop, C: Trial>(
     rt: &impl Abort,
     alloc: Global,

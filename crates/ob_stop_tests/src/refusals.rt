@@ -1,11 +1,12 @@
-//! Tests that hold whichever one allocation of their run is refused: a book over two files, from their opening to their closing.
+//! Tests that hold whichever one allocation of them is refused: a book over two files, from the
+//! opening of the files to their closing.
 use crate::disks::{Pair, blank, restart};
 use crate::scripts::COMMANDS;
 use crate::tasks::{Kept, Task, run};
 use std::alloc::Global;
 use std::process::Abort;
 
-// The same task where so much is kept.
+// The same task from what is kept.
 fn from_there(task: Task, kept: Kept) -> Task {
     match task {
         Task::Read(_) => Task::Read(kept),
@@ -14,7 +15,8 @@ fn from_there(task: Task, kept: Kept) -> Task {
     }
 }
 
-// Opens the files and goes on with a task where it came. Answers what is kept, and the files as one finds them who starts again.
+// Opens the files and goes on with a task from where it was. Answers what is kept, and the files as
+// the next start finds them.
 fn again(
     rt: &impl Abort,
     alloc: Global,
@@ -27,7 +29,8 @@ fn again(
     (found, left)
 }
 
-// A book over new files, whose files are then opened again; and once more, where the second time didn't come to its end.
+// Does a task over new files, opens these again for the same task, and does so once more if the
+// second time didn't reach the end.
 fn comes_to_its_end(rt: &impl Abort, alloc: Global, task: Task) {
     let none = Kept::all(0);
     let (first, files) = again(rt, alloc, blank(alloc), task, none);
@@ -40,7 +43,7 @@ fn comes_to_its_end(rt: &impl Abort, alloc: Global, task: Task) {
     assert!(rt; has(third, COMMANDS));
 }
 
-// So much is kept for sure.
+// Answers whether the amount that is certainly kept is `least`.
 fn has(kept: Option<Kept>, least: u32) -> bool {
     match kept {
         Some(kept) => kept.least == least,
@@ -58,11 +61,11 @@ fn an_import_where_memory_is_refused(rt: HostRuntime) {
     comes_to_its_end(&rt, rt.alloc(), Task::Read(Kept::all(0)));
 }
 
-// Files of the outage of version 1, made anew where the first ones weren't told all.
+// Files of the outage of version 1; they are made again if a call on the first ones failed.
 fn old_files(rt: &impl Abort, alloc: Global) -> Pair {
     let (first, mut files) = run(rt, alloc, blank(alloc), Task::Old);
     if has(first, 1) {
-        // where their closing was refused memory, they are those that one finds who starts again
+        // if their closing was refused memory, the next start finds them as this leaves them
         restart(&mut files);
         return files;
     }
@@ -71,7 +74,7 @@ fn old_files(rt: &impl Abort, alloc: Global) -> Pair {
     files
 }
 
-// Old files three times, of which one at most doesn't come to its end.
+// Upgrades old files three times, of which at most one doesn't reach the end.
 fn is_upgraded(rt: &impl Abort, alloc: Global) {
     let none = Kept::all(0);
     let task = Task::Upgrade(none);

@@ -1,7 +1,8 @@
 //! Commands under references, one a line: a reference and the body text of a command.
 
-/// Two feeders of one bus with a tie between them and ten customers, and an outage. An hour after the start of 2024 B1 opens;
-/// ten minutes later W1 opens and the tie takes S2 over; an hour after its opening B1 closes.
+/// Two feeders of one bus with a tie between them and ten customers, and an outage. An hour after
+/// the start of 2024 B1 opens. Ten minutes later W1 opens and the tie closes, which supplies S2. An
+/// hour after its opening B1 closes.
 pub const OUTAGE: &'static str = "\
 N1 cause 3 STORM
 N2 cause 4 PLANNED
@@ -30,9 +31,10 @@ N24 switch T1 close 1704071400 3 K1
 N25 switch B1 close 1704074400 3 K1
 ";
 
-/// After the outage: an opening that comes late, ten minutes before the breaker's, and is withdrawn; then the breaker closed ten
-/// minutes earlier, and not at all. A second way from the bus to S1 is there 5,000 seconds after the start of 2024, and supplies
-/// it; and the tie leaves 1,000 seconds later, so S2 has no supply from then on.
+/// After the outage: an opening that comes late, ten minutes before the breaker's, and is
+/// withdrawn; then the breaker closed ten minutes earlier, and not at all. The life of a second
+/// device from the bus to S1 begins 5,000 seconds after the start of 2024, and the device supplies
+/// S1. The tie's life ends 1,000 seconds later, so S2 has no supply from then on.
 pub const AFTERWARDS: &'static str = "\
 LATE1 switch W1 open 1704070200 4 K1
 LATE2 withdraw 5 1
@@ -42,10 +44,10 @@ JOIN1 device X1 BUS-A S1 closed 1704072200 -
 LIFE1 life T1 0 1704073200
 ";
 
-/// How many commands the outage and those after it are.
+/// The number of commands of the outage and those after it.
 pub const COMMANDS: u32 = 31;
 
-/// The customer-seconds of the book of the first so many of them.
+/// The customer-seconds of the book with the first `accepted` of them.
 pub fn total_of(accepted: u32) -> u64 {
     match accepted {
         0..=21 => 0,
@@ -95,7 +97,7 @@ device,JOIN1,X1,BUS-A,S1,closed,1704072200,
 life,LIFE1,T1,,1704073200,,,
 ";
 
-/// A command that comes behind the outage, and the customer-seconds of the book with it.
+/// A command after the outage, and the customer-seconds of the book with it.
 #[derive(Clone, Copy)]
 pub struct Last {
     pub line: &'static str,
@@ -108,13 +110,13 @@ pub const CORRECTION: Last = Last {
     total: 7_800,
 };
 
-/// A second way from the bus to S1, which is there 5,000 seconds after the start of 2024.
+/// A second device from the bus to S1, whose life begins 5,000 seconds after the start of 2024.
 pub const JOINING: Last = Last {
     line: "JOIN1 device X1 BUS-A S1 closed 1704072200 -",
     total: 4_600,
 };
 
-/// The tie leaves 6,000 seconds after the start of 2024, and S2 has no supply from then on.
+/// The tie's life ends 6,000 seconds after the start of 2024, and S2 has no supply from then on.
 pub const LEAVING: Last = Last {
     line: "LIFE1 life T1 0 1704073200",
     total: 250_200,

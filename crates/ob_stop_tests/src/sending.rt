@@ -9,19 +9,19 @@ use std::process::Abort;
 /// A fault of the store.
 pub const STORE: Stop = Stop::Fault(Fault::Store);
 
-// A call that needs a book, where there is none.
+// The answer to a call that needs a book while there is none.
 const REOPEN: Stop = Stop::Fault(Fault::Reopen);
 
-/// How many commands the book has before the last one.
+/// The number of commands that the book has before the last one.
 pub const BEFORE: u32 = 25;
 
-/// How many it has after it.
+/// The number of commands that it has after the last one.
 pub const AFTER: u32 = 26;
 
 /// The customer-seconds of the book of the outage.
 pub const TOTAL: u64 = 9_000;
 
-// Those of the book of so many commands, the last of which may be this one.
+// The customer-seconds of the book with this many commands, the last of which may be `last`.
 fn total_of(accepted: u32, last: Last) -> u64 {
     if accepted == BEFORE {
         TOTAL
@@ -30,7 +30,7 @@ fn total_of(accepted: u32, last: Last) -> u64 {
     }
 }
 
-/// Makes a book with the outage. Answers whether no call failed.
+/// Creates a book with the outage. Answers whether no call failed.
 pub fn is_made<O: Office>(office: &mut O) -> bool {
     let mut is_told = office.makes(&A_DAY).is_ok();
     for line in OUTAGE.lines() {
@@ -39,7 +39,7 @@ pub fn is_made<O: Office>(office: &mut O) -> bool {
     is_told && office.shows() == Some((BEFORE, TOTAL))
 }
 
-/// Whether there is no book, and each call that needs one asks for it to be loaded first.
+/// Answers whether there is no book, and each call that needs one requires it to be loaded first.
 pub fn is_without_book<O: Office>(office: &mut O) -> bool {
     office.acts("N1 cause 3 STORM") == Err(REOPEN)
         && office.replies(1) == Err(REOPEN)
@@ -47,7 +47,7 @@ pub fn is_without_book<O: Office>(office: &mut O) -> bool {
         && office.shows() == None
 }
 
-/// The store failed, the keeper has no book, and this is kept.
+/// Checks that the store failed and that the `Keeper` has no book; answers what is kept.
 pub fn failed<O: Office>(rt: &impl Abort, office: &mut O, stop: Stop, kept: Kept) -> Kept {
     assert!(rt; stop == STORE);
     assert!(rt; is_without_book(office));
@@ -76,7 +76,8 @@ pub fn send<O: Office>(rt: &impl Abort, office: &mut O, last: Last) -> Kept {
     }
 }
 
-/// Loads the book: it has what was acknowledged, and nothing that wasn't sent. Then it takes the command, or answers it again.
+/// Loads the book: it has what was acknowledged, and nothing that wasn't sent. Then it takes the
+/// command, or answers it again.
 pub fn holds<O: Office>(rt: &impl Abort, office: &mut O, kept: Kept, last: Last) -> Kept {
     assert!(rt; office.loads().is_ok());
     let (accepted, total) = office.shows().unwrap_or((0, 0));
@@ -87,7 +88,8 @@ pub fn holds<O: Office>(rt: &impl Abort, office: &mut O, kept: Kept, last: Last)
     Kept::all(accepted)
 }
 
-/// What an import tells: how many rows were there already, how many are acknowledged with them, and why it stopped.
+/// The report of an import: how many rows were there already, how many are acknowledged with them,
+/// and why it stopped.
 #[derive(Clone, Copy)]
 pub struct Imported {
     pub again: u32,
@@ -95,7 +97,7 @@ pub struct Imported {
     pub stop: Option<Stop>,
 }
 
-/// What the import of a text tells.
+/// Imports a text and answers its report.
 pub fn take_rows<O: Office>(alloc: Global, office: &mut O, text: &[u8]) -> Imported {
     match office.takes(alloc, text) {
         Ok(it) => Imported {

@@ -1,4 +1,4 @@
-//! A task that is stopped at each call of either file, and what is left.
+//! Tests of a task that is stopped at each call of either file, and of what is left.
 use crate::disks::{Pair, Which, blank, copies, crash, have_stopped};
 use crate::importing::IMPORTED;
 use crate::scripts::{CORRECTION, JOINING, LEAVING};
@@ -7,7 +7,7 @@ use crate::tasks::{Kept, Task, run};
 use std::alloc::Global;
 use std::process::Abort;
 
-// What is held where a task came so far; nothing was done where the files weren't opened.
+// The task that checks what a stopped task left; if the files weren't opened, nothing was done.
 fn held(task: Task, kept: Option<Kept>) -> Task {
     match task {
         Task::Make => Task::HoldNew(kept.unwrap_or(Kept::all(0))),
@@ -18,14 +18,15 @@ fn held(task: Task, kept: Option<Kept>) -> Task {
     }
 }
 
-// The files are opened, and hold it.
+// Checks that the files can be opened, and runs the task that checks them.
 fn hold(rt: &impl Abort, alloc: Global, files: &Pair, task: Task) {
     let copies = copies(rt, alloc, files, Which::Log, u64::MAX);
     let (kept, _) = run(rt, alloc, copies, task);
     assert!(rt; kept.is_some());
 }
 
-// So they do as they are, and where the log, or both, lost what was not synced.
+// Checks the files as they are, then after the log has lost what was not synced, and then after
+// both files have.
 fn leave(rt: &impl Abort, alloc: Global, files: &mut Pair, task: Task) {
     hold(rt, alloc, files, task);
     if crash(rt, alloc, &mut files.log) {
@@ -36,7 +37,8 @@ fn leave(rt: &impl Abort, alloc: Global, files: &mut Pair, task: Task) {
     }
 }
 
-// One file stops after so many calls of the task. Where the task ends before that, answers what is kept.
+// Stops one file after this many calls of the task. If the task ends before that, answers what is
+// kept.
 fn stopped_at(
     rt: &impl Abort,
     alloc: Global,
@@ -52,7 +54,8 @@ fn stopped_at(
     if is_stopped { None } else { kept }
 }
 
-// One file stops at each call of the task in turn, up to a run that ends before it stops. By then so much is acknowledged.
+// Stops one file at each call of the task in turn, until the task ends before the file stops. Then
+// `wanted` has to be acknowledged.
 fn stopped(rt: &impl Abort, alloc: Global, files: &Pair, which: Which, task: Task, wanted: u32) {
     for calls in 0..10_000u64 {
         if let Some(kept) = stopped_at(rt, alloc, files, which, calls, task) {
@@ -64,7 +67,7 @@ fn stopped(rt: &impl Abort, alloc: Global, files: &Pair, which: Which, task: Tas
     panic!(rt; "calls without end");
 }
 
-// The files of no database, or those of a task that is done first.
+// The files of no database, or those that a first task leaves.
 fn files_of(rt: &impl Abort, alloc: Global, first: Option<Task>) -> Pair {
     let Some(task) = first else {
         return blank(alloc);
@@ -74,7 +77,7 @@ fn files_of(rt: &impl Abort, alloc: Global, first: Option<Task>) -> Pair {
     files
 }
 
-// A task over the files of another one, stopped so.
+// Stops a task in this way over the files that another task leaves.
 fn stopped_over(
     rt: &impl Abort,
     alloc: Global,
@@ -87,7 +90,7 @@ fn stopped_over(
     stopped(rt, alloc, &files, which, task, wanted);
 }
 
-// The book with the outage, and its tables as those of version 1.
+// A book with the outage, and the same with tables of version 1.
 const OUTAGE: Option<Task> = Some(Task::Outage);
 
 const OLD: Option<Task> = Some(Task::Old);

@@ -1,4 +1,4 @@
-//! What a keeper is to do over files that may stop, from their opening to their closing.
+//! The tasks of a `Keeper` over files that may stop, from their opening to their closing.
 use crate::creations::{holds_new, make};
 use crate::importing::{holds_rows, import};
 use crate::office::{Office, Trial, over};
@@ -12,7 +12,7 @@ use sqlite_disk::Disk;
 use std::alloc::Global;
 use std::process::Abort;
 
-/// How much the files hold: so much was acknowledged, and so much may have come.
+/// How much the files hold: at least what was acknowledged, and at most what may have been stored.
 #[derive(Clone, Copy)]
 pub struct Kept {
     pub least: u32,
@@ -20,7 +20,7 @@ pub struct Kept {
 }
 
 impl Kept {
-    /// Just so much.
+    /// Exactly this much.
     pub fn all(count: u32) -> Kept {
         Kept {
             least: count,
@@ -28,16 +28,16 @@ impl Kept {
         }
     }
 
-    /// So much may be there.
+    /// Answers whether the files may hold this much.
     pub fn allows(&self, count: u32) -> bool {
         self.least <= count && count <= self.most
     }
 }
 
-/// What a keeper is to do.
+/// A task of a `Keeper`.
 #[derive(Clone, Copy)]
 pub enum Task {
-    /// Make a book with the outage.
+    /// Create a book with the outage.
     Outage,
     /// Load the book and send it this command.
     Send(Last),
@@ -49,26 +49,29 @@ pub enum Task {
     Import,
     /// Load the book with the rows that are kept, and import the others.
     HoldRows(Kept),
-    /// Make a new book.
+    /// Create a book.
     Make,
-    /// Load the new book that is kept, or make it, and go on.
+    /// Load the new book that is kept, or create it, and go on.
     HoldNew(Kept),
-    /// Make a book with the outage, and its tables those of version 1; nothing is kept where a call failed.
+    /// Create a book with the outage, and turn its tables into those of version 1; nothing is kept
+    /// if a call failed.
     Old,
-    /// Make the tables of version 1 those of version 2.
+    /// Migrate the tables of version 1 to version 2.
     Migrate,
-    /// Load the book of version 2 that is kept, or make it of that of version 1, and go on.
+    /// Load the book of version 2 that is kept, or migrate that of version 1, and go on.
     HoldUpgraded(Kept),
-    /// Load the book of version 2 that is kept, or make it of that of version 1, where memory may be refused.
+    /// Load the book of version 2 that is kept, or migrate that of version 1, while memory may be
+    /// refused.
     Upgrade(Kept),
-    /// Load the book that is kept, or make it, and send it the rest of the outage and what comes afterwards.
+    /// Load the book that is kept, or create it, and send it the rest of the outage and the
+    /// commands after it.
     Act(Kept),
-    /// The same by an import.
+    /// Do the same by an import.
     Read(Kept),
 }
 
-/// Opens the files, does a task with a keeper over them, and closes them. Answers what they then hold; None where they weren't
-/// opened.
+/// Opens the files, does a task with a `Keeper` over them, and closes them. Answers what they then
+/// hold, or None if they weren't opened.
 pub fn run<D: Disk + Drop>(
     rt: &impl Abort,
     alloc: Global,
@@ -85,7 +88,7 @@ pub fn run<D: Disk + Drop>(
     }
 }
 
-// Closes the files; where they stop, they are left as they are.
+// Closes the files; if they stop, they are left as they are.
 fn closed<D: Disk + Drop>(conn: Connection<FileStore<D>>) -> Files<D> {
     match conn.close_files() {
         Ok(files) => files,
@@ -93,7 +96,7 @@ fn closed<D: Disk + Drop>(conn: Connection<FileStore<D>>) -> Files<D> {
     }
 }
 
-// What is done with a keeper, and how much the files then hold.
+// A task of a `Keeper`, and how much the files hold after it.
 #[derive(Clone, Copy)]
 struct Work {
     task: Task,
@@ -106,7 +109,7 @@ impl Trial for Work {
     }
 }
 
-// Does a task with a keeper over a database.
+// Does a task with a `Keeper` over a database.
 fn worked<S: Alter + Drop>(
     rt: &impl Abort,
     alloc: Global,

@@ -1,5 +1,6 @@
-//! The tables of version 1 of the outage that are made those of version 2, over files that may stop and where memory may be refused
-//! to one call, and the book that is then kept: none yet, or one of version 2.
+//! The migration of the outage's tables from version 1 to version 2, over files that may stop and
+//! while memory may be refused to one call, and the book of version 2 that is then kept: none yet,
+//! or one.
 use crate::memory::{NO_MEMORY, load};
 use crate::office::Office;
 use crate::scripts::CORRECTION;
@@ -8,7 +9,8 @@ use crate::tasks::Kept;
 use ob_net::{Refusal, Stop};
 use std::process::Abort;
 
-/// What makes of the tables of the outage those that version 1 had: no lives, and none in the bodies of the devices.
+/// Statements that turn the tables of the outage into those of version 1: no lives, and none in the
+/// bodies of the devices.
 pub const TO_VERSION_1: &'static str = "\
 DROP TABLE life;
 UPDATE cmd SET body = 'device I1 GRID BUS-A closed' WHERE id = 7;
@@ -25,8 +27,8 @@ const OLD: Stop = Stop::Refused(Refusal::OldVersion(1));
 // What the book of the outage shows.
 const OUTAGE: Option<(u32, u64)> = Some((BEFORE, TOTAL));
 
-/// Makes the tables those of version 2. Where memory is refused to that they are those of version 1 as before, and the same
-/// call again makes them.
+/// Migrates the tables to version 2. If that is refused memory, the tables are those of version 1
+/// as before, and the same call migrates them.
 pub fn migrate<O: Office>(rt: &impl Abort, office: &mut O) -> Kept {
     let mut found = office.migrates();
     if found == Err(NO_MEMORY) {
@@ -42,8 +44,8 @@ pub fn migrate<O: Office>(rt: &impl Abort, office: &mut O) -> Kept {
     }
 }
 
-/// Loads the book of version 2, or finds that of version 1, where it wasn't acknowledged that it is the other. It is made one of
-/// version 2 then, has all that it had, and goes on.
+/// Loads the book of version 2, or finds that of version 1 if no migration was acknowledged. That
+/// book is then migrated to version 2, has all that it had, and goes on.
 pub fn holds_upgraded<O: Office>(rt: &impl Abort, office: &mut O, kept: Kept) -> Kept {
     let found = found(rt, office);
     assert!(rt; kept.allows(found));
@@ -55,7 +57,7 @@ pub fn holds_upgraded<O: Office>(rt: &impl Abort, office: &mut O, kept: Kept) ->
     Kept::all(found)
 }
 
-// How many books of version 2 the files hold; afterwards one is loaded.
+// The number of books of version 2 that the files hold; afterwards one is loaded.
 fn found<O: Office>(rt: &impl Abort, office: &mut O) -> u32 {
     match office.loads() {
         Ok(()) => 1,
@@ -68,7 +70,8 @@ fn found<O: Office>(rt: &impl Abort, office: &mut O) -> u32 {
     }
 }
 
-/// Loads the book of version 2 where that is kept, or makes it of that of version 1 first. Answers what is kept then.
+/// Loads the book of version 2 if that is kept, or migrates that of version 1 first. Answers what
+/// is kept then.
 pub fn upgrade<O: Office>(rt: &impl Abort, office: &mut O, kept: Kept) -> Kept {
     let mut kept = kept;
     let mut found = load(rt, office);

@@ -1,4 +1,5 @@
-//! The outage and what comes afterwards, on a book, where memory may be refused to one call: command by command, or by an import.
+//! The outage and the commands after it, command by command or by an import, on a book whose calls
+//! may be refused memory once.
 use crate::memory::{NO_MEMORY, goes_on, holds, load};
 use crate::office::{A_DAY, Office};
 use crate::scripts::{AFTERWARDS, COMMANDS, OUTAGE, ROWS};
@@ -8,7 +9,7 @@ use ob_net::{Refusal, Stop};
 use std::alloc::Global;
 use std::process::Abort;
 
-// Makes the book. False where the store failed.
+// Creates the book. False if the store failed.
 fn makes<O: Office>(rt: &impl Abort, office: &mut O) -> bool {
     match office.makes(&A_DAY) {
         Ok(()) => true,
@@ -20,7 +21,7 @@ fn makes<O: Office>(rt: &impl Abort, office: &mut O) -> bool {
     }
 }
 
-// Loads the book that is kept, or makes it. False where the store failed.
+// Loads the book that is kept, or creates it. False if the store failed.
 fn begins<O: Office>(rt: &impl Abort, office: &mut O, kept: Kept) -> bool {
     match load(rt, office) {
         Ok(()) => {}
@@ -39,7 +40,7 @@ fn begins<O: Office>(rt: &impl Abort, office: &mut O, kept: Kept) -> bool {
     true
 }
 
-// How many commands the book has.
+// The number of commands that the book has.
 fn accepted<O: Office>(office: &O) -> u32 {
     match office.shows() {
         Some((accepted, _)) => accepted,
@@ -47,7 +48,7 @@ fn accepted<O: Office>(office: &O) -> u32 {
     }
 }
 
-// So many commands are kept, and perhaps one more.
+// This many commands are kept, and perhaps one more.
 fn or_one_more(least: u32) -> Kept {
     Kept {
         least,
@@ -55,8 +56,8 @@ fn or_one_more(least: u32) -> Kept {
     }
 }
 
-// Sends the command of this number, or sends it again. Where memory is refused to it, it is sent once more. False where the
-// store failed and can't be read over these files.
+// Sends the command of this number, for the first time or again. If that is refused memory, sends
+// it once more. False if the store failed and the book can't be read over these files.
 fn sends<O: Office>(rt: &impl Abort, office: &mut O, line: &str, no: u32) -> bool {
     let before = office.views();
     let least = accepted(office);
@@ -73,8 +74,8 @@ fn sends<O: Office>(rt: &impl Abort, office: &mut O, line: &str, no: u32) -> boo
     true
 }
 
-// Sends the lines of a script that follow so many commands, those that the book lacks and the last of all. Answers what is
-// kept, and that is less where the store failed.
+// Sends those lines of a script, numbered from after `first`, that the book lacks, and the last
+// command of all. Answers what is kept, which is less if the store failed.
 fn sends_all<O: Office>(rt: &impl Abort, office: &mut O, script: &str, first: u32) -> Kept {
     let mut no = first;
     for line in script.lines() {
@@ -99,7 +100,7 @@ pub fn act<O: Office>(rt: &impl Abort, office: &mut O, kept: Kept) -> Kept {
     sends_all(rt, office, AFTERWARDS, BEFORE)
 }
 
-// Imports all rows, of which so many were in the book.
+// Imports all rows, of which `before` were in the book, and checks the report and the book.
 fn is_imported<O: Office>(rt: &impl Abort, alloc: Global, office: &mut O, before: u32) {
     let found = take_rows(alloc, office, ROWS);
     assert!(rt; found.stop == None);
@@ -107,8 +108,8 @@ fn is_imported<O: Office>(rt: &impl Abort, alloc: Global, office: &mut O, before
     assert!(rt; holds(office, Kept::all(COMMANDS)));
 }
 
-/// Imports the rows of all commands. Where memory is refused to that, the rows that are acknowledged are kept, and the same
-/// import goes on behind them.
+/// Imports the rows of all commands. If that is refused memory, the acknowledged rows are kept, and
+/// the same import goes on after them.
 pub fn read<O: Office>(rt: &impl Abort, alloc: Global, office: &mut O, kept: Kept) -> Kept {
     if !begins(rt, office, kept) {
         return kept;

@@ -1,4 +1,4 @@
-//! Commands under references: what each is answered, and what the tables hold in the end.
+//! Tests of commands under references: the answer to each, and the rows of the tables in the end.
 use crate::books::{OUTAGE_BOOK, TWO_FEEDERS_BOOK};
 use crate::scripts::{
     APART, BREAKER_GONE, CONNECTED, CORRECTED, JOINS_IN_OUTAGE, OPENED_AGAIN, OPENED_BEFORE,
@@ -7,7 +7,8 @@ use crate::scripts::{
 use crate::steps::{Step, Story, tell};
 use ob_net::Stop;
 
-// On the two feeders the lines of two scripts are answered as they say, and leave the book, so many rows and so much in total.
+// On the two feeders the lines of two scripts get the answers in them, and leave the book with
+// these numbers of rows and this total.
 const STORIES: Story = Story {
     title: "commands and what they leave",
     book: TWO_FEEDERS_BOOK,
@@ -25,7 +26,7 @@ const STORIES: Story = Story {
             Step::Reopen,
             Step::Leave(&[1, 3, 5, 5, 5, 10, 5, 0, 26, 13, 320], 10_800),
         ],
-        // A correction, told again.
+        // A correction, sent again.
         &[
             Step::Tell(OUTAGE),
             Step::Tell(CORRECTED),
@@ -39,14 +40,14 @@ const STORIES: Story = Story {
             Step::Reopen,
             Step::Leave(&[1, 3, 5, 5, 5, 10, 4, 0, 26, 12, 320], 255_600),
         ],
-        // Refusals, which leave the tables.
+        // Refusals, which leave the tables as they are.
         &[
             Step::Tell(OUTAGE),
             Step::Tell(REFUSED),
             Step::Reopen,
             Step::Leave(&[1, 3, 5, 5, 5, 10, 4, 0, 27, 9, 320], 9_000),
         ],
-        // Runs of several openings.
+        // Outage intervals of several openings.
         &[
             Step::Tell(RELABELLED),
             Step::Reopen,
@@ -68,7 +69,7 @@ const STORIES: Story = Story {
             Step::Reopen,
             Step::Leave(&[1, 3, 6, 5, 5, 11, 0, 0, 23, 3, 320], 86_400),
         ],
-        // Lives, and parts that join when something was switched.
+        // In-service intervals (lives), and parts of the network that are added after switchings.
         &[
             Step::Tell(OUTAGE),
             Step::Tell(TIE_STAYS),
@@ -103,7 +104,8 @@ fn commands_and_what_they_leave(rt: HostRuntime) -> Result<(), Stop> {
 
 const WHOLE_LIVES: &'static str = "SELECT count(*) FROM life WHERE since = 0 AND until IS NULL";
 
-// The lines of a script on the two feeders leave a row of lives that a query finds, and so many whole lives.
+// The lines of a script on the two feeders leave a row of lives that a query finds, and this number
+// of lives without bounds.
 const LIVED: Story = Story {
     title: "lives in the tables",
     book: TWO_FEEDERS_BOOK,
@@ -155,7 +157,7 @@ fn lives_in_the_tables(rt: HostRuntime) -> Result<(), Stop> {
     tell(&rt, rt.alloc(), LIVED)
 }
 
-// After the outage and its correction these are the stored replies.
+// The stored replies after the outage and its correction.
 const REPLIES: Story = Story {
     title: "replies",
     book: OUTAGE_BOOK,

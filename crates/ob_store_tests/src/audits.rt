@@ -1,13 +1,14 @@
-//! Tables that are no book's: which of them the audit names, and that they aren't loaded.
+//! Tests of tables that aren't those of a book: the table that the audit names, and that no book is
+//! loaded.
 use crate::books::MARKED_BOOK;
 use crate::office::{BAD_BOOK, OLD_VERSION};
 use crate::steps::{Step, Story, tell};
 use ob_net::Stop;
 
-// No book is loaded then.
+// After such a change no book is loaded.
 const NO_BOOK_THEN: &[Step] = &[Step::Load(BAD_BOOK), Step::Has(false)];
 
-// A row is changed in each table, and the audit names it.
+// A row is changed in each table, and the audit names the table.
 const CHANGED: Story = Story {
     title: "a row that is changed",
     book: MARKED_BOOK,
@@ -64,7 +65,7 @@ const CHANGED: Story = Story {
     then: NO_BOOK_THEN,
 };
 
-// A row is added or taken away in each table.
+// A row is added to or deleted from each table.
 const MORE_OR_LESS: Story = Story {
     title: "rows more or less",
     book: MARKED_BOOK,
@@ -136,7 +137,7 @@ const RENAMED: Story = Story {
     then: NO_BOOK_THEN,
 };
 
-// Headings and commands of no book, and tables that aren't there.
+// Headings and commands that make no book, and missing tables.
 const NO_BOOK: Story = Story {
     title: "headings and commands of no book",
     book: MARKED_BOOK,
@@ -178,7 +179,7 @@ const NO_BOOK: Story = Story {
     then: NO_BOOK_THEN,
 };
 
-// The first of several tables is named.
+// The audit names the first of several changed tables.
 const SEVERAL: Story = Story {
     title: "several tables that are changed",
     book: MARKED_BOOK,
@@ -224,7 +225,7 @@ fn several_tables_that_are_changed(rt: HostRuntime) -> Result<(), Stop> {
     tell(&rt, rt.alloc(), SEVERAL)
 }
 
-// What is done to the tables, so that they are of version 1, whatever else stands in them.
+// Changes that make the tables those of version 1, whatever else they contain.
 const OLD: Story = Story {
     title: "tables of version one",
     book: MARKED_BOOK,
@@ -238,7 +239,7 @@ const OLD: Story = Story {
     then: OLD_THEN,
 };
 
-// Audit and load name the version.
+// The audit and the load name the version.
 const OLD_THEN: &[Step] = &[
     Step::Audit("OldVersion"),
     Step::Load(OLD_VERSION),
@@ -250,7 +251,7 @@ fn tables_of_version_one(rt: HostRuntime) -> Result<(), Stop> {
     tell(&rt, rt.alloc(), OLD)
 }
 
-// Databases of nothing and of something else hold no book.
+// Databases with nothing or something else in them hold no book.
 const NONE: Story = Story {
     title: "no book",
     book: &[],

@@ -1,14 +1,15 @@
-//! New books, and calls without one.
+//! Tests of new books, and of calls without a book.
 use crate::books::TWO_FEEDERS_BOOK;
 use crate::office::BAD_BOOK;
 use crate::scripts::TWO_FEEDERS;
 use crate::steps::{NEW, Step, Story, tell};
 use ob_net::{Refusal, Stop};
 
-// A book of another period, which can't be made.
+// A book of another period, which can't be created.
 const ANOTHER: Step = Step::Make(b"2024-02-01", 2, b"UTC0", BAD_BOOK);
 
-// A second book is refused, by the keeper that has the first and by another one; the first stays.
+// A second book is refused, by the `Keeper` that has the first and by another one; the first book
+// stays.
 const SECOND: Story = Story {
     title: "a second book",
     book: TWO_FEEDERS_BOOK,
@@ -30,7 +31,7 @@ fn a_book_is_made_once(rt: HostRuntime) -> Result<(), Stop> {
 
 const BAD_PERIOD: Result<(), Stop> = Err(Stop::Refused(Refusal::BadPeriod));
 
-// There are no books of such periods; one of another period can still be made.
+// Books of such periods are refused; afterwards a book of another period can still be created.
 const PERIODS: Story = Story {
     title: "periods",
     book: &[],
@@ -54,7 +55,7 @@ fn a_period_that_there_is_not(rt: HostRuntime) -> Result<(), Stop> {
     tell(&rt, rt.alloc(), PERIODS)
 }
 
-// In a database that holds a table no book can be made.
+// No book can be created in a database that holds a table.
 const SOMETHING_ELSE: Story = Story {
     title: "a table",
     book: &[],
@@ -71,7 +72,8 @@ fn a_database_of_something_else(rt: HostRuntime) -> Result<(), Stop> {
     tell(&rt, rt.alloc(), SOMETHING_ELSE)
 }
 
-// Without a book a command and a stored reply ask for one to be loaded; then a book is made, and takes commands.
+// Without a book, sending a command or asking for a stored reply requires one to be loaded first;
+// then a book is created, and takes commands.
 const BEGUN: Story = Story {
     title: "no book",
     book: &[],

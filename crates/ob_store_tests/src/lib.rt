@@ -1,8 +1,10 @@
-//! Tests of the keeper over a store in memory: commands under references with what each is answered, new books, what
-//! stands in the tables in the end, the books that are loaded from them, tables of version 1 that are made those of version
-//! 2, and tables that are no book's. And random lists of commands against a plain count.
+//! Tests of the storage layer (`Keeper`) over a store in memory: commands under references and the
+//! answer to each, new books, the rows of the tables in the end, and loaded books. They also cover
+//! tables of version 1 that are migrated to version 2, tables that aren't those of a book, and
+//! random lists of commands against a brute-force count.
 //!
-//! It holds tests alone. The amounts are worked out by hand from the definitions.
+//! This crate holds only tests, and no other crate uses it. The amounts are worked out by hand from
+//! the definitions.
 #![tactic(auto)]
 
 #[cfg(test)]

@@ -1,4 +1,5 @@
-//! Books that are loaded: commands go on, and a book stays where the tables turn into those of none.
+//! Tests of loaded books: they take further commands, and a book in memory stays when the tables no
+//! longer hold one.
 use crate::books::OUTAGE_BOOK;
 use crate::office::{BAD_BOOK, NO_OLD_BOOK, OLD_VERSION};
 use crate::scripts::{
@@ -7,8 +8,8 @@ use crate::scripts::{
 use crate::steps::{NEW, Step, Story, tell};
 use ob_net::Stop;
 
-// After the outage another keeper loads the book; the lines are then answered as they say, and leave the book, so many
-// rows and so much in total.
+// After the outage another `Keeper` loads the book. The lines then get the answers in them, and
+// leave the book with these numbers of rows and this total.
 const TOLD: Story = Story {
     title: "commands in a loaded book",
     book: OUTAGE_BOOK,
@@ -39,7 +40,7 @@ const TOLD: Story = Story {
             Step::Reopen,
             Step::Leave(&[1, 3, 5, 5, 5, 10, 4, 0, 27, 9, 320], 9_000),
         ],
-        // Lives, and parts that join.
+        // In-service intervals (lives), and new parts of the network.
         &[
             Step::Reopen,
             Step::Tell(TIE_STAYS),
@@ -67,13 +68,14 @@ fn commands_in_a_loaded_book(rt: HostRuntime) -> Result<(), Stop> {
     tell(&rt, rt.alloc(), TOLD)
 }
 
-// Tables under the same names, in the same order, but the first second of a life is kept as a text.
+// A table `life` with the same column names in the same order, but the first second of a life is
+// stored as text.
 const LIVES_AS_TEXTS: &'static str =
     "DROP TABLE life; CREATE TABLE life (device INTEGER PRIMARY KEY REFERENCES device (id), since \
      TEXT NOT NULL, until INTEGER)";
 
-// A new book is loaded over such tables. Once there is a device the tables are those of no book, and the keeper goes on with the
-// book that it has.
+// A new book is loaded over such tables. After the first device the tables no longer hold a book,
+// and the `Keeper` goes on with the book in its memory.
 const OVER_LIVES_AS_TEXTS: Story = Story {
     title: "lives as texts",
     book: &[NEW],
@@ -98,7 +100,7 @@ fn a_book_stays(rt: HostRuntime) -> Result<(), Stop> {
     tell(&rt, rt.alloc(), OVER_LIVES_AS_TEXTS)
 }
 
-// What stands beside the tables of a book or in place of one.
+// Other objects next to the tables of a book, or in place of one of them.
 const BESIDE: Story = Story {
     title: "other tables beside those of a book",
     book: OUTAGE_BOOK,
@@ -117,7 +119,7 @@ const BESIDE: Story = Story {
     then: BESIDE_THEN,
 };
 
-// It isn't a book's then, and nothing is changed.
+// Such a database holds no book, and nothing in it is changed.
 const BESIDE_THEN: &[Step] = &[
     Step::Audit("BadBook"),
     Step::Load(BAD_BOOK),
@@ -130,7 +132,7 @@ fn other_tables_beside_those_of_a_book(rt: HostRuntime) -> Result<(), Stop> {
     tell(&rt, rt.alloc(), BESIDE)
 }
 
-// The same where the heading tells version 1: that is told first.
+// The same with version 1 in the heading: the version is reported first.
 const OLD_BESIDE: Story = Story {
     title: "version 1",
     book: OUTAGE_BOOK,

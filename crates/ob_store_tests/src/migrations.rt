@@ -1,4 +1,5 @@
-//! Tables of version 1 that are made those of version 2, and tables that are left as they are.
+//! Tests of tables of version 1 that are migrated to version 2, and of tables that are left as they
+//! are.
 use crate::books::OUTAGE_BOOK;
 use crate::office::{BAD_BOOK, NO_OLD_BOOK, OLD_VERSION};
 use crate::old::TO_VERSION_ONE;
@@ -6,8 +7,9 @@ use crate::scripts::{CORRECTED, JOINS_IN_OUTAGE, OUTAGE, TWO_FEEDERS};
 use crate::steps::{NEW, Step, Story, tell};
 use ob_net::Stop;
 
-// The tables of the outage become those of a book of version 1, which is no book of today. They are made those of version 2,
-// which gives the keeper no book, and a second time nothing is to be made.
+// The tables of the outage become those of a book of version 1, which can't be loaded. They are
+// migrated to version 2, which leaves the `Keeper` without a book, and a second migration has
+// nothing to do.
 const MIGRATED: &[Step] = &[
     NEW,
     Step::Tell(TWO_FEEDERS),
@@ -20,7 +22,7 @@ const MIGRATED: &[Step] = &[
     Step::Migrate(Ok(false)),
 ];
 
-// What the outage leaves today; then a book of it is made over another database.
+// Notes what the outage leaves in version 2; then a book with it is created over another database.
 const OF_TODAY: Story = Story {
     title: "version 1",
     book: OUTAGE_BOOK,
@@ -35,8 +37,9 @@ const OF_TODAY: Story = Story {
     then: AS_TODAY,
 };
 
-// Of version 1 its tables are made, row by row, those that the outage leaves today, and hold its book: what it shows, its
-// replies, and a whole life for each device.
+// A migration of its tables of version 1 gives, row by row, the tables that the outage leaves in
+// version 2. They hold its book: what it shows, its replies, and a life without bounds for each
+// device.
 const AS_TODAY: &[Step] = &[
     Step::Change(TO_VERSION_ONE),
     Step::Migrate(Ok(true)),
@@ -55,8 +58,8 @@ fn the_outage_of_version_one(rt: HostRuntime) -> Result<(), Stop> {
     tell(&rt, rt.alloc(), OF_TODAY)
 }
 
-// What stands in the tables of the outage then: five lives, 25 commands, a device's text, no other command's text with two
-// words more, and the customer-seconds.
+// The rows of the outage after the migration: five lives, 25 commands, the body text of a device
+// with a life, no other command's text with the two new fields, and the customer-seconds.
 const FOUND: Story = Story {
     title: "rows",
     book: MIGRATED,
@@ -82,7 +85,8 @@ fn rows_of_the_outage(rt: HostRuntime) -> Result<(), Stop> {
     tell(&rt, rt.alloc(), FOUND)
 }
 
-// A device's command under its reference is known, another one is none, and a device may join from then on.
+// A device's command is known under its reference, another command is not that one, and from then
+// on a device with a life can be added.
 const AGAIN: &'static str = "\
 N7 device I1 GRID BUS-A closed 0 - => 7
 N7 device I1 GRID BUS-A closed 0 1704153600 => no: 11 RefConflict 7
@@ -101,7 +105,7 @@ const AFTER_A_MIGRATION: Story = Story {
             Step::Audit("none"),
             Step::Leave(&[1, 3, 5, 5, 5, 10, 4, 0, 26, 12, 320], 7_800),
         ],
-        // A device joins.
+        // A new device.
         &[
             Step::Load(Ok(())),
             Step::Tell(AGAIN),
@@ -118,7 +122,7 @@ fn commands_of_a_migrated_book(rt: HostRuntime) -> Result<(), Stop> {
     tell(&rt, rt.alloc(), AFTER_A_MIGRATION)
 }
 
-// A book of today stays, in the tables and in memory.
+// A book of version 2 stays, in the tables and in memory.
 const OF_VERSION_TWO: Story = Story {
     title: "today",
     book: OUTAGE_BOOK,
@@ -139,7 +143,7 @@ fn a_book_of_today(rt: HostRuntime) -> Result<(), Stop> {
     tell(&rt, rt.alloc(), OF_VERSION_TWO)
 }
 
-// The tables are no book's of version 1, and stay as they are, row by row.
+// The tables aren't those of a book of version 1, and stay as they are, row by row.
 const LEFT: &[Step] = &[
     Step::NoteRows,
     Step::Migrate(NO_OLD_BOOK),
@@ -180,7 +184,7 @@ fn a_row_that_is_changed(rt: HostRuntime) -> Result<(), Stop> {
     tell(&rt, rt.alloc(), CHANGED)
 }
 
-// A row is added or taken away in each table.
+// A row is added to or deleted from each table.
 const MORE_OR_LESS: Story = Story {
     title: "rows more or less",
     book: MARKED_OLD,
@@ -204,8 +208,8 @@ fn rows_more_or_less(rt: HostRuntime) -> Result<(), Stop> {
     tell(&rt, rt.alloc(), MORE_OR_LESS)
 }
 
-// Numbers that leave one out, periods that there aren't, and texts of no command of version 1: a device's with a life, a life,
-// two spaces, and a reference with one.
+// Numbers with a gap, periods that don't exist, and texts that are no command of version 1: a
+// device with a life, a life, two spaces, and a reference with a space.
 const NO_COMMANDS: Story = Story {
     title: "commands of no old book",
     book: MARKED_OLD,
@@ -228,7 +232,8 @@ fn commands_of_no_old_book(rt: HostRuntime) -> Result<(), Stop> {
     tell(&rt, rt.alloc(), NO_COMMANDS)
 }
 
-// Other versions in the heading, a table of lives, with a row or without, beside version 1, and a table that isn't there.
+// Other versions in the heading, a table of lives (with a row or without) in version 1, and missing
+// tables.
 const OTHER_TABLES: Story = Story {
     title: "other tables",
     book: MARKED_OLD,
@@ -256,7 +261,8 @@ fn other_tables(rt: HostRuntime) -> Result<(), Stop> {
     tell(&rt, rt.alloc(), OTHER_TABLES)
 }
 
-// What version 1 didn't accept behind a switching, or at all; today it is accepted. A device's body text is made an old one.
+// Commands that version 1 didn't accept after a switching, or at all, and that version 2 accepts. A
+// device's body text is changed to the old form.
 const LATER_PARTS: Story = Story {
     title: "parts behind a switching",
     book: OUTAGE_BOOK,
@@ -275,7 +281,7 @@ const LATER_PARTS: Story = Story {
     then: OLD_LEFT,
 };
 
-// The tables become those of version 1, and are left.
+// The tables become those of version 1, and the migration leaves them as they are.
 const OLD_LEFT: &[Step] = &[
     Step::Change(TO_VERSION_ONE),
     Step::NoteRows,
@@ -289,7 +295,8 @@ fn parts_behind_a_switching(rt: HostRuntime) -> Result<(), Stop> {
     tell(&rt, rt.alloc(), LATER_PARTS)
 }
 
-// Version 1 over today's tables, and version 2 over the ten of version 1: these are said to be today's, and are no book.
+// Version 1 over the tables of version 2, and version 2 over the ten tables of version 1. The
+// migration takes the latter for tables of version 2, and they hold no book.
 const OTHER_VERSIONS: Story = Story {
     title: "another version",
     book: OUTAGE_BOOK,
@@ -320,7 +327,7 @@ fn another_number_in_the_heading(rt: HostRuntime) -> Result<(), Stop> {
     tell(&rt, rt.alloc(), OTHER_VERSIONS)
 }
 
-// Databases of nothing, and of something else.
+// Databases with nothing or something else in them.
 const SOMETHING_ELSE: Story = Story {
     title: "something else",
     book: &[],
@@ -337,7 +344,7 @@ fn databases_of_something_else(rt: HostRuntime) -> Result<(), Stop> {
     tell(&rt, rt.alloc(), SOMETHING_ELSE)
 }
 
-// A book of version 1 of nothing but its period.
+// A book of version 1 with only its period.
 const BEGUN: Story = Story {
     title: "no commands",
     book: &[],

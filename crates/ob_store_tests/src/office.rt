@@ -1,4 +1,4 @@
-//! What a test knows of a keeper.
+//! The calls of a `Keeper` that the tests use.
 use crate::random::books::Shows;
 use crate::rows::put_rows;
 use ob_book::Book;
@@ -9,35 +9,35 @@ use ob_sweep::{Timeline, Windowed};
 use sqlite::{Alter, Connection, Error, MemStore};
 use std::alloc::Global;
 
-/// The tables are no book's.
+/// The tables aren't those of a book.
 pub const BAD_BOOK: Result<(), Stop> = Err(Stop::Refused(Refusal::BadBook));
 
 /// The tables are those of a book of version 1.
 pub const OLD_VERSION: Result<(), Stop> = Err(Stop::Refused(Refusal::OldVersion(1)));
 
-/// The tables are no book's of version 1, nor is their version 2.
+/// The tables aren't those of a book of version 1, and their version isn't 2 either.
 pub const NO_OLD_BOOK: Result<bool, Stop> = Err(Stop::Refused(Refusal::BadBook));
 
-/// A call that needs a book, where there is none.
+/// The answer to a call that needs a book while there is none.
 pub const REOPEN: Stop = Stop::Fault(Fault::Reopen);
 
 /// A fault of the store.
 const STORE: Stop = Stop::Fault(Fault::Store);
 
-/// What is done with the tables between two keepers.
+/// Work on the tables between two `Keeper`s.
 #[derive(Clone, Copy)]
 pub enum Work {
-    /// Statements are run.
+    /// Runs statements.
     Run(&'static str),
-    /// The rows of all tables are read.
+    /// Reads the rows of all tables.
     Rows,
-    /// The number that a query finds is read.
+    /// Reads the number that a query finds.
     Find(&'static str),
-    /// The number that each of these queries finds is read.
+    /// Reads the number that each of these queries finds.
     FindEach(&'static [&'static str]),
 }
 
-/// What was read in the tables.
+/// Rows and numbers read from the tables.
 #[derive(Drop)]
 pub struct Found {
     pub rows: Vec<u8>,
@@ -54,41 +54,44 @@ impl Found {
     }
 }
 
-/// The calls of a keeper over a store, without their clauses: with these each function that makes some is long to prove.
+/// The calls of a `Keeper` over a store, without their contracts: with these each function that
+/// makes some calls takes long to prove.
 pub trait Office: Drop {
     type Shown: Shows;
 
-    /// A keeper without a book, over a database that holds nothing.
+    /// A `Keeper` without a book, over an empty database.
     fn opens(alloc: Global) -> Result<Self, Stop>;
 
-    /// Makes a new book.
+    /// Creates a book.
     fn makes(&mut self, first: &[u8], days: u16, zone: &[u8]) -> Result<(), Stop>;
 
     /// Reads the book that the tables hold.
     fn loads(&mut self) -> Result<(), Stop>;
 
-    /// What the command of a line, a reference and a body text, is answered.
+    /// Sends the command of a line, which is a reference and a body text.
     fn acts(&mut self, line: &str) -> Result<Reply, Stop>;
 
-    /// The stored reply of a command; None where there is none.
+    /// The stored reply of a command, or None if there is none.
     fn replies(&mut self, no: u32) -> Result<Option<Reply>, Stop>;
 
-    /// The first table that differs from those of the commands, `none` where none does; or why there is no answer.
+    /// The first table that differs from the commands, `none` if no table differs, or the reason
+    /// why there is no answer.
     fn audits(&mut self) -> &'static str;
 
-    /// Makes the tables of version 1 those of version 2. Answers whether they were of version 1.
+    /// Migrates the tables of version 1 to version 2. Answers whether they were of version 1.
     fn migrates(&mut self) -> Result<bool, Stop>;
 
-    /// The book; None where there is none.
+    /// The book, or None if there is none.
     fn shown(&self) -> Option<&Self::Shown>;
 
-    /// Another keeper, without a book, over the same tables after some work on them, and what was read.
+    /// Another `Keeper`, without a book, over the same tables after some work on them, and what
+    /// that work read.
     fn again(self, alloc: Global, work: Work) -> Result<(Self, Found), Stop>;
 }
 
-/// A store that a new database begins in.
+/// A store in which a new database begins.
 pub trait Blank: Alter + Drop {
-    /// A connection to a database that holds nothing.
+    /// A connection to an empty database.
     fn connects(alloc: Global) -> Result<Connection<Self>, Stop>;
 }
 
@@ -101,10 +104,10 @@ impl Blank for MemStore {
     }
 }
 
-/// A keeper over a store in memory.
+/// A `Keeper` over a store in memory.
 pub type InMemory = Keeper<MemStore, Windowed>;
 
-// A keeper without a book, over a database.
+// A `Keeper` without a book, over a database.
 fn adopted<S: Alter + Drop, T: Timeline>(
     alloc: Global,
     conn: Connection<S>,
@@ -127,7 +130,7 @@ fn number<S: Alter>(conn: &mut Connection<S>, sql: &str) -> Result<i64, Error> {
     conn.query_row(sql, &[])?.get(0)
 }
 
-// Puts the number that a query finds behind others.
+// Appends the number that a query finds to others.
 fn put_number<S: Alter>(
     conn: &mut Connection<S>,
     sql: &str,
@@ -139,7 +142,7 @@ fn put_number<S: Alter>(
     }
 }
 
-// Does some work on the tables. Answers what was read.
+// Does some work on the tables. Answers what it read.
 fn done<S: Alter>(alloc: Global, conn: &mut Connection<S>, work: Work) -> Result<Found, Stop> {
     let mut found = Found::nothing(alloc);
     match work {

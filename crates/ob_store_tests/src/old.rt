@@ -1,5 +1,6 @@
-//! Books of version 1, made of those of today by statements.
-/// What makes of a book with the two feeders one of version 1, where it has no other device and no life was set.
+//! Books of version 1, made from books of version 2 by statements.
+/// Statements that turn a book with the two feeders into one of version 1, if it has no other
+/// device and no life was set.
 pub const TO_VERSION_ONE: &'static str = "\
     DROP TABLE life; \
     UPDATE cmd SET body = 'device I1 GRID BUS-A closed' WHERE id = 7; \

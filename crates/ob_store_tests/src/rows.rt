@@ -1,8 +1,9 @@
-//! What stands in the tables, row by row.
+//! The contents of the tables, row by row.
 use sqlite::{Alter, Connection, Error, Row};
 use std::alloc::AllocError;
 
-// The rows of each table by its key, with one space between the columns; first of the ten that both versions have.
+// The rows of each table by its key, with one space between the columns; the ten tables of both
+// versions come first.
 const QUERIES: &'static [&'static str] = &[
     "SELECT id || ' ' || version || ' ' || day0 || ' ' || days || ' ' || zone FROM meta",
     "SELECT code || ' ' || name FROM cause ORDER BY code",
@@ -20,7 +21,8 @@ const QUERIES: &'static [&'static str] = &[
     "SELECT device || ' ' || since || ' ' || coalesce(until, '-') FROM life ORDER BY device",
 ];
 
-/// Puts the rows of all tables behind a text. Where a table isn't there, that is told in the place of its rows.
+/// Appends the rows of all tables to a text. For a missing table, that is written in place of its
+/// rows.
 pub fn put_rows<S: Alter>(conn: &mut Connection<S>, text: &mut Vec<u8>) -> Result<(), AllocError> {
     for sql in QUERIES {
         put_table(conn, sql, text)?;
@@ -28,7 +30,7 @@ pub fn put_rows<S: Alter>(conn: &mut Connection<S>, text: &mut Vec<u8>) -> Resul
     Ok(())
 }
 
-// Puts the rows that a query finds behind others.
+// Appends the rows that a query finds to others.
 fn put_table<S: Alter>(
     conn: &mut Connection<S>,
     sql: &str,
@@ -44,7 +46,7 @@ fn put_table<S: Alter>(
     Ok(())
 }
 
-// Puts a row of one column behind others.
+// Appends a row of one column to others.
 fn put_line(row: &Row, text: &mut Vec<u8>) -> Result<(), AllocError> {
     let found: Result<String, Error> = row.get(0);
     match found {

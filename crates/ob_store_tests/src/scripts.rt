@@ -1,8 +1,9 @@
-//! Scripts of two feeders of one bus with a tie between them. A line is a reference, the body text of a command,
-//! ` => `, and what that is answered: its number and what it moves, or why it is refused.
+//! Scripts of two feeders of one bus with a tie between them. A line is a reference, the body text
+//! of a command, ` => `, and the answer: the command's number and the amounts it moves, or its
+//! refusal.
 
-/// S1 and S2 behind the breaker B1, S3 behind B2, and a normally open tie T1 from S2 to S3; two customers on S1, three
-/// on S2, five on S3, from the first second of 2024 on.
+/// S1 and S2 supplied through the breaker B1, S3 through B2, and a normally open tie T1 from S2 to
+/// S3; two customers on S1, three on S2 and five on S3, from the first second of 2024 on.
 pub const TWO_FEEDERS: &'static str = "\
 N1 cause 3 STORM => 1
 N2 cause 4 PLANNED => 2
@@ -27,8 +28,8 @@ N20 connect 9 S3 1704067200 - => 20
 N21 connect 10 S3 1704067200 - => 21
 ";
 
-/// An hour after the start B1 opens; ten minutes later W1 opens and the tie takes S2 over; an hour after its opening B1
-/// closes.
+/// An hour after the start B1 opens. Ten minutes later W1 opens and the tie closes, which supplies
+/// S2. An hour after its opening B1 closes.
 pub const OUTAGE: &'static str = "\
 N22 switch B1 open 1704070800 3 K1 => 22: cause 3 414000, feeder 1 414000, day 0 414000
 N23 switch W1 open 1704071400 3 K1 => 23
@@ -41,8 +42,9 @@ pub const OPENED_BEFORE: &'static str = "\
 N26 switch W1 open 1704070200 4 K1 => 26: cause 3 -1800, cause 4 3600, feeder 1 1800, day 0 1800
 ";
 
-/// After the outage: the breaker closed ten minutes earlier, told twice under one reference; the same under another
-/// reference comes too late, and the reference is no other command's.
+/// After the outage: the breaker closed ten minutes earlier, sent several times under one
+/// reference. The same under another reference comes too late, and no other command can have the
+/// reference.
 pub const CORRECTED: &'static str = "\
 FIX1 correct 4 1 close 1704073800 3 K1 => 26: cause 3 -1200, feeder 1 -1200, day 0 -1200
 FIX1 correct 4 1 close 1704073800 3 K1 => 26: cause 3 -1200, feeder 1 -1200, day 0 -1200
@@ -51,14 +53,15 @@ FIX1 correct 4 1 close 1704073200 3 K1 => no: 11 RefConflict 26
 FIX1 correct 4 1 close 1704073800 3 K1 => 26: cause 3 -1200, feeder 1 -1200, day 0 -1200
 ";
 
-/// After the outage: without the tie's closing S2 waits for the switch W1, which stays open.
+/// After the outage: without the tie's closing S2 has no supply until the switch W1 closes, and W1
+/// stays open.
 pub const WITHDRAWN: &'static str = "\
 N26 withdraw 3 1 => 26: cause 3 246600, feeder 1 246600, day 0 246600
 N27 withdraw 3 2 => no: 8 Withdrawn
 N26 withdraw 3 1 => 26: cause 3 246600, feeder 1 246600, day 0 246600
 ";
 
-/// The run of S2 takes over a late opening's cause, also after W1's next entry, up to its end.
+/// The outage interval of S2 gets a late opening's cause up to its end, also after W1's next entry.
 pub const RELABELLED: &'static str = "\
 N22 switch B1 open 1704070800 3 K1 => 22: cause 3 414000, feeder 1 414000, day 0 414000
 N23 switch W1 close 1704071200 3 K1 => 23
@@ -66,7 +69,8 @@ N24 switch B1 close 1704074400 3 K1 => 24: cause 3 -396000, feeder 1 -396000, da
 N25 switch W1 open 1704070200 4 K1 => 25: cause 3 -10800, cause 4 12600, feeder 1 1800, day 0 1800
 ";
 
-/// Closed and opened again in one second, by another cause: one run, of the first opening.
+/// Closed, and opened again in the same second for another cause: one outage interval, with the
+/// first opening's cause.
 pub const OPENED_AGAIN: &'static str = "\
 N22 switch B2 open 1704070800 3 K1 => 22: cause 3 414000, feeder 2 414000, day 0 414000
 N23 switch B2 close 1704071200 3 K1 => 23: cause 3 -412000, feeder 2 -412000, day 0 -412000
@@ -74,7 +78,8 @@ N24 switch B2 open 1704071200 4 K1 => 24: cause 3 412000, feeder 2 412000, day 0
 N25 switch B2 close 1704072200 4 K1 => 25: cause 3 -407000, feeder 2 -407000, day 0 -407000
 ";
 
-/// A customer is connected in the midst of an outage; its service gets an end in the outage, and loses it again.
+/// A customer is connected during an outage; its service gets an end within the outage, and then
+/// has no end again.
 pub const CONNECTED: &'static str = "\
 N22 switch B2 open 1704070800 4 K1 => 22: cause 4 414000, feeder 2 414000, day 0 414000
 N23 switch B2 close 1704074400 4 K1 => 23: cause 4 -396000, feeder 2 -396000, day 0 -396000
@@ -83,13 +88,14 @@ N25 revise 11 1704072600 1704073200 => 25: cause 4 -1200, feeder 2 -1200, day 0 
 N26 revise 11 1704072600 - => 26: cause 4 1200, feeder 2 1200, day 0 1200
 ";
 
-/// A section to which no device leads.
+/// A section without a device.
 pub const APART: &'static str = "\
 N22 section S9 9 => 22
 N23 connect 11 S9 1704067200 - => 23: cause 0 86400, feeder 9 86400, day 0 86400
 ";
 
-/// After the outage: the tie goes while it supplies S2, told twice, and stays after all.
+/// After the outage: the tie's life ends while the tie supplies S2, which is sent twice; then the
+/// life is set without an end.
 pub const TIE_STAYS: &'static str = "\
 N26 life T1 0 1704073200 => 26: cause 0 241200, feeder 1 241200, day 0 241200
 N26 life T1 0 1704073200 => 26: cause 0 241200, feeder 1 241200, day 0 241200
@@ -97,20 +103,21 @@ N27 life T1 0 - => 27: cause 0 -241200, feeder 1 -241200, day 0 -241200
 N26 life T1 0 - => no: 11 RefConflict 26
 ";
 
-/// After the outage: a tie that joins after the outage began takes S1 over.
+/// After the outage: the life of a new tie begins after the outage began, and the tie supplies S1.
 pub const JOINS_IN_OUTAGE: &'static str = "\
 N26 device X1 BUS-A S1 closed 1704072200 - => 26: cause 3 -4400, feeder 1 -4400, day 0 -4400
 N26 device X1 BUS-A S1 closed 0 - => no: 11 RefConflict 26
 ";
 
-/// The breaker of S3 goes; it opens in the second in which it is gone, and then in the second before.
+/// The life of S3's breaker ends; an entry opens it in the first second after its life, and another
+/// in the second before.
 pub const BREAKER_GONE: &'static str = "\
 N22 life B2 0 1704070800 => 22: cause 0 414000, feeder 2 414000, day 0 414000
 N23 switch B2 open 1704070800 4 K1 => 23
 N24 switch B2 open 1704070799 4 K1 => 24: cause 0 -414000, cause 4 414005, feeder 2 5, day 0 5
 ";
 
-/// After the outage: parts join, and the life of one is set anew.
+/// After the outage: parts are added to the network, and the life of one is set again.
 pub const PARTS_JOIN: &'static str = "\
 N26 bus BUS-B => 26
 N27 section S9 9 => 27
@@ -119,7 +126,8 @@ N29 device X9 BUS-A S9 closed 1704070800 - => 29: cause 0 -82800, feeder 9 -8280
 N30 life X9 1704070800 1704074400 => 30: cause 0 79200, feeder 9 79200, day 0 79200
 ";
 
-/// After the outage: commands that are refused. Their reference stays free, and the first that is accepted takes it.
+/// After the outage: commands that are refused. Their reference stays free, and the first accepted
+/// command takes it.
 pub const REFUSED: &'static str = "\
 N26 bus BUS-A => no: 3 NameTaken
 N26 section S1 2 => no: 3 NameTaken

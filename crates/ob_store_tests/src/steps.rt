@@ -1,4 +1,4 @@
-//! Steps with a keeper over a store in memory, one after another, and what each is answered.
+//! Steps with a `Keeper` over a store in memory, one after another, and the answer to each.
 use crate::office::{Found, InMemory, Office, REOPEN, Work};
 use crate::random::books::Shows;
 use crate::random::kept::keeps_lists;
@@ -7,50 +7,54 @@ use ob_net::Stop;
 use std::alloc::Global;
 use std::process::Abort;
 
-/// A step with a keeper, and what it is answered.
+/// A step with a `Keeper`, and the expected answer.
 #[derive(Clone, Copy)]
 pub enum Step {
-    /// A keeper over another database, which holds nothing, goes on.
+    /// Goes on with a `Keeper` over another, empty database.
     Open,
-    /// A new book of a first day, so many days and a zone is made, or why it isn't.
+    /// Creates a book of a first day, this many days and a zone; the expected answer is success or
+    /// a refusal.
     Make(&'static [u8], u16, &'static [u8], Result<(), Stop>),
-    /// The lines of a script are answered as they say.
+    /// Sends the lines of a script, which get the answers in them.
     Tell(&'static str),
-    /// The stored reply of a command.
+    /// Asks for the stored reply of a command.
     Reply(u32, &'static str),
-    /// Another keeper, without a book, goes on after these statements.
+    /// Runs these statements, and goes on with another `Keeper`, without a book.
     Change(&'static str),
-    /// The table that an audit names, `none`, or why it names none.
+    /// Audits: the named table, `none`, or the reason why there is no answer.
     Audit(&'static str),
-    /// Whether a book is read, or why it isn't.
+    /// Loads the book: success or a refusal.
     Load(Result<(), Stop>),
-    /// Whether the tables were of version 1 and are made those of version 2.
+    /// Migrates: whether the tables were of version 1 and are now of version 2, or a refusal.
     Migrate(Result<bool, Stop>),
-    /// Whether there is a book.
+    /// Checks whether there is a book.
     Has(bool),
-    /// What the book shows, the stored replies and the lives of the devices are noted.
+    /// Notes what the book shows, the stored replies and the lives of the devices.
     Note,
-    /// They are those that were noted.
+    /// Checks that all of these equal the noted ones.
     Same,
-    /// The rows of the tables are noted. Another keeper, without a book, goes on.
+    /// Notes the rows of the tables, and goes on with another `Keeper`, without a book.
     NoteRows,
-    /// They are those that were noted. Another keeper, without a book, goes on.
+    /// Checks that the rows equal the noted ones, and goes on with another `Keeper`, without a
+    /// book.
     SameRows,
-    /// Another keeper loads the same tables, and then shows the same book, the same lives and the same replies.
+    /// Checks that another `Keeper` loads the same tables and then shows the same book, the same
+    /// lives and the same replies.
     Reopen,
-    /// The number that a query finds. Another keeper, without a book, goes on.
+    /// Checks the number that a query finds, and goes on with another `Keeper`, without a book.
     Find(&'static str, i64),
-    /// The tables have so many rows: the period, causes, nodes, devices, lives, customers, entries, marked days, commands, moves,
-    /// amounts. The amounts of each dimension add up to the total, and each is what the commands moved under its key.
+    /// Checks the numbers of rows in the tables: the period, causes, nodes, devices, lives,
+    /// customers, entries, marked days, commands, moves, amounts. The amounts of each dimension add
+    /// up to the total, and each is the sum of the moves under its key.
     Leave(&'static [i64], i64),
-    /// Other keepers keep so many random lists, as the plain lists answer them.
+    /// Sends this many random lists to other `Keeper`s, which answer them as the plain lists do.
     Lists(u32),
 }
 
 /// A new book of 2024-01-01 in UTC.
 pub const NEW: Step = Step::Make(b"2024-01-01", 1, b"UTC0", Ok(()));
 
-// What was noted.
+// What the steps noted.
 #[derive(Drop)]
 struct Noted {
     shown: Vec<u8>,
@@ -66,8 +70,8 @@ impl Noted {
     }
 }
 
-/// Several cases, of which each is told to a keeper of its own, over a store in memory that holds nothing: first the steps of a
-/// book, then those of the case, and others after these.
+/// Several cases, each for a `Keeper` of its own over an empty store in memory: first the steps of
+/// a book, then those of the case, then those that follow each case.
 #[derive(Clone, Copy)]
 pub struct Story {
     pub title: &'static str,
@@ -76,8 +80,8 @@ pub struct Story {
     pub then: &'static [Step],
 }
 
-/// Each case of a story is answered as it says. What is said of a step that doesn't hold begins with the title of the story and the
-/// text of the last script or change of the tables in the case.
+/// Checks each case of a story. The message about a failed step begins with the title of the story
+/// and the text of the last script or change of the tables in the case.
 pub fn tell(rt: &impl Abort, alloc: Global, story: Story) -> Result<(), Stop> {
     told::<InMemory>(rt, alloc, &story)
 }
@@ -133,7 +137,7 @@ fn goes_on<O: Office>(
     Ok(office)
 }
 
-// The keeper that goes on after a step, and whether it is answered as it says.
+// The `Keeper` that goes on after a step, and whether the answer is the expected one.
 fn taken<O: Office>(
     rt: &impl Abort,
     alloc: Global,
@@ -178,7 +182,7 @@ fn is_answered<O: Office>(
     }
 }
 
-// The lines of a script are answered as they say, one after another.
+// Checks that the lines of a script get the answers in them, one after another.
 fn is_told<O: Office>(
     rt: &impl Abort,
     alloc: Global,
@@ -203,7 +207,8 @@ fn is_stored<O: Office>(
     Ok(found.as_str() == wanted)
 }
 
-// What the book shows, with its devices' lives, and the stored replies of its commands, of which there are fewer than forty.
+// What the book shows, with its devices' lives, and the stored replies of its commands, of which
+// there are fewer than forty.
 fn shown<O: Office>(alloc: Global, office: &mut O) -> Result<Vec<u8>, Stop> {
     let mut text = match office.shown() {
         Some(book) => book.texts(alloc)?,
@@ -238,7 +243,7 @@ fn reopened<O: Office>(alloc: Global, mut office: O, noted: &mut Noted) -> Resul
     Ok((again, holds))
 }
 
-// The rows are noted, or are those that were.
+// Notes the rows, or compares them with the noted ones.
 fn rows<O: Office>(
     alloc: Global,
     office: O,
@@ -281,7 +286,7 @@ fn leaves<O: Office>(
     Ok((office, are_counted && add_up))
 }
 
-/// How many rows each table has.
+/// The number of rows of each table.
 const COUNTS: &'static [&'static str] = &[
     "SELECT count(*) FROM meta",
     "SELECT count(*) FROM cause",
@@ -296,7 +301,8 @@ const COUNTS: &'static [&'static str] = &[
     "SELECT count(*) FROM posting",
 ];
 
-/// The sum of each dimension's amounts, and how many amounts are not what the commands moved.
+/// The sum of each dimension's amounts, and how many amounts differ from the sum of the moves under
+/// their key.
 const SUMS: &'static [&'static str] = &[
     "SELECT sum(amount) FROM posting WHERE dim = 1",
     "SELECT sum(amount) FROM posting WHERE dim = 2",

@@ -1,10 +1,10 @@
-//! What a call is answered, as a text of one line.
+//! The answer to a call, as a text of one line.
 use ob_net::Stop;
 use ob_post::{Dim, Moved};
 use ob_store::Reply;
 use std::alloc::{AllocError, Global};
 
-/// What a command is answered.
+/// The answer to a command.
 pub fn answer_text(alloc: Global, answer: &Result<Reply, Stop>) -> Result<String, AllocError> {
     match answer {
         Ok(reply) => reply_text(alloc, reply),
@@ -12,7 +12,7 @@ pub fn answer_text(alloc: Global, answer: &Result<Reply, Stop>) -> Result<String
     }
 }
 
-/// The stored reply of a command, `none` where there is none.
+/// The stored reply of a command, or `none`.
 pub fn stored_text(
     alloc: Global,
     stored: &Result<Option<Reply>, Stop>,
@@ -24,8 +24,8 @@ pub fn stored_text(
     }
 }
 
-// The number of a command and what it moved, as `22: cause 3 600, feeder 1 600, day 0 600`; the number alone where
-// nothing moved.
+// The number of a command and the amounts it moved, as `22: cause 3 600, feeder 1 600, day 0 600`;
+// the number alone if nothing moved.
 fn reply_text(alloc: Global, reply: &Reply) -> Result<String, AllocError> {
     let no = reply.no;
     let mut text = format!(in alloc; "{no}")?;
@@ -38,7 +38,7 @@ fn reply_text(alloc: Global, reply: &Reply) -> Result<String, AllocError> {
     Ok(text)
 }
 
-// Why there is no answer, as `no: 7 Stale 2`.
+// The reason why there is no answer, as `no: 7 Stale 2`.
 fn stop_text(alloc: Global, stop: &Stop) -> Result<String, AllocError> {
     let (number, name) = (stop.number(), stop.name());
     match stop.detail() {

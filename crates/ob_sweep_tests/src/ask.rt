@@ -1,4 +1,4 @@
-//! One change that a command asks for, of the sheet or of the network.
+//! The change of the switching log or of the network that one command asks for.
 ghost use Rattle.std.specs.Prelude.{◌≡◌, ◌<◌, ◌≤◌, List, IfOk, OnOk, length};
 ghost use Rattle.std.specs.List.{All};
 ghost use Rattle.ob_net.specs.Network.{IsNetwork};
@@ -26,7 +26,8 @@ fn is_of_network(command: &Command) -> bool {
     }
 }
 
-/// The change that a command asks for. One of the network is made at once, one of the sheet isn't yet.
+/// Answers the change that a command asks for. A change of the network is already made, one of the
+/// switching log isn't yet.
 pub fn change_of(
     net: &mut Net,
     sheet: &Sheet,
@@ -69,7 +70,7 @@ pub fn change_network(net: &mut Net, command: &Command) -> Result<Change, Fail>
     }
 }
 
-// Room for a part more of a network that isn't full.
+// Reserves room for one more part in a network that isn't full.
 fn room_for_one(net: &mut Net) -> Result<(), Fail>
     ensures is_network { OnOk result (IsNetwork net.old.network) }
     ensures nodes { OnOk result (0 < net.new.node_room) }
@@ -142,7 +143,7 @@ fn other_life(net: &mut Net, name: &Name, life: Life) -> Result<Change, Fail>
     })
 }
 
-/// Makes the change of the sheet that a command asks for.
+/// Makes the change of the switching log that a command asks for.
 pub fn obey(sheet: &mut Sheet, net: &Net, period: &CivilDays, command: &Command) -> Result<(), Fail>
     requires devices { NameDevices (length net.now.network.devices) sheet.old.entries }
     requires all { All (λ e. (first_second_of period.now ≤ e.second)

@@ -1,4 +1,4 @@
-//! The runs that are built under lives and a sheet.
+//! Tests of the outage intervals built from devices' lives and a switching log.
 use crate::example::{Built, DAY, DAY_OF_2024, build};
 use std::test::Fail;
 

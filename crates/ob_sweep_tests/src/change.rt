@@ -1,4 +1,4 @@
-//! The change of a sheet that a command makes.
+//! The change of a switching log that a command makes.
 ghost use Rattle.std.specs.Prelude.{◌≡◌, ◌≤◌, ◌<◌, IfSome, IsFalse, length};
 ghost use Rattle.std.specs.List.{All};
 ghost use Rattle.ob_sheet.specs.Sheet.{NameDevices};
@@ -12,7 +12,8 @@ use ob_sheet::{Entry, Sheet};
 use ob_sweep::Change;
 use ob_time::CivilDays;
 
-/// The change of a sheet by a command; None where it makes none.
+/// Answers the change of the switching log by a command, or None if the command changes nothing in
+/// it.
 pub fn change_by(net: &Net, sheet: &Sheet, period: &CivilDays, command: &Command) -> Option<Change>
     requires devices { NameDevices (length net.now.network.devices) sheet.now.entries }
     requires all { All (λ e. (first_second_of period.now ≤ e.second)

@@ -1,8 +1,10 @@
-//! What a change of the sheet touches, its new runs, and the searches that it takes.
+//! Tests of the sections that a change of the switching log touches, their new outage intervals,
+//! and the searches it takes.
 use crate::example::{Case, DAY, DAY_OF_2024, alter};
 use std::test::Fail;
 
-// From 3600 on S1 waits for its breaker, and S2 until 4200 for the tie.
+// From 3600 on S1 has no supply until its breaker closes, and S2 has none until the tie closes at
+// 4200.
 const TAKEN_OVER: &'static str = "\
 switch B1 open 3600 3 K1
 switch W1 open 4200 3 K1
@@ -119,7 +121,7 @@ const CHANGES: &'static [Case] = &[
         touched: "S3 ",
         runs: "S3 5000 86400 1\nS4 0 86400 -\n",
     },
-    // Neither the bus nor the section that no device joins is touched.
+    // Neither the bus nor the section without a device is touched.
     Case {
         title: "all sections from the first second on",
         days: DAY,

@@ -1,4 +1,5 @@
-//! Examples on a timeline: what is built, and what a change of the sheet or of the network does.
+//! Examples on a timeline: the outage intervals that are built, and the effect of a change of the
+//! switching log or the network.
 ghost use Rattle.std.specs.Prelude.{◌≡◌, ◌<◌, ◌≤◌, IfOk, OnOk, length};
 ghost use Rattle.std.specs.List.{All};
 ghost use Rattle.ob_sheet.specs.Sheet.{NameDevices};
@@ -17,7 +18,7 @@ use std::alloc::Global;
 use std::process::Abort;
 use std::test::Fail;
 
-/// Some days, by the date of the first one.
+/// A number of days, with the date of the first one.
 #[derive(Clone, Copy)]
 pub struct Days {
     pub first: &'static [u8],
@@ -36,8 +37,8 @@ pub const DAY_OF_2024: Days = Days {
     count: 1,
 };
 
-/// Under lives of devices and the commands of the sheet, one a line, the runs of the sections S1 to S5, which take so many
-/// searches.
+/// Lives of devices and the commands of the switching log, one a line; the expected outage
+/// intervals of the sections S1 to S5, and the searches that building them takes.
 #[derive(Clone, Copy)]
 pub struct Built {
     pub title: &'static str,
@@ -48,8 +49,11 @@ pub struct Built {
     pub runs: &'static str,
 }
 
-/// Under lives of devices and the commands of the sheet, what one more command does: the searches that it takes on runs that
-/// are found from scratch and on those in windows, the sections that it touches, and the runs of the sections S1 to S5 after it.
+/// Lives of devices, the commands of the switching log, and the effect of one more command. The
+/// effect is the searches, the touched sections, and the outage intervals of the sections S1 to S5
+/// afterwards. There are two numbers of searches: on a timeline that finds outage intervals from
+/// scratch (`Scratch`), and on one that finds them in windows (`Windowed`). The window of a change
+/// is the seconds in which the change can alter the supply.
 #[derive(Clone, Copy)]
 pub struct Case {
     pub title: &'static str,
@@ -62,7 +66,8 @@ pub struct Case {
     pub runs: &'static str,
 }
 
-// A line for a run: its section, its first second, the one after its last, and the number of its cutter or `-`.
+// The line of an outage interval: its section, its first second, the second after its last, and the
+// number of its cutter (the entry that began it) or `-`.
 fn line_of(alloc: Global, run: &Run) -> Result<String, Fail> {
     let name = name_at(&NODES, run.section)?;
     let (since, until) = (run.since, run.until);
@@ -73,7 +78,7 @@ fn line_of(alloc: Global, run: &Run) -> Result<String, Fail> {
     Ok(line?)
 }
 
-// The name of a node, of all their names.
+// The name of a node in a list of all names.
 fn name_at(names: &[&'static str], node: u16) -> Result<&'static str, Fail> {
     Ok(names.get(usize::from(node)).copied().ok_or("a node")?)
 }
@@ -85,7 +90,7 @@ fn push_lines(alloc: Global, text: &mut String, runs: &[Run]) -> Result<(), Fail
     Ok(())
 }
 
-// The runs of some of the network's nodes, one node after another.
+// The outage intervals of some of the network's nodes, one node after another.
 fn lines_of<T: Timeline>(alloc: Global, timeline: &T, nodes: &[u16]) -> Result<String, Fail>
     requires { 7 ≤ length (T.content timeline.now) }
 {
@@ -98,7 +103,7 @@ fn lines_of<T: Timeline>(alloc: Global, timeline: &T, nodes: &[u16]) -> Result<S
     Ok(text)
 }
 
-// The new runs of the touched sections, one section after another.
+// The new outage intervals of the touched sections, one section after another.
 fn new_lines(alloc: Global, delta: &Delta) -> Result<String, Fail> {
     let mut text = String::new(alloc);
     for section in delta.touched() {
@@ -107,7 +112,7 @@ fn new_lines(alloc: Global, delta: &Delta) -> Result<String, Fail> {
     Ok(text)
 }
 
-// The names of nodes, each with a space behind it.
+// The names of nodes, each followed by a space.
 fn names_of(alloc: Global, nodes: &[u16]) -> Result<String, Fail> {
     let mut text = String::new(alloc);
     for node in nodes {
@@ -120,7 +125,7 @@ fn names_of(alloc: Global, nodes: &[u16]) -> Result<String, Fail> {
 // The sections S1 to S5.
 const SECTIONS: &'static [u16] = &[2, 3, 4, 5, 6];
 
-// The network, the days and the sheet.
+// The network, the days and the switching log.
 fn days_of(
     alloc: Global,
     days: &Days,
@@ -137,7 +142,7 @@ fn days_of(
     Ok((net, period, sheet))
 }
 
-// The runs that are built, and the searches that they take.
+// The outage intervals that are built, and the searches that this takes.
 fn lines_built<T: Timeline>(
     alloc: Global,
     net: &mut Net,
@@ -165,7 +170,7 @@ fn build_on<T: Timeline>(rt: &impl Abort, alloc: Global, case: &Built) -> Result
     Ok(())
 }
 
-/// On each timeline these runs are built.
+/// Checks that each timeline builds these outage intervals.
 pub fn build(rt: &impl Abort, alloc: Global, cases: &[Built]) -> Result<(), Fail> {
     for case in cases {
         build_on::<Scratch>(rt, alloc, case)?;
@@ -174,8 +179,9 @@ pub fn build(rt: &impl Abort, alloc: Global, cases: &[Built]) -> Result<(), Fail
     Ok(())
 }
 
-// What a change did: the searches that it took, the sections that it touched with the new runs that were planned and those that
-// they had then, the runs of the sections S1 to S5, and whether all runs were as if built anew.
+// The effect of a change: the searches it took, the sections it touched with their planned new
+// outage intervals, and the intervals that these sections had afterwards. Also the outage intervals
+// of the sections S1 to S5, and whether all intervals equal those built from scratch.
 #[derive(Drop)]
 struct Effect {
     searches: u128,
@@ -186,7 +192,8 @@ struct Effect {
     is_as_built: bool,
 }
 
-// Takes a change over. Answers the new runs that were planned for the sections that it touches, and those that they have then.
+// Adopts a change. Answers the new outage intervals planned for the touched sections, and those
+// that they have afterwards.
 fn adopt<T: Timeline>(
     alloc: Global,
     timeline: &mut T,
@@ -203,8 +210,9 @@ fn adopt<T: Timeline>(
     Ok((planned, adopted))
 }
 
-/// The runs that are built before a change that is asked for, what the change alters in them, and the searches that this took.
-/// A change of the network is made, one of the sheet isn't yet.
+/// Answers the outage intervals built before a change that is asked for, the planned changes of
+/// them, and the searches that this took. A change of the network is already made, one of the
+/// switching log isn't yet.
 pub fn planned<T: Timeline>(
     alloc: Global,
     net: &mut Net,
@@ -227,7 +235,7 @@ pub fn planned<T: Timeline>(
     Ok((timeline, delta, searches))
 }
 
-// Whether the runs of each section are those that are built anew.
+// Answers whether the outage intervals of each section equal those built from scratch.
 fn is_as_built<T: Timeline>(
     alloc: Global,
     net: &mut Net,
@@ -249,7 +257,7 @@ fn is_as_built<T: Timeline>(
     Ok(true)
 }
 
-// Takes over what a command asks for.
+// Plans and adopts the change that a command asks for.
 fn take_over<T: Timeline>(
     alloc: Global,
     net: &mut Net,
@@ -283,7 +291,7 @@ fn effect_of<T: Timeline>(alloc: Global, case: &Case) -> Result<Effect, Fail> {
     take_over::<T>(alloc, &mut net, &mut sheet, &period, &command)
 }
 
-// The effect is the one that the case wants, by so many searches.
+// Checks that the effect and the number of searches are those that the case expects.
 fn is_wanted(rt: &impl Abort, case: &Case, searches: u128, effect: &Effect) {
     let title = case.title;
     assert!(rt;
@@ -309,7 +317,7 @@ fn is_wanted(rt: &impl Abort, case: &Case, searches: u128, effect: &Effect) {
     assert!(rt; effect.is_as_built, "{title}: built anew");
 }
 
-/// On each timeline these changes have their effects.
+/// Checks on each timeline that these changes have the expected effects.
 pub fn alter(rt: &impl Abort, alloc: Global, cases: &[Case]) -> Result<(), Fail> {
     for case in cases {
         is_wanted(

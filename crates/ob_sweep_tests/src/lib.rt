@@ -1,9 +1,11 @@
-//! Tests of the crates between the commands and the postings: the switching sheet of `ob_sheet`, the roll of `ob_cust`, and
-//! worked examples of the timelines of `ob_sweep`. An example is a small network and a switching sheet by the body texts of
-//! commands, the runs that are built, and for a change of the sheet the sections that it touches, their new runs and the
-//! searches that it takes. Each is taken on every timeline, through the trait alone.
+//! Tests of the crates between the commands and the index amounts: the switching log of `ob_sheet`,
+//! the customer register of `ob_cust`, and worked examples of the timelines of `ob_sweep`. An
+//! example gives a small network and a switching log as body texts of commands. It lists the outage
+//! intervals that are built and, for a change, the touched sections, their new outage intervals and
+//! the searches that it takes. Each example runs on every timeline, through the trait alone.
 //!
-//! It holds tests alone. Expected values are worked out by hand from the definitions.
+//! This crate holds only tests, and no other crate uses it. The expected values are worked out by
+//! hand from the definitions.
 #![tactic(auto)]
 
 #[cfg(test)]

@@ -1,8 +1,10 @@
-//! What a change of the network touches where devices have lives, the new runs, and the searches that it takes.
+//! Tests of a change of the network whose devices have lives: what it touches, the new outage
+//! intervals, and the searches it takes.
 use crate::example::{Case, DAY, Days, alter};
 use std::test::Fail;
 
-// From 3600 on S1 waits for its breaker, and S2 until 4200 for the tie.
+// From 3600 on S1 has no supply until its breaker closes, and S2 has none until the tie closes at
+// 4200.
 const TAKEN_OVER: &'static str = "\
 switch B1 open 3600 3 K1
 switch W1 open 4200 3 K1
@@ -10,7 +12,7 @@ switch T1 close 4200 3 K1
 switch B1 close 7200 3 K1
 ";
 
-// S1 and S2 wait for their breaker.
+// S1 and S2 have no supply until their breaker closes.
 const WAITING: &'static str = "\
 switch B1 open 3600 3 K1
 switch B1 close 7200 3 K1
@@ -108,7 +110,7 @@ const CHANGES: &'static [Case] = &[
         touched: "S5 ",
         runs: "S1 3600 7200 1\nS2 3600 4200 1\nS4 0 86400 -\nS5 0 86400 -\n",
     },
-    // In the second 4000 the breaker goes, the tie comes and is closed.
+    // In second 4000 the breaker's life ends, and the tie's life begins and the tie is closed.
     Case {
         title: "lives turn before the switchings of their second",
         days: DAY,
@@ -209,7 +211,7 @@ const CHANGES: &'static [Case] = &[
         touched: "",
         runs: "S1 3600 7200 1\nS2 3600 4200 1\nS4 0 86400 -\n",
     },
-    // By then S2 is supplied over the tie alone.
+    // At that time only the tie supplies S2.
     Case {
         title: "a life that differs in the last second",
         days: DAY,
@@ -290,7 +292,7 @@ const CHANGES: &'static [Case] = &[
         touched: "S1 S2 S3 ",
         runs: "S1 3600 86400 1\nS2 3600 86400 1\nS3 5000 86400 -\nS4 0 86400 -\n",
     },
-    // Until 6000 the new device supplies S3 past its open breaker.
+    // Until 6000 the new device supplies S3 although its breaker is open.
     Case {
         title: "cut off by the end of a life and no more by an opening",
         days: DAY,

@@ -1,11 +1,12 @@
-//! The runs counted plainly: a walk of the network for each second that may matter, and one for each entry of it.
+//! The outage intervals counted by brute force: one walk of the network for each second that may
+//! matter, and one for each entry of that second.
 use ob_net::{Net, Pos, Second};
 use ob_sheet::{Entry, Sheet};
 use ob_sweep::Run;
 use std::alloc::Global;
 use std::test::Fail;
 
-/// A network, its sheet, and the nodes that each device joins.
+/// A network, its switching log, and the two nodes that each device joins.
 #[derive(Drop)]
 pub struct World {
     pub net: Net,
@@ -13,8 +14,8 @@ pub struct World {
     pub ends: Vec<(u16, u16)>,
 }
 
-// What is known at a second: whether each device was closed last, which nodes are supplied, and for each node the last entry of
-// this second that cut it off.
+// The state at a second: whether the last position of each device is closed, which nodes are
+// supplied, and for each node the last entry of this second that cut it off.
 #[derive(Drop)]
 struct Moment {
     closed: Vec<bool>,
@@ -22,7 +23,8 @@ struct Moment {
     cutters: Vec<Option<u32>>,
 }
 
-// The nodes that a walk of devices reaches from GRID at a second: of those that were closed last and are alive then.
+// The nodes that a walk from GRID reaches at a second, over the devices that were last closed and
+// are within their lives.
 fn walk(alloc: Global, world: &World, closed: &[bool], second: Second) -> Result<Vec<bool>, Fail> {
     let net = &world.net;
     let mut joined = Vec::with_capacity(alloc, world.ends.len())?;
@@ -42,7 +44,7 @@ fn walk(alloc: Global, world: &World, closed: &[bool], second: Second) -> Result
     Ok(reached)
 }
 
-// Goes one device further; whether that reached some node.
+// Extends the reached nodes by one device; answers whether that reached a new node.
 fn go_on(joined: &[(u16, u16)], reached: &mut [bool]) -> bool {
     let mut is_further = false;
     for (a, b) in joined {
@@ -65,7 +67,7 @@ fn put<T: Copy>(values: &mut [T], place: u16, value: T) {
     }
 }
 
-// An entry acts.
+// Applies an entry.
 fn act(alloc: Global, world: &World, moment: &mut Moment, entry: &Entry) -> Result<(), Fail> {
     put(&mut moment.closed, entry.device, entry.pos == Pos::Closed);
     let after = walk(alloc, world, &moment.closed, entry.second)?;
@@ -78,7 +80,8 @@ fn act(alloc: Global, world: &World, moment: &mut Moment, entry: &Entry) -> Resu
     Ok(())
 }
 
-// Moves on to a second: lives turn, and then the entries of this second act in the order of their numbers.
+// Moves on to a second: first lives begin and end, then the entries of this second apply in the
+// order of their numbers.
 fn move_on(alloc: Global, world: &World, moment: &mut Moment, second: Second) -> Result<(), Fail> {
     moment.supplied = walk(alloc, world, &moment.closed, second)?;
     moment.cutters = vec![in alloc; None; usize::from(world.net.nodes())]?;
@@ -94,7 +97,7 @@ fn move_on(alloc: Global, world: &World, moment: &mut Moment, second: Second) ->
     Ok(())
 }
 
-// The run of each node without supply goes on from a second to the next one, or begins.
+// Extends or begins the outage interval of each node without supply, from a second to the next one.
 fn lengthen(
     lists: &mut [Vec<Run>],
     moment: &Moment,
@@ -131,7 +134,8 @@ fn normal(alloc: Global, net: &Net) -> Result<Moment, Fail> {
     })
 }
 
-/// The runs of every node up to an end: the seconds rise, and nothing is entered and no life turns at others.
+/// The outage intervals of every node up to an end. The seconds must rise, and entries and the
+/// beginnings and ends of lives must all be at one of them.
 pub fn plain_runs(
     alloc: Global,
     world: &World,

@@ -1,4 +1,5 @@
-//! Changes that look random of networks whose devices have lives: after each, the runs of a timeline are those of the plain count.
+//! Tests with pseudo-random changes of networks whose devices have lives: after each change the
+//! outage intervals of a timeline equal those of the brute-force count.
 ghost use Rattle.std.specs.Prelude.{◌≡◌, ◌<◌, ◌≤◌, [], IfOk, OnOk, length};
 ghost use Rattle.std.specs.List.{All};
 ghost use Rattle.ob_sheet.specs.Sheet.{NameDevices};
@@ -19,14 +20,15 @@ use std::alloc::Global;
 use std::process::Abort;
 use std::test::Fail;
 
-// The seconds of 1970-01-02. Entries lie and lives turn within the first 9 of them and the last 3, or outside the day.
+// The seconds of 1970-01-02. Entries and the beginnings and ends of lives are within the first 9
+// seconds and the last 3 of the day, or outside it.
 const FIRST: Second = 86_400;
 
 const END: Second = 172_800;
 
 const DEVICES: [&'static str; 10] = ["D0", "D1", "D2", "D3", "D4", "D5", "D6", "D7", "D8", "D9"];
 
-// Numbers that look random, the same from the same seed.
+// Pseudo-random numbers: the same seed gives the same numbers.
 #[derive(Drop)]
 struct Random {
     state: u64,
@@ -44,7 +46,8 @@ impl Random {
         (self.state >> 33) % limit
     }
 
-    // A second of an entry, or one at which a life turns: up to so many seconds outside the day.
+    // A second of an entry, or of the beginning or end of a life: at most `outside` seconds outside
+    // the day.
     fn second(&mut self, outside: u64) -> Second
         requires { outside ≤ 3 }
     {
@@ -74,14 +77,14 @@ impl Random {
         })
     }
 
-    // Another life of one of so many devices.
+    // A command that gives another life to one of this many devices.
     fn other_life(&mut self, devices: u16) -> Option<Command> {
         let device = Name::read(self.name(devices)?.as_bytes())?;
         let life = self.life()?;
         Some(Command::Life { device, life })
     }
 
-    // A device more, the one with this number, between two of so many nodes.
+    // A command that adds the device with this number between two of this many nodes.
     fn device(&mut self, number: u16, nodes: u16) -> Option<Command> {
         let name = name_at(&DEVICES, u64::from(number))?;
         let ends = self.ends(nodes)?;
@@ -102,7 +105,7 @@ impl Random {
         Ends::new(name_at(&NODES, a)?, name_at(&NODES, b)?)
     }
 
-    // The name of one of so many devices.
+    // The name of one of this many devices.
     fn name(&mut self, devices: u16) -> Option<&'static str> {
         let number = self.below(u64::from(devices.max(1))) as usize;
         DEVICES.get(number).copied()
@@ -130,7 +133,8 @@ fn name_at(texts: &[&str], place: u64) -> Option<Name> {
     Name::read(texts.get(place as usize)?.as_bytes())
 }
 
-// One change: a section, a device or another life, or what the body text asks of the sheet.
+// One change: a new section, a new device, another life, or the change of the switching log that
+// the body text asks for.
 fn ask(random: &mut Random, net: &Net, body: &str) -> Option<Command> {
     let (nodes, devices) = (net.nodes(), net.devices());
     match random.below(8) {
@@ -141,7 +145,7 @@ fn ask(random: &mut Random, net: &Net, body: &str) -> Option<Command> {
     }
 }
 
-// Keeps the ends of a device more.
+// Keeps the ends of a new device.
 fn keep_ends(net: &Net, ends: &mut Vec<(u16, u16)>, command: &Command) -> Result<(), Fail> {
     if let Command::Device(device) = command {
         let a = net.node_of(device.ends.a()).ok_or("a node")?;
@@ -159,7 +163,7 @@ section S3 2
 section S4 2
 ";
 
-// A network of five devices, on which nothing was switched.
+// A network of five devices with an empty switching log.
 fn world(alloc: Global, random: &mut Random) -> Result<World, Fail>
     ensures { IfOk result (λ w. w.sheet.entries ≡ []) }
 {
@@ -177,7 +181,7 @@ fn five_devices(alloc: Global, random: &mut Random) -> Result<(Net, Vec<(u16, u1
     Ok((net, ends))
 }
 
-// A device of this number joins.
+// Adds the device with this number.
 fn join(
     random: &mut Random,
     net: &mut Net,
@@ -189,7 +193,7 @@ fn join(
     keep_ends(net, ends, &command)
 }
 
-// The runs of every node by the plain count.
+// The outage intervals of every node by the brute-force count.
 fn counted(alloc: Global, world: &World) -> Result<Vec<Vec<Run>>, Fail> {
     let mut seconds = Vec::new(alloc);
     for second in (FIRST..FIRST + 10).chain(END - 3..END) {
@@ -198,7 +202,7 @@ fn counted(alloc: Global, world: &World) -> Result<Vec<Vec<Run>>, Fail> {
     plain_runs(alloc, world, &seconds, END)
 }
 
-// The runs of each section are those of the plain count.
+// Checks that the outage intervals of each section equal those of the brute-force count.
 fn agrees<T: Timeline>(
     rt: &impl Abort,
     alloc: Global,
@@ -223,7 +227,7 @@ fn drawn(alloc: Global, random: &mut Random, world: &World) -> Result<Command, F
     Ok(ask(random, &world.net, body.as_str()).ok_or("a command")?)
 }
 
-// Takes a change over.
+// Adopts a change.
 fn step<T: Timeline>(
     rt: &impl Abort,
     alloc: Global,

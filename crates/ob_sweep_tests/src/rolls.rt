@@ -1,4 +1,5 @@
-//! The roll: customers by number, why one is refused, seconds of service, and equal services.
+//! Tests of the customer register: customers by number, refusals, seconds of service, and equal
+//! services.
 use ob_cust::{Block, Customer, Roll, SectionBlock};
 use ob_net::{LAST_SECOND, Refusal, Second, Stop};
 use std::alloc::Global;
@@ -14,7 +15,7 @@ fn service(no: u32, section: u16, since: Second, until: Option<Second>) -> Custo
     }
 }
 
-// The roll of these customers, connected one after another.
+// The register of these customers, connected one after another.
 fn roll_of(alloc: Global, customers: &[Customer]) -> Result<Roll, Fail> {
     let mut roll = Roll::new(alloc);
     for customer in customers {
@@ -80,7 +81,7 @@ fn refuses_a_taken_number_before_a_bad_service(rt: HostRuntime) -> Result<(), Fa
     Ok(())
 }
 
-// A customer, the bounds of its new service, and why it is refused.
+// A customer, the bounds of its new service, and why they are refused.
 type RevisionRow = (u32, Second, Option<Second>, Refusal);
 
 fn are_not_revised(rt: &impl Abort, roll: &mut Roll, rows: &[RevisionRow]) {
@@ -107,7 +108,7 @@ fn revises_the_service_of_one_customer(rt: HostRuntime) -> Result<(), Fail> {
     Ok(())
 }
 
-// Connects a customer that isn't refused, and ends its service at a second.
+// Connects a customer, which may not be refused, and ends its service at a second.
 fn add_and_serve(
     rt: &impl Abort,
     roll: &mut Roll,
@@ -136,7 +137,7 @@ fn adds_a_customer_and_ends_its_service(rt: HostRuntime) -> Result<(), Fail> {
     Ok(())
 }
 
-// A section, the bounds of a span, and the seconds of service in it.
+// A section, the bounds of a span, and the expected seconds of service in it.
 fn serves(rt: &impl Abort, roll: &Roll, rows: &[(u16, Second, Second, u64)]) {
     for (section, a, b, seconds) in rows {
         assert!(rt; *b <= LAST_SECOND);

@@ -1,4 +1,4 @@
-//! Switching sheets by the body texts of commands: switchings, corrections and withdrawals.
+//! Switching logs made from the body texts of commands: switchings, corrections and withdrawals.
 ghost use Rattle.std.specs.Prelude.{◌<◌, ◌≤◌, IfOk, OnOk, length};
 ghost use Rattle.std.specs.List.{All};
 ghost use Rattle.ob_sheet.specs.Sheet.{NameDevices};
@@ -11,12 +11,12 @@ use ob_time::{CivilDays, Period};
 use std::alloc::Global;
 use std::test::Fail;
 
-/// Some days in UTC, by the date of the first one and how many they are.
+/// A period of this many days in UTC from the date of the first one.
 pub fn period_of(alloc: Global, first: &[u8], days: u16) -> Result<Period, Fail> {
     Ok(Period::from_text(alloc, first, days, b"UTC0")?)
 }
 
-/// The sheet after the commands of a script's lines, one after another.
+/// The switching log after the commands of a script's lines, one after another.
 pub fn sheet_of(alloc: Global, net: &Net, period: &CivilDays, script: &str) -> Result<Sheet, Fail>
     ensures devices { IfOk result (λ s. NameDevices (length net.now.network.devices) s.entries) }
     ensures all { IfOk result (λ s. All (λ e. (first_second_of period.now ≤ e.second)

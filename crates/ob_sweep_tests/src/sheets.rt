@@ -1,4 +1,5 @@
-//! Switching sheets: the order of their entries, the positions that these leave, corrections and withdrawals.
+//! Tests of switching logs: the order of their entries, the positions that these leave, corrections
+//! and withdrawals.
 ghost use Rattle.std.specs.Prelude.{IfOk, length};
 ghost use Rattle.ob_sheet.specs.Sheet.{NameDevices};
 
@@ -26,7 +27,7 @@ switch D1 close 100 7 CREW-1
 switch D3 open 200 7 CREW-1
 ";
 
-// The devices with these lives, and their sheet.
+// The devices with these lives, and their switching log.
 fn switched(alloc: Global, lives: &str) -> Result<(Net, Sheet), Fail>
     ensures { IfOk result (λ s. NameDevices (length s.0.network.devices) s.1.entries) }
 {
@@ -35,7 +36,7 @@ fn switched(alloc: Global, lives: &str) -> Result<(Net, Sheet), Fail>
     Ok((net, sheet))
 }
 
-// The sheet of a day after the commands of a script's lines.
+// The switching log of a day after the commands of a script's lines.
 fn entered(alloc: Global, net: &Net, date: &[u8], script: &str) -> Result<Sheet, Fail>
     ensures { IfOk result (λ s. NameDevices (length net.now.network.devices) s.entries) }
 {
@@ -75,7 +76,7 @@ fn a_late_entry_before_an_earlier_opening(rt: HostRuntime) -> Result<(), Fail> {
     Ok(())
 }
 
-// The positions before each place of the order, whatever the devices' lives.
+// Checks the positions before each place in the order of entries, whatever the devices' lives.
 fn leaves(rt: &impl Abort, sheet: &Sheet, net: &Net, rows: &[[Pos; 3]]) -> Result<(), Fail>
     requires { NameDevices (length net.now.network.devices) sheet.now.entries }
 {
@@ -105,7 +106,8 @@ fn positions_at_each_place(rt: HostRuntime) -> Result<(), Fail> {
     )
 }
 
-// A place of the order, a second, and the positions before the one as of the other.
+// A place in the order of entries, a second, and the positions before that place, with devices open
+// outside their lives at that second.
 fn stand(
     rt: &impl Abort,
     sheet: &Sheet,
@@ -142,7 +144,8 @@ fn devices_are_open_outside_their_lives(rt: HostRuntime) -> Result<(), Fail> {
     )
 }
 
-// From the normal positions on to a second, one after the other: the place after it, and the positions.
+// Moves on from the normal positions to one second after another: each row has the second, the
+// place after it and the positions.
 fn moves_on(rt: &impl Abort, sheet: &Sheet, rows: &[(Second, usize, [Pos; 3])])
     requires { NameDevices 3 sheet.now.entries }
 {
@@ -175,7 +178,8 @@ fn positions_move_on_to_a_second(rt: HostRuntime) -> Result<(), Fail> {
     Ok(())
 }
 
-// The fourth entry goes first, the first one behind the opening before it, and the third one goes.
+// Corrections move the fourth entry to the front and the first entry to after the opening that
+// preceded it; then the third entry is withdrawn.
 fn revise(rt: &impl Abort, sheet: &mut Sheet, crew: Crew) {
     assert!(rt; sheet.correct(4, 1, Closed, 50, 3, crew) == Ok(()));
     assert!(rt; sheet.correct(1, 1, Opened, 300, 7, crew) == Ok(()));
@@ -184,7 +188,7 @@ fn revise(rt: &impl Abort, sheet: &mut Sheet, crew: Crew) {
     is_in_order(rt, sheet, &[4, 1, 2]);
 }
 
-// An entry and the revision that was seen, and why it is neither corrected nor withdrawn.
+// An entry, the revision that was seen, and the refusal of both a correction and a withdrawal.
 fn are_refused(rt: &impl Abort, sheet: &mut Sheet, crew: Crew, rows: &[(u32, u32, Refusal)]) {
     for (no, rev, refusal) in rows {
         assert!(rt; sheet.correct(*no, *rev, Opened, 0, 0, crew) == Err(*refusal));
@@ -232,7 +236,8 @@ fn revisions_are_refused(rt: HostRuntime) -> Result<(), Fail> {
     Ok(())
 }
 
-// Enters a closing as the fifth entry, and has an earlier one in its place: the entry as it is then.
+// Enters a closing as the fifth entry, then replaces it by its second revision at an earlier
+// second, which it answers.
 fn add_and_replace(rt: &impl Abort, sheet: &mut Sheet, crew: Crew) -> Result<Entry, Fail> {
     sheet.reserve_one()?;
     assert!(rt; sheet.len() == 4);

@@ -1,4 +1,4 @@
-//! Spans, rows as a whole, and the bad column of a row.
+//! Tests of spans, of rows as a whole, and of the bad column of a row.
 use crate::script::script;
 use std::test::Fail;
 

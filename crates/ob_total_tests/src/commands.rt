@@ -1,4 +1,4 @@
-//! Commands on a network without an entry, and on one with an entry.
+//! Tests of commands on a network without an entry, and on one with an entry.
 use crate::script::script;
 use std::test::Fail;
 
@@ -71,7 +71,7 @@ fn commands_of_an_open_network(rt: HostRuntime) -> Result<(), Fail> {
     script(&rt, rt.alloc(), FEEDER, OPEN)
 }
 
-// The same, with an opening on the sheet.
+// The same rows, followed by an opening in the switching log.
 const OPENED: &'static str = "\
 span,A0,100,200,,,,
 bus,A1,BUS-A,,,,,
@@ -82,7 +82,7 @@ connect,C1,1,S1,0,,,
 switch,E1,B1,open,150,3,K1,
 ";
 
-// The network may change behind entries.
+// The network may change after entries.
 const ENTERED: &'static str = "\
 W 50
 bus,X,BUS-B,,,,, => W 50

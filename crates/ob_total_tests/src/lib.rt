@@ -1,7 +1,9 @@
-//! Tests of the way of a text through `total`: its rows, its fields, its commands, its total and the first refusal in it,
-//! with readers and writers that fail, the words of the command line, and what the program tells and ends with.
+//! Tests of the path of a text through `total`: its rows, its fields, its commands, its total and
+//! the first refusal in it. They also cover readers and writers that fail, the arguments of the
+//! command line, and the program's messages and exit statuses.
 //!
-//! It holds tests alone. The rows, totals and refusals are worked out by hand from the rules.
+//! This crate holds only tests, and no other crate uses it. The rows, totals and refusals are
+//! worked out by hand from the rules.
 #![tactic(auto)]
 
 #[cfg(test)]

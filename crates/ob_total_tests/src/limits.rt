@@ -1,4 +1,4 @@
-//! The most rows, nodes, devices, customers and entries.
+//! Tests of the limits on rows, nodes, devices, customers and entries.
 use crate::commands::FEEDER;
 use crate::script::script;
 use std::alloc::{AllocError, Global};
@@ -7,7 +7,7 @@ use std::test::Fail;
 
 const SPAN: &'static str = "span,A0,100,200,,,,\n";
 
-// The rows of `base`, and so many more that are alike.
+// The rows of `base`, followed by `count` copies of a row.
 fn repeated(alloc: Global, base: &str, row: &str, count: usize) -> Result<String, AllocError> {
     let mut rows = String::from_str(alloc, base)?;
     for _ in 0..count {
@@ -16,7 +16,8 @@ fn repeated(alloc: Global, base: &str, row: &str, count: usize) -> Result<String
     Ok(rows)
 }
 
-// The rows of `base`, and one for each of these numbers, which stands between `front` and `back`.
+// The rows of `base`, followed by one row for each number, with the number between `front` and
+// `back`.
 fn numbered(
     alloc: Global,
     base: &str,
@@ -68,7 +69,7 @@ device,A,X,GRID,S1,open,7,7 => refused 18 BadLife row 2053
 life,A,D9,7,8,,, => W 0
 ";
 
-// FEEDER has two of them.
+// FEEDER has two of the devices.
 #[test]
 fn the_most_devices(rt: HostRuntime) -> Result<(), Fail> {
     let base = numbered(rt.alloc(), FEEDER, "device,A,D", 0..2046, ",GRID,S1,open,,")?;
@@ -83,7 +84,7 @@ connect,C,100000,S1,0,,, => refused 3 NameTaken row 100006
 connect,C,100001,S2,0,,, => refused 2 UnknownName row 100006
 ";
 
-// FEEDER has the first of them.
+// FEEDER has the first of the customers.
 #[test]
 fn the_most_customers(rt: HostRuntime) -> Result<(), Fail> {
     let base = numbered(rt.alloc(), FEEDER, "connect,C,", 2..100_001, ",S1,300,,,")?;
@@ -98,7 +99,7 @@ switch,E,B1,open,160,3,K1,;switch,E,B1,close,200,3,K1, => refused 5 OutOfPeriod 
 switch,E,B1,open,160,3,K1,;switch,E,B9,close,170,3,K1, => refused 2 UnknownName row 50007
 ";
 
-// One fewer than the most.
+// Tests one entry fewer than the most.
 #[test]
 fn the_most_entries(rt: HostRuntime) -> Result<(), Fail> {
     let base = repeated(rt.alloc(), FEEDER, "switch,E,B1,close,150,3,K1,\n", 49_999)?;

@@ -1,4 +1,4 @@
-//! Totals of devices' lives.
+//! Tests of totals with in-service intervals (lives) of devices.
 use crate::commands::FEEDER;
 use crate::script::script;
 use crate::totals::TIED;
@@ -40,7 +40,7 @@ fn lives_of_a_breaker(rt: HostRuntime) -> Result<(), Fail> {
     script(&rt, rt.alloc(), FEEDER, BREAKER)
 }
 
-// Lines that are taken down and ties that join, with two customers behind B2 and one before it.
+// Lines whose lives end and ties whose lives begin, with two customers past B2 and one before it.
 const LINES: &'static str = "\
 life,L1,B2,,40,,, => W 120
 life,L1,B1,,40,,, => W 180

@@ -1,4 +1,4 @@
-//! The rows of texts, against RFC 4180 and the rules of `RowReader`, by hand.
+//! Tests of the rows of texts, worked out by hand from RFC 4180 and the rules of `RowReader`.
 use ob_csv::{Row, RowReader, column_names};
 use ob_net::{Fault, Stop};
 use std::alloc::Global;
@@ -7,7 +7,7 @@ use std::io::{ErrorKind, Read};
 use std::process::Abort;
 use std::test::Fail;
 
-// The rows of a text, each before a `;`.
+// The rows of a text, each followed by a `;`.
 fn shown(alloc: Global, text: &[u8]) -> Result<Vec<u8>, Stop> {
     let mut rows = RowReader::new(alloc, text);
     let mut row = Row::new(alloc);
@@ -32,7 +32,8 @@ fn show_rest<R: Read>(
     Ok(())
 }
 
-// A row with a field for each column, each field in `<>`, an empty one as `.`; any other row as `-`.
+// Shows a row with a field for each column by its fields, each in `<>`, an empty one as `.`; any
+// other row as `-`.
 fn show(row: &Row, out: &mut Vec<u8>) -> Result<(), Stop> {
     let Some(fields) = row.fields() else {
         out.push(b'-')?;
@@ -55,7 +56,7 @@ fn show_field(field: &[u8], out: &mut Vec<u8>) -> Result<(), Stop> {
     Ok(())
 }
 
-// Texts have these rows.
+// Checks the rows of each text.
 fn show_rows(rt: &impl Abort, alloc: Global, table: &[(&[u8], &[u8])]) -> Result<(), Fail> {
     for (text, wanted) in table {
         let rows = shown(alloc, text)?;
@@ -165,7 +166,7 @@ fn eight_fields_stand_in_their_order(rt: HostRuntime) -> Result<(), Fail> {
     )
 }
 
-// The first rows of texts have eight fields, or have not.
+// Checks that the first row of each text has eight fields, or that it hasn't.
 fn have_eight(rt: &impl Abort, alloc: Global, wanted: bool, texts: &[&[u8]]) -> Result<(), Fail> {
     for text in texts {
         let row = first(alloc, text)?;
@@ -192,7 +193,7 @@ fn only_rows_of_eight_have_eight_fields(rt: HostRuntime) -> Result<(), Fail> {
     )
 }
 
-// The first rows of texts are headers, or are not.
+// Checks that the first row of each text is the header, or that it isn't.
 fn are_headers(rt: &impl Abort, alloc: Global, wanted: bool, texts: &[&[u8]]) -> Result<(), Fail> {
     for text in texts {
         let row = first(alloc, text)?;

@@ -1,4 +1,4 @@
-//! What runs over texts say, by scripts of lines.
+//! Scripts of lines that check what `total` answers and writes for texts.
 use ob_cli::complaint_of;
 use ob_net::Watched;
 use ob_total::{TotalStop, run_total};
@@ -8,7 +8,8 @@ use std::test::Fail;
 
 const HEADER: &'static str = "kind,ref,f1,f2,f3,f4,f5,f6\n";
 
-/// A run over a text says this: `W` and the total, and writes it, or the line of its refusal, and writes nothing.
+/// Checks the answer for a text: `W` and the total, which is also written, or the line of a
+/// refusal, and then nothing is written.
 pub fn says(rt: &impl Abort, alloc: Global, text: &[u8], wanted: &str) -> Result<(), Fail> {
     let mut reader = Watched::new(text);
     let mut writer = Watched::new(Vec::new(alloc));
@@ -20,7 +21,7 @@ pub fn says(rt: &impl Abort, alloc: Global, text: &[u8], wanted: &str) -> Result
     Ok(())
 }
 
-// What an answer says.
+// The line of an answer.
 fn line_of(alloc: Global, answer: &Result<u64, TotalStop>) -> Result<String, AllocError> {
     match answer {
         Ok(total) => format!(in alloc; "W {total}"),
@@ -28,7 +29,7 @@ fn line_of(alloc: Global, answer: &Result<u64, TotalStop>) -> Result<String, All
     }
 }
 
-// Whether the line of a total was written, or nothing for a refusal.
+// Answers whether the line of a total was written, or nothing after a refusal.
 fn is_written(answer: &Result<u64, TotalStop>, written: &[u8], line: &[u8]) -> bool {
     match answer {
         Ok(_) => written.strip_suffix(b"\n") == Some(line),
@@ -36,8 +37,9 @@ fn is_written(answer: &Result<u64, TotalStop>, written: &[u8], line: &[u8]) -> b
     }
 }
 
-/// Runs over the header, the rows of `base` and those of a script's lines, one line after another. A line is some rows with
-/// `;` between them, ` => `, and what is wanted; what is wanted alone is that of `base`. A line that begins with `#` is a comment.
+/// Computes the total of the header, the rows of `base` and the rows of each script line. A line is
+/// some rows with `;` between them, ` => `, and the expected answer; a line with only an answer is
+/// checked on `base` alone. A line that begins with `#` is a comment.
 pub fn script(rt: &impl Abort, alloc: Global, base: &str, lines: &str) -> Result<(), Fail> {
     for line in lines.lines() {
         if !line.starts_with("#") {
@@ -49,7 +51,7 @@ pub fn script(rt: &impl Abort, alloc: Global, base: &str, lines: &str) -> Result
     Ok(())
 }
 
-/// A text behind another.
+/// One text followed by another.
 pub fn joined(alloc: Global, front: &str, back: &str) -> Result<String, AllocError> {
     let mut text = String::from_str(alloc, front)?;
     text.push_str(back)?;

@@ -1,4 +1,4 @@
-//! The line that tells a stop, and the status of a run.
+//! Tests of the line that reports a stop, and of the exit status of the program.
 use crate::streams::Source;
 use crate::texts::FIRST_RUN;
 use ob_cli::{Unfinished, WrongWords, complaint_of, status_of_run};
@@ -9,7 +9,7 @@ use std::io::Read;
 use std::process::Abort;
 use std::test::Fail;
 
-// The line of a stop is this.
+// Checks the line of a stop.
 fn complains(
     rt: &impl Abort,
     alloc: Global,
@@ -50,7 +50,7 @@ fn a_complaint_has_number_name_detail_and_row(rt: HostRuntime) -> Result<(), Fai
     Ok(())
 }
 
-// The status after a run over a reader.
+// The exit status after computing the total of a reader's text.
 fn status_after<R: Read>(alloc: Global, reader: &mut Watched<R>) -> u8 {
     let mut writer = Watched::new(Vec::new(alloc));
     match run_total(alloc, reader, &mut writer) {
@@ -67,7 +67,7 @@ fn statuses_of_runs(rt: HostRuntime) {
     assert!(rt; status_after(alloc, &mut Source::new(FIRST_RUN.as_bytes(), true)) == 1);
 }
 
-// The status after a run that was stopped.
+// The exit status after a stop.
 fn status_of(stop: Stop) -> u8 {
     status_of_run(&Err(Unfinished::Stopped(stop, None)))
 }
@@ -79,7 +79,7 @@ fn statuses_of_stops(rt: HostRuntime) {
     assert!(rt; status_of_run(&Err(Unfinished::Differs)) == 2);
 }
 
-// The words' own status is these words' as those of a run.
+// Answers whether wrong arguments have this status, both alone and as the end of the program.
 fn ends_with(wrong: WrongWords, wanted: u8) -> bool {
     wrong.status() == wanted && status_of_run(&Err(Unfinished::Words(wrong))) == wanted
 }

@@ -1,4 +1,5 @@
-//! Runs over readers and writers that fail, are slow or give too much, and runs short of memory.
+//! Tests of `total` with readers and writers that fail, are slow or give too much, and with too
+//! little memory.
 use crate::texts::FIRST_RUN;
 use ob_net::{Fault, Stop, Watched};
 use ob_total::{TotalStop, run_total};
@@ -13,7 +14,8 @@ section,A1,S1,1,,,,
 connect,C1,1,S1,0,,,
 ";
 
-/// Gives one byte a read and is interrupted before each read; fails behind its bytes where `fails`.
+/// Gives one byte a read and is interrupted before each read; after its bytes it fails if `fails`
+/// is set.
 #[derive(Drop)]
 pub struct Source<'b> {
     rest: &'b [u8],
@@ -47,8 +49,8 @@ impl Read for Source<'_> {
     }
 }
 
-// Takes one byte a write while it has room, interrupted before each, and then answers this error,
-// or 0.
+// Takes one byte a write while it has room and is interrupted before each write; once full it
+// answers the error `full`, or 0 if there is none.
 #[derive(Drop)]
 struct Sink {
     taken: Vec<u8>,
@@ -98,7 +100,7 @@ fn fault(fault: Fault) -> Result<u64, TotalStop> {
     })
 }
 
-// A run over a reader that stops for a failed input, and writes nothing.
+// Answers whether `total` stops with an input fault for a reader, and writes nothing.
 fn stops_for_input<R: Read + Drop>(alloc: Global, mut reader: Watched<R>) -> bool {
     let mut writer = Watched::new(Vec::new(alloc));
     let answer = run_total(alloc, &mut reader, &mut writer);
@@ -112,7 +114,8 @@ fn readers_that_fail(rt: HostRuntime) {
     }
 }
 
-// A run over a writer with room for so many bytes stops for a failed output when they are written.
+// Answers whether `total` stops with an output fault for a writer with room for `room` bytes, after
+// it wrote that many.
 fn stops_for_output(alloc: Global, room: usize, full: Option<ErrorKind>) -> bool {
     let line = b"W 10\n".as_slice();
     let mut reader = Watched::new(SMALL);
@@ -155,8 +158,8 @@ fn a_text_that_is_too_long(rt: HostRuntime) {
     assert!(rt; stops_for_input(rt.alloc(), Watched::new(Endless)));
 }
 
-// Run with one allocation refused, it sees that a run that stops for it writes nothing. The writer's
-// own memory is among what may be refused.
+// Run with one allocation refused, this test checks that `total` writes nothing if that stops it.
+// The refused allocation may also be the writer's own.
 #[test]
 fn memory_refused(rt: HostRuntime) {
     let mut reader = Watched::new(FIRST_RUN.as_bytes());

@@ -1,10 +1,10 @@
-//! Whole texts: the first run, and the forms that a text may have.
+//! Tests of whole texts: a first example, and the forms that a text may have.
 use crate::script::{joined, says};
 use std::alloc::Global;
 use std::process::Abort;
 use std::test::Fail;
 
-/// The text of the first run, whose total is 9,000.
+/// The text of the first example, whose total is 9,000.
 pub const FIRST_RUN: &'static str = "\
 kind,ref,f1,f2,f3,f4,f5,f6
 span,A0,0,10000,,,,
@@ -38,7 +38,7 @@ fn first_run(rt: HostRuntime) -> Result<(), Fail> {
     says(&rt, rt.alloc(), FIRST_RUN.as_bytes(), "W 9000")
 }
 
-// The last entry of the first run, at the end of the span.
+// The last entry of the first example, moved to the end of the span.
 #[test]
 fn first_run_past_its_span(rt: HostRuntime) -> Result<(), Fail> {
     let last = "switch,E4,B1,close,7200,3,K1,\n";
@@ -52,13 +52,14 @@ fn first_run_past_its_span(rt: HostRuntime) -> Result<(), Fail> {
     )
 }
 
-// A first run with these rows behind it.
+// Checks the first example followed by these rows.
 fn first_run_and(rt: &impl Abort, alloc: Global, rows: &str, wanted: &str) -> Result<(), Fail> {
     let text = joined(alloc, FIRST_RUN, rows)?;
     says(rt, alloc, text.as_bytes(), wanted)
 }
 
-// The tie is taken down at 6000, for three customers' 4,000 seconds; then it stands again.
+// The tie's life ends at 6000, so three customers lose supply for 4,000 seconds; then the life is
+// set without an end.
 #[test]
 fn first_run_without_its_tie(rt: HostRuntime) -> Result<(), Fail> {
     let ends = "life,L1,T1,,6000,,,\n";
@@ -67,14 +68,15 @@ fn first_run_without_its_tie(rt: HostRuntime) -> Result<(), Fail> {
     first_run_and(&rt, rt.alloc(), stands_again, "W 9000")
 }
 
-// Another device to the first section stands from 5000 on: its two customers have supply 2,200 seconds earlier.
+// The life of another device to the first section begins at 5000: its two customers have supply
+// 2,200 seconds earlier.
 #[test]
 fn first_run_with_one_device_more(rt: HostRuntime) -> Result<(), Fail> {
     let joins = "device,N1,X1,BUS-A,S1,closed,5000,\n";
     first_run_and(&rt, rt.alloc(), joins, "W 4600")
 }
 
-// Runs over texts say this.
+// Checks the answer for each text.
 fn say(rt: &impl Abort, alloc: Global, table: &[(&[u8], &str)]) -> Result<(), Fail> {
     for (text, wanted) in table {
         says(rt, alloc, text, wanted)?;

@@ -1,8 +1,8 @@
-//! Totals of switching and of service.
+//! Tests of totals of switching and of service.
 use crate::script::{joined, script};
 use std::test::Fail;
 
-/// Two sections one behind the other, with one customer and two, and a tie from the bus to the second.
+/// Two sections in a row, with one customer and two, and a tie from the bus to the second section.
 pub const TIED: &'static str = "\
 span,A0,0,100,,,,
 bus,A1,BUS-A,,,,,
@@ -70,7 +70,7 @@ connect,C4,4,S1,30,40,, => W 80
 connect,C5,5,S2,58,,,;connect,C4,4,S2,0,22,, => W 84
 ";
 
-// S2 is without supply from 20 to 60: 80 for its two customers.
+// S2 is without supply from 20 to 60: 80 customer-seconds for its two customers.
 #[test]
 fn totals_of_service(rt: HostRuntime) -> Result<(), Fail> {
     let base = joined(rt.alloc(), TIED, OUTAGE)?;

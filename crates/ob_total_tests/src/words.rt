@@ -1,8 +1,8 @@
-//! The words of the command line.
+//! Tests of the arguments of the command line.
 use ob_cli::{Job, WrongWords, read_words};
 use std::alloc::Global;
 
-// Whether words are refused, and this is told.
+// Answers whether arguments are refused with a message that contains this text.
 fn are_refused(alloc: Global, words: &[&str], told: &str) -> bool {
     match read_words(alloc, words) {
         Err(WrongWords::Wrong(text)) => text.contains(told),
@@ -13,7 +13,7 @@ fn are_refused(alloc: Global, words: &[&str], told: &str) -> bool {
     }
 }
 
-// Whether words ask for help, and this is told.
+// Answers whether arguments ask for help, and the help contains this text.
 fn show(alloc: Global, words: &[&str], told: &str) -> bool {
     match read_words(alloc, words) {
         Err(WrongWords::Help(text)) => text.contains(told),
@@ -24,7 +24,7 @@ fn show(alloc: Global, words: &[&str], told: &str) -> bool {
     }
 }
 
-// Whether words ask for the version, and just this is told.
+// Answers whether arguments ask for the version, and exactly this text is printed.
 fn tell_version(alloc: Global, words: &[&str], told: &str) -> bool {
     match read_words(alloc, words) {
         Err(WrongWords::Version(text)) => text.as_str() == told,
@@ -35,7 +35,7 @@ fn tell_version(alloc: Global, words: &[&str], told: &str) -> bool {
     }
 }
 
-// Whether words name the job `total`.
+// Answers whether arguments name the job `total`.
 fn name_total(alloc: Global, words: &[&str]) -> bool {
     match read_words(alloc, words) {
         Ok(job) => matches!(&job, Job::Total),
@@ -43,7 +43,8 @@ fn name_total(alloc: Global, words: &[&str]) -> bool {
     }
 }
 
-// Whether words name the job `init` of this book, from 2026-01-01, for these days, in EST5.
+// Answers whether arguments name the job `init` of this book, from 2026-01-01, for this many days,
+// in EST5.
 fn name_init(alloc: Global, words: &[&str], file: &str, number: u16) -> bool {
     match read_words(alloc, words) {
         Ok(
@@ -64,7 +65,7 @@ fn name_init(alloc: Global, words: &[&str], file: &str, number: u16) -> bool {
     }
 }
 
-// Whether words name the job `table` of this book.
+// Answers whether arguments name the job `table` of this book.
 fn name_table(alloc: Global, words: &[&str], file: &str) -> bool {
     match read_words(alloc, words) {
         Ok(Job::Table { book }) => book.as_str() == file,
@@ -73,7 +74,7 @@ fn name_table(alloc: Global, words: &[&str], file: &str) -> bool {
     }
 }
 
-// Whether words name the job `audit` of this book.
+// Answers whether arguments name the job `audit` of this book.
 fn name_audit(alloc: Global, words: &[&str], file: &str) -> bool {
     match read_words(alloc, words) {
         Ok(Job::Audit { book }) => book.as_str() == file,
@@ -82,7 +83,7 @@ fn name_audit(alloc: Global, words: &[&str], file: &str) -> bool {
     }
 }
 
-// Whether words name the job `migrate` of this book.
+// Answers whether arguments name the job `migrate` of this book.
 fn name_migrate(alloc: Global, words: &[&str], file: &str) -> bool {
     match read_words(alloc, words) {
         Ok(Job::Migrate { book }) => book.as_str() == file,
@@ -91,7 +92,7 @@ fn name_migrate(alloc: Global, words: &[&str], file: &str) -> bool {
     }
 }
 
-// Whether words name the job `serve` of this book, at this port, for so many streams.
+// Answers whether arguments name the job `serve` of this book, at this port, for this many streams.
 fn name_serve(alloc: Global, words: &[&str], file: &str, number: u16, count: u64) -> bool {
     match read_words(alloc, words) {
         Ok(
@@ -191,7 +192,7 @@ fn reads_serve(rt: HostRuntime) {
     assert!(rt; name_serve(alloc, last, "a.db", 65_535, u64::MAX));
 }
 
-// Words of `serve` that are refused, and what is told of them.
+// Arguments of `serve` that are refused, and the text that the message contains.
 const WRONG_SERVES: &[(&[&str], &str)] = &[
     (&["outagebook", "serve"], "--port <N>"),
     (&["outagebook", "serve", "--port"], "--port <N>"),
@@ -256,7 +257,7 @@ fn refuses_words(rt: HostRuntime) {
     assert!(rt; are_refused(alloc, &["outagebook", "table", "--book"], "--book <FILE>"));
 }
 
-// The words of an `init` without one of its options.
+// The arguments of an `init` without one of its options.
 const NO_FIRST: &[&str] = &["outagebook", "init", "--days=1", "--zone=EST5"];
 
 const NO_DAYS: &[&str] = &["outagebook", "init", "--first=2026-01-01", "--zone=EST5"];
@@ -272,7 +273,8 @@ fn refuses_an_init_without_an_option(rt: HostRuntime) {
     assert!(rt; are_refused(alloc, &["outagebook", "init"], "--first <DATE>"));
 }
 
-// Whether an `init` of days written so is refused, and this is told.
+// Answers whether an `init` with this number of days is refused with a message that contains this
+// text.
 fn refused_days(alloc: Global, days: &str, told: &str) -> bool {
     let words = &[
         "outagebook",
@@ -324,8 +326,8 @@ fn shows_help(rt: HostRuntime) {
     assert!(rt; show(alloc, &["outagebook", "serve", "-h"], "--streams <K>"));
 }
 
-// What is told of the version: the program's, that of its books, and the toolchain's.
-const VERSION: &str = "outagebook 2 (books of version 2, rattle-kit-13f)\n";
+// The version that is printed: the program's, and that of its books.
+const VERSION: &str = "outagebook 2 (books of version 2)\n";
 
 #[test]
 fn tells_its_version(rt: HostRuntime) {

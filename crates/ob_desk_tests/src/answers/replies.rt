@@ -1,4 +1,4 @@
-//! The replies to requests in their order.
+//! Tests of the replies to requests in their order.
 use crate::answers::texts::{Asked, COMMANDS, FIRST, IMPORTS, LAST, NEEDS, ROUTES, VIEWS};
 use crate::desk::{Desk, Trial, over_a_book, over_a_store};
 use crate::texts::request;
@@ -20,7 +20,7 @@ fn is_answer(found: &Result<ReplyText, Fault>, wanted: &Result<&'static str, Fau
     }
 }
 
-// Requests that are answered so, one after the other. The stream may end with each reply.
+// Requests with their expected replies, one after the other. The stream may end with each reply.
 #[derive(Drop)]
 struct Answered<'r> {
     table: &'r [Asked],

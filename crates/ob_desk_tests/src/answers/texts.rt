@@ -11,7 +11,7 @@ pub type Asked = (
     Result<&'static str, Fault>,
 );
 
-/// What the book of the outage shows, and what it does not have.
+/// Requests for what the book of the outage shows, and for what it doesn't have.
 pub const VIEWS: &[Asked] = &[
     (
         Method::Post,
@@ -191,7 +191,8 @@ pub const ROUTES: &[Asked] = &[
     ),
 ];
 
-/// A correction of the outage, once more, as another command, and of another revision; and bodies that say no command.
+/// A correction of the outage, sent once more, as another command, and of another revision; and
+/// bodies that are no command.
 pub const COMMANDS: &[Asked] = &[
     (
         Method::Post,
@@ -341,7 +342,7 @@ pub const LAST: &[Asked] = &[(
     ),
 )];
 
-/// What needs a book.
+/// Requests that need a book.
 pub const NEEDS: &[Asked] = &[
     (Method::Get, "/totals", "", Err(Fault::Reopen)),
     (Method::Get, "/indices", "", Err(Fault::Reopen)),

@@ -1,4 +1,4 @@
-//! The JSON bodies of replies.
+//! Tests of the JSON bodies of replies.
 use ob_base::{Crew, Name, Pos, Refusal, Stop};
 use ob_post::{Dim, Moved};
 use ob_replies::{accepted_text, entry_text, refused_text, report_text};
@@ -6,7 +6,7 @@ use ob_sheet::Entry;
 use std::alloc::Global;
 use std::process::Abort;
 
-// Amounts of a cause, a feeder and a day that move.
+// Moved amounts of a cause, a feeder and a day.
 const MOVED: [Moved; 3] = [
     Moved {
         dim: Dim::Cause,
@@ -63,7 +63,7 @@ fn refused(rt: HostRuntime) -> Result<(), Stop> {
     )
 }
 
-// The row of a text that was refused, and how.
+// The row of a text that was refused, and its refusal.
 type Stopped = Option<(u32, Refusal)>;
 
 fn are_reported(rt: &impl Abort, alloc: Global, rows: &[(Stopped, &[u8])]) -> Result<(), Stop> {

@@ -1,4 +1,4 @@
-//! The bytes of replies.
+//! Tests of the bytes of replies.
 use ob_base::{Refusal, Stop};
 use ob_replies::{
     Allow, MediaType, Status, empty_reply, refusal_status, reply_text, report_status,

@@ -1,4 +1,4 @@
-//! Commands as JSON.
+//! Tests of commands as JSON.
 use ob_base::{Refusal, Stop};
 use ob_command::{Command, body_text};
 use ob_replies::{json_commands_law, read_command};

@@ -1,4 +1,4 @@
-//! What heads ask, and which are refused.
+//! Tests of the requests that heads make, and of heads that are refused.
 use crate::requests::reading::{are_read, is_read};
 use crate::script::Many;
 use crate::streams::{WHOLE, Way};
@@ -111,8 +111,8 @@ fn heads(rt: HostRuntime) -> Result<(), AllocError> {
     Ok(())
 }
 
-/// A text with so many of its middle part, and what is told of it: with 64 field lines and 65, with 16,383 bytes of a
-/// head and 16,384 that don't end it, and with 16,384 bytes that do and one more.
+/// Texts with a repeated middle part, and how they are read: with 64 field lines and 65, with
+/// 16,383 bytes of a head and 16,384 that don't end it, and with 16,384 bytes that do and one more.
 const BOUNDS: &[(Many, &'static str)] = &[
     (
         (b"GET /a HTTP/1.1\r\nHost: a\r\n", b"A:\r\n", 63, b"\r\n"),

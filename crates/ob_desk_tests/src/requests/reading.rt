@@ -1,4 +1,4 @@
-//! What a stream is read as, as a text.
+//! How a stream is read, shown as a text.
 use crate::script::Many;
 use crate::streams::{Sink, Source, Way};
 use crate::texts::{digits, joined, many};
@@ -8,7 +8,8 @@ use ob_stream::{Retries, Watched};
 use std::alloc::{AllocError, Global};
 use std::process::Abort;
 
-/// The method, the target and the length of the body of a request, and what it asks of the connection.
+/// The method, the target and the length of the body of a request, and what it asks of the
+/// connection.
 fn told_request(alloc: Global, request: &Request) -> Result<String, AllocError> {
     let method = match request.method {
         Method::Get => "GET ",
@@ -41,7 +42,7 @@ fn told_fault(fault: Fault) -> &'static str {
     }
 }
 
-/// What a reader's requests are told as, and then how they end; what was written goes behind.
+/// The text of a reader's requests and of their end, followed by the bytes that were written.
 fn told_of(alloc: Global, source: Source<'_>, sink: Sink) -> Result<String, AllocError> {
     let mut told = String::new(alloc);
     let mut reader = Watched::new(source);
@@ -79,7 +80,8 @@ fn told_requests(
     Ok(())
 }
 
-/// What is told of the requests of these bytes by a way, and what was written behind.
+/// Checks the text of the requests in these bytes, which come in a way, and of the bytes that were
+/// written.
 pub fn are_read(
     rt: &impl Abort,
     alloc: Global,
@@ -92,7 +94,7 @@ pub fn are_read(
     Ok(())
 }
 
-/// A text with so many of its middle part is read so by a way.
+/// Checks the same of a text with a repeated middle part.
 pub fn is_read(
     rt: &impl Abort,
     alloc: Global,

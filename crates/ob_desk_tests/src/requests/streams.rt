@@ -1,4 +1,4 @@
-//! Streams of several requests, cut and failing ones.
+//! Tests of streams of several requests, of cut streams and of failing ones.
 use crate::requests::reading::{are_read, is_read};
 use crate::script::Many;
 use crate::streams::{WHOLE, Way};

@@ -1,4 +1,4 @@
-//! The jobs, and how each ends on a keeper.
+//! The jobs, and how each ends with a `Keeper`.
 use crate::jobs::host::{FULL, Input, Output, Server};
 use crate::office::Period;
 use crate::sinks::Sink;
@@ -20,26 +20,27 @@ use std::alloc::Global;
 /// A job.
 #[derive(Clone, Copy)]
 pub enum Ask {
-    /// A book of 2024-01-01 in UTC is made, of so many days.
+    /// Creates a book of this many days from 2024-01-01 on, in UTC.
     Make(u16),
-    /// This text is imported, or an input that can't be opened.
+    /// Imports this text, or an input that can't be opened.
     Import(Option<&'static str>),
-    /// What the commands moved is written into an output with so much room, or one that can't be made.
+    /// Writes the moved amounts into an output with this much room, or one that can't be made.
     Export(Option<usize>),
-    /// The annual table is printed.
+    /// Prints the annual table.
     Print,
-    /// The tables are compared.
+    /// Compares the tables.
     Audit,
-    /// A book of version 1 is made one of version 2.
+    /// Migrates a book of version 1 to version 2.
     Migrate,
-    /// The book is served at a port that is free or not.
+    /// Serves the book at a port that is free or not.
     Serve(bool),
 }
 
 /// Why a job stopped, and at which row.
 pub type Halt = Option<(Stop, Option<u32>)>;
 
-/// How a job ended: the status, why it stopped, what it told, and whether an input, an output or a port was tried.
+/// How a job ended: its status, why it stopped, what it printed, and whether it tried an input, an
+/// output or a port.
 #[derive(Drop)]
 pub struct Told {
     pub status: u8,
@@ -64,7 +65,7 @@ fn ended_as(run: &Result<(), Unfinished>, writer: Watched<Sink>, tried: bool) ->
     }
 }
 
-/// A book of so many days is made.
+/// Creates a book of this many days.
 pub fn makes<S: Alter, T: Timeline>(
     keeper: &mut Keeper<S, T>,
     period: &Period,
@@ -75,7 +76,7 @@ pub fn makes<S: Alter, T: Timeline>(
     ended_as(&run, writer, false)
 }
 
-/// A text is imported, or an input that can't be opened.
+/// Imports a text, or an input that can't be opened.
 pub fn imports<S: Alter, T: Timeline>(
     alloc: Global,
     keeper: &mut Keeper<S, T>,
@@ -87,7 +88,7 @@ pub fn imports<S: Alter, T: Timeline>(
     ended_as(&run, writer, input.tried)
 }
 
-/// What the commands moved is written into an output with so much room, or one that can't be made.
+/// Writes the moved amounts into an output with this much room, or one that can't be made.
 pub fn exports<S: Alter, T: Timeline>(
     alloc: Global,
     keeper: &mut Keeper<S, T>,
@@ -103,13 +104,13 @@ pub fn exports<S: Alter, T: Timeline>(
     ended_as(&run, writer, output.tried)
 }
 
-/// The annual table is printed.
+/// Prints the annual table.
 pub fn prints<S: Alter, T: Timeline>(keeper: &mut Keeper<S, T>, mut writer: Watched<Sink>) -> Told {
     let run = print_book(keeper, &mut Silent, &mut writer);
     ended_as(&run, writer, false)
 }
 
-/// The tables are compared.
+/// Compares the tables.
 pub fn audits<S: Alter, T: Timeline>(
     alloc: Global,
     keeper: &mut Keeper<S, T>,
@@ -119,7 +120,7 @@ pub fn audits<S: Alter, T: Timeline>(
     ended_as(&run, writer, false)
 }
 
-/// A book of version 1 is made one of version 2.
+/// Migrates a book of version 1 to version 2.
 pub fn migrates<S: Alter, T: Timeline>(
     keeper: &mut Keeper<S, T>,
     mut writer: Watched<Sink>,
@@ -128,7 +129,7 @@ pub fn migrates<S: Alter, T: Timeline>(
     ended_as(&run, writer, false)
 }
 
-/// The book is served at a port that is free or not.
+/// Serves the book at a port that is free or not.
 pub fn serves<S: Alter, T: Timeline>(
     keeper: &mut Keeper<S, T>,
     free: bool,
@@ -139,7 +140,7 @@ pub fn serves<S: Alter, T: Timeline>(
     ended_as(&run, writer, server.tried)
 }
 
-/// Whether an import is refused for want of a book.
+/// Answers whether an import stops because there is no book.
 pub fn lacks_import<S: Alter, T: Timeline>(alloc: Global, keeper: &mut Keeper<S, T>) -> bool {
     let mut input = Watched::new(Source::new(OUTAGE.as_bytes(), WHOLE));
     match import_with_progress(alloc, &mut input, keeper, &mut Silent) {
@@ -148,7 +149,7 @@ pub fn lacks_import<S: Alter, T: Timeline>(alloc: Global, keeper: &mut Keeper<S,
     }
 }
 
-/// Whether the work of an export is, and nothing told or written.
+/// Answers whether an export stops because there is no book, and prints and writes nothing.
 pub fn lacks_export<S: Alter, T: Timeline>(alloc: Global, keeper: &mut Keeper<S, T>) -> bool {
     let mut told = Watched::new(Sink::new(alloc, 100, FULL));
     let mut file = Watched::new(Sink::new(alloc, 100, FULL));
@@ -157,7 +158,7 @@ pub fn lacks_export<S: Alter, T: Timeline>(alloc: Global, keeper: &mut Keeper<S,
     run == Err(REOPEN) && is_silent
 }
 
-/// Whether that of the annual table is, and nothing told.
+/// Answers whether printing the annual table stops because there is no book, and writes nothing.
 pub fn lacks_table<S: Alter, T: Timeline>(alloc: Global, keeper: &mut Keeper<S, T>) -> bool {
     let mut told = Watched::new(Sink::new(alloc, 100, FULL));
     let run = run_table(keeper, &mut told);

@@ -1,4 +1,4 @@
-//! What the program hands to its jobs, in memory.
+//! The inputs, outputs and ports that the program gives to its jobs, in memory.
 use crate::sinks::Sink;
 use crate::sources::{Source, WHOLE, Way};
 use ob_base::{Fault, Stop};
@@ -37,7 +37,7 @@ impl OpenInput for Input {
     }
 }
 
-/// An output with so much room, or one that can't be made.
+/// An output with this much room, or one that can't be made.
 #[derive(Drop)]
 pub struct Output {
     pub alloc: Global,

@@ -1,4 +1,4 @@
-//! The jobs where one allocation is refused.
+//! Tests of the jobs with one allocation refused.
 use crate::jobs::calls::{Ask, Told};
 use crate::jobs::host::FULL;
 use crate::jobs::script::BAD_BOOK;
@@ -10,7 +10,7 @@ use sqlite::{Alter, Connection};
 use std::alloc::{AllocError, Global};
 use std::process::Abort;
 
-// Whether a fault ended a job, and nothing was told.
+// Answers whether a fault ended a job, and nothing was printed.
 fn is_short(told: &Told) -> bool {
     match told.halt {
         Some((Stop::Fault(_), None)) => told.status == 1 && told.text.is_empty(),
@@ -18,14 +18,15 @@ fn is_short(told: &Told) -> bool {
     }
 }
 
-// Room for all that is told here, and the memory for it.
+// A writer with room and memory for all that is printed here.
 fn wide(alloc: Global) -> Result<Sink, AllocError> {
     let mut sink = Sink::new(alloc, 4_000, FULL);
     sink.taken.reserve(4_000)?;
     Ok(sink)
 }
 
-// What a job tells. Where memory is refused to it, it is done once more, and comes through then.
+// Does a job and answers what it prints. If it is refused memory, the job is done once more, and
+// then has to succeed.
 fn comes_through<O: Office>(
     rt: &impl Abort,
     alloc: Global,
@@ -41,8 +42,8 @@ fn comes_through<O: Office>(
     Ok(second)
 }
 
-// Whether a job that came through is done and tells this. One that is tried again may have made a book, or one of version 2,
-// already.
+// Answers whether a job is done and prints this. A job that is tried again may already have created
+// a book, or migrated it.
 fn is_done(ask: Ask, told: &Told, line: &[u8]) -> bool {
     match ask {
         Ask::Make(_) => told.text.as_slice() == line || told.halt == BAD_BOOK,
@@ -56,7 +57,8 @@ fn is_done(ask: Ask, told: &Told, line: &[u8]) -> bool {
     }
 }
 
-// Jobs, and what each tells at least; where memory is refused to the test itself, it ends there.
+// Jobs, and how the text that each prints begins. If memory is refused to the test itself, it ends
+// there.
 #[derive(Clone, Copy)]
 struct Refused {
     jobs: &'static [(Ask, &'static str)],
@@ -78,7 +80,7 @@ impl Trial for Refused {
     }
 }
 
-// An import that is tried again has some rows already.
+// An import that is tried again finds some rows already there.
 const JOBS: &[(Ask, &'static str)] = &[
     (Ask::Make(1), "created\n"),
     (Ask::Import(Some(OUTAGE)), "added "),
@@ -90,7 +92,7 @@ const JOBS: &[(Ask, &'static str)] = &[
     (Ask::Migrate, "version 2\n"),
 ];
 
-// On the same book as one of version 1.
+// Jobs on the same book, turned into one of version 1.
 const OLD_JOBS: &[(Ask, &'static str)] = &[
     (Ask::Migrate, "migrated\n"),
     (Ask::Audit, "audit ok\n"),
@@ -112,8 +114,8 @@ fn are_refused<S: Alter + Drop>(rt: &impl Abort, alloc: Global, conn: Connection
     let _ = over(rt, alloc, conn, &mut refused);
 }
 
-// Run with one allocation refused, it sees that each job comes through at the second try, and that a book is sound. Where memory
-// is refused to the test itself, it ends there.
+// Run with one allocation refused, this test checks that each job succeeds at the second try, and
+// that a book passes its audit. If memory is refused to the test itself, it ends there.
 #[test]
 fn memory_refused(rt: HostRuntime) {
     if let Ok(conn) = Connection::open_in_memory(rt.alloc()) {

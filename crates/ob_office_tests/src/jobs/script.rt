@@ -1,4 +1,4 @@
-//! Steps on a store in memory, one after another, and what each is answered.
+//! Steps on a store in memory, one after another, and the answer to each.
 use crate::jobs::calls::{Ask, Halt, Told};
 use crate::jobs::host::FULL;
 use crate::office::{Office, Trial, over};
@@ -12,7 +12,7 @@ use std::process::Abort;
 // A fault of the store.
 const STORE: Stop = Stop::Fault(Fault::Store);
 
-/// The tables are no book's.
+/// The tables aren't those of a book.
 pub const BAD_BOOK: Halt = Some((Stop::Refused(Refusal::BadBook), None));
 
 /// The book was made by version 1.
@@ -24,33 +24,35 @@ pub const INPUT: Halt = Some((Stop::Fault(Fault::Input), None));
 /// An output can't be made or written.
 pub const OUTPUT: Halt = Some((Stop::Fault(Fault::Output), None));
 
-/// A step on a store, and what it is answered: a job, its status, why it stopped, and what it told.
+/// A step on a store, and the expected answer: a job, its status, why it stopped, and what it
+/// printed.
 pub enum Step {
-    /// The work on a book is refused for want of one.
+    /// Checks that each job that works on a book stops because there is none.
     Lack,
-    /// The job tells this.
+    /// Does a job that prints exactly this.
     Do(Ask, u8, Halt, &'static str),
-    /// What the job tells begins with this.
+    /// Does a job whose printed text begins with this.
     Begin(Ask, &'static str),
-    /// A writer with less room than this line of the job is told what it has room for.
+    /// Does a job with a writer that has less room than this line: the part that fits is written.
     Break(Ask, &'static str, usize),
-    /// It is with room for each number of bytes.
+    /// Does the same with room for each number of bytes.
     BreakAlways(Ask, &'static str),
 }
 
-/// Statements, and the steps of a keeper over the tables that they leave.
+/// Statements, and the steps of a `Keeper` over the tables that they leave.
 pub type Part = (&'static str, &'static [Step]);
 
-/// A book is made.
+/// Creates a book.
 pub const MADE: Step = Step::Do(Ask::Make(1), 0, None, "created\n");
 
-/// The outage is imported into it.
+/// Imports the outage into it.
 pub const FILLED: Step = Step::Do(Ask::Import(Some(OUTAGE)), 0, None, "added 25 again 0\n");
 
-/// No table differs.
+/// Checks that no table differs.
 pub const SOUND: Step = Step::Do(Ask::Audit, 0, None, "audit ok\n");
 
-// Whether a job ended so and told this. Where the tables are no book's of this version, nothing was opened.
+// Answers whether a job ended and printed as expected. If the tables aren't those of a book of
+// version 2, it opened nothing.
 fn ended(told: &Told, status: u8, halt: Halt, text: &[u8]) -> bool {
     told.status == status
         && told.halt == halt
@@ -58,7 +60,8 @@ fn ended(told: &Told, status: u8, halt: Halt, text: &[u8]) -> bool {
         && !(told.tried && (halt == BAD_BOOK || halt == OLD_VERSION))
 }
 
-// Whether a job ends so where a writer has so much room.
+// Answers whether a job with a writer of this much room ends with an output fault, after writing
+// the part that fits.
 fn breaks_off<O: Office>(
     alloc: Global,
     office: &mut O,
@@ -70,7 +73,7 @@ fn breaks_off<O: Office>(
     room < line.len() && ended(&told, 1, OUTPUT, &line[..room])
 }
 
-// The same of each room that is too little.
+// The same for each room that is too small.
 fn always_breaks_off<O: Office>(alloc: Global, office: &mut O, ask: Ask, line: &[u8]) -> bool {
     for room in 0..line.len() {
         if !breaks_off(alloc, office, ask, line, room) {
@@ -80,7 +83,7 @@ fn always_breaks_off<O: Office>(alloc: Global, office: &mut O, ask: Ask, line: &
     true
 }
 
-// Whether a step is answered as it says.
+// Answers whether a step gets the expected answer.
 fn holds<O: Office>(alloc: Global, office: &mut O, step: &Step) -> bool {
     match step {
         Step::Lack => office.lacks_book(alloc),
@@ -116,7 +119,7 @@ impl Trial for Script {
     }
 }
 
-// The parts over a database, each with a keeper of its own.
+// Checks the parts over a database, each with a `Keeper` of its own.
 fn are_done_over<S: Alter + Drop>(
     rt: &impl Abort,
     alloc: Global,
@@ -134,7 +137,7 @@ fn are_done_over<S: Alter + Drop>(
     Ok(())
 }
 
-/// The parts over a store in memory are answered as they say.
+/// Checks the parts over a store in memory.
 pub fn are_done(rt: &impl Abort, alloc: Global, parts: &[Part]) -> Result<(), Stop> {
     match Connection::open_in_memory(alloc) {
         Ok(conn) => are_done_over(rt, alloc, conn, parts),

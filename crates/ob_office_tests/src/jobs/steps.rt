@@ -1,4 +1,4 @@
-//! The lines that the jobs tell, and the statuses that they end with.
+//! Tests of the lines that the jobs print, and of their exit statuses.
 use crate::jobs::calls::Ask;
 use crate::jobs::script::{
     BAD_BOOK, FILLED, INPUT, MADE, OLD_VERSION, OUTPUT, Part, SOUND, Step, are_done,
@@ -13,8 +13,8 @@ const BAD_PERIOD: Step = Step::Do(
     "",
 );
 
-// Each job on a book that there is. Then on one whose heading is of version 1, which is looked at first, but whose commands are
-// of version 2; and on one of version 2 without its lives.
+// Each job on an existing book. Then each on a book whose heading has version 1, which is checked
+// first, while its commands are of version 2; and on one of version 2 without its lives.
 const BOOK: &[Part] = &[
     (
         "",
@@ -22,7 +22,7 @@ const BOOK: &[Part] = &[
             BAD_PERIOD,
             MADE,
             Step::Do(Ask::Make(1), 2, BAD_BOOK, ""),
-            // without commands each job is done too
+            // each job works on a book without commands too
             Step::Begin(
                 Ask::Print,
                 "OUTAGE BOOK 2024-01-01 days 1 zone UTC0\nP 86400 S 0 W 0\n",
@@ -104,8 +104,8 @@ fn jobs_on_a_book(rt: HostRuntime) -> Result<(), Stop> {
     are_done(&rt, rt.alloc(), BOOK)
 }
 
-// A book of version 1: with an amount changed behind its back it is none, and is left as it is; else it is made one of version 2
-// of the same commands and amounts.
+// A book of version 1: if an amount in its tables was changed by other means, it is no book, and is
+// left as it is; otherwise it is migrated to one of version 2 with the same commands and amounts.
 const MIGRATED: &[Part] = &[
     ("", &[MADE, FILLED]),
     (TO_VERSION_1, &[Step::Do(Ask::Audit, 2, OLD_VERSION, "")]),
@@ -143,8 +143,8 @@ fn migrations_of_a_book(rt: HostRuntime) -> Result<(), Stop> {
     are_done(&rt, rt.alloc(), MIGRATED)
 }
 
-// Each job on tables that are no book's. Then a row is refused; an amount is changed behind the book's back; and each job is
-// done on tables that are no book's once more.
+// Each job on tables that aren't those of a book. Then a row is refused; an amount in the tables is
+// changed by other means; and each job is done once more on tables that aren't those of a book.
 const NO_BOOK: &[Part] = &[
     (
         "",

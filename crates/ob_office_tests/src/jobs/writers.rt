@@ -1,10 +1,11 @@
-//! Writers that fail behind each byte of a line.
+//! Tests of writers that fail after each byte of a line.
 use crate::jobs::calls::Ask;
 use crate::jobs::script::{FILLED, MADE, Part, SOUND, Step, are_done};
 use crate::texts::{OUTAGE, TO_VERSION_1};
 use ob_base::Stop;
 
-// Jobs that leave the book as it is, and the line that each begins with; and what is found when the writers have failed.
+// Jobs that leave the book as it is, and how the line that each prints begins; and the audit after
+// the writers have failed.
 const WRITERS: &[Part] = &[(
     "",
     &[
@@ -26,7 +27,7 @@ fn writers_that_fail(rt: HostRuntime) -> Result<(), Stop> {
 
 const CREATED_LINE: &'static str = "created\n";
 
-// A new book is made all the same, whatever is told of it.
+// A new book is created although its line can't be printed.
 const NEW: &[Part] = &[
     ("", &[Step::Break(Ask::Make(1), CREATED_LINE, 0), SOUND]),
     ("", &[Step::Break(Ask::Make(1), CREATED_LINE, 1), SOUND]),
@@ -48,7 +49,7 @@ fn writers_that_fail_on_a_new_book(rt: HostRuntime) -> Result<(), Stop> {
 
 const MIGRATED_LINE: &'static str = "migrated\n";
 
-// The book is one of version 2 all the same, whatever is told of it.
+// The book is migrated to version 2 although its line can't be printed.
 const MIGRATED: &[Part] = &[
     ("", &[MADE, FILLED]),
     (

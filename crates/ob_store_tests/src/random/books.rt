@@ -1,4 +1,4 @@
-//! What a test knows of a book.
+//! The calls of a book that the tests use.
 use ob_book::{Book, Command, replay};
 use ob_index::{Indices, Which};
 use ob_net::{Life, Refusal, Second, Stop};
@@ -9,10 +9,10 @@ use std::alloc::{AllocError, Global};
 
 /// What a book shows.
 pub trait Shows {
-    /// How many commands were accepted.
+    /// The number of accepted commands.
     fn commands(&self) -> usize;
 
-    /// The amount that is posted under a key; None where there is no such key.
+    /// The amount counted under a key, or None if there is no such key.
     fn posted(&self, dim: Dim, key: u16) -> Option<u64>;
 
     /// The indices.
@@ -22,7 +22,8 @@ pub trait Shows {
     fn texts(&self, alloc: Global) -> Result<Vec<u8>, Stop>;
 }
 
-/// The calls of a book, without their clauses: with these each function that makes some, or holds a book, is long to prove.
+/// The calls of a book, without their contracts: with these each function that makes some calls, or
+/// holds a book, takes long to prove.
 pub trait Acts: Shows + Drop {
     /// A new book of the two days that are counted.
     fn begins(alloc: Global) -> Result<Self, Stop>;
@@ -30,13 +31,14 @@ pub trait Acts: Shows + Drop {
     /// The book of a replay of commands on these days.
     fn replays(alloc: Global, commands: &[Command]) -> Result<Self, Stop>;
 
-    /// Decides on a command and adopts it where it is accepted; what it moves, or why it is refused.
+    /// Decides on a command and adopts it if it is accepted; answers the moved amounts, or the
+    /// refusal.
     fn acts(&mut self, alloc: Global, command: &Command) -> Result<Vec<Moved>, Stop>;
 
-    /// How many nodes there are.
+    /// The number of nodes.
     fn nodes(&self) -> u16;
 
-    /// The runs of a node; None where it is no section.
+    /// The outage intervals of a node, or None if it isn't a section.
     fn runs(&self, node: u16) -> Option<&[Run]>;
 }
 
@@ -48,7 +50,7 @@ fn two_days(alloc: Global) -> Result<Period, Stop> {
     }
 }
 
-// Puts a life behind a text; one without an end has the largest number there.
+// Appends a life to a text, with the largest number if it has no end.
 fn put_life(alloc: Global, text: &mut Vec<u8>, life: Life) -> Result<(), AllocError> {
     let (since, until) = (life.since, life.until.unwrap_or(Second::MAX));
     text.extend_from_slice(format!(in alloc; "{since} {until}\n")?.as_bytes())

@@ -1,4 +1,4 @@
-//! What a book shows, compared with the plain lists.
+//! Comparison of a book with the plain lists.
 use crate::random::books::Shows;
 use crate::random::count::{Counted, KEYS, key_at};
 use crate::random::figures::figures;
@@ -6,7 +6,7 @@ use crate::random::plain::Plain;
 use ob_index::Which;
 use std::process::Abort;
 
-/// The book has posted what was counted.
+/// Checks that the amounts of the book equal the counted ones.
 pub fn has_posted<B: Shows>(rt: &impl Abort, book: &B, counted: &Counted) {
     for place in 0..KEYS {
         let (dim, key) = key_at(place);
@@ -15,7 +15,7 @@ pub fn has_posted<B: Shows>(rt: &impl Abort, book: &B, counted: &Counted) {
     }
 }
 
-/// The book shows the indices of the outages that were counted.
+/// Checks that the book shows the indices of the counted outages.
 pub fn has_figures<B: Shows>(rt: &impl Abort, book: &B, plain: &Plain, counted: &Counted) {
     for which in [Which::All, Which::Unmarked] {
         assert!(rt; book.figures(which) == figures(plain, counted, which));

@@ -1,6 +1,6 @@
-//! The lists, under references, by a keeper over a store in memory: it answers each command as the plain lists do, and
-//! again where it is told again; another keeper loads the same book from its tables and goes on, and the eleven tables then
-//! have the rows of the plain lists.
+//! The lists under references with a `Keeper` over a store in memory. It answers each command as
+//! the plain lists do, and again if the command is sent again. Another `Keeper` loads the same book
+//! from its tables and goes on, and the eleven tables then have the rows of the plain lists.
 use crate::office::{Office, Work};
 use crate::random::books::Shows;
 use crate::random::compare::{has_figures, has_posted};
@@ -15,7 +15,7 @@ use ob_store::Reply;
 use std::alloc::Global;
 use std::process::Abort;
 
-// The reply of the command of a place, or the refusal.
+// Answers whether this is the reply of the command at a place, or the refusal.
 fn is_answered(found: &Result<Reply, Stop>, told: &Told, wanted: &Result<usize, Refusal>) -> bool {
     match (found, wanted) {
         (Ok(reply), Ok(place)) => {
@@ -27,7 +27,7 @@ fn is_answered(found: &Result<Reply, Stop>, told: &Told, wanted: &Result<usize, 
     }
 }
 
-// A command under a reference is answered as by the plain lists.
+// Sends a command under a reference, which gets the answer of the plain lists.
 fn tell<O: Office>(
     rt: &impl Abort,
     alloc: Global,
@@ -42,7 +42,8 @@ fn tell<O: Office>(
     Ok(())
 }
 
-// The number in the reference of a place in a list, sometimes that of an earlier one.
+// The number in the reference of the command at a place in a list, sometimes that of an earlier
+// one.
 fn number_at(random: &mut Random, place: u64) -> u64 {
     if 12 < place && random.below(8) == 0 {
         return random.below(place);
@@ -50,7 +51,7 @@ fn number_at(random: &mut Random, place: u64) -> u64 {
     place
 }
 
-// Tells the commands of some places, each twice.
+// Sends the commands at some places, each twice.
 fn tell_list<O: Office>(
     rt: &impl Abort,
     alloc: Global,
@@ -68,7 +69,7 @@ fn tell_list<O: Office>(
     Ok(())
 }
 
-// Each accepted command that is told again is answered as it was.
+// Sends each accepted command again, which gets the same answer.
 fn tell_again<O: Office>(rt: &impl Abort, office: &mut O, told: &Told) {
     for (place, sent) in told.sent.iter().enumerate() {
         let found = office.acts(sent.line.as_str());
@@ -76,7 +77,7 @@ fn tell_again<O: Office>(rt: &impl Abort, office: &mut O, told: &Told) {
     }
 }
 
-// The keeper's book is that of the plain lists.
+// Checks that the `Keeper`'s book equals that of the plain lists.
 fn has_book<O: Office>(rt: &impl Abort, office: &O, told: &Told) {
     assert!(rt; office.shown().is_some());
     if let Some(book) = office.shown() {
@@ -86,7 +87,8 @@ fn has_book<O: Office>(rt: &impl Abort, office: &O, told: &Told) {
     }
 }
 
-// A new book of the two days is kept through the most of a list; another keeper goes on.
+// Creates a book of the two days and sends it most of a list; answers another `Keeper` that goes
+// on.
 fn begins<O: Office>(
     rt: &impl Abort,
     alloc: Global,
@@ -100,7 +102,7 @@ fn begins<O: Office>(
     Ok(second)
 }
 
-// The book is loaded and kept through the rest of the list.
+// Loads the book and sends it the rest of the list.
 fn goes_on<O: Office>(
     rt: &impl Abort,
     alloc: Global,
@@ -116,8 +118,8 @@ fn goes_on<O: Office>(
     Ok(())
 }
 
-// A list is kept, by one keeper and then by another one, and the tables have its rows. Answers how many of its commands were told
-// under a reference of another one.
+// Sends a list to one `Keeper` and then to another one, and compares the rows of the tables.
+// Answers how many of its commands were sent under a reference of another command.
 fn keeps_list<O: Office>(rt: &impl Abort, alloc: Global, random: &mut Random) -> Result<u32, Stop> {
     let mut told = Told::new(alloc)?;
     let mut office: O = begins(rt, alloc, &mut told, random)?;
@@ -127,8 +129,8 @@ fn keeps_list<O: Office>(rt: &impl Abort, alloc: Global, random: &mut Random) ->
     Ok(told.conflicts)
 }
 
-/// So many lists are kept, by keepers over databases that hold nothing. Answers whether many of their commands were told under a
-/// reference of another one.
+/// Sends this many lists to `Keeper`s over empty databases. Answers whether many of their commands
+/// were sent under a reference of another command.
 pub fn keeps_lists<O: Office>(rt: &impl Abort, alloc: Global, lists: u32) -> Result<bool, Stop> {
     let mut random = Random::new(19_700_103);
     let mut conflicts = 0u32;

@@ -8,7 +8,7 @@ use crate::random::words::Word;
 use ob_post::{Dim, Moved};
 use std::alloc::{AllocError, Global};
 
-// What stands before the rows of a table.
+// The line before the rows of a table.
 const TABLE: &'static str = "table\n";
 
 /// The rows of all tables, each by its key.
@@ -30,7 +30,7 @@ fn put_network(alloc: Global, text: &mut String, plain: &Plain) -> Result<(), Al
     put_devices(alloc, text, plain)
 }
 
-// Customers, entries and marks.
+// Customers, entries and marked days.
 fn put_acts(alloc: Global, text: &mut String, plain: &Plain) -> Result<(), AllocError> {
     put_customers(alloc, text, plain)?;
     put_entries(alloc, text, plain)?;
@@ -134,7 +134,7 @@ fn put_marks(alloc: Global, text: &mut String, plain: &Plain) -> Result<(), Allo
     Ok(())
 }
 
-// A command's reference and its body text have a space between in its line.
+// In the line of a command one space separates the reference from the body text.
 fn put_commands(alloc: Global, text: &mut String, sent: &[Sent]) -> Result<(), AllocError> {
     text.push_str(TABLE)?;
     for (at, sent) in sent.iter().enumerate() {

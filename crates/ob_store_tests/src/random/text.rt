@@ -1,22 +1,22 @@
-//! Rows and body texts of words and numbers, with one space between.
+//! Rows and body texts made of `Word`s and numbers, with one space between.
 use crate::random::words::Word;
 use ob_net::Second;
 use std::alloc::{AllocError, Global};
 
-/// What stands in a row or in a body text.
+/// A piece of a row or of a body text.
 #[derive(Clone, Copy)]
 pub enum Cell {
     Word(Word),
     Number(u64),
     /// A place in a list, as a number.
     Place(usize),
-    /// 1 where it is so, else 0.
+    /// 1 if true, else 0.
     Flag(bool),
-    /// The second after the last one of a service or a life, `-` where it has no end.
+    /// The second after the last one of a service or a life, or `-` if it has no end.
     End(Second),
 }
 
-/// Puts cells behind a text, and then its end.
+/// Appends cells to a text, and then its end.
 pub fn put_cells(
     alloc: Global,
     text: &mut String,

@@ -1,4 +1,5 @@
-//! The plain lists under references: what a command is answered, and the accepted commands with what they moved.
+//! The plain lists under references: the answer to each command, and the accepted commands with the
+//! amounts they moved.
 use crate::random::count::{Counted, count, differences};
 use crate::random::draw::Drawn;
 use crate::random::plain::Plain;
@@ -6,7 +7,8 @@ use ob_net::Refusal;
 use ob_post::Moved;
 use std::alloc::{AllocError, Global};
 
-/// An accepted command: the number in its reference, as `N12`, its line of that and its body text, and what it moved.
+/// An accepted command: the number in its reference, as in `N12`, its line of reference and body
+/// text, and the amounts it moved.
 #[derive(Drop)]
 pub struct Sent {
     number: u64,
@@ -20,7 +22,7 @@ pub struct Told {
     pub plain: Plain,
     pub counted: Counted,
     pub sent: Vec<Sent>,
-    /// How many commands were refused since their reference is another one's.
+    /// The number of commands refused because their reference belongs to another command.
     pub conflicts: u32,
 }
 
@@ -31,7 +33,7 @@ pub fn line_of(alloc: Global, number: u64, drawn: &Drawn) -> Result<String, Allo
 }
 
 impl Told {
-    /// No command yet.
+    /// Lists without a command.
     pub fn new(alloc: Global) -> Result<Told, AllocError> {
         let plain = Plain::new(alloc)?;
         Ok(Told {
@@ -42,7 +44,7 @@ impl Told {
         })
     }
 
-    /// What the accepted command of a place moved.
+    /// The amounts that the accepted command at a place moved.
     pub fn moves_at(&self, place: usize) -> &[Moved] {
         match self.sent.get(place) {
             Some(sent) => &sent.moves,
@@ -50,8 +52,8 @@ impl Told {
         }
     }
 
-    /// The place of the command that a command under a reference is answered as, or why it is refused. A new one that is
-    /// accepted is followed.
+    /// Answers the place of the command whose reply a command under a reference gets, or its
+    /// refusal. A new command that is accepted is added to the lists.
     pub fn take(
         &mut self,
         alloc: Global,
@@ -72,7 +74,7 @@ impl Told {
         }
     }
 
-    // The place of the accepted command of a reference.
+    // The place of the accepted command with a reference.
     fn place_of(&self, number: u64) -> Option<usize> {
         for (place, sent) in self.sent.iter().enumerate() {
             if sent.number == number {
@@ -82,7 +84,8 @@ impl Told {
         None
     }
 
-    // What a command is answered under the reference of an accepted one: as that one where it says the same.
+    // The answer to a command under the reference of an accepted one: that command's answer if both
+    // are the same.
     fn known(&mut self, place: usize, line: &str) -> Result<usize, Refusal> {
         if let Some(sent) = self.sent.get(place)
             && sent.line.as_str() == line
@@ -94,7 +97,7 @@ impl Told {
         Err(Refusal::RefConflict(no.saturating_add(1)))
     }
 
-    // Follows an accepted command. What it moves is what the counts differ by.
+    // Adds an accepted command to the lists. The amounts it moves are the difference of the counts.
     fn follow(
         &mut self,
         alloc: Global,

@@ -1,6 +1,6 @@
-//! The words of the lists.
+//! The keywords, names and other terms of the lists.
 
-/// A word of a body text or of a row.
+/// A term of a body text or of a row.
 #[derive(Clone, Copy, PartialEq, Eq)]
 pub enum Word {
     Grid,
@@ -29,16 +29,16 @@ pub enum Word {
     FirstDay,
     SecondDay,
     DayAfter,
-    /// Of a life or a service.
+    /// The missing end of a life or a service.
     NoEnd,
     Minus,
     Plus,
-    /// No word.
+    /// No term.
     Nothing,
 }
 
 impl Word {
-    /// As it is written.
+    /// The written form.
     pub fn text(self) -> &'static str {
         match self {
             Word::Grid => "GRID",

@@ -1,4 +1,5 @@
-//! Body texts of version 1: a device's had four fields, no text set a life, and the others are those of today.
+//! Tests of body texts of version 1: a device's had four fields, none set a life, and the others
+//! are those of version 2.
 use ob_base::{Fault, Stop};
 use ob_command::body_text;
 use ob_upgrade::{read_old_body, version_law};
@@ -6,7 +7,7 @@ use std::alloc::Global;
 use std::process::Abort;
 use std::test::Fail;
 
-// A body of each kind, as today.
+// One body of each kind that is the same in version 2.
 const SAME: &'static str = "cause 3 STORM
 bus BUS-A
 section S1 255
@@ -18,7 +19,7 @@ withdraw 4 1
 mark 2024-02-29 K1
 unmark 2024-02-29 K1";
 
-// Texts that were no bodies.
+// Texts that were no bodies in version 1.
 const NONE: &'static str = "device X1 BUS-A S1 closed 0 -
 device X1 BUS-A S1 closed 1704072200 -
 device X1 BUS-A S1 closed 0
@@ -35,7 +36,8 @@ bus BUS-A 0 -
 switch B1 open 1704070800 3
 fuse F1";
 
-// The text was the body of a command that has this one today; or memory was refused.
+// Checks that the text was the body of a command that has this body in version 2; an error if
+// memory is refused.
 fn becomes(rt: &impl Abort, alloc: Global, old: &str, body: &[u8]) -> Result<(), Fail> {
     let command = read_old_body(alloc, old.as_bytes())?.ok_or("a command")?;
     assert!(rt; body_text(alloc, &command)?.as_slice() == body);
@@ -81,7 +83,8 @@ fn no_bodies(rt: HostRuntime) -> Result<(), Fail> {
     Ok(())
 }
 
-// With each allocation refused in turn the call either has its value or says that memory is refused.
+// With each allocation refused in turn, the call either returns its value or reports refused
+// memory.
 #[test]
 fn refused_memory(rt: HostRuntime) {
     match read_old_body(rt.alloc(), b"device T1 S2 S3 open") {

@@ -1,4 +1,5 @@
-//! Which commands version 1 could accept: its network took no more parts once the sheet held an entry.
+//! Tests of the commands that version 1 could accept: its network took no more parts once the
+//! switching log had an entry.
 use ob_base::Crew;
 use ob_base::Pos::Opened;
 use ob_command::read_body;
@@ -21,7 +22,7 @@ const NEW: &'static str = "device B1 GRID S1 closed 1 -
 device B1 GRID S1 closed 0 1704073200
 life T1 0 -";
 
-// Whether each of the commands with these bodies fits a sheet.
+// Checks whether each of the commands with these bodies fits a switching log.
 fn fit(rt: &impl Abort, sheet: &Sheet, bodies: &str, expected: bool) -> Result<(), Fail> {
     for body in bodies.lines() {
         let command = read_body(body.as_bytes()).ok_or("a command")?;
