@@ -32,7 +32,7 @@ SKIPPED = re.compile(r"^(.*) \.\.\. skipped (.*)$", re.MULTILINE)
 OF_SCREEN = re.compile(
     r"^screen: tested .*: ([0-9]+) of ([0-9]+) tests, ([0-9]+) failed, ([0-9]+) skipped$", re.MULTILINE
 )
-FIRST_RUN_SHOWN = "It ends with"  # the line of README.md before the block that has what run.sh prints
+FIRST_RUN_SHOWN = "`sh run.sh` ends with"  # the line of README.md before the block that has what run.sh prints
 PASTED = re.compile(r": ([0-9]+) commands pasted, ([0-9]+) print something else")
 
 

@@ -13,7 +13,7 @@ from pathlib import Path
 import made_repository  # noqa: F401, the modules of ci/
 from parts import Ran, run
 from rt_output import counts_of, tried_edits, unrefused
-from suites import by_commands, by_tests, with_program
+from suites import by_commands, by_first_run, by_screen, by_tests, first_run_shown, with_program
 
 RT = """\
 rt: ob_base: 1 of its 4 must-fail edits were tried by an earlier run on this machine, and nothing that they stand on has changed
@@ -87,6 +87,22 @@ class Tests(unittest.TestCase):
         self.assertEqual(by_commands(ended(said, 1)), (4, 1, ""))
         self.assertEqual(by_commands(ended("the shell ended after: exit\n", 1)), (0, 1, "status 1"))
         self.assertEqual(by_commands(ended(""))[:2], (0, 1))
+
+    def test_screen(self) -> None:
+        said = "screen: tested (the short part): 31 of 54 tests, {} failed, {} skipped\n"
+        left_out = "23 of the screen's 54 tests not run"
+        self.assertEqual(by_screen(ended(said.format(0, 0))), (31, 0, left_out))
+        self.assertEqual(by_screen(ended(said.format(2, 1), 1)), (28, 3, left_out))
+        self.assertEqual(by_screen(ended("screen: NOT tested, for want of chromium\n"))[:2], (0, 1))
+
+    def test_first_run(self) -> None:
+        """README.md shows what run.sh prints, and another end of it fails."""
+        root = Path(__file__).resolve().parents[2]
+        counts = by_first_run(root)
+        self.assertIn("SAIDI", first_run_shown(root))
+        self.assertEqual(counts(ended("built\n" + first_run_shown(root)))[:2], (1, 0))
+        self.assertEqual(counts(ended("SAIDI  195 minutes\n"))[:2], (0, 1))
+        self.assertEqual(counts(ended(first_run_shown(root), 1))[:2], (0, 1))
 
 
 if __name__ == "__main__":
