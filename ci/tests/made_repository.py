@@ -123,9 +123,9 @@ class MadeRepository:
         """Runs a command at the top of the repository, where `rt` is the stand-in."""
         env = {name: text for name, text in os.environ.items() if name != "OUTAGEBOOK"}
         env |= {"PATH": f"{self.programs}:{env['PATH']}", "RT_JOBS": "2"}
+        self.tried.unlink(missing_ok=True)
         settings = {"tried": str(self.tried), "kit": self.kit, "takes_names": self.takes_names}
         (self.programs / "rt.json").write_text(json.dumps(settings), encoding="utf-8")
-        self.tried.unlink(missing_ok=True)
         return subprocess.run([*map(str, words)], cwd=self.root, env=env, capture_output=True, text=True, check=False)
 
     def gate(self, *words: str) -> subprocess.CompletedProcess[str]:

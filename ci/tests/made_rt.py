@@ -39,6 +39,7 @@ def check(names: list[str]) -> int:
             print(f"rt: must-fail {name}/{edit.name}: {said}")
             passed, failed = passed + said.startswith("refused"), failed + said.startswith("NOT")
             tried.append(name)
+        print(f"rt: {name} proved")
     Path(SETTINGS["tried"]).write_text("\n".join(sorted({*tried})), encoding="ascii")
     program = Path("crates/outagebook/out/outagebook")
     program.parent.mkdir(parents=True, exist_ok=True)
