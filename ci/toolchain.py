@@ -8,7 +8,7 @@ import subprocess
 from pathlib import Path
 
 KILOBYTES_A_JOB = 4_500_000
-NOT_FOUND = "the toolchain's command rt isn't on the path: README.md, What you need"
+NOT_FOUND = "the toolchain's command rt is neither on the path nor in a folder below /opt: README.md, Two commands"
 
 
 def has_toolchain() -> bool:
