@@ -363,7 +363,7 @@ class Examples(unittest.TestCase):
     def test_files_of_ieee(self) -> None:
         """The worked example of IEEE Std 1366: its program writes its files, and its table has the standard's figures."""
         make = FEEDER.with_name("make_feeder.py")
-        for file, options in [("feeder.csv", []), ("kva.csv", ["--kva"])]:
+        for file, *options in [["feeder.csv"], ["kva.csv", "--kva"]]:
             made = subprocess.run([sys.executable, make, *options], capture_output=True, check=True).stdout
             self.assertTrue(made == FEEDER.with_name(file).read_bytes(), f"{file} isn't what {make} writes")
         book = Book(Period(*FEEDER_YEAR), keeps_moves=False)
