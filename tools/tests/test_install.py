@@ -239,3 +239,44 @@ class Pages(unittest.TestCase):
             "```text\n[kept](../NONE.md)\n```\nlast\n",
         )
         self.assertFalse([*to.rglob("*.new"), *to.rglob("*.db"), *to.rglob(".hidden")])
+
+
+class Screen(unittest.TestCase):
+    """What the screen needs, and what it answers without it."""
+
+    def packages(self, *arguments: str) -> tuple[int, list[str], str]:
+        """The status of install-packages.sh, its lines and its complaint, with an apt-get that prints its arguments."""
+        path = support.folder() / "only-apt-get"
+        path.mkdir(exist_ok=True)
+        (path / "apt-get").write_text('#!/bin/sh\necho "apt-get $*"\n')
+        (path / "apt-get").chmod(0o755)
+        done = subprocess.run(
+            [shutil.which("sh") or "sh", support.ROOT / "screen/install-packages.sh", *arguments],
+            capture_output=True,
+            text=True,
+            check=False,
+            env={"PATH": str(path)},
+        )
+        return done.returncode, done.stdout.splitlines(), done.stderr
+
+    def test_packages(self) -> None:
+        """They are named before they are installed; the tests' are among those of the whole test run."""
+        status, lines, complaint = self.packages("--screen-only")
+        install = "apt-get install -y --no-install-recommends"
+        own = "python3 python3-aiohttp"
+        self.assertEqual((status, complaint), (0, ""))
+        self.assertEqual(lines, [f"installing: {own}", "apt-get update", f"{install} {own}"])
+        status, lines, complaint = self.packages()
+        self.assertEqual((status, complaint), (0, ""))
+        named = lines[0].removeprefix("installing: ")
+        self.assertEqual(lines[1:], ["apt-get update", f"{install} {named}"])
+        rows = (support.ROOT / "ci/packages.txt").read_text().splitlines()
+        listed = {row.split()[2] for row in rows if row and not row.startswith("#")}
+        self.assertLess({*own.split(), "nginx-light", "chromium", "python3-selenium"}, {*named.split()})
+        self.assertLessEqual({*named.split()}, listed)
+
+    def test_wrong_arguments_install_nothing(self) -> None:
+        for arguments in (["--screen"], ["--screen-only", "--screen-only"], [""]):
+            status, lines, complaint = self.packages(*arguments)
+            self.assertEqual((status, lines), (64, []))
+            self.assertTrue(complaint.startswith("usage: "))
