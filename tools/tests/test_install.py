@@ -280,3 +280,13 @@ class Screen(unittest.TestCase):
             status, lines, complaint = self.packages(*arguments)
             self.assertEqual((status, lines), (64, []))
             self.assertTrue(complaint.startswith("usage: "))
+
+    def test_without_aiohttp(self) -> None:
+        """A Python without site packages finds none of Debian's: one line names the package that is missing."""
+        command = [sys.executable, "-E", "-S", str(support.ROOT / "screen/outagebook-screen"), "--help"]
+        done = subprocess.run(command, capture_output=True, text=True, check=False)
+        self.assertEqual((done.returncode, done.stdout), (1, ""))
+        self.assertEqual(
+            done.stderr,
+            "outagebook-screen: the package python3-aiohttp is missing; as root: apt-get install python3-aiohttp\n",
+        )
