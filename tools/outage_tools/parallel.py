@@ -10,6 +10,7 @@ from concurrent.futures import FIRST_COMPLETED, Future, ProcessPoolExecutor, wai
 from pathlib import Path
 from typing import TypeVar
 
+from outage_tools.cli import print_error
 from outage_tools.errors import BookError, Differs
 
 Result = TypeVar("Result")
@@ -117,4 +118,4 @@ def over_books(
 def tell_progress(done: int, of: int, path: str) -> None:
     """A line for a person who waits: only where standard error is a terminal."""
     if of > 1 and sys.stderr.isatty():
-        print(f"{done} of {of}: {path}", file=sys.stderr, flush=True)
+        print_error(f"{done} of {of}: {path}")
