@@ -18,7 +18,7 @@ if [ $# -gt 1 ] || [ "${prefix#/}" = "$prefix" ]; then
     exit 64
 fi
 if [ ! -x "$program" ]; then
-    echo "install.sh: there is no program at $program: build it by (cd crates/outagebook && rt run -- --help)" >&2
+    echo "install.sh: there is no program at $program: sh run.sh builds it" >&2
     exit 1
 fi
 
