@@ -40,7 +40,7 @@ EXPORTS = {
     "oms": "outages and restoration steps",
     "gis": "buses, sections and devices",
     "customers": "customers and their services",
-    "causes": "causes: the book's codes and names, and the other system's words",
+    "causes": "causes: the book's codes and names, and the other system's terms",
 }
 COLUMNS = {
     "oms": outages.COLUMNS,
@@ -150,9 +150,9 @@ def make_parser() -> Parser:
         metavar="WORD",
         action="append",
         default=[],
-        help="a word of the column status that means a mistake, beside cancelled; may be told several times",
+        help="a value of the column status that means a mistake, apart from cancelled; may be given several times",
     )
-    parser.add_argument("--crew", default="OMS", help="the crew where a row names none (OMS)")
+    parser.add_argument("--crew", default="OMS", help="the crew if a row names none (OMS)")
     add_format_arguments(parser)
     add_table_arguments(parser)
     return parser
@@ -161,7 +161,7 @@ def make_parser() -> Parser:
 def own_parser() -> Parser:
     """The words of this tool."""
     parser = make_parser()
-    parser.add_argument("--first", metavar="DATE", help="the period's first day, where there is no book yet")
+    parser.add_argument("--first", metavar="DATE", help="the period's first day, if there is no book yet")
     parser.add_argument("--days", metavar="N", type=days_argument, help="how many days it has")
     parser.add_argument(
         "--overlaps",
@@ -195,7 +195,7 @@ def conversion_of(args: argparse.Namespace, known: Known) -> Conversion:
         except (ValueError, OverflowError) as error:
             raise BookError(f"the period can't be read: {error}") from None
         if period.first < 0 or period.end > LATEST_MOMENT:
-            raise BookError("the period doesn't lie between 1970 and 5138, where a book's seconds do")
+            raise BookError("the period isn't between 1970 and 5138, as a book's seconds have to be")
     cancelled = cancelled_words(args.cancelled)
     return Conversion(args.zone or (period.zone if period else None), period, known, tuple(args.dates), cancelled)
 
