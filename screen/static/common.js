@@ -1,4 +1,12 @@
 // What all pages share: the head, requests with the page's token, the events, and elements whose texts are set as text.
+import { get, send, Trouble } from "./requests.js";
+import { Stream } from "./stream.js";
+
+export { get, Trouble };
+
+const COMMAND_SECONDS = 60; // the server tries for 25 seconds, after what it has in work
+export const IMPORT_SECONDS = 330; // the server waits 300 for the desk
+const AGAIN_SECONDS = 2; // between two questions of a page that can't begin
 
 export const known = { me: null, book: null };
 export const own = new Set(); // references of this page: their answers are shown where they were sent
@@ -26,45 +34,14 @@ function fill(made, attributes, children) {
   made.append(...children.flat().filter((child) => child !== null && child !== undefined && child !== ""));
 }
 
-/** What went wrong with a request: its status (0 where nothing was answered) and the server's words. */
-export class Trouble extends Error {
-  constructor(status, shown) {
-    super(shown.words || "the screen's server gives no answer");
-    this.status = status;
-    this.shown = shown;
-  }
-}
-
-async function answerOf(request) {
-  let reply;
-  let shown;
+/** Posts with the page's token; where the server was started again, once more with the new one. */
+export async function post(route, body, { type = "application/json", seconds = COMMAND_SECONDS } = {}) {
   try {
-    reply = await request();
-    shown = await reply.json();
-  } catch {
-    throw new Trouble(0, {});
-  }
-  if (!reply.ok) throw new Trouble(reply.status, shown);
-  return shown;
-}
-
-export function get(route, query = {}) {
-  const words = new URLSearchParams(query).toString();
-  return answerOf(() => fetch(words ? `${route}?${words}` : route));
-}
-
-/** Posts with the page's token; where the server was started anew, once more with the new one. */
-export async function post(route, body, type = "application/json") {
-  const send = () =>
-    answerOf(() =>
-      fetch(route, { method: "POST", body, headers: { "Content-Type": type, "X-Screen-Token": known.me.token } }),
-    );
-  try {
-    return await send();
+    return await send(route, body, type, known.me.token, seconds);
   } catch (trouble) {
     if (trouble.shown?.error !== "token") throw trouble;
     known.me = await get("/api/me");
-    return send();
+    return send(route, body, type, known.me.token, seconds);
   }
 }
 
@@ -219,7 +196,7 @@ const PAGES = [
   ["/year", "Year"],
 ];
 const state = el("span", { role: "status", class: "state" });
-const banner = el("div", { role: "alert" });
+const banner = el("div", { class: "alarm", role: "alert" });
 export const said = el("div", { class: "said", role: "status" });
 
 function head() {
@@ -233,7 +210,7 @@ function head() {
     el("nav", { "aria-label": "Pages" }, links),
     el("div", { class: "who" }, state, who, rename),
   );
-  document.querySelector("main h1").after(banner);
+  document.querySelector("main h1").before(banner);
   document.body.append(said);
 }
 
@@ -242,15 +219,28 @@ function say(place, words) {
   if (place.textContent !== words) place.textContent = words;
 }
 
+const alarms = new Map(); // why what is shown may be old or wrong, by what it comes from
+const title = document.title;
+
+/** Shows or takes back an alarm: a banner that stays in sight however far the page is scrolled, and a sign in the tab. */
+function alarm(name, words) {
+  if (words) alarms.set(name, words);
+  else alarms.delete(name);
+  const told = [...alarms.values()].join("\n");
+  document.title = alarms.size ? `(!) ${title}` : title;
+  if (told === banner.dataset.told) return;
+  banner.dataset.told = told;
+  banner.replaceChildren(...[...alarms.values()].map((each) => el("p", {}, each)));
+}
+
+const time = () => new Date().toLocaleTimeString("en-GB");
+
 export function showDesk(shown) {
   const words = { here: "Desk: here", away: "Desk: AWAY", none: "No desk: a copy" };
   say(state, `${words[shown.desk]}, ${number(shown.number)} commands`);
-  const parts = [];
-  if (shown.desk === "away") {
-    parts.push(el("p", { class: "bad" }, `The desk is away; the screen tries again each second. What is shown is as of command ${shown.number}. (${shown.why})`));
-  }
-  if (shown.differs) parts.push(el("p", { class: "bad" }, `The screen's own count differs from the desk: ${shown.differs}. Believe the desk.`));
-  if (banner.textContent !== parts.map((part) => part.textContent).join("")) banner.replaceChildren(...parts);
+  alarm("server", null);
+  alarm("desk", shown.desk === "away" && `The desk is away: nothing can be saved now. What is shown is as of command ${shown.number}. The screen tries again each second. (${shown.why})`);
+  alarm("differs", shown.differs && `The screen's own count differs from the desk: ${shown.differs}. Believe the desk.`);
 }
 
 function askName(again = false) {
@@ -284,17 +274,30 @@ export function onCommands(work) {
   listeners.push(work);
 }
 
+let seen = null; // the number of the last command whose news this page has taken in
+let heardAt = null;
+let isDue = false; // the page is hidden: it is shown again when somebody looks at it
+
 function listen() {
-  const source = new EventSource("/events");
-  let heard = false;
-  source.addEventListener("message", (message) => {
-    const event = JSON.parse(message.data);
+  const heard = (event) => {
+    const isLater = event.number !== seen || (event.what === "hello" && heardAt !== null);
+    seen = event.number;
+    heardAt = time();
     showDesk(event);
     if (event.what === "commands") tell(event);
-    if (event.what === "commands" || (event.what === "hello" && heard)) listeners.forEach((work) => work(event));
-    heard = true;
-  });
-  source.addEventListener("error", () => say(state, "The screen's server is away"));
+    if (event.what === "commands" || isLater) renewAll(event);
+  };
+  const lost = (words) => {
+    say(state, "The screen's server is away");
+    alarm("server", `WHAT IS SHOWN MAY BE OLD: ${words}. ${heardAt ? `Last news at ${heardAt}.` : ""} This page tries again by itself.`);
+  };
+  document.addEventListener("visibilitychange", () => !document.hidden && isDue && renewAll({}));
+  new Stream({ heard, lost });
+}
+
+function renewAll(event) {
+  isDue = document.hidden;
+  if (!isDue) listeners.forEach((work) => work(event));
 }
 
 let hush = null;
@@ -319,20 +322,35 @@ function tell(event) {
   showSaid(`${words}: ${command.kind} ${command.fields.slice(0, 2).join(" ")} (${command.ref}) moved W by ${signed(event.moved)}`);
 }
 
+/** Who asks, and the book's names; asked for until the server answers. */
+async function ask() {
+  for (;;) {
+    try {
+      [known.me, known.book] = await Promise.all([get("/api/me"), get("/api/book")]);
+      return;
+    } catch (trouble) {
+      document.querySelector("main h1").before(banner);
+      alarm("server", `Nothing can be shown: ${trouble.message}. This page tries again by itself.`);
+      await new Promise((resolve) => setTimeout(resolve, AGAIN_SECONDS * 1000));
+    }
+  }
+}
+
 /** Begins a page: who asks, the book's names, the head, the events. */
 export async function begin(work) {
-  try {
-    [known.me, known.book] = await Promise.all([get("/api/me"), get("/api/book")]);
-  } catch (trouble) {
-    document.getElementById("main").append(el("p", { class: "bad" }, trouble.message));
-    return;
-  }
+  await ask();
   head();
   showDesk(known.me);
+  seen = known.me.number;
   if (known.me.asks_name && !known.me.name && known.me.could_send) askName();
-  await work();
-  document.body.dataset.ready = "yes";
   listen();
+  try {
+    await work();
+  } catch (trouble) {
+    if (!(trouble instanceof Trouble)) throw trouble;
+    document.getElementById("main").append(el("p", { class: "bad" }, trouble.message));
+  }
+  document.body.dataset.ready = "yes";
 }
 
 export function reloadBook() {

@@ -1,5 +1,5 @@
 // The year as the desk answers it: indices, totals, days, causes, feeders; marks, imports, downloads.
-import { begin, choice, el, field, get, known, list, number, onCommands, post, PROGRAM, reloadBook, renew, scrolling, table, text } from "./common.js";
+import { begin, choice, el, field, get, IMPORT_SECONDS, known, list, number, onCommands, post, PROGRAM, reloadBook, renew, scrolling, table, text } from "./common.js";
 import { Sender } from "./sender.js";
 
 const main = document.getElementById("main");
@@ -59,7 +59,7 @@ function importForm() {
     button.disabled = true;
     report.replaceChildren(el("p", { class: "ask" }, "On its way to the desk."));
     try {
-      report.replaceChildren(reportOf(await post("/api/import", await file.files[0].arrayBuffer(), "text/csv")));
+      report.replaceChildren(reportOf(await post("/api/import", await file.files[0].arrayBuffer(), { type: "text/csv", seconds: IMPORT_SECONDS })));
     } catch (trouble) {
       report.replaceChildren(trouble.shown.reply ? reportOf(trouble.shown) : el("p", { class: "bad" }, `${trouble.message} The same file may be sent again: what is known counts once.`));
     }

@@ -315,6 +315,118 @@ class Operators(Case):
         self.assertIn("03:30:00+01:00", screen.call("/api/entries/1")[1]["second"]["text"])
 
 
+class Windows(Case):
+    """Several pages of one browser, and the events that they hear."""
+
+    def windows(self, page: browser.Browser, kind: str, urls: list[str]) -> list[str]:
+        """Opens each address in a tab or a window of its own: their handles."""
+        first = page.driver.current_window_handle
+        handles = []
+        self.addCleanup(page.driver.switch_to.window, first)
+        for url in urls:
+            page.driver.switch_to.new_window(kind)
+            handles.append(page.driver.current_window_handle)
+            self.addCleanup(page.driver.close)
+            self.addCleanup(page.driver.switch_to.window, page.driver.current_window_handle)
+            page.driver.get(url)
+            page.ready()
+        return handles
+
+    def small(self, *words: str) -> support.Screen:
+        found = support.Screen(support.small(self._testMethodName), *words)
+        self.addCleanup(found.end)
+        return found
+
+    def opening(self, number: int, closes: bool = False) -> dict[str, str]:
+        """A switching of LBS-1 by another client, an hour ago."""
+        second = str(int(time.time()) - 3_600 + number)
+        return {"kind": "switch", "f1": "LBS-1", "f2": "close" if closes else "open", "f3": second, "f4": "1", "f5": "B"}
+
+    def eight(self, kind: str) -> None:
+        screen = self.small()
+        page = self.one
+        page.open(f"{screen.url}/")
+        routes = ("/enter?device=LBS-1", "/sheet", "/network", "/year", "/", "/enter", "/sheet", "/")
+        handles = self.windows(page, kind, [screen.url + route for route in routes])
+        page.says("main", "All sections are supplied")
+        page.driver.switch_to.window(handles[0])
+        page.fill("Cause", "1")
+        page.says(".forecast", "W moves by")
+        page.click(".send")
+        page.says(".outcome", "stands")
+        page.driver.switch_to.window(handles[7])
+        page.says("main table", "MILL")
+        page.driver.switch_to.window(handles[6])
+        page.says("main", "1 of 1 entries")
+        self.assertEqual(page.text(".alarm"), "")
+
+    def test_eight_tabs_of_one_browser(self) -> None:
+        self.eight("tab")
+
+    def test_eight_windows_of_one_browser(self) -> None:
+        self.eight("window")
+
+    def test_the_window_that_has_the_stream_is_closed(self) -> None:
+        screen = self.small()
+        page = self.one
+        page.open(f"{screen.url}/")
+        first = page.driver.current_window_handle
+        second = self.windows(page, "window", [f"{screen.url}/"])[0]
+        page.driver.switch_to.window(first)
+        page.driver.get(f"{screen.url}/static/icon.svg")
+        page.driver.switch_to.window(second)
+        screen.log_in("BERT")
+        screen.post({**self.opening(0), "ref": "SCR-BERT-1"})
+        page.says("main table", "MILL")
+
+    def test_after_any_answer_a_page_hears_again(self) -> None:
+        """What stands before the screen answers 502, 503 or 401 for a while: the page says so, and is current afterwards."""
+        between = support.Between()
+        self.addCleanup(between.end)
+        screen = self.small("--host", f"127.0.0.1:{between.port}")
+        between.screen = screen.port
+        page = self.one
+        page.open(f"http://127.0.0.1:{between.port}/")
+        screen.log_in("BERT")
+        self.assertEqual(page.text(".alarm"), "")
+        for number, (status, words) in enumerate({502: "(502)", 503: "(503)", 401: "the login"}.items()):
+            between.answer(status)
+            page.says(".alarm", "WHAT IS SHOWN MAY BE OLD")
+            self.assertIn(words, page.text(".alarm"))
+            self.assertTrue(page.driver.title.startswith("(!) "))
+            command = {**self.opening(number, closes=number == 1), "ref": f"SCR-BERT-{number}"}
+            self.assertEqual(screen.post(command)[0], 200)
+            between.answer(0)
+            page.wait(lambda: page.text(".alarm") == "", "the page without its alarm")
+            page.wait(lambda: ("MILL" in page.text("main table")) == (number != 1), "the command")
+            self.assertEqual(page.driver.title, "Now - outage book")
+
+    def test_the_alarm_stays_in_sight(self) -> None:
+        screen = support.Screen(support.small(self._testMethodName))
+        page = self.other
+        page.open(f"{screen.url}/network")
+        screen.end()
+        page.says(".alarm", "WHAT IS SHOWN MAY BE OLD")
+        page.driver.execute_script("window.scrollTo(0, document.body.scrollHeight)")
+        box = "const box = document.querySelector('.alarm p').getBoundingClientRect(); return [box.top, box.bottom]"
+        top, bottom = page.driver.execute_script(box)
+        self.assertTrue(-1 <= top < bottom <= 844, (top, bottom))
+        self.assertEqual(page.driver.execute_script(FAINT), [])
+
+    def test_a_question_has_a_limit_of_time(self) -> None:
+        """A server that says nothing keeps no page waiting."""
+        screen = self.small()
+        page = self.one
+        page.open(f"{screen.url}/")
+        os.kill(screen.process.pid, signal.SIGSTOP)
+        self.addCleanup(os.kill, screen.process.pid, signal.SIGCONT)
+        script = (
+            "const done = arguments[arguments.length - 1];"
+            "import('/static/common.js').then(({ get }) => get('/api/now', {}, 1)).catch((trouble) => done(trouble.message));"
+        )
+        self.assertIn("no answer within 1 seconds", page.driver.execute_async_script(script))
+
+
 class Breaks(Case):
     def test_a_reply_that_was_lost(self) -> None:
         desk = self.desk()
@@ -374,7 +486,7 @@ class Breaks(Case):
         self.addCleanup(screen.end)
         self.one.open(f"{screen.url}/")
         desk.kill()
-        self.one.says("main", "The desk is away")
+        self.one.says(".alarm", "The desk is away")
         again = support.Desk(desk.book, desk.port)
         self.addCleanup(again.kill)
         self.one.says(".state", "Desk: here")

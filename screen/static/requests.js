@@ -1,0 +1,40 @@
+// Questions to the screen's server: each has a limit of time, and what goes wrong has its words.
+
+const QUESTION_SECONDS = 30; // the server waits 10 seconds for the desk
+
+/** What went wrong with a request: its status (0 where nothing was answered) and the server's words. */
+export class Trouble extends Error {
+  constructor(status, shown) {
+    super(shown.words || "the screen's server gives no answer");
+    this.status = status;
+    this.shown = shown;
+  }
+}
+
+const BETWEEN = { 401: "the login is missing or has ended (401): load the page again", 403: "this is refused on the way to the screen (403)" };
+
+/** The words of an answer that isn't the screen's own, but of what stands before it. */
+const wordsOf = (status) => BETWEEN[status] || `the screen's server is away or gives no answer (${status})`;
+
+async function answerOf(route, options, seconds) {
+  let reply;
+  try {
+    reply = await fetch(route, { ...options, signal: AbortSignal.timeout(seconds * 1000) });
+    const shown = await reply.json();
+    if (!reply.ok) throw new Trouble(reply.status, shown);
+    return shown;
+  } catch (error) {
+    if (error instanceof Trouble) throw error;
+    if (error.name === "TimeoutError") throw new Trouble(0, { words: `the screen's server gave no answer within ${seconds} seconds` });
+    throw reply && !reply.ok ? new Trouble(reply.status, { words: wordsOf(reply.status) }) : new Trouble(0, {});
+  }
+}
+
+export function get(route, query = {}, seconds = QUESTION_SECONDS) {
+  const words = new URLSearchParams(query).toString();
+  return answerOf(words ? `${route}?${words}` : route, {}, seconds);
+}
+
+export function send(route, body, type, token, seconds) {
+  return answerOf(route, { method: "POST", body, headers: { "Content-Type": type, "X-Screen-Token": token } }, seconds);
+}
