@@ -4,23 +4,10 @@ from __future__ import annotations
 
 from typing import Any
 
+from .commands import FIELDS
 from .state import State
 from .views import entry_view, text
 
-FIELDS: dict[str, tuple[str, ...]] = {
-    "cause": ("code", "name"),
-    "bus": ("name",),
-    "section": ("name", "home feeder"),
-    "device": ("name", "first node", "second node", "normal position", "beginning", "end"),
-    "life": ("device", "beginning", "end"),
-    "connect": ("customer", "section", "since", "until"),
-    "revise": ("customer", "since", "until"),
-    "switch": ("device", "position", "second", "cause", "crew"),
-    "correct": ("entry", "revision", "position", "second", "cause", "crew"),
-    "withdraw": ("entry", "revision"),
-    "mark": ("day", "engineer"),
-    "unmark": ("day", "engineer"),
-}
 FIRST_FIELD = 3
 PLAIN = {
     3: "The name, the code or the customer's number is in use already.",

@@ -1,49 +1,15 @@
-// What all pages share: the head, requests with the page's token, the events, and elements whose texts are set as text.
-import { get, send, Trouble } from "./requests.js";
+// What all pages share: the head, the events, tables and fields.
+import { el, svg } from "./elements.js";
+import { get, known, post, Trouble } from "./requests.js";
 import { Stream } from "./stream.js";
+import { unanswered } from "./unanswered.js";
 
-export { get, Trouble };
+export { el, get, known, post, svg };
 
-const COMMAND_SECONDS = 60; // the server tries for 25 seconds, after what it has in work
-export const IMPORT_SECONDS = 330; // the server waits 300 for the desk
 const AGAIN_SECONDS = 2; // between two questions of a page that can't begin
 
-export const known = { me: null, book: null };
 export const own = new Set(); // references of this page: their answers are shown where they were sent
 const listeners = [];
-
-/** An element: attributes, listeners where a value is a function, and children, which are texts or elements. */
-export function el(tag, attributes = {}, ...children) {
-  const made = document.createElement(tag);
-  fill(made, attributes, children);
-  return made;
-}
-
-export function svg(tag, attributes = {}, ...children) {
-  const made = document.createElementNS("http://www.w3.org/2000/svg", tag);
-  fill(made, attributes, children);
-  return made;
-}
-
-function fill(made, attributes, children) {
-  for (const [name, value] of Object.entries(attributes)) {
-    if (typeof value === "function") made.addEventListener(name, value);
-    else if (value === true) made.setAttribute(name, "");
-    else if (value !== false && value !== null && value !== undefined) made.setAttribute(name, value);
-  }
-  made.append(...children.flat().filter((child) => child !== null && child !== undefined && child !== ""));
-}
-
-/** Posts with the page's token; where the server was started again, once more with the new one. */
-export async function post(route, body, { type = "application/json", seconds = COMMAND_SECONDS } = {}) {
-  try {
-    return await send(route, body, type, known.me.token, seconds);
-  } catch (trouble) {
-    if (trouble.shown?.error !== "token") throw trouble;
-    known.me = await get("/api/me");
-    return send(route, body, type, known.me.token, seconds);
-  }
-}
 
 /** A reference for one intent, made before its first try. */
 export function newReference() {
@@ -204,13 +170,13 @@ function head() {
     el("a", { href, "aria-current": location.pathname === href ? "page" : null }, name),
   );
   const me = known.me;
-  const rename = me.asks_name ? el("button", { type: "button", class: "small", click: () => askName(true) }, "Change name") : "";
-  const who = el("span", {}, me.name ? `You are ${me.name}${me.may_send ? "" : ", looking only"}` : "No name yet");
+  const rename = me.asks_name && me.could_send ? el("button", { type: "button", class: "small", click: () => askName(true) }, "Change name") : "";
+  const who = el("span", {}, me.name ? `You are ${me.name}${me.may_send ? "" : ", looking only"}` : me.could_send ? "No name yet" : "Looking only");
   document.getElementById("head").replaceChildren(
     el("nav", { "aria-label": "Pages" }, links),
     el("div", { class: "who" }, state, who, rename),
   );
-  document.querySelector("main h1").before(banner);
+  document.querySelector("main h1").before(banner, unanswered());
   document.body.append(said);
 }
 
@@ -359,4 +325,31 @@ export function reloadBook() {
 
 export const causes = () => known.book.causes.filter(([code]) => code > 0).map(([code, name]) => [String(code), `${code} ${name}`]);
 export const HERE = () => el("span", { class: "from" }, "computed here");
-export const PROGRAM = () => el("span", { class: "from" }, "from the desk");
+export const PROGRAM = () => el("span", { class: "from" }, known.me.desk === "none" ? "from the book" : "from the desk");
+
+/** Why nothing can be sent, for a page with a form; nothing where something can. */
+export function lookOnly() {
+  const { me } = known;
+  if (me.may_send) return "";
+  const why = me.desk === "none" ? "This is a copy of a book" : me.could_send ? "This login is for looking" : "This screen is for looking";
+  const words = me.could_send && me.asks_name && !me.name ? "Give your name first" : why;
+  return el("p", { class: "warn" }, `${words}: what a command would do is shown, and nothing can be sent.`);
+}
+
+const LETTERS = { crew: 16, name: 24 };
+
+/** A field for a name: what the book can't hold is said beside it. Answers the note to show there. */
+export function spelled(input, kind) {
+  const most = LETTERS[kind];
+  const note = el("div", { class: "note spelling", role: "status" });
+  input.pattern = `[A-Za-z0-9_\\-]{1,${most}}`;
+  const check = () => {
+    const wrong = [...new Set(input.value.trim().replace(/[A-Za-z0-9_-]/g, ""))].map((each) => (each === " " ? "a space" : each));
+    const words = wrong.length ? `A ${kind} has A-Z, 0-9, - and _ alone, and not ${wrong.join(", ")}.` : input.value.trim().length > most ? `A ${kind} has ${most} letters at most.` : "";
+    input.setAttribute("aria-invalid", String(Boolean(words)));
+    note.replaceChildren(words ? el("span", { class: "bad" }, words) : "");
+  };
+  input.addEventListener("input", check);
+  check();
+  return note;
+}

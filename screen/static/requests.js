@@ -1,6 +1,10 @@
 // Questions to the screen's server: each has a limit of time, and what goes wrong has its words.
 
 const QUESTION_SECONDS = 30; // the server waits 10 seconds for the desk
+const COMMAND_SECONDS = 60; // the server tries for 25 seconds, after what it has in work
+export const IMPORT_SECONDS = 330; // the server waits 300 for the desk
+
+export const known = { me: null, book: null }; // who asks, and the book's names
 
 /** What went wrong with a request: its status (0 where nothing was answered) and the server's words. */
 export class Trouble extends Error {
@@ -35,6 +39,17 @@ export function get(route, query = {}, seconds = QUESTION_SECONDS) {
   return answerOf(words ? `${route}?${words}` : route, {}, seconds);
 }
 
-export function send(route, body, type, token, seconds) {
+function send(route, body, type, token, seconds) {
   return answerOf(route, { method: "POST", body, headers: { "Content-Type": type, "X-Screen-Token": token } }, seconds);
+}
+
+/** Posts with the page's token; where the server was started again, once more with the new one. */
+export async function post(route, body, { type = "application/json", seconds = COMMAND_SECONDS } = {}) {
+  try {
+    return await send(route, body, type, known.me.token, seconds);
+  } catch (trouble) {
+    if (trouble.shown?.error !== "token") throw trouble;
+    known.me = await get("/api/me");
+    return send(route, body, type, known.me.token, seconds);
+  }
 }

@@ -28,6 +28,8 @@ IN_SHORT = (
     "test_forecasts",
     "test_server",
     "test_proxy.BehindNginx.test_logins_and_who_may_send",
+    "test_proxy.BehindNginx.test_one_connection_for_all_pages",
+    "test_browser.Live",
     "test_browser.Operators.test_two_operators_and_a_double_click",
     "test_browser.Operators.test_the_keyboard_alone",
     "test_browser.Breaks.test_a_reply_that_was_lost",

@@ -56,15 +56,20 @@ def new_book(name: str, text: Path | None = None, period: tuple[str, str, str] =
 
 
 @lru_cache(maxsize=None)
-def made_fortnight() -> Path:
-    """The folder of the sample's book, which is imported once; SCREEN_FORTNIGHT names one that was made before."""
-    made = os.environ.get("SCREEN_FORTNIGHT")
-    return Path(made) if made else new_book("made-fortnight", FORTNIGHT_FILES / "fortnight.csv").parent
+def made(name: str, text: Path, period: tuple[str, str, str]) -> Path:
+    """The folder of a book that is imported once, and copied for each test; SCREEN_BOOKS keeps it for later runs."""
+    kept = os.environ.get("SCREEN_BOOKS")
+    if not kept:
+        return new_book(f"made-{name}", text, period).parent
+    place = Path(kept) / name
+    if not place.exists():
+        shutil.copytree(new_book(f"made-{name}", text, period).parent, place)
+    return place
 
 
 def fortnight(name: str) -> Path:
-    """A copy of the sample's book in a folder of its own."""
-    shutil.copytree(made_fortnight(), folder() / name)
+    """The sample's book in a folder of its own."""
+    shutil.copytree(made("fortnight", FORTNIGHT_FILES / "fortnight.csv", FORTNIGHT), folder() / name)
     return folder() / name / "book.db"
 
 
@@ -84,10 +89,11 @@ LAST_OF_SMALL = 9  # its last command
 
 def small(name: str, days_ago: int = 7) -> Path:
     """A book of two sections, whose fortnight began some days ago: its desk is quick to start."""
-    first = datetime.now(timezone.utc).date() - timedelta(days=days_ago)
+    first = (datetime.now(timezone.utc).date() - timedelta(days=days_ago)).isoformat()
     text = folder() / "small.csv"
     text.write_text(SMALL)
-    return new_book(name, text, (first.isoformat(), *FORTNIGHT[1:]))
+    shutil.copytree(made(f"small-{first}", text, (first, *FORTNIGHT[1:])), folder() / name)
+    return folder() / name / "book.db"
 
 
 def until(seen: Callable[[], Any], seconds: float = 20, what: str = "it") -> Any:

@@ -149,7 +149,7 @@ class BehindNginx(unittest.TestCase):
         os.kill(self.nginx.process.pid, signal.SIGTERM)
         self.nginx.process.wait()
         page.click(".send")
-        page.says(".outcome", "It isn't known whether this stands")
+        page.says(".outcome", "It isn't known whether this is saved")
         self.nginx.process = self.nginx.start()
         page.click(".again")
         page.says(".outcome .equal", "equal")
