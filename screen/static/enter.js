@@ -16,7 +16,7 @@ begin(async () => {
     const command = { kind: "switch", f1: device.value.trim().toUpperCase(), f2: position.value, f3: second.second, f4: cause.value, f5: crew.value.trim().toUpperCase() };
     return command.f1 && command.f3 && command.f4 && command.f5 ? command : null;
   };
-  const second = new MomentField("Second, by the clock of the book's zone", "", () => look(), { goes: true });
+  const second = new MomentField("Second, by the clock of the book's zone", "", () => look(), { goes: true, touched: () => sender.age() });
   const form = el("form", { class: "card" });
   const inputs = [device, position, cause, crew, second.input];
   const sender = new Sender({
@@ -44,7 +44,7 @@ begin(async () => {
     if (!sender.intent) await offerOther();
     sender.update();
   }, 60);
-  device.addEventListener("input", look);
+  device.addEventListener("input", () => { sender.age(); look(); });
   for (const input of [position, cause, crew]) input.addEventListener("input", sender.update);
   const now = el("button", { type: "button", click: () => second.now() }, "Now");
   form.append(

@@ -10,8 +10,9 @@ function later(words, seconds) {
 }
 
 export class MomentField {
-  /** With `goes` the field shows the time that is now, as a clock, until something is typed. */
-  constructor(label, value, changed, { may_be_empty = false, goes = false } = {}) {
+  /** With `goes` the field shows the time that is now, as a clock, until something is typed. `touched` is called at once when
+   * something is typed, `changed` when it has been read. */
+  constructor(label, value, changed, { may_be_empty = false, goes = false, touched = () => {} } = {}) {
     this.second = null;
     this.isNow = false;
     this.goes = goes;
@@ -25,6 +26,7 @@ export class MomentField {
     this.input.addEventListener("input", () => {
       this.isNow = false;
       this.second = null;
+      touched();
       read();
     });
     if (!goes) return;

@@ -20,10 +20,10 @@ const KINDS = {
   revise: ["A customer's service is set anew", ["number", "moment", "until"], ["Customer's number", "In service from", "Until before"]],
 };
 
-function inputOf(type, label, changed) {
+function inputOf(type, label, changed, touched) {
   if (type === "since" || type === "until" || type === "moment") {
     const note = type === "since" ? " (empty: always)" : type === "until" ? " (empty: without end)" : "";
-    const made = new MomentField(label + note, "", changed, { may_be_empty: type !== "moment" });
+    const made = new MomentField(label + note, "", changed, { may_be_empty: type !== "moment", touched });
     if (type !== "moment") made.second = "";
     return { element: made.element, input: made.input, value: () => made.second, needed: type === "moment" };
   }
@@ -46,7 +46,7 @@ function commandForm() {
   const sender = new Sender({ read, form: card, lock: (locked) => [kind, ...inputs.map((each) => each.input)].forEach((input) => (input.disabled = locked)) });
   const build = () => {
     const [, types, labels] = KINDS[kind.value];
-    inputs = types.map((type, at) => inputOf(type, labels[at], () => sender.update()));
+    inputs = types.map((type, at) => inputOf(type, labels[at], () => sender.update(), () => sender.age()));
     place.replaceChildren(...inputs.map((input) => input.element));
     sender.update();
   };

@@ -40,6 +40,14 @@ const same = (one, other) => JSON.stringify(one) === JSON.stringify(other);
 const supplyOf = (found) => found.sections.map((row) => [row.section, row.loses > 0, row.gets_back > 0]);
 const senderOf = (ref) => /^SCR-(.+)-[A-Z0-9]+$/.exec(ref)?.[1] ?? `another program (${ref})`;
 
+/** It did something else than what was shown, since the book had changed in between: what came first, and a way back. */
+function otherwise(intent, shown) {
+  const words = `You saw ${signed(total(intent.forecast.moved))} customer-seconds; it moved ${signed(total(shown.reply.moved))}, since the book had changed in between.`;
+  const first = shown.between.map((each) => el("li", {}, `${senderOf(each.ref)} had sent: ${each.words}${each.entry ? ` (entry ${each.entry})` : ""}`));
+  const back = intent.command.kind === "switch" && shown.entry ? el("p", {}, el("a", { class: "back", href: `/sheet?entry=${shown.entry}&withdraw=yes` }, "Withdraw mine")) : "";
+  return el("div", { class: "warn otherwise" }, el("p", {}, el("b", {}, words)), first.length ? el("ul", {}, first) : "", back);
+}
+
 /** `read` answers the command, or null where a field is missing. `form` sends it by the Enter key too. While the field `clock`
  * shows the time that is now, the command's second is the one at which it is sent. */
 export class Sender {
@@ -249,7 +257,7 @@ export class Sender {
     const differs = shown.counted && !same(moved, shown.counted);
     if (differs) parts.push(el("p", { class: "bad differs" }, "The forecast DIFFERS from the desk's reply: believe the desk."));
     else if (isAsShown) parts.push(el("p", { class: "good equal" }, "The forecast is equal to the desk's reply."));
-    else parts.push(this.otherwise(shown));
+    else parts.push(otherwise(intent, shown));
     parts.push(el("p", {}, `W moved by ${signed(total(moved))} customer-seconds. Reference ${intent.command.ref}.`));
     parts.push(scrolling("What it moved", movesTable(differs ? shown.counted : intent.forecast.moved, moved)), el("p", { class: "mono reply" }, shown.text));
     this.outcome.replaceChildren(el("div", { class: "card" }, parts));
@@ -260,15 +268,6 @@ export class Sender {
     this.rests = true;
     this.enable();
     this.after(shown);
-  }
-
-  /** It did something else than what was shown, since the book had changed in between: what came first, and a way back. */
-  otherwise(shown) {
-    const { intent } = this;
-    const words = `You saw ${signed(total(intent.forecast.moved))} customer-seconds; it moved ${signed(total(shown.reply.moved))}, since the book had changed in between.`;
-    const first = shown.between.map((each) => el("li", {}, `${senderOf(each.ref)} had sent: ${each.words}${each.entry ? ` (entry ${each.entry})` : ""}`));
-    const back = intent.command.kind === "switch" && shown.entry ? el("p", {}, el("a", { class: "back", href: `/sheet?entry=${shown.entry}&withdraw=yes` }, "Withdraw mine")) : "";
-    return el("div", { class: "warn otherwise" }, el("p", {}, el("b", {}, words)), first.length ? el("ul", {}, first) : "", back);
   }
 
   refused(trouble) {

@@ -148,7 +148,7 @@ function work(entry, words, asked) {
   const cause = choice(causes(), String(entry.cause));
   const crew = text({ list: "crews", maxlength: 16, value: entry.crew });
   const changed = () => sender.update();
-  const second = new MomentField("Second", momentWords(entry.second.text), changed);
+  const second = new MomentField("Second", momentWords(entry.second.text), changed, { touched: () => sender.age() });
   const told = el("div", {}, second.element, field("Position", position), field("Cause", cause), field("Crew", crew, spelled(crew, "crew")));
   const read = () => {
     const seen = { f1: String(entry.no), f2: String(entry.revision) };

@@ -538,6 +538,7 @@ class Live(Case):
 
     def test_a_search_says_what_it_found(self) -> None:
         page = self.one
+        self.switch("close")
         page.open(f"{self.url}/sheet")
         page.fill("Section", "0303")
         page.says("main", "no section has 0303 in its name")
