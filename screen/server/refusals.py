@@ -39,7 +39,7 @@ def words_of(state: State, command: dict[str, str], reply: dict[str, Any]) -> st
         first, last = text(state, state.period.first), text(state, state.period.end - 1)
         return f"The second or the day lies outside the book's period, which goes from {first} to {last}."
     if number == 7:
-        return f"Somebody told this entry anew: it has revision {detail} by now. Look at what it is, and correct that if need be."
+        return f"Somebody changed this entry: it has revision {detail} by now. Look at what it is, and correct that if need be."
     if number == 11:
         return f"This reference was used for another command, number {detail}. Nothing was done."
     if number == 12:

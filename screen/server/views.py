@@ -246,7 +246,8 @@ def command_words(state: State, kind: str, fields: Sequence[str]) -> str:
     values = dict(zip(FIELDS.get(kind, ()), fields))
     for name, value in values.items():
         if name in TIMES and re.fullmatch(r"[0-9]{1,11}", value) and value != "0":
-            values[name] = text(state, int(value)).replace("T", " ")
+            shown = text(state, int(value))
+            values[name] = f"{shown[:10]} {shown[11:19]} {shown[19:]}"
     if kind in ("switch", "correct"):
         cause = state.causes.get(int(values["cause"]), "") if values["cause"].isdecimal() else ""
         what = f"{values['position']} at {values['second']}, cause {values['cause']} {cause}, crew {values['crew']}"

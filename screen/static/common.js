@@ -1,10 +1,10 @@
 // What all pages share: the head, the events, tables and fields.
-import { el, svg } from "./elements.js";
+import { duration, el, svg } from "./elements.js";
 import { get, known, post, Trouble } from "./requests.js";
 import { Stream } from "./stream.js";
 import { unanswered } from "./unanswered.js";
 
-export { el, get, known, post, svg };
+export { duration, el, get, known, post, svg };
 
 const AGAIN_SECONDS = 2; // between two questions of a page that can't begin
 
@@ -35,16 +35,6 @@ export function moment(value) {
   if (!text) return "";
   const parts = clock(text).map((part) => [" ", el("span", { class: "nowrap" }, part)]);
   return el("time", { datetime: text }, parts.flat().slice(1));
-}
-
-export function duration(seconds) {
-  const parts = [
-    [Math.floor(seconds / 86400), "d"],
-    [Math.floor(seconds / 3600) % 24, "h"],
-    [Math.floor(seconds / 60) % 60, "min"],
-    [seconds % 60, "s"],
-  ].filter(([count]) => count);
-  return parts.map(([count, unit]) => `${count} ${unit}`).join(" ") || "0 s";
 }
 
 const BRIEF = 12; // letters, that stay in one line
@@ -255,7 +245,7 @@ function listen() {
   };
   const lost = (words) => {
     say(state, "The screen's server is away");
-    alarm("server", `WHAT IS SHOWN MAY BE OLD: ${words}. ${heardAt ? `Last news at ${heardAt}.` : ""} This page tries again by itself.`);
+    alarm("server", `WHAT IS SHOWN MAY BE OLD: ${words}. ${heardAt ? `Last news at ${heardAt} by this computer's clock.` : ""} This page tries again by itself.`);
   };
   document.addEventListener("visibilitychange", () => !document.hidden && isDue && renewAll({}));
   new Stream({ heard, lost });

@@ -1,4 +1,4 @@
-// Elements whose texts are set as text.
+// Elements whose texts are set as text, and lengths of time.
 
 /** An element: attributes, listeners where a value is a function, and children, which are texts or elements. */
 export function el(tag, attributes = {}, ...children) {
@@ -20,4 +20,14 @@ function fill(made, attributes, children) {
     else if (value !== false && value !== null && value !== undefined) made.setAttribute(name, value);
   }
   made.append(...children.flat().filter((child) => child !== null && child !== undefined && child !== ""));
+}
+
+export function duration(seconds) {
+  const parts = [
+    [Math.floor(seconds / 86400), "d"],
+    [Math.floor(seconds / 3600) % 24, "h"],
+    [Math.floor(seconds / 60) % 60, "min"],
+    [seconds % 60, "s"],
+  ].filter(([count]) => count);
+  return parts.map(([count, unit]) => `${count} ${unit}`).join(" ") || "0 s";
 }

@@ -1,6 +1,6 @@
 // A command on its way: what it would do, computed here; then, under one reference, the desk's answer beside it.
 import { el, get, HERE, known, moment, momentWords, newReference, number, onCommands, own, post, PROGRAM, scrolling, settled, signed, table, duration } from "./common.js";
-import { adopt, forget, keep, look, onAnswered, release, underWay } from "./unanswered.js";
+import { adopt, forget, keep, look, onAnswered, release, senderOf, underWay } from "./unanswered.js";
 
 const FOLLOW_SECONDS = 20; // between two forecasts of a switching whose time is the one that is now
 
@@ -38,12 +38,11 @@ export const total = (moved) => moved.filter(([dim]) => dim === "cause").reduce(
 const SHOWN_FIRST = "Not sent: what it would do is shown first. Look at it, and send then.";
 const same = (one, other) => JSON.stringify(one) === JSON.stringify(other);
 const supplyOf = (found) => found.sections.map((row) => [row.section, row.loses > 0, row.gets_back > 0]);
-const senderOf = (ref) => /^SCR-(.+)-[A-Z0-9]+$/.exec(ref)?.[1] ?? `another program (${ref})`;
 
 /** It did something else than what was shown, since the book had changed in between: what came first, and a way back. */
 function otherwise(intent, shown) {
   const words = `You saw ${signed(total(intent.forecast.moved))} customer-seconds; it moved ${signed(total(shown.reply.moved))}, since the book had changed in between.`;
-  const first = shown.between.map((each) => el("li", {}, `${senderOf(each.ref)} had sent: ${each.words}${each.entry ? ` (entry ${each.entry})` : ""}`));
+  const first = shown.between.map((each) => el("li", {}, `${senderOf(each.ref) ?? `another program (${each.ref})`} had sent: ${each.words}${each.entry ? ` (entry ${each.entry})` : ""}`));
   const back = intent.command.kind === "switch" && shown.entry ? el("p", {}, el("a", { class: "back", href: `/sheet?entry=${shown.entry}&withdraw=yes` }, "Withdraw mine")) : "";
   return el("div", { class: "warn otherwise" }, el("p", {}, el("b", {}, words)), first.length ? el("ul", {}, first) : "", back);
 }

@@ -14,6 +14,7 @@ let opened = null;
 
 const tags = (entry) => ["late", "corrected"].filter((name) => entry[name]).concat(entry.kept ? [] : ["withdrawn"]).map((name) => el("span", { class: `tag ${name}` }, name));
 
+const NOT_READ = 422; // the status of a search that can't be read
 const SEARCHED = { device: "device", cause: "cause", crew: "crew", section: "section", day: "day", marked: "mark" };
 const inputs = {};
 
@@ -84,6 +85,7 @@ async function show() {
   try {
     shown = await get("/api/sheet", { ...wanted, from });
   } catch (trouble) {
+    if (trouble.status !== NOT_READ && rows.children.length) throw trouble; // the rows stay: the head says that they may be old
     renew(rows, el("h2", {}, "Not searched"), el("p", { class: "bad" }, `${trouble.message}.`), searchWords() ? clearing() : "");
     return;
   }
@@ -109,13 +111,13 @@ async function show() {
   document.body.dataset.number = shown.number;
 }
 
-/** The entry that is looked at was told anew by somebody: it is offered as it is now. */
+/** Somebody changed the entry that is open: it is offered as it is now. */
 async function lookAgain() {
   if (!opened || opened.sender?.intent) return;
   const entry = await get(`/api/entries/${opened.no}`);
   if (entry.revision === opened.revision || detail.querySelector(".changed")) return;
   const again = el("button", { type: "button", class: "main anew", click: () => open(entry.no) }, "Look at it as it is now");
-  detail.firstElementChild?.prepend(el("div", { class: "warn changed", role: "status" }, el("p", {}, `Somebody told this entry anew: ${entryWords(entry)}`), again));
+  detail.firstElementChild?.prepend(el("div", { class: "warn changed", role: "status" }, el("p", {}, `Somebody changed this entry: ${entryWords(entry)}`), again));
 }
 
 async function open(no, { kind = "correct" } = {}) {

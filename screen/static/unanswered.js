@@ -1,6 +1,6 @@
 // Commands that were sent and have no answer yet, by their reference, for all pages of this browser. They outlive a page that is
 // loaded again or closed, and stand in the head of every page until the desk has answered them.
-import { el } from "./elements.js";
+import { duration, el } from "./elements.js";
 import { known, post, Trouble } from "./requests.js";
 
 const PREFIX = "outagebook-unanswered ";
@@ -60,16 +60,19 @@ function isLeft(ref) {
   return navigator.locks ? navigator.locks.request(PREFIX + ref, { ifAvailable: true }, (lock) => lock !== null) : Promise.resolve(true);
 }
 
-const inWords = (intent) => `${intent.words}. Sent ${new Date(intent.sent).toLocaleString("en-GB")} as ${intent.command.ref}.`;
+/** The name in a reference of the screen's; nothing where another program made it. */
+export const senderOf = (ref) => /^SCR-(.+)-[A-Z0-9]+$/.exec(ref)?.[1];
+const ageOf = (intent) => `sent ${duration(Math.max(1, Math.floor((Date.now() - intent.sent) / 1000)))} ago`;
 
 function rowOf(intent) {
   const { ref } = intent.command;
   const outcome = el("div", { role: "status" });
-  const isMine = ref.startsWith(`SCR-${known.me.name}-`);
+  const isMine = senderOf(ref) === known.me.name;
   const again = el("button", { type: "button", class: "again-above", disabled: !isMine || !known.me.may_send, click: () => resend(intent, outcome, again) }, "Send again");
-  const whose = isMine ? "" : el("p", {}, `It was sent under another name: ${ref.split("-").slice(1, -1).join("-")} can send it again.`);
+  const whose = isMine ? "" : el("p", {}, `It was sent under another name: ${senderOf(ref)} can send it again.`);
   const remove = el("button", { type: "button", class: "small", click: () => askRemoval(ref, remove) }, "Remove from this list");
-  return el("li", {}, el("p", {}, inWords(intent)), whose, el("div", { class: "buttons" }, again, remove), outcome);
+  const words = el("p", {}, `${intent.words}, `, el("span", { class: "age" }, ageOf(intent)), ` as ${ref}.`);
+  return el("li", {}, words, whose, el("div", { class: "buttons" }, again, remove), outcome);
 }
 
 function askRemoval(ref, button) {
@@ -126,6 +129,7 @@ export async function look() {
   }
   for (const intent of intents) {
     const { ref } = intent.command;
+    if (shown.has(ref)) shown.get(ref).querySelector(".age").textContent = ageOf(intent);
     if (shown.has(ref) || !(await isLeft(ref)) || shown.has(ref) || !store.getItem(PREFIX + ref)) continue;
     shown.set(ref, rowOf(intent));
     rows.append(shown.get(ref));

@@ -656,7 +656,7 @@ class Breaks(Case):
         page.driver.refresh()
         page.ready()
         page.says(".unanswered", "1 command without an answer")
-        page.says(".unanswered", "LBS-22 close at 2025-04-06 23:52:00+02:00")
+        page.says(".unanswered", "LBS-22 close at 2025-04-06 23:52:00 +02:00")
         page.click(".again-above")
         page.says(".unanswered", "Saved as command 103: it was saved already, and nothing was done twice")
         self.assertEqual(second.number(), 103)
