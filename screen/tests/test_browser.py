@@ -216,6 +216,9 @@ class Operators(Case):
         page.ready()
         for revision, (field, value) in enumerate((("Position", "close"), ("What", "Withdraw")), 1):
             page.tap_on("Entry 36")
+            page.wait(
+                lambda: page.all("#detail .sender") and not page.text("#detail .outcome"), "the entry as it is now"
+            )
             page.says("#detail", f"36, revision {revision}")
             page.fill(field, value)
             self.forecast_is_there(page)
