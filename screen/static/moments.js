@@ -55,10 +55,11 @@ export class MomentField {
     if (!quiet) this.changed();
   }
 
-  tick() {
+  /** Goes on by what has passed; a field in which somebody may be about to type keeps its text until its moment is sent. */
+  tick({ isSent = false } = {}) {
     const gone = Math.floor((Date.now() - this.base.at) / 1000);
     this.second = String(this.base.second + gone);
-    if (document.activeElement !== this.input) this.input.value = momentWords(later(this.base.text, gone));
+    if (isSent || document.activeElement !== this.input) this.input.value = momentWords(later(this.base.text, gone));
   }
 
   /** Sets a moment, also one as a number of seconds: it is shown as it would be typed. */

@@ -187,7 +187,7 @@ export class Sender {
     if (!this.clock?.isNow) return true;
     const before = supplyOf(this.shown);
     this.isBusy = true;
-    this.clock.tick();
+    this.clock.tick({ isSent: true });
     await this.look();
     this.isBusy = false;
     return Boolean(this.shown) && same(before, supplyOf(this.shown));
