@@ -415,7 +415,7 @@ class AgainstBook(unittest.TestCase):
         oms += "T-8,1,CB-8,2025-10-29 09:00,,2025-10-29 10:00,,WIND,,,\n"
         done = self.run_with(oms=oms)
         self.assertEqual(done.complaints[0][:32], "oms.csv: row 9: ticket T-8 step ", done.err)
-        self.assertIn("entry 12 of the book would act first", done.err)
+        self.assertIn("entry 13 of the book would act first", done.err)
 
     def test_references_of_other_commands(self) -> None:
         row = "connect,CIS-6000,7000,DEPOT,0,,,\n"

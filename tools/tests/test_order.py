@@ -6,6 +6,7 @@ import unittest
 from itertools import groupby
 
 from outage_tools.order import Does, Timed, returns_first
+from outage_tools.work import works_of
 from tests import exports, many_orders, support
 
 SEEDS = range(1_000, 1_020)
@@ -107,6 +108,18 @@ class Rows(unittest.TestCase):
         returns = "T-2,1,SW-81,2025-10-21 08:00,,2025-10-21 09:00,,WIND,,,\n"
         self.assertEqual(self.refs(head + leaves + returns), ["1-1-C", "2-1-O", "1-1-O", "2-1-C"])
         self.assertEqual(self.refs(head + returns + leaves), ["2-1-C", "1-1-C", "2-1-O", "1-1-O"])
+
+    def test_no_row_of_a_first_export_is_late(self) -> None:
+        """A departure behind returns of later seconds is none; one behind a departure of a later second is."""
+        rows = exports.run(*exports.arguments_of(self.folder, {}), *exports.PERIOD).out
+        late = "switch,DESK-1,CB-8,open,2025-10-22T09:00:00+02:00,1,DESK,\n"
+        texts = [self.folder / "first.csv", self.folder / "late.csv"]
+        for path, text in zip(texts, (rows, rows + late)):
+            path.write_text(text)
+        period = ("2025-10-20", "14", exports.ZONE)
+        first, second = support.made_of("order-late", [(path, period) for path in texts])
+        self.assertEqual([work for work in works_of(support.opened(first)) if work.is_late], [])
+        self.assertEqual([work.command.ref for work in works_of(support.opened(second)) if work.is_late], ["DESK-1"])
 
 
 class Tables(unittest.TestCase):
