@@ -258,7 +258,8 @@ def main() -> int:
     if args.report == args.book:
         parser.error("--report and BOOK name one file")
     for number in ENDING:
-        signal.signal(number, end)
+        if signal.getsignal(number) is not signal.SIG_IGN:  # as nohup has it
+            signal.signal(number, end)
     is_wrong = False
 
     def job() -> None:

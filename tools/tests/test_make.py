@@ -1,13 +1,17 @@
 """A book by one command: that of the single steps, whole or not at all. The model stands in for the program where that isn't what
 a test is of (made_program.py)."""
 
+import contextlib
 import errno
 import fcntl
 import os
+import pty
 import shutil
+import signal
 import sqlite3
+import subprocess
+import time
 import unittest
-from contextlib import closing
 from pathlib import Path
 from unittest import mock
 
@@ -21,7 +25,7 @@ KILLS = 20
 
 def commands_of(book: Path) -> list[tuple[str, str]]:
     """The references and the bodies of a book's commands."""
-    with closing(sqlite3.connect(f"{book.as_uri()}?mode=ro", uri=True)) as database:
+    with contextlib.closing(sqlite3.connect(f"{book.as_uri()}?mode=ro", uri=True)) as database:
         return database.execute("SELECT ref, body FROM cmd ORDER BY id").fetchall()
 
 
@@ -116,6 +120,32 @@ class Whole(Making):
         done = self.maker.run()
         self.assertEqual(done.returncode, 0, done.stderr)
         self.assertNotIn("Tickets in both", done.stdout)
+
+    def test_a_terminal_shows_the_steps(self) -> None:
+        ours, theirs = pty.openpty()
+        self.addCleanup(os.close, ours)
+        child = subprocess.Popen(self.maker.command(), stdout=subprocess.DEVNULL, stderr=theirs)
+        os.close(theirs)
+        said = b""
+        with contextlib.suppress(OSError):  # the terminal's other side is closed
+            while part := os.read(ours, 4_096):
+                said += part
+        self.assertEqual(child.wait(), 0, said)
+        lines = said.decode().splitlines()
+        self.assertEqual(lines[0], "step 1 of 5: checks the exports")
+        self.assertIn("step 3 of 5: imports 39 rows", lines)
+
+    def test_signals_to_end(self) -> None:
+        """What was made so far goes away, and the program that is at work ends."""
+        for number in (signal.SIGTERM, signal.SIGINT, signal.SIGHUP):
+            child = subprocess.Popen(self.maker.command(), stdout=subprocess.DEVNULL, stderr=subprocess.DEVNULL)
+            while not [*self.maker.work.glob("*/rows.csv")]:
+                self.assertIsNone(child.poll())
+                time.sleep(0.01)
+            child.send_signal(number)
+            self.assertEqual(child.wait(), 128 + number)
+            self.assertEqual(([*self.maker.work.iterdir()], self.maker.files()), ([], set()))
+            self.assertTrue(self.maker.have_ended())
 
 
 class Refused(Making):

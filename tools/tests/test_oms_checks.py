@@ -478,8 +478,8 @@ class OverTheYearsEnd(unittest.TestCase):
             [
                 ["OMS-T-4-1-O", "TIE-78", "open"],
                 ["OMS-T-3-1-C", "SW-81", "close"],
-                ["OMS-T-5-1-O", "CB-8", "open"],
                 ["OMS-T-5-1-C", "CB-8", "close"],
+                ["OMS-T-5-1-O", "CB-8", "open"],
             ],
             done.err,
         )

@@ -7,7 +7,8 @@ from itertools import groupby
 
 from outage_tools.order import Does, Timed, returns_first
 from outage_tools.work import works_of
-from tests import exports, many_orders, support
+from tests import exports, many_orders, program_books, support
+from tests.made_exports import Year
 
 SEEDS = range(1_000, 1_020)
 DOES = {"D": Does.DEPARTURE, "R": Does.RETURN, "-": Does.OTHER}
@@ -133,6 +134,19 @@ class Tables(unittest.TestCase):
         self.assertEqual(seen.differing, [])
         self.assertGreater(seen.moved, 20 * len(SEEDS), seen)
         self.assertGreater(seen.shared, 10 * len(SEEDS), seen)
+
+    @support.needs_program
+    def test_nor_does_one_of_the_program(self) -> None:
+        folder = support.folder() / "orders-program"
+        folder.mkdir()
+        self.addCleanup(shutil.rmtree, folder)
+        for seed in SEEDS[:2]:
+            with many_orders.own_zone():
+                chains = many_orders.Chains(Year(seed, shares=True), folder)
+                chains.export(None)
+            books = [program_books.new_book(path.stem, period, path) for path, period in chains.texts()]
+            first, second = map(program_books.table_of, books)
+            self.assertEqual(first, second, f"seed {seed}")
 
 
 if __name__ == "__main__":
