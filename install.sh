@@ -1,5 +1,6 @@
 #!/bin/sh
-# Installs the program, its tools, the desk's screen, manual page, completions and pages under PREFIX (/usr/local).
+# Installs the program, its tools, the desk's screen, manual page, completions, pages and examples under PREFIX
+# (/usr/local).
 #
 #     ./install.sh [PREFIX]
 #
@@ -17,7 +18,7 @@ if [ $# -gt 1 ] || [ "${prefix#/}" = "$prefix" ]; then
     exit 64
 fi
 if [ ! -x "$program" ]; then
-    echo "install.sh: there is no program at $program: build it by (cd crates/outagebook && rt run -- --help)" >&2
+    echo "install.sh: there is no program at $program: sh run.sh builds it" >&2
     exit 1
 fi
 
@@ -46,10 +47,34 @@ put 644 "$here/packaging/outagebook.1" share/man/man1/outagebook.1
 put 644 "$here/packaging/outagebook.bash" share/bash-completion/completions/outagebook
 put 644 "$here/packaging/_outagebook" share/zsh/site-functions/_outagebook
 put 644 "$here/packaging/outagebook.fish" share/fish/vendor_completions.d/outagebook.fish
-for file in "$here"/deploy/*.service "$here"/deploy/*.conf; do
-    put 644 "$file" "share/doc/outagebook/deploy/$(basename "$file")"
+documents=share/doc/outagebook
+documents_of() { # prints the pages, the examples and the files of services and proxies, with their places in the repository
+    (cd "$here" && find README.md CHANGELOG.md CONTRIBUTING.md SECURITY.md docs examples deploy \
+        -type f ! -name '.*' ! -name '*.db*') | sort
+}
+without_links() { # PAGE: prints the commands of sed, one for each file that the page links to and that isn't there
+    sed 's/](/\
+&/g' "$1" | sed -n 's/^](\([^)#]*\)[^)]*).*/\1/p' | sort -u | while read -r target; do
+        case $target in
+        '' | *://* | mailto:*) ;;
+        *) [ -e "$(dirname "$1")/$target" ] || printf '%s\n' "$target" ;;
+        esac
+    done | sed -e 's/[].[*^$\|]/\\&/g' \
+        -e 's/.*/s|!\\{0,1\\}\\[\\([^][]*\\(\\[[^][]*\\][^][]*\\)*\\)\\](&\\(#[^)]*\\)\\{0,1\\})|\\1|g/'
+}
+documents_of | while read -r file; do
+    put 644 "$here/$file" "$documents/$file"
 done
-(cd "$here/docs" && find . -name '*.md' -o -name '*.webp') | sort | while read -r page; do
-    put 644 "$here/docs/$page" "share/doc/outagebook/docs/${page#./}"
+# The pages link to sources too, which aren't installed: of a link to a file that isn't there, its text alone is kept.
+# sed reads two lines at a time, since a link's text may go on in the next line; blocks (```) are kept as they are.
+documents_of | sed -n '/\.md$/p' | while read -r file; do
+    page=$to/$documents/$file
+    commands=$(without_links "$page")
+    if [ -n "$commands" ]; then
+        # shellcheck disable=SC2016
+        sed -e '/^[[:space:]]*```/,/^[[:space:]]*```/b' -e '$!N' -e "$commands" -e P -e D "$page" >"$page.new"
+        chmod 644 "$page.new"
+        mv "$page.new" "$page"
+    fi
 done
 echo "installed under $prefix"

@@ -20,7 +20,6 @@ from crates import Crate, crates_below, edits_of, read_crates
 OWN = ("src", "specs", "proofs", "c", "must-fail")
 OF_BELOW = ("src", "specs", "c")
 COMMENTS = {".rt": "//", ".antt": "--"}  # how a line of comment begins, by the kind of file
-QUOTES = re.compile(r'\\.|"')
 PUBLIC = re.compile(r"^pub mod\s+(\S+)", re.MULTILINE)
 
 
@@ -49,20 +48,28 @@ def sum_of_files(files: Iterable[Path], root: Path, read: Callable[[Path], bytes
     return sum_of_parts(parts())
 
 
-def without_comments(file: Path) -> bytes:
-    """What a check reads of a file: all but the lines that are comments alone.
+def ends_in_quotes(line: str, begin: str, is_quoted: bool) -> bool:
+    """Whether a text in quotes goes on after a line; `begin` is how a comment begins, `is_quoted` whether one went on before it."""
+    for token in re.findall(rf'\\.|"|{begin}', line.replace("'\"'", "")):
+        if token == begin and not is_quoted:
+            return False
+        is_quoted ^= token == '"'
+    return is_quoted
 
-    A file in which a text in quotes may go over several lines counts whole, since a line of such a text may look like a comment.
-    """
+
+def code_lines(text: str, begin: str) -> Iterator[str]:
+    """The lines of a text but for blank ones and those that are comments alone; all lines of a text in quotes."""
+    is_quoted = False
+    for line in text.splitlines(keepends=True):
+        if is_quoted or line.strip() and not line.lstrip().startswith(begin):
+            yield line
+            is_quoted = ends_in_quotes(line, begin, is_quoted)
+
+
+def without_comments(file: Path) -> bytes:
+    """What a check reads of a file: its code."""
     begin = COMMENTS.get(file.suffix)
-    text = file.read_bytes()
-    if begin is None:
-        return text
-    lines = text.decode().splitlines(keepends=True)
-    code = [line for line in lines if not line.lstrip().startswith(begin)]
-    if any(QUOTES.findall(line.replace("'\"'", "")).count('"') % 2 for line in code):
-        return text
-    return "".join(code).encode()
+    return file.read_bytes() if begin is None else "".join(code_lines(file.read_text(encoding="utf-8"), begin)).encode()
 
 
 def public_lemmas(crate: Path) -> list[Path]:

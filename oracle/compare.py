@@ -1,4 +1,4 @@
-"""Compares the program with the plain model, over small random books (make_commands.py) and the sample fortnight.
+"""Compares the program with the plain model, over small random books (make_commands.py) and the samples of examples/.
 
     python3 oracle/compare.py [--seeds N] [--program FILE]
 
@@ -25,6 +25,8 @@ PROGRAM = Path(os.environ.get("OUTAGEBOOK", ROOT / "crates/outagebook/out/outage
 DATA = ROOT / "bench-data"
 EXAMPLES = ROOT / "examples/fortnight"
 FORTNIGHT = ("2025-03-24", 14, "CET-1CEST,M3.5.0,M10.5.0/3")
+FEEDER = ROOT / "examples/ieee/feeder.csv"  # the worked example of IEEE Std 1366
+FEEDER_YEAR = ("2025-01-01", 365, "EST5EDT,M3.2.0,M11.1.0")
 
 
 PeriodWords = tuple[str, int, str]  # first day, days, zone
@@ -94,6 +96,7 @@ def texts(seeds: int) -> Iterator[tuple[str, PeriodWords, bytes]]:
     corrections = (EXAMPLES / "corrections.csv").read_bytes()
     yield "the fortnight", FORTNIGHT, fortnight
     yield "the fortnight, corrected", FORTNIGHT, fortnight + corrections.partition(b"\n")[2]
+    yield "the feeder of IEEE 1366", FEEDER_YEAR, FEEDER.read_bytes()
     for seed in range(1, seeds + 1):
         yield f"seed {seed}", period_of(seed), text_of(seed)
 

@@ -10,10 +10,14 @@ are on S1, three on S2, five on S3.
 import contextlib
 import re
 import sqlite3
+import subprocess
+import sys
 import unittest
+from fractions import Fraction
 from pathlib import Path
 
 from commands import KINDS, Refusal, RowRefusal, read_date, read_row, read_second
+from compare import FEEDER, FEEDER_YEAR
 from model import Book, quotient, quotient_text
 from state import Period, midnight_of
 
@@ -355,6 +359,29 @@ class Examples(unittest.TestCase):
             if name == "fortnight":
                 self.assertEqual({key: amount for key, amount in book.amounts().items() if key[0] == 1}, BY_HAND)
                 self.assertEqual([counts["MOMENTARY"] for _, counts in map(book.indices, [False, True])], [16, 16])
+
+    def test_files_of_ieee(self) -> None:
+        """The worked example of IEEE Std 1366: its program writes its files, and its table has the standard's figures."""
+        make = FEEDER.with_name("make_feeder.py")
+        for file, *options in [["feeder.csv"], ["kva.csv", "--kva"]]:
+            made = subprocess.run([sys.executable, make, *options], capture_output=True, check=True).stdout
+            self.assertTrue(made == FEEDER.with_name(file).read_bytes(), f"{file} isn't what {make} writes")
+        book = Book(Period(*FEEDER_YEAR), keeps_moves=False)
+        self.assertEqual(book.import_text(FEEDER.read_bytes()), (2047, 0, None))
+        table = FEEDER.with_name("feeder.table.txt").read_text(encoding="ascii")
+        self.assertEqual("".join(f"{line}\n" for line in book.table_lines()), table)
+        interrupted = [200, 600, 25, 90, 700, 1500, 100]
+        seconds = [490, 4279, 1814, 16031, 7200, 600, 2400]
+        sustained = sum(customers * length for customers, length in zip(interrupted, seconds))
+        indices, counts = book.indices(False)
+        self.assertEqual(counts, {"SUSTAINED": sum(interrupted), "MOMENTARY": 400 + 2000})
+        self.assertEqual(indices["SAIFI"], Fraction(3215, 2000))
+        self.assertEqual(indices["SAIDI"], Fraction(sustained, 60 * 2000))
+        self.assertEqual(indices["CAIFI"], Fraction(3215, 1800))
+        shown = [
+            f"{float(indices[name] or 0):.{places}f}" for name, places in [("SAIDI", 2), ("CAIDI", 2), ("ASAI", 6)]
+        ]
+        self.assertEqual(shown, ["86.11", "53.57", "0.999836"])
 
     def test_texts_of_the_tests(self) -> None:
         """The crates' tests have the files of the sample fortnight as they stand in `examples/fortnight/`."""

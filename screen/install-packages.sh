@@ -1,14 +1,19 @@
 #!/bin/sh
-# Installs what the screen and its tests want beside the program: Debian's packages, as root.
+# Installs the Debian packages of the desk's screen, as root. It names them first.
 #
 #     sh screen/install-packages.sh [--screen-only]
 #
-# The screen alone wants Python 3.11 and python3-aiohttp; nginx stands before it, with TLS and logins.
+# With --screen-only these are the packages that the screen itself needs, without it those of its tests too. A proxy with
+# TLS and logins is the administrator's choice: the tests use nginx.
 set -eu
-packages="python3 python3-aiohttp nginx-light"
-if [ "${1:-}" != --screen-only ]; then
-    packages="$packages chromium chromium-driver python3-selenium curl openssl poppler-utils sqlite3 black mypy"
+packages="python3 python3-aiohttp"
+if [ $# -eq 0 ]; then
+    packages="$packages chromium chromium-driver curl nginx-light openssl poppler-utils python3-selenium"
+elif [ "$*" != --screen-only ]; then
+    echo "usage: sh screen/install-packages.sh [--screen-only]" >&2
+    exit 64
 fi
+echo "installing: $packages"
 apt-get update
 # shellcheck disable=SC2086
 DEBIAN_FRONTEND=noninteractive apt-get install -y --no-install-recommends $packages

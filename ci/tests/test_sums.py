@@ -40,7 +40,7 @@ class Sums(unittest.TestCase):
         self.made.write("crates/low/src/lib.rt", f"//! A crate.\n\n{STRONG}")
         self.made.write("crates/low/specs/Lib.antt", "pub mod Answer\n")
         self.before = self.sums()
-        self.made.write("crates/low/src/lib.rt", f"//! Another\n//! comment.\n\n    // here too\n{STRONG}")
+        self.made.write("crates/low/src/lib.rt", f"//! Another\n//! comment.\n\n\n    // here too\n{STRONG}")
         self.made.write("crates/low/specs/Lib.antt", "-- the answer\npub mod Answer\n")
         self.assertEqual(self.changed(), [])
         self.made.write("crates/low/src/lib.rt", f"//! A crate.\n\n{STRONG.rstrip()} // after code\n")

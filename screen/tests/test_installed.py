@@ -34,7 +34,7 @@ class Installed(unittest.TestCase):
         words = ["sh", str(support.ROOT / "install.sh"), "/usr/local"]
         told = {"PATH": "/usr/bin:/bin", "PROGRAM": str(support.PROGRAM), "DESTDIR": str(root)}
         subprocess.run(words, check=True, capture_output=True, env=told)
-        shipped = root / "usr/local/share/doc/outagebook/examples"
+        shipped = root / "usr/local/share/doc/outagebook/deploy"
         units = root / "etc/systemd/system"
         units.mkdir(parents=True)
         for unit in UNITS:

@@ -15,12 +15,27 @@ from outage_tools.errors import BookError, Differs
 WRONG_WORDS = 64
 
 
+def drop_output() -> None:
+    """Nobody reads standard output any more: what is still printed there is dropped."""
+    os.dup2(os.open(os.devnull, os.O_WRONLY), sys.stdout.fileno())
+
+
+def print_error(text: str, end: str = "\n") -> None:
+    """Prints on standard error, after all that was printed on standard output before, also where that is buffered."""
+    try:
+        sys.stdout.flush()
+    except BrokenPipeError:
+        drop_output()
+    finally:
+        print(text, end=end, file=sys.stderr, flush=True)
+
+
 class Parser(argparse.ArgumentParser):
     """A parser whose complaints end with 64, as the program's do."""
 
     def error(self, message: str) -> NoReturn:
-        self.print_usage(sys.stderr)
-        self.exit(WRONG_WORDS, f"{self.prog}: {message}\n")
+        print_error(f"{self.format_usage()}{self.prog}: {message}")
+        self.exit(WRONG_WORDS)
 
 
 class Once(argparse.Action):
@@ -68,11 +83,11 @@ def run_job(job: Callable[[], None]) -> int:
         job()
         sys.stdout.flush()
     except Differs as differs:
-        print(f"differs: {differs}", file=sys.stderr)
+        print_error(f"differs: {differs}")
         return 2
     except BookError as error:
-        print(f"error: {error}", file=sys.stderr)
+        print_error(f"error: {error}")
         return 1
     except BrokenPipeError:
-        os.dup2(os.open(os.devnull, os.O_WRONLY), sys.stdout.fileno())
+        drop_output()
     return 0

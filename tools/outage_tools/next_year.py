@@ -17,7 +17,7 @@ import sys
 from collections.abc import Iterator, Mapping
 from datetime import datetime
 
-from outage_tools.cli import Parser, add_table_arguments, run_job
+from outage_tools.cli import Parser, add_table_arguments, print_error, run_job
 from outage_tools.commands import read_commands, row_of, write_rows
 from outage_tools.compare import Checked, open_book
 from outage_tools.errors import BookError
@@ -120,7 +120,7 @@ def main() -> int:
             if args.first < end:
                 raise BookError(f"the new book's first second {args.first} lies before the old one's end {end}")
             if args.first > end:
-                print(f"note: {args.first - end} seconds lie between the two books", file=sys.stderr)
+                print_error(f"note: {args.first - end} seconds lie between the two books")
             write_rows(rows_of(found, args.first, args.prefix), sys.stdout)
 
     return run_job(job)

@@ -1,12 +1,16 @@
-"""Work on many books: a process for each, as many at once as processors and memory allow, with progress."""
+"""Work on many books: a process for each, as many at once as processors and memory allow, with progress.
+
+Where the machine lacks what processes share (/dev/shm), this process works on one book after the other.
+"""
 
 import os
 import sys
-from collections.abc import Callable, Sequence
+from collections.abc import Callable, Iterator, Sequence
 from concurrent.futures import FIRST_COMPLETED, Future, ProcessPoolExecutor, wait
 from pathlib import Path
 from typing import TypeVar
 
+from outage_tools.cli import print_error
 from outage_tools.errors import BookError, Differs
 
 Result = TypeVar("Result")
@@ -64,23 +68,35 @@ def failure(path: str, kind: str, text: str) -> Exception:
     return DiffersIn(path, text) if kind == "differs" else BookError(told_path)
 
 
-def one_after_another(work: Work[Result], path: str, table: str | None, program: str) -> Result:
-    """A book's result in this process."""
-    kind, result, text = told(work, path, table, program)
-    if result is None:
-        raise failure(path, kind, text)
-    return result
+def one_after_another(
+    work: Work[Result], paths: Sequence[str], tables: Sequence[str | None], program: str
+) -> Iterator[Result]:
+    """The books' results in their order, in this process."""
+    for done, (path, table) in enumerate(zip(paths, tables), 1):
+        kind, result, text = told(work, path, table, program)
+        if result is None:
+            raise failure(path, kind, text)
+        yield result
+        tell_progress(done, len(paths), path)
+
+
+def new_pool(count: int) -> ProcessPoolExecutor | None:
+    """So many processes; none for one book at once, or where locks between processes can't be made, as without /dev/shm."""
+    try:
+        return ProcessPoolExecutor(count) if count > 1 else None
+    except (OSError, NotImplementedError):
+        return None
 
 
 def over_books(
     work: Work[Result], paths: Sequence[str], tables: Sequence[str | None], program: str, processes: int | None
 ) -> list[Result]:
     """The results of all books in their order. The first that fails ends the work, and its path is told."""
-    count = processes_for(paths, processes)
-    if count == 1:
-        return [one_after_another(work, path, table, program) for path, table in zip(paths, tables)]
+    pool = new_pool(processes_for(paths, processes))
+    if pool is None:
+        return [*one_after_another(work, paths, tables, program)]
     results: dict[int, Result] = {}
-    with ProcessPoolExecutor(count) as pool:
+    with pool:
         going: dict["Future[tuple[str, Result | None, str]]", int] = {
             pool.submit(told, work, path, table, program): place
             for place, (path, table) in enumerate(zip(paths, tables))
@@ -102,4 +118,4 @@ def over_books(
 def tell_progress(done: int, of: int, path: str) -> None:
     """A line for a person who waits: only where standard error is a terminal."""
     if of > 1 and sys.stderr.isatty():
-        print(f"{done} of {of}: {path}", file=sys.stderr, flush=True)
+        print_error(f"{done} of {of}: {path}")

@@ -21,7 +21,7 @@ from dataclasses import dataclass
 from fractions import Fraction
 from pathlib import Path
 
-from outage_tools.cli import Parser, run_job
+from outage_tools.cli import Parser, print_error, run_job
 from outage_tools.compare import figures_of_table
 from outage_tools.copies import copy_of
 from outage_tools.counts import index_text
@@ -112,12 +112,12 @@ class Progress:
 
     def at(self, done: int, count: int) -> None:
         if self.is_shown and time.monotonic() - self.last > 0.2:
-            print(f"\r{done} of {count} rows", end="", file=sys.stderr, flush=True)
+            print_error(f"\r{done} of {count} rows", end="")
             self.last = time.monotonic()
 
     def end(self) -> None:
         if self.is_shown:
-            print("\r\x1b[K", end="", file=sys.stderr, flush=True)
+            print_error("\r\x1b[K", end="")
 
 
 def act_rows(desk: Desk, text: Text, progress: Progress | None = None) -> Iterator[tuple[int, Refusal]]:

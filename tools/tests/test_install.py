@@ -9,6 +9,7 @@ import shutil
 import subprocess
 import sys
 import unittest
+from functools import lru_cache
 from pathlib import Path
 
 from tests import support
@@ -16,6 +17,9 @@ from tests import support
 PACKAGING = support.ROOT / "packaging"
 SHELLS = {"bash": ["bash", "-n"], "zsh": ["zsh", "-n"], "fish": ["fish", "--no-execute"]}
 Options = dict[str, set[str]]  # of each subcommand
+DOCUMENTS = "share/doc/outagebook"
+CHECK_PAGES = support.ROOT / "tests/check_pages.py"
+COMMANDS_OF_INSTALL = "basename chmod cp dirname find ln mkdir mv sed sh sort tr".split()
 FILES = {"bash": "outagebook.bash", "zsh": "_outagebook", "fish": "outagebook.fish"}
 
 
@@ -109,22 +113,30 @@ class Words(unittest.TestCase):
                 self.assertEqual((done.returncode, done.stderr), (0, ""), shell)
 
 
-class Install(unittest.TestCase):
-    def install(self, *arguments: str | Path, **more: str | Path) -> subprocess.CompletedProcess[str]:
-        return subprocess.run(
-            ["sh", support.ROOT / "install.sh", *arguments],
-            capture_output=True,
-            text=True,
-            check=False,
-            env={**os.environ, **{key: str(value) for key, value in more.items()}},
-        )
+def install(*arguments: str | Path, root: Path = support.ROOT, **more: str | Path) -> subprocess.CompletedProcess[str]:
+    return subprocess.run(
+        ["sh", root / "install.sh", *arguments],
+        capture_output=True,
+        text=True,
+        check=False,
+        env={**os.environ, **{key: str(value) for key, value in more.items()}},
+    )
 
+
+@lru_cache(maxsize=None)
+def own_program() -> Path:
+    """What is installed as the program, so that none has to be built."""
+    program = support.folder() / "program"
+    program.write_text("#!/bin/sh\necho the program\n")
+    program.chmod(0o755)
+    return program
+
+
+class Install(unittest.TestCase):
     def test_under_a_prefix(self) -> None:
-        prefix, program = support.folder() / "prefix", support.folder() / "program"
-        program.write_text("#!/bin/sh\necho the program\n")
-        program.chmod(0o755)
+        prefix = support.folder() / "prefix"
         for _ in range(2):
-            done = self.install(prefix, PROGRAM=program)
+            done = install(prefix, PROGRAM=own_program())
             self.assertEqual((done.returncode, done.stderr), (0, ""))
         tools = [
             "agree",
@@ -160,6 +172,132 @@ class Install(unittest.TestCase):
         self.assertTrue((library / "outage_tools/warehouse.sql").exists())
 
     def test_what_is_refused(self) -> None:
-        self.assertEqual(self.install(support.folder() / "none", PROGRAM="/nowhere/outagebook").returncode, 1)
-        self.assertEqual(self.install("relative").returncode, 64)
+        self.assertEqual(install(support.folder() / "none", PROGRAM="/nowhere/outagebook").returncode, 1)
+        self.assertEqual(install("relative").returncode, 64)
         self.assertFalse((support.folder() / "none").exists())
+
+
+def dead_links(folder: Path) -> list[str]:
+    """The links of a folder's pages that lead nowhere, each with its page, by the check of the repository's own pages."""
+    command = [sys.executable, str(CHECK_PAGES), str(folder), "--links"]
+    *dead, count = subprocess.run(command, capture_output=True, text=True, check=False).stdout.splitlines()
+    assert re.fullmatch(f"[1-9][0-9]* pages, {len(dead)} wrong", count), count
+    return [line.removeprefix(f"{folder}/") for line in dead]
+
+
+class Pages(unittest.TestCase):
+    """The installed pages, of which no link leads nowhere."""
+
+    def test_of_the_repository(self) -> None:
+        """No link is dead in the installed copy; a heading that the repository's own pages lack is a defect of these."""
+        prefix = support.folder() / "prefix-of-pages"
+        lacking = {line for line in dead_links(support.ROOT) if "no such heading" in line}
+        for _ in range(2):
+            self.assertEqual(install(prefix, PROGRAM=own_program()).returncode, 0)
+            self.assertEqual([line for line in dead_links(prefix / DOCUMENTS) if line not in lacking], [])
+        for folder in ("docs", "examples", "deploy"):
+            here, there = (
+                {path.relative_to(root).as_posix() for path in (root / folder).rglob("[!.]*") if path.is_file()}
+                for root in (support.ROOT, prefix / DOCUMENTS)
+            )
+            self.assertEqual(there, here)
+            for name in here:
+                if not name.endswith(".md"):
+                    self.assertEqual((prefix / DOCUMENTS / name).read_bytes(), (support.ROOT / name).read_bytes())
+        for page in (prefix / DOCUMENTS).rglob("*.md"):
+            own = support.ROOT / page.relative_to(prefix / DOCUMENTS)
+            kept = re.sub(r"!?\[((?:[^][]|\[[^][]*\])*)\]\([^)\s]*\)", r"\1", own.read_text())
+            shown = re.sub(r"!?\[((?:[^][]|\[[^][]*\])*)\]\([^)\s]*\)", r"\1", page.read_text())
+            self.assertEqual(shown, kept, "but for links the page is as it was")
+            self.assertEqual(page.stat().st_mode & 0o777, 0o644)
+
+    def test_which_links_are_kept(self) -> None:
+        """Links in all shapes; by a path that has the commands of POSIX alone, so no Python."""
+        root, path, to = (support.folder() / name for name in ("root", "commands-of-install", "destdir"))
+        for folder in ("tools", "screen", "packaging"):
+            shutil.copytree(support.ROOT / folder, root / folder, ignore=shutil.ignore_patterns("tests", "__pycache__"))
+        for folder in ("docs/use", "docs/pictures", "examples", "deploy", "crates/a.b"):
+            (root / folder).mkdir(parents=True)
+        for name in ("install.sh", "README.md", "CHANGELOG.md", "CONTRIBUTING.md", "SECURITY.md"):
+            shutil.copy(support.ROOT / name, root)
+        for name in (
+            "docs/pictures/now.webp",
+            "docs/.hidden",
+            "examples/rows.csv",
+            "examples/tried.db",
+            "crates/a.b/lib.rt",
+        ):
+            (root / name).write_text("")
+        (root / "docs/OTHER.md").write_text("# Other\n")
+        (root / "docs/use/PAGE.md").write_text(
+            "[other](../OTHER.md#other), [top](../../README.md), [web](https://example.org/a), [here](#page),\n"
+            "![seen](../pictures/now.webp), ![not seen](../pictures/none.webp), [`lib.rt`](../../crates/a.b/lib.rt#L1), [a\n"
+            "folder](../../crates/a.b/) of [0, 5) and [examples](../../examples/) [x [1]](../NONE.md).\n"
+            "| [one](../NONE.md) | [two](../OTHER.md) | [three](../NONE.md) |\n"
+            "```text\n[kept](../NONE.md)\n```\n[last](../../tests/README.md)\n"
+        )
+        path.mkdir()
+        for command in COMMANDS_OF_INSTALL:
+            (path / command).symlink_to(shutil.which(command) or command)
+        done = install("/usr", root=root, PROGRAM=own_program(), PATH=path, DESTDIR=to)
+        self.assertEqual((done.returncode, done.stderr, done.stdout), (0, "", "installed under /usr\n"))
+        self.assertEqual(
+            (to / "usr" / DOCUMENTS / "docs/use/PAGE.md").read_text(),
+            "[other](../OTHER.md#other), [top](../../README.md), [web](https://example.org/a), [here](#page),\n"
+            "![seen](../pictures/now.webp), not seen, `lib.rt`, a\n"
+            "folder of [0, 5) and [examples](../../examples/) x [1].\n"
+            "| one | [two](../OTHER.md) | three |\n"
+            "```text\n[kept](../NONE.md)\n```\nlast\n",
+        )
+        self.assertFalse([*to.rglob("*.new"), *to.rglob("*.db"), *to.rglob(".hidden")])
+
+
+class Screen(unittest.TestCase):
+    """What the screen needs, and what it answers without it."""
+
+    def packages(self, *arguments: str) -> tuple[int, list[str], str]:
+        """The status of install-packages.sh, its lines and its complaint, with an apt-get that prints its arguments."""
+        path = support.folder() / "only-apt-get"
+        path.mkdir(exist_ok=True)
+        (path / "apt-get").write_text('#!/bin/sh\necho "apt-get $*"\n')
+        (path / "apt-get").chmod(0o755)
+        done = subprocess.run(
+            [shutil.which("sh") or "sh", support.ROOT / "screen/install-packages.sh", *arguments],
+            capture_output=True,
+            text=True,
+            check=False,
+            env={"PATH": str(path)},
+        )
+        return done.returncode, done.stdout.splitlines(), done.stderr
+
+    def test_packages(self) -> None:
+        """They are named before they are installed; the tests' are among those of the whole test run."""
+        status, lines, complaint = self.packages("--screen-only")
+        install = "apt-get install -y --no-install-recommends"
+        own = "python3 python3-aiohttp"
+        self.assertEqual((status, complaint), (0, ""))
+        self.assertEqual(lines, [f"installing: {own}", "apt-get update", f"{install} {own}"])
+        status, lines, complaint = self.packages()
+        self.assertEqual((status, complaint), (0, ""))
+        named = lines[0].removeprefix("installing: ")
+        self.assertEqual(lines[1:], ["apt-get update", f"{install} {named}"])
+        rows = (support.ROOT / "ci/packages.txt").read_text().splitlines()
+        listed = {row.split()[2] for row in rows if row and not row.startswith("#")}
+        self.assertLess({*own.split(), "nginx-light", "chromium", "python3-selenium"}, {*named.split()})
+        self.assertLessEqual({*named.split()}, listed)
+
+    def test_wrong_arguments_install_nothing(self) -> None:
+        for arguments in (["--screen"], ["--screen-only", "--screen-only"], [""]):
+            status, lines, complaint = self.packages(*arguments)
+            self.assertEqual((status, lines), (64, []))
+            self.assertTrue(complaint.startswith("usage: "))
+
+    def test_without_aiohttp(self) -> None:
+        """A Python without site packages finds none of Debian's: one line names the package that is missing."""
+        command = [sys.executable, "-E", "-S", str(support.ROOT / "screen/outagebook-screen"), "--help"]
+        done = subprocess.run(command, capture_output=True, text=True, check=False)
+        self.assertEqual((done.returncode, done.stdout), (1, ""))
+        self.assertEqual(
+            done.stderr,
+            "outagebook-screen: the package python3-aiohttp is missing; as root: apt-get install python3-aiohttp\n",
+        )

@@ -13,13 +13,12 @@ nothing is written: all such rows are told, and the status is 1. What was left o
 
 import argparse
 import re
-import sys
 from collections.abc import Iterable, Iterator
 from contextlib import ExitStack
 from dataclasses import dataclass, field
 from pathlib import Path
 
-from outage_tools.cli import Once, Parser, add_table_arguments, run_job
+from outage_tools.cli import Once, Parser, add_table_arguments, print_error, run_job
 from outage_tools.commands import write_rows
 from outage_tools.compare import open_book
 from outage_tools.errors import BookError
@@ -231,7 +230,7 @@ def convert(args: argparse.Namespace, known: Known) -> None:
             write_report(args.report, run)
         run.refuse()
     for line in told.lines_of_notes(run.files):
-        print(f"note: {line}", file=sys.stderr)
+        print_error(f"note: {line}")
 
 
 def run_words(args: argparse.Namespace) -> None:

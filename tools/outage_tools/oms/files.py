@@ -9,6 +9,7 @@ from collections.abc import Iterable, Iterator
 from dataclasses import dataclass
 from itertools import chain
 
+from outage_tools.cli import print_error
 from outage_tools.errors import BookError
 from outage_tools.oms.complaints import HEADER as HEADER
 from outage_tools.oms.complaints import BadRow as BadRow
@@ -110,11 +111,11 @@ class Progress:
 
     def at(self, rows: int) -> None:
         if self.is_shown and rows % ROWS_BETWEEN_WORDS == 0:
-            print(f"\r{self.file}: {rows:,} rows", end="", file=sys.stderr, flush=True)
+            print_error(f"\r{self.file}: {rows:,} rows", end="")
 
     def end(self, rows: int) -> None:
         if self.is_shown and rows >= ROWS_BETWEEN_WORDS:
-            print(f"\r{self.file}: {rows:,} rows", file=sys.stderr, flush=True)
+            print_error(f"\r{self.file}: {rows:,} rows")
 
 
 @dataclass(frozen=True)
