@@ -9,7 +9,7 @@ from dataclasses import dataclass
 from pathlib import Path
 
 ROOT = Path(__file__).resolve().parent.parent.parent
-TOOLS = next(folder for folder in (ROOT / "tools", ROOT) if (folder / "outagebook" / "rows.py").exists())
+TOOLS = next(folder for folder in (ROOT / "tools", ROOT) if (folder / "outage_tools" / "rows.py").exists())
 sys.path.insert(1, str(TOOLS))  # in the clone, or where both are installed
 
 from outage_tools.cli import Parser  # noqa: E402

@@ -409,7 +409,7 @@ def counts_of(args: argparse.Namespace) -> dict[str, Told]:
 
 
 def make_parser() -> Parser:
-    parser = Parser(description="Shows the counts of an outage management system beside a book's, ticket by ticket.")
+    parser = Parser(description="Shows the counts of an outage management system next to a book's, ticket by ticket.")
     parser.add_argument("book", help="the book's file")
     parser.add_argument("oms", help="a CSV with the columns ticket, customers, customer_minutes")
     form = parser.add_mutually_exclusive_group()

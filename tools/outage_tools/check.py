@@ -287,7 +287,7 @@ def topic_text(topic: Topic, findings: list[Finding]) -> Iterator[str]:
     for finding in findings[:MOST_FINDINGS]:
         yield f"  {finding.text}"
     if count > MOST_FINDINGS:
-        yield f"  and {count - MOST_FINDINGS} more, which --json tells"
+        yield f"  and {count - MOST_FINDINGS} more, which --json prints"
 
 
 def write_text(bounds: list[Bound], findings: list[Finding]) -> None:
@@ -369,7 +369,7 @@ def looked_at(args: argparse.Namespace, known: Known) -> tuple[list[Bound], list
 def make_parser() -> Parser:
     parser = convert.make_parser()
     parser.description = "Looks whether exports of other systems fit into a book, and whether their network is whole."
-    parser.add_argument("--first", metavar="DATE", help="the period's first day, where there is no book yet")
+    parser.add_argument("--first", metavar="DATE", help="the period's first day, if there is no book yet")
     parser.add_argument("--days", metavar="N", type=int, help="how many days it has")
     parser.add_argument("--overlaps", choices=["refuse", "join"], default="refuse", help="as from_oms takes it")
     parser.add_argument("--meshed", action="store_true", help="loops of closed devices are meant: they aren't wrong")

@@ -56,7 +56,7 @@ def add_table_arguments(parser: argparse.ArgumentParser) -> None:
         "--program",
         metavar="PATH",
         default="outagebook",
-        help="the program that prints the table where --table isn't given (outagebook on the path)",
+        help="the program that prints the table if --table isn't given (outagebook on the path)",
     )
 
 
@@ -72,9 +72,7 @@ def add_page_arguments(parser: argparse.ArgumentParser, name: str) -> None:
     """The words of a page: what its heading begins with, and its date."""
     parser.add_argument("--name", default=name, help="what the page's heading begins with, as the utility's name")
     today = date.today().isoformat()
-    parser.add_argument(
-        "--date", type=read_date, default=today, help="the page's date of writing, where it isn't today"
-    )
+    parser.add_argument("--date", type=read_date, default=today, help="the page's date of writing, if it isn't today")
 
 
 def run_job(job: Callable[[], None]) -> int:

@@ -147,7 +147,9 @@ def checked(book: Book, lines: list[str], database: sqlite3.Connection) -> Check
 
 
 def main() -> int:
-    parser = Parser(description="Compares a book's figures, found anew, with its postings and the annual table.")
+    parser = Parser(
+        description="Computes a book's figures again and compares them with its postings and the annual table."
+    )
     parser.add_argument("book", help="the book's file")
     add_table_arguments(parser)
     args = parser.parse_args()

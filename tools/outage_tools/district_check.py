@@ -79,7 +79,9 @@ def read_ties(path: str, books: dict[str, Book]) -> list[Tie]:
         ]
         first, second = ends[0][0], ends[1][0]
         if (first.is_closed, first.since, first.until) != (second.is_closed, second.since, second.until):
-            raise BookError(f"{row['tie']} has another normal position or life in {places[0]} than in {places[1]}")
+            raise BookError(
+                f"{row['tie']} has another normal position or in-service interval in {places[0]} than in {places[1]}"
+            )
         here, there = (switchings(books[name], end[0]) for name, end in zip(places, ends))
         if here != there:
             (second_of, act), holder = first_that_differs(here, there, places)

@@ -32,7 +32,7 @@ def read_desks(path: str) -> list[Desk]:
     desks = [Desk(row["district"].strip(), row["url"].strip().rstrip("/"), row.get("book", "").strip()) for row in rows]
     for place, desk in enumerate(desks, 1):
         if not desk.district or not desk.url.startswith(("http://", "https://")):
-            raise BookError(f"{path}: row {place}: a district and an http address are wanted")
+            raise BookError(f"{path}: row {place}: a district and an http address are needed")
     return desks
 
 

@@ -61,7 +61,7 @@ def is_blank(line: str) -> bool:
 
 
 def not_of(encoding: str) -> str:
-    return f"it has bytes that aren't of the encoding {encoding} (--encoding tells another)"
+    return f"it has bytes that aren't of the encoding {encoding} (--encoding names another)"
 
 
 def export_of(path: str, needed: Sequence[str], encoding: str | None = None, delimiter: str | None = None) -> Export:

@@ -44,12 +44,12 @@ def arguments() -> tuple[Parser, Any]:
     )
     cutting.add_argument("--as", dest="earlier", metavar="FILE", help="districts.csv of an earlier cut, which stays")
     cutting.add_argument(
-        "--delimiter", choices=DELIMITERS, help="what stands between fields (found by the column names)"
+        "--delimiter", choices=DELIMITERS, help="the character between fields (found by the column names)"
     )
     cutting.add_argument(
         "--encoding", choices=ENCODINGS, help="of files without a mark of it at their beginning (utf-8)"
     )
-    checking = job("check", "tells what the ties cost that were cut")
+    checking = job("check", "prints what the ties cost that were cut")
     checking.add_argument("ties", metavar="TIES", help="ties.csv of the cut")
     checking.add_argument("books", nargs="+", metavar="BOOK", help="the books' files; a file's name is its district's")
     checking.add_argument("--table", action="append", metavar="FILE", default=[], help="the books' annual tables")
@@ -61,7 +61,7 @@ def arguments() -> tuple[Parser, Any]:
     comparing.add_argument("--program", metavar="PATH", default="outagebook", help="what prints the tables")
     for one in (asking, comparing):
         one.add_argument("desks", metavar="DESKS", help="the desks: a CSV of district, url and book")
-        one.add_argument("--compared", metavar="FILE", help="what was compared last (compared.csv beside DESKS)")
+        one.add_argument("--compared", metavar="FILE", help="what was compared last (compared.csv next to DESKS)")
     return parser, parser.parse_args()
 
 

@@ -18,7 +18,7 @@ KEYS = {
 
 def add_export_arguments(parser: argparse.ArgumentParser) -> None:
     """The words that name the exports."""
-    group = parser.add_argument_group("the exports from which the rows came, so that their rows are told")
+    group = parser.add_argument_group("the exports from which the rows came, so that their rows are named")
     for export in KEYS:
         group.add_argument(f"--{export}", metavar="FILE", action=Once)
     add_format_arguments(parser)

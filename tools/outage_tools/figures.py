@@ -134,15 +134,15 @@ WANTED = {"groups": "by", "cause-groups": "causes"}
 def add_list_arguments(parser: Parser) -> None:
     """The words that name a user's lists and the rule of tickets."""
     parser.add_argument(
-        "--names", metavar="FILE", help="a CSV of feeder, name and substation: names beside the feeders"
+        "--names", metavar="FILE", help="a CSV of feeder, name and substation: names next to the feeders"
     )
     parser.add_argument("--causes", metavar="FILE", help="a CSV of cause (its name or code) and group")
     parser.add_argument(
         "--ticket",
         metavar="RULE",
         type=read_rule,
-        help="of events: a regular expression that a whole reference fits, with a group (?P<ticket>..) and, where it may,"
-        " (?P<step>..); as from_oms writes them unasked",
+        help="of events: a regular expression that a whole reference fits, with a group (?P<ticket>..) and perhaps one"
+        " (?P<step>..) (the references that from_oms writes)",
     )
 
 
@@ -160,7 +160,7 @@ def check_words(parser: Parser, args: Namespace) -> None:
             parser.error(f"--{word} goes with {figure}")
     wanted = WANTED.get(args.figures)
     if wanted and not getattr(args, wanted):
-        parser.error(f"{args.figures} wants --{wanted} FILE")
+        parser.error(f"{args.figures} needs --{wanted} FILE")
 
 
 def main() -> int:

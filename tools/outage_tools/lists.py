@@ -152,7 +152,7 @@ def told_missing(what: str, names: Iterable[str]) -> list[str]:
 def with_names(figures: Figures, names: Names, book: Book) -> Figures:
     """The names of feeders in two columns behind their numbers, in figures that have these."""
     if "feeder" not in figures.columns:
-        raise BookError(f"{figures.name} has no column of feeders, so --names says nothing there")
+        raise BookError(f"{figures.name} has no column of feeders, so --names names nothing there")
     place = list(figures.columns).index("feeder") + 1
     columns = list(figures.columns.items())
     added = [("feeder_name", "the feeder's name"), ("substation", "its substation")]

@@ -157,7 +157,7 @@ def threshold_of(years: Sequence[Sums]) -> Threshold:
 def answer_of(years: Sequence[Sums]) -> Answer:
     """The days of the last period above the threshold of those before it."""
     if len(years) < 2:
-        raise BookError("a threshold wants books of an earlier period: there are those of one period alone")
+        raise BookError("a threshold needs books of an earlier period: there are those of one period alone")
     year, threshold = years[-1], threshold_of(years[:-1])
     above: list[MajorDay] = []
     if threshold.is_defined:
@@ -203,7 +203,7 @@ def about(years: Sequence[Sums], answer: Answer) -> Iterator[str]:
         " are left out."
     )
     if not threshold.is_defined:
-        yield "A standard deviation wants two values at least: there is no threshold, and no day is above it."
+        yield "A standard deviation needs two values at least: there is no threshold, and no day is above it."
     if answer.marked_below:
         yield f"Marked and not above the threshold: {', '.join(map(str, answer.marked_below))}."
 

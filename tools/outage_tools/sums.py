@@ -198,7 +198,7 @@ def refuse_shared_customers(districts: Sequence[District]) -> None:
         if number == next_number:
             raise BookError(
                 f"customer {number} is in {districts[place].name} and in {districts[other].name}, and would be counted"
-                " twice; where each district has numbers of its own, say --own-numbers"
+                " twice; if each district has numbers of its own, give --own-numbers"
             )
 
 

@@ -47,7 +47,7 @@ MEANINGS = {
     8: "the entry was withdrawn",
     9: "no customer has the number",
     10: "until isn't after since",
-    11: "the reference belongs to command {detail}, which says something else",
+    11: "the reference belongs to command {detail}, whose fields differ",
     12: "there are {detail} already, and no more go in",
     13: "the day is marked",
     14: "the day isn't marked",
@@ -134,7 +134,7 @@ def act_rows(desk: Desk, text: Text, progress: Progress | None = None) -> Iterat
         said = desk.import_text(text.part(place, size))
         acted = size if said.row is None else said.row - 1
         if said.added + said.again != acted:
-            raise Differs(f"rows behind row {place}", acted, f"{said.added} added and {said.again} again")
+            raise Differs(f"rows after row {place}", acted, f"{said.added} added and {said.again} again")
         if said.row is None or said.refusal is None:
             place, size = place + size, next_size(size, time.monotonic() - began)
         else:
@@ -272,7 +272,7 @@ def moved_text(moved: list[Moved]) -> Iterator[str]:
     for each in rows:
         yield f"{each.figure:<{widths[0]}}  {each.before:<{widths[1]}}  {each.after}".rstrip()
     if len(shown) < len(moved):
-        yield f"and {len(days)} days, which --json tells"
+        yield f"and {len(days)} days, which --json prints"
 
 
 def write_text(trial: Trial, _text: Text) -> None:
@@ -328,7 +328,7 @@ def bytes_of(path: str) -> bytes:
 
 
 def make_parser() -> Parser:
-    parser = Parser(description="Acts rows of commands on a copy of a book, and tells what they would do.")
+    parser = Parser(description="Applies rows of commands to a copy of a book, and prints what they would do.")
     parser.add_argument("book", help="the book's file, which is only read")
     parser.add_argument("rows", help="the rows of commands as CSV; - for standard input")
     form = parser.add_mutually_exclusive_group()

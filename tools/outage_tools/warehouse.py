@@ -476,7 +476,7 @@ def arguments() -> tuple[Parser, Any]:
 
     def job(name: str, text: str) -> Parser:
         one: Parser = jobs.add_parser(name, help=text, description=text)
-        one.add_argument("--dsn", default="", help="where the database is, in libpq's words")
+        one.add_argument("--dsn", default="", help="where the database is, in libpq's form")
         one.set_defaults(job=name)
         return one
 

@@ -53,13 +53,15 @@ FAULTS = {
 
 
 def is_of_package(name: str) -> bool:
-    return name.split(".")[0] == "outagebook"
+    return name.split(".")[0] == "outage_tools"
 
 
 def planted_package(folder: Path, old: str, new: str) -> None:
     """A copy of the package with a text replaced, which stands in it once."""
-    shutil.copytree(support.TOOLS / "outagebook", folder / "outagebook", ignore=shutil.ignore_patterns("__pycache__"))
-    files = {folder / "outagebook" / name for name in FILES}
+    shutil.copytree(
+        support.TOOLS / "outage_tools", folder / "outage_tools", ignore=shutil.ignore_patterns("__pycache__")
+    )
+    files = {folder / "outage_tools" / name for name in FILES}
     texts = {file: file.read_text() for file in files}
     count = sum(text.count(old) for text in texts.values())
     if count != 1:
@@ -90,7 +92,7 @@ def catching(old: str, new: str) -> Iterator[str]:
     folder = support.folder() / f"planted-{next(number)}"
     planted_package(folder, old, new)
     with imported_from(folder):
-        compare, rows, errors = (import_module(f"outagebook.{name}") for name in ("compare", "rows", "errors"))
+        compare, rows, errors = (import_module(f"outage_tools.{name}") for name in ("compare", "rows", "errors"))
     for made in support.books():
         with closing(sqlite3.connect(f"file:{made.book}?mode=ro", uri=True)) as database:
             try:

@@ -456,7 +456,7 @@ class Partitions(unittest.TestCase):
     def test_a_warehouse_whose_interruptions_are_partitioned_by_period(self) -> None:
         """The tables of docs/operate/WAREHOUSE.md, "Growing": views and loads don't notice."""
         where = database("partitions")
-        text = (TOOLS / "outagebook" / "warehouse.sql").read_text()
+        text = (TOOLS / "outage_tools" / "warehouse.sql").read_text()
         head, mark, rest = text.partition("CREATE TABLE outagebook.interruption (")
         body, _, tail = rest.partition("\n);\n")
         parted = f"{head}{mark}{body}\n) PARTITION BY LIST (period_id);\n"

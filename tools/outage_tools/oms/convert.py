@@ -40,7 +40,7 @@ EXPORTS = {
     "oms": "outages and restoration steps",
     "gis": "buses, sections and devices",
     "customers": "customers and their services",
-    "causes": "causes: the book's codes and names, and the other system's words",
+    "causes": "causes: the book's codes and names, and the other system's terms",
 }
 COLUMNS = {
     "oms": outages.COLUMNS,
@@ -143,7 +143,7 @@ def make_parser() -> Parser:
 
 
 def add_export_arguments(parser: Parser, are_required: bool = False) -> None:
-    """The words that tell the exports, and how they are read."""
+    """The options that name the exports, and how they are read."""
     for export, text in EXPORTS.items():
         parser.add_argument(f"--{export}", metavar="FILE", action=Once, required=are_required, help=text)
     parser.add_argument(
@@ -161,16 +161,16 @@ def add_export_arguments(parser: Parser, are_required: bool = False) -> None:
         metavar="WORD",
         action="append",
         default=[],
-        help="a word of the column status that means a mistake, beside cancelled; may be told several times",
+        help="a value of the column status that means a mistake, apart from cancelled; may be given several times",
     )
-    parser.add_argument("--crew", default="OMS", help="the crew where a row names none (OMS)")
+    parser.add_argument("--crew", default="OMS", help="the crew if a row names none (OMS)")
     add_format_arguments(parser)
 
 
 def add_period_arguments(parser: Parser, are_required: bool = False) -> None:
-    """The words of a new book's period, and what becomes of steps that overlap."""
+    """The options of a new book's period, and what becomes of steps that overlap."""
     parser.add_argument(
-        "--first", metavar="DATE", required=are_required, help="the period's first day, where there is no book yet"
+        "--first", metavar="DATE", required=are_required, help="the period's first day, if there is no book yet"
     )
     parser.add_argument("--days", metavar="N", type=days_argument, required=are_required, help="how many days it has")
     parser.add_argument(
@@ -211,7 +211,7 @@ def conversion_of(args: argparse.Namespace, known: Known) -> Conversion:
         except (ValueError, OverflowError) as error:
             raise BookError(f"the period can't be read: {error}") from None
         if period.first < 0 or period.end > LATEST_MOMENT:
-            raise BookError("the period doesn't lie between 1970 and 5138, where a book's seconds do")
+            raise BookError("the period isn't between 1970 and 5138, as a book's seconds have to be")
     cancelled = cancelled_words(args.cancelled)
     return Conversion(args.zone or (period.zone if period else None), period, known, tuple(args.dates), cancelled)
 

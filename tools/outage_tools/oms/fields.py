@@ -57,7 +57,7 @@ def check_format(text: str) -> str:
         except (ValueError, re.error, OverflowError) as error:
             raise ValueError(f"{text!r} is no format of dates: {error}") from None
         if read.date() != day.date():
-            raise ValueError(f"{text!r} doesn't tell the year, the month and the day of a date")
+            raise ValueError(f"{text!r} doesn't give the year, the month and the day of a date")
     return text
 
 
@@ -111,7 +111,7 @@ def civil_of(text: str, formats: tuple[str, ...], what: str) -> Civil:
         return found[0]
     if not found:
         raise BadRow(
-            f"{what} {shown(text)} is no time such as 2025-10-21 08:14:05 (--date-format tells another spelling)"
+            f"{what} {shown(text)} is no time such as 2025-10-21 08:14:05 (--date-format gives another spelling)"
         )
     found = sorted(set(found), key=str)
     if len({moment for moment, _ in found}) > 1:

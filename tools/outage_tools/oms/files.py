@@ -73,7 +73,7 @@ def column_name(text: str) -> tuple[str, str]:
 def add_format_arguments(parser: argparse._ActionsContainer) -> None:
     """The words that say how the exports are written."""
     parser.add_argument(
-        "--delimiter", choices=DELIMITERS, help="what stands between fields (found by the line of column names)"
+        "--delimiter", choices=DELIMITERS, help="the character between fields (found by the line of column names)"
     )
     parser.add_argument(
         "--encoding", choices=ENCODINGS, help="the encoding of files without a mark of it at their beginning (utf-8)"
@@ -85,7 +85,7 @@ def add_format_arguments(parser: argparse._ActionsContainer) -> None:
         action="append",
         default=[],
         type=date_format,
-        help="another spelling of dates and times, in strptime's words, as %%d.%%m.%%Y %%H:%%M; may be told several times",
+        help="another spelling of dates and times, in strptime's directives, as %%d.%%m.%%Y %%H:%%M; may be given several times",
     )
     parser.add_argument(
         "--column",
@@ -94,7 +94,7 @@ def add_format_arguments(parser: argparse._ActionsContainer) -> None:
         action="append",
         default=[],
         type=column_name,
-        help="what a column is called in the files, as 'Ticket No=ticket'; may be told several times",
+        help="what a column is called in the files, as 'Ticket No=ticket'; may be given several times",
     )
 
 
@@ -209,10 +209,10 @@ class Export:
     def wrong_in_header(self, found: list[str], names: list[str]) -> Iterator[str]:
         """What is wrong with the columns."""
         if any(UNREADABLE in name or CONTROL.search(name) for name in names):
-            yield f"it isn't of the encoding {self.notes.encoding} (--encoding tells another)"
+            yield f"it isn't of the encoding {self.notes.encoding} (--encoding names another)"
             return
         if not set(self.columns) & set(found):
-            yield f"it has none of the columns {', '.join(self.columns)} (--column THEIRS={self.columns[0]} tells another name)"
+            yield f"it has none of the columns {', '.join(self.columns)} (--column THEIRS={self.columns[0]} gives another name)"
             return
         yield from (f"it has two columns {name}" for name in self.columns if found.count(name) > 1)
         for name in self.columns:
@@ -221,11 +221,11 @@ class Export:
                 alike = difflib.get_close_matches(name, others, 1, ALIKE)
                 if alike:
                     yield (
-                        f"it has {alike[0]!r}, which isn't read, and no column {name}: is it meant? Rename it, or say"
+                        f"it has {alike[0]!r}, which isn't read, and no column {name}: is it meant? Rename it, or give"
                         f" --column '{alike[0]}={name}'"
                     )
                 elif name in self.required:
-                    yield f"it has no column {name} (--column THEIRS={name} tells another name)"
+                    yield f"it has no column {name} (--column THEIRS={name} gives another name)"
 
     def rows_of(self, fields: Iterator[list[str]], places: dict[str, int], width: int) -> Iterator[Row]:
         progress = Progress(self.path)
@@ -251,7 +251,7 @@ class Export:
         if whole.isprintable():  # most are, and have neither
             return None
         if UNREADABLE in whole:
-            return f"it has bytes that aren't of the encoding {self.notes.encoding} (--encoding tells another)"
+            return f"it has bytes that aren't of the encoding {self.notes.encoding} (--encoding names another)"
         if CONTROL.search(whole):
             return "it has control characters"
         return None

@@ -143,7 +143,7 @@ class Network:
         if (set(there[0]), there[1]) != (set(said[0]), said[1]):
             raise BadRow(
                 f"{name} is from {there[0][0]} to {there[0][1]}, normally {normal_text(there[1])}, in the book and stays so:"
-                " end its life, and give the other one another name"
+                " end its in-service interval, and give the other device another name"
             )
         if until is not None and until <= 0:
             raise BadRow(f"until {row['until']!r} lies before 1970, and the book has the device: give a later moment")

@@ -192,7 +192,7 @@ class DeviceCheck:
             return
         act = past(act_of(self.is_closed, True))
         back = other.stretch.back if other.stretch is not None else None
-        until = "and nothing tells its end" if back is None else f"until {where.step.text_of(back)}"
+        until = "and no end is recorded" if back is None else f"until {where.step.text_of(back)}"
         advice = "they overlap (--overlaps join makes one outage of them)"
         self.say(
             where, f"while by {other.told()} it is {act} from {where.step.text_of(other.second)} {until}: {advice}"

@@ -93,8 +93,8 @@ class StepReader:
             raise BadRow(f"status {shown(row['status'])} may be meant for {CANCELLED[0]}")
         if len(self.statuses) < MOST_STATUSES:
             self.statuses.add(status)
-        word = f"the status {shown(row['status'])}" if status in self.statuses else "other words of the status"
-        notes.noticed(f"rows with {word}, which are taken as others (--cancelled WORD tells what means a mistake)", row)
+        word = f"the status {shown(row['status'])}" if status in self.statuses else "other values of the status"
+        notes.noticed(f"rows with {word}, which are taken as others (--cancelled WORD names what means a mistake)", row)
         return False
 
     def read(self, row: Row, notes: Notes) -> Step:
