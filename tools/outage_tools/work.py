@@ -22,7 +22,8 @@ def moved_by(found: Checked) -> dict[int, tuple[int, int]]:
 
 @dataclass(frozen=True)
 class Work:
-    """A switching, a correction or a withdrawal: how many seconds it lies behind what was told before, what it moved.
+    """A switching, a correction or a withdrawal: by how many seconds it lies before the latest departure from a normal position
+    that a command before it has, and what it moved. (Returns are entered before their departures where rows come from files.)
 
     `own` is what the outage as a whole changed W by: at the second half of a late outage both halves, at a withdrawal
     what it takes back too, at the first half nothing yet, else as moved. `others` are the commands that it is told with.
@@ -56,11 +57,19 @@ def works_of(found: Checked) -> list[Work]:
             continue
         second = second_of(command)
         behind = max(0, latest - second) if second is not None else 0
-        if command.kind == "switch" and second is not None:
+        if second is not None and departs(found.book, command):
             latest = max(latest, second)
         net, gross = moved.get(command.number, (0, 0))
         works.append(Work(command, command.entry, behind, net, gross, net))
     return as_wholes(found.book, works)
+
+
+def departs(book: Book, command: Command) -> bool:
+    """A switching by which a device leaves its normal position."""
+    if command.kind != "switch" or command.entry is None:
+        return False
+    device = book.devices[book.entries[command.entry - 1].device]
+    return device.is_closed == (command.fields[1] == "open")
 
 
 def as_wholes(book: Book, works: list[Work]) -> list[Work]:
@@ -117,7 +126,7 @@ def switchings(found: Checked, late_alone: bool = False) -> Figures:
         "device": "the entry's device",
         "position": "open or close; empty for a withdrawal",
         "second": "the second that it enters, by the clock of the book's zone",
-        "behind": "by how many seconds that lies before the latest second of the switchings entered before it",
+        "behind": "by how many seconds that lies before the latest departure from a normal position entered before it",
         "cause": "the cause's code that it enters",
         "crew": "the crew that it enters",
         "moved": "by how many customer-seconds it changed W",
@@ -131,8 +140,8 @@ def switchings(found: Checked, late_alone: bool = False) -> Figures:
         works.sort(key=lambda work: (-work.gross, work.command.number))
     about = [
         "What each command moved when it was accepted: an opening takes the rest of the period, its closing gives it back.",
-        "A switching is late where a later second had been told before: the book knows the order of commands, not when"
-        " they were sent.",
+        "A switching is late if a departure from a normal position at a later second had been entered before: the book"
+        " knows the order of commands, not when they were sent.",
     ]
     if late_alone:
         about.append(

@@ -1,6 +1,6 @@
 """Makes the book files of the tests: of each text the eleven tables and the annual table by the oracle's model.
 
-    python3 tools/tests/made_books.py FOLDER [--seeds N | --list FILE]
+    python3 tools/tests/made_books.py FOLDER [--seeds N | --list FILE] [--without-moves]
 
 The model acts commands and finds everything anew each time; the tools share nothing with it, so their tests compare two
 programs. FOLDER gets NAME.csv, NAME.db and NAME.table.txt of the sample fortnight, of the corrected one and of N random
@@ -53,9 +53,12 @@ def main() -> None:
     parser.add_argument(
         "--list", type=Path, help="texts in place of these: lines of FILE, FIRST, DAYS and ZONE, by spaces"
     )
+    parser.add_argument(
+        "--without-moves", action="store_true", help="leave `moved` empty, which takes most of the time"
+    )
     args = parser.parse_args()
     for name, period, data in listed(args.list) if args.list else texts(args.seeds):
-        book = Book(Period(*period))
+        book = Book(Period(*period), keeps_moves=not args.without_moves)
         book.import_text(data)
         name = name.replace(" ", "-").replace(",", "")
         (args.folder / f"{name}.csv").write_bytes(data)

@@ -87,9 +87,10 @@ class Step:
 
 @dataclass
 class Year:
-    """A network and what happened in it."""
+    """A network and what happened in it. `shares` makes seconds that hold several switchings, of different devices."""
 
     seed: int
+    shares: bool = False
     rng: random.Random = field(init=False)
     sections: dict[str, int] = field(default_factory=dict)
     devices: list[Device] = field(default_factory=list)
@@ -152,7 +153,10 @@ class Year:
     # What happened.
 
     def second_in(self, since: int, until: int) -> int:
-        """A second of its own."""
+        """A second of its own, or more often than not one of others."""
+        others = sorted(second for second in self.drawn if since <= second < until) if self.shares else []
+        if others and self.rng.random() < 0.7:
+            return self.rng.choice(others)
         while True:
             second = self.rng.randrange(since, until)
             if second not in self.drawn:

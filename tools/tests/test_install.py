@@ -138,7 +138,18 @@ class Install(unittest.TestCase):
         for _ in range(2):
             done = install(prefix, PROGRAM=own_program())
             self.assertEqual((done.returncode, done.stderr), (0, ""))
-        tools = ["agree", "check", "commands", "compare", "districts", "figures", "from-oms", "major-days", "next-year"]
+        tools = [
+            "agree",
+            "check",
+            "commands",
+            "compare",
+            "districts",
+            "figures",
+            "from-oms",
+            "major-days",
+            "make",
+            "next-year",
+        ]
         tools += ["report", "sum", "try", "warehouse", "years"]
         self.assertEqual(
             sorted(path.name for path in (prefix / "bin").iterdir()),

@@ -100,10 +100,10 @@ class FromOms(unittest.TestCase):
         self.assertEqual(
             text.splitlines()[1:],
             [
-                "correct,OMS-T-2041-1-C-R2,4,1,close,2025-10-21T10:07:00+02:00,2,CREW-A",
-                "withdraw,OMS-T-2042-1-O-W,7,1,,,,",
-                "withdraw,OMS-T-2042-1-C-W,8,1,,,,",
                 "switch,OMS-T-2045-1-C,CB-7,close,2025-10-30T20:00:00+01:00,3,CREW-A,",
+                "correct,OMS-T-2041-1-C-R2,1,1,close,2025-10-21T10:07:00+02:00,2,CREW-A",
+                "withdraw,OMS-T-2042-1-O-W,9,1,,,,",
+                "withdraw,OMS-T-2042-1-C-W,4,1,,,,",
             ],
         )
         later = self.made("oms-later", made.text.read_text() + text.split("\n", 1)[1])

@@ -63,8 +63,8 @@ class Checks(unittest.TestCase):
         self.assertEqual(
             switchings[:2],
             [
-                "switch,OMS-T-2041-1-O,CB-7,open,2025-10-21T08:14:05+02:00,2,CREW-A,",
                 "switch,OMS-T-9-1-C,CB-7,close,2025-10-21T11:00:00+02:00,1,CREW-A,",
+                "switch,OMS-T-2041-1-O,CB-7,open,2025-10-21T08:14:05+02:00,2,CREW-A,",
             ],
         )
         self.assertIn("changed: steps that overlap, of which one outage was made: 2 (rows 1, 8)", done.err)
@@ -89,7 +89,7 @@ class Checks(unittest.TestCase):
         lines = [line for line in self.taken(oms=oms).out.splitlines() if ",SW-81," in line and "switch" in line]
         self.assertEqual(
             [line.split(",")[1] for line in lines],
-            [f"OMS-T-{n}" for n in ("2042-1-O", "2042-1-C", "2044-2-O", "2044-2-C")],
+            [f"OMS-T-{n}" for n in ("2042-1-C", "2044-2-C", "2042-1-O", "2044-2-O")],
         )
 
     def test_a_device_that_was_never_closed_is_told(self) -> None:
@@ -285,8 +285,8 @@ class Checks(unittest.TestCase):
         cases = {
             ("2025-10-18 09:00", "2025-10-19 09:00"): [],
             ("2025-10-19 09:00", "2025-10-20 09:00"): [
-                "1-O,CB-8,open,2025-10-20T00:00:00+02:00",
                 "2-C,CB-8,close,2025-10-20T09:00:00+02:00",
+                "1-O,CB-8,open,2025-10-20T00:00:00+02:00",
             ],
             ("2025-11-02 09:00", "2025-11-03 09:00"): ["1-O,CB-8,open,2025-11-02T09:00:00+01:00"],
             ("2025-11-03 09:00", "2025-11-04 09:00"): [],
@@ -415,7 +415,7 @@ class AgainstBook(unittest.TestCase):
         oms += "T-8,1,CB-8,2025-10-29 09:00,,2025-10-29 10:00,,WIND,,,\n"
         done = self.run_with(oms=oms)
         self.assertEqual(done.complaints[0][:32], "oms.csv: row 9: ticket T-8 step ", done.err)
-        self.assertIn("entry 12 of the book would act first", done.err)
+        self.assertIn("entry 13 of the book would act first", done.err)
 
     def test_references_of_other_commands(self) -> None:
         row = "connect,CIS-6000,7000,DEPOT,0,,,\n"
@@ -478,8 +478,8 @@ class OverTheYearsEnd(unittest.TestCase):
             [
                 ["OMS-T-4-1-O", "TIE-78", "open"],
                 ["OMS-T-3-1-C", "SW-81", "close"],
-                ["OMS-T-5-1-O", "CB-8", "open"],
                 ["OMS-T-5-1-C", "CB-8", "close"],
+                ["OMS-T-5-1-O", "CB-8", "open"],
             ],
             done.err,
         )

@@ -136,12 +136,23 @@ def days_argument(text: str) -> int:
 def make_parser() -> Parser:
     """The words that tell the exports, and what they are for."""
     parser = Parser(description="Writes rows of commands from exports of other systems.")
-    for export, text in EXPORTS.items():
-        parser.add_argument(f"--{export}", metavar="FILE", action=Once, help=text)
-    parser.add_argument(
-        "--zone", metavar="RULE", type=zone_argument, help="the POSIX rule of local times (that of the book)"
-    )
+    add_export_arguments(parser)
     parser.add_argument("--book", metavar="BOOK", help="the book that the rows are for, as far as it is")
+    add_table_arguments(parser)
+    return parser
+
+
+def add_export_arguments(parser: Parser, are_required: bool = False) -> None:
+    """The options that name the exports, and how they are read."""
+    for export, text in EXPORTS.items():
+        parser.add_argument(f"--{export}", metavar="FILE", action=Once, required=are_required, help=text)
+    parser.add_argument(
+        "--zone",
+        metavar="RULE",
+        type=zone_argument,
+        required=are_required,
+        help="the POSIX rule of local times (that of the book)",
+    )
     parser.add_argument(
         "--prefix", type=prefix_argument, default="OMS-", help="what the references of outages begin with (OMS-)"
     )
@@ -154,21 +165,26 @@ def make_parser() -> Parser:
     )
     parser.add_argument("--crew", default="OMS", help="the crew if a row names none (OMS)")
     add_format_arguments(parser)
-    add_table_arguments(parser)
-    return parser
 
 
-def own_parser() -> Parser:
-    """The words of this tool."""
-    parser = make_parser()
-    parser.add_argument("--first", metavar="DATE", help="the period's first day, if there is no book yet")
-    parser.add_argument("--days", metavar="N", type=days_argument, help="how many days it has")
+def add_period_arguments(parser: Parser, are_required: bool = False) -> None:
+    """The options of a new book's period, and what becomes of steps that overlap."""
+    parser.add_argument(
+        "--first", metavar="DATE", required=are_required, help="the period's first day, if there is no book yet"
+    )
+    parser.add_argument("--days", metavar="N", type=days_argument, required=are_required, help="how many days it has")
     parser.add_argument(
         "--overlaps",
         choices=["refuse", "join"],
         default="refuse",
         help="what to do with steps of one device that overlap: refuse them, or make one outage of them (refuse)",
     )
+
+
+def own_parser() -> Parser:
+    """The words of this tool."""
+    parser = make_parser()
+    add_period_arguments(parser)
     parser.add_argument("-o", dest="output", metavar="FILE", type=Path, help="where the rows go (standard output)")
     parser.add_argument(
         "--report", metavar="FILE", type=Path, help="what was read, left out and changed, as text, or as JSON by .json"

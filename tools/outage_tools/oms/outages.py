@@ -8,8 +8,9 @@ from outage_tools.oms.conversion import Conversion
 from outage_tools.oms.fields import moment_text
 from outage_tools.oms.files import Row
 from outage_tools.oms.network import Network
-from outage_tools.oms.positions import Event, check_positions, events_of, stretches_of
+from outage_tools.oms.positions import Event, Key, check_positions, events_of, stretches_of
 from outage_tools.oms.steps import Step, StepReader, act_of
+from outage_tools.order import Does, Timed, returns_first
 from outage_tools.rows import Entry, Period
 
 COLUMNS = (
@@ -31,7 +32,7 @@ MOST_ENTRIES = 50_000
 OUTSIDE_LIFE = "steps with a switching outside of the life of their device"
 CARRIED = "steps that began before the period, and whose beginning the book has by another reference"
 
-Placed = tuple[tuple[int, int, int, int], list[str]]  # a command and where it stands
+Placed = tuple[Key, Timed]  # a row, and its place in the order of time
 
 
 @dataclass
@@ -46,7 +47,7 @@ class Outages:
     rows: dict[str, int] = field(default_factory=dict)  # of each step's reference
 
     def commands(self, rows: Iterable[Row]) -> Iterator[list[str]]:
-        """The commands of all rows by their seconds; those of one second in the order of the file."""
+        """The commands of all rows, returns first (order.py); those of one second in the order of the file."""
         steps = list(self.steps(rows))
         period = self.conversion.period
         if period is None:
@@ -58,7 +59,7 @@ class Outages:
         normal = {name: is_closed for name, (_, is_closed) in self.network.devices.items()}
         check_positions([*events, *others], normal, self.conversion.complaints)
         placed = [*self.switchings(events), *self.withdrawals(steps, events)]
-        yield from (command for _, command in sorted(placed, key=lambda pair: pair[0]))
+        yield from returns_first(row for _, row in sorted(placed, key=lambda pair: pair[0]))
 
     def steps(self, rows: Iterable[Row]) -> Iterator[Step]:
         for row in rows:
@@ -146,7 +147,8 @@ class Outages:
             with self.conversion.complaints.about(event.step):
                 if entries > MOST_ENTRIES and event.entry is None:
                     raise BadRow(f"a book has at most {MOST_ENTRIES} entries, withdrawn ones among them")
-                yield event.key, self.switching(event, event.step)
+                command = self.switching(event, event.step)
+                yield event.key, Timed(event.second, does_of(event), command)
 
     def switching(self, event: Event, step: Step) -> list[str]:
         ref, entry = step.ref_of(event.leaves), event.entry
@@ -169,4 +171,12 @@ class Outages:
                     with self.conversion.complaints.about(step):
                         fields = known.unused(f"{ref}-W"), entry.number, entry.revision
                         command = self.conversion.command(self.notes, "withdraw", *fields)
-                        yield (entry.second, entry.second, step.number, place), command
+                        key = entry.second, entry.second, step.number, place
+                        yield key, Timed(entry.second, Does.OTHER, command)
+
+
+def does_of(event: Event) -> Does:
+    """What the row of a switching does; a correction makes no new entry."""
+    if event.entry is not None:
+        return Does.OTHER
+    return Does.DEPARTURE if event.leaves else Does.RETURN

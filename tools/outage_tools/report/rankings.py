@@ -219,8 +219,8 @@ def late_part(found: Checked) -> Part:
         return Part("late", "What late work moved", PROVED, "<p>No switching is late, corrected or withdrawn.</p>")
     content = f"""
 <p>{number(len(late))} late switchings, corrections and withdrawals; as wholes they changed W by {signed(own_sum(late))}
-customer-seconds. A switching is late where a later second had been told before it. An opening takes the rest of the period
-when it is accepted, and its closing gives it back: a late outage is shown by its own size, and a withdrawal together with
+customer-seconds. A switching is late if a departure from a normal position at a later second had been entered before it. An
+opening takes the rest of the period when it is accepted, and its closing gives it back: a late outage is shown by its own size, and a withdrawal together with
 what it takes back, with the amounts that each was told with behind it. {of_all(len(rows), len(whole), "of them")}, the
 largest first.</p>
 {table(LATE_HEADS, rows)}"""

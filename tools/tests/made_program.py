@@ -1,0 +1,58 @@
+"""Stands in for the program where a test is of what is around it: `init`, `import`, `table` and `audit`, by the oracle's model.
+
+    python3 tools/tests/made_program.py import --book BOOK TEXT
+
+The book is one of made_books.py; its period and its annual table are kept next to it, in BOOK.period and BOOK.table.
+"""
+
+import contextlib
+import io
+import runpy
+import shutil
+import sqlite3
+import sys
+import tempfile
+from pathlib import Path
+
+MADE_BOOKS = Path(__file__).with_name("made_books.py")
+HEADER = "kind,ref,f1,f2,f3,f4,f5,f6\n"
+
+
+def kept(book: Path, what: str) -> Path:
+    return book.with_name(f"{book.name}.{what}")
+
+
+def make(book: Path, text: str) -> None:
+    """The book of a text, and its table; an empty log is left too, as the program leaves one."""
+    with tempfile.TemporaryDirectory() as name:
+        folder = Path(name)
+        (folder / "rows").write_text(text)
+        (folder / "list").write_text(f"{folder}/rows {kept(book, 'period').read_text()}\n")
+        sys.argv = [str(MADE_BOOKS), str(folder), "--list", str(folder / "list"), "--without-moves"]
+        with contextlib.redirect_stdout(io.StringIO()):
+            runpy.run_path(str(MADE_BOOKS), run_name="__main__")
+        shutil.copyfile(folder / "rows.db", book)
+        shutil.copyfile(folder / "rows.table.txt", kept(book, "table"))
+    book.with_name(f"{book.name}-wal").write_bytes(b"")
+
+
+def main() -> None:
+    job, _, name, *words = sys.argv[1:]
+    book = Path(name)
+    if job == "init":
+        kept(book, "period").write_text(" ".join(words[1::2]))
+        make(book, HEADER)
+        print("created")
+    elif job == "import":
+        make(book, Path(words[0]).read_text())
+        with contextlib.closing(sqlite3.connect(book)) as database:
+            print(f"added {database.execute('SELECT count(*) FROM cmd').fetchone()[0]} again 0")
+    elif job == "table":
+        print(kept(book, "table").read_text(), end="")
+    else:
+        with contextlib.closing(sqlite3.connect(book)) as database:
+            print(f"audit {database.execute('PRAGMA integrity_check').fetchone()[0]}")
+
+
+if __name__ == "__main__":
+    main()
