@@ -3,10 +3,10 @@
 `rt` begins with what most work waits for, but what it has begun it ends: a proof of the longest chain waits while the lanes have
 others. So the trunk, the crates that many others stand on, is proved first, by a call of its own in which a proof may have
 several processors. For most of its time that is one chain, which keeps one or two of them at work. So what has no database goes
-beside it: the other crates, most of them tests, then the must-fail edits of the trunk's. Each is a call of its own, begun as
+beside it: the other crates, most of them tests, then the mutation tests of the trunk's. Each is a call of its own, begun as
 soon as what it stands on is proved and a processor has nothing to do, and behind the trunk in what the processors have to give.
 
-Once the trunk is proved the call of the whole begins, which tries the edits of the crates over the database too. What passed
+Once the trunk is proved the call of the whole begins, which tries the mutation tests of the crates over the database too. What passed
 before is kept, what is still at work beside it is waited for where it is wanted, and what failed is told there.
 """
 
@@ -120,7 +120,7 @@ def has_idle_processor() -> bool:
 
 
 def prove_one(place: Path, name: str) -> Ran:
-    """Proves a crate over a copy that has its must-fail edits and no others."""
+    """Proves a crate over a copy that has its mutation tests and no others."""
 
     def left_out(folder: str, names: list[str]) -> set[str]:
         keeps = Path(folder) == place / "crates" / name

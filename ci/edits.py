@@ -1,14 +1,15 @@
-"""Which must-fail edits are tried: those of what changed since they were last seen refused, and others by turn.
+"""Which mutation tests are tried: those of what changed since they were last seen rejected, and others by turn.
 
-    python3 ci/edits.py plan [--all]         # crate by crate, why its edits are tried or not
-    python3 ci/edits.py apply                # whether each edit's text is found once in its file
+    python3 ci/edits.py plan [--all]         # crate by crate, why its tests are tried or not
+    python3 ci/edits.py apply                # whether the text that each replaces is found once in its file
     python3 ci/edits.py record [NAME ..]     # runs `rt ci` over these crates (those whose line doesn't hold), and writes their lines
 
-ci/edits.txt has lines for each crate that has edits: its name, a sum of all that their checks read (sums.py), and how
-many were refused. A line is written by a run that has just seen `rt ci` refuse each of them, and by nobody else. It
+A mutation test (in the code: an edit) is a file in a crate's must-fail/: wrong code that the prover has to reject.
+ci/edits.txt has lines for each crate that has some: its name, a sum of all that their checks read (sums.py), and how
+many were rejected. A line is written by a run that has just seen `rt ci` reject each of them, and by nobody else. It
 holds as long as the sum is that of the files and of the toolchain. The last two lines of a crate stay, so that of two
 toolchains that take turns each finds its own. Each state of the tree has a turn, one crate in eight of those of which
-a line holds: their edits are tried all the same, so that a line that was never true doesn't stand for long.
+a line holds: their mutation tests are tried all the same, so that a line that was never true is found before long.
 """
 
 from __future__ import annotations
@@ -31,8 +32,8 @@ ROOT = Path(__file__).resolve().parent.parent
 TURNS = 8
 LINES = 2  # of a crate, the newest first
 HEADER = """\
-# Crate by crate: the sum of all that its must-fail edits' checks read when `rt ci` was last seen to refuse each of them,
-# and how many there were; the time before it too. Written by `sh .ci/run --record` and ci/edits.py, never by hand: ci/README.md.
+# Crate by crate: the sum of all that the checks of its mutation tests read when `rt ci` was last seen to reject each of them,
+# and how many there were; the time before it too. Written by `sh test.sh --record` and ci/edits.py, never by hand: ci/README.md.
 """
 
 
@@ -45,7 +46,7 @@ class Line:
 
 
 class Why(Enum):
-    """Why a crate's edits are tried, or aren't."""
+    """Why a crate's mutation tests are tried, or aren't."""
 
     CHANGED = "changed"
     TURN = "its turn"
@@ -55,7 +56,7 @@ class Why(Enum):
 
 @dataclass(frozen=True)
 class Planned:
-    """A crate that has edits, with what comes of them in a run."""
+    """A crate that has mutation tests, with what comes of them in a run."""
 
     name: str
     edits: tuple[str, ...]
@@ -90,7 +91,7 @@ def turn_of(root: Path) -> int:
 
 
 def plan(root: Path, sums: dict[str, str], turn: int, tries_all: bool = False) -> list[Planned]:
-    """What comes of each crate's edits, in the order of crates.txt."""
+    """What comes of each crate's mutation tests, in the order of crates.txt."""
     lines = read_lines(root)
     found, holding = [], 0
     for name, found_sum in sums.items():
@@ -116,7 +117,7 @@ def write_seen(root: Path, sums: dict[str, str], lost: dict[str, list[str]]) -> 
 
 
 def misfits(root: Path, name: str) -> list[str]:
-    """Those of a crate's edits whose text isn't found once in its file, as far as reading shows: each with why."""
+    """Those of a crate's mutation tests whose text isn't found once in its file, as far as reading shows: each with why."""
     found, crate = [], root / "crates" / name
     for edit in edits_of(root, name):
         texts: dict[Path, str] = {}
@@ -136,14 +137,14 @@ def misfits(root: Path, name: str) -> list[str]:
 
 
 def apply(root: Path) -> int:
-    """Prints the edits that can't be applied."""
+    """Prints the mutation tests that can't be applied."""
     wrong = [line for name in read_crates(root) for line in misfits(root, name)]
     print("\n".join([*wrong, f"{len(wrong)} edits can't be applied"]))
     return 1 if wrong else 0
 
 
 def record(root: Path, names: list[str]) -> int:
-    """Runs `rt ci` over some crates and writes the lines of those whose edits it refused, each of them."""
+    """Runs `rt ci` over some crates and writes the lines of those whose mutation tests it rejected, each of them."""
     kit = kit_of(root)
     sums = edit_sums(root, kit)
     wanted = names or [it.name for it in plan(root, sums, TURNS) if it.is_tried]
@@ -166,13 +167,13 @@ def record(root: Path, names: list[str]) -> int:
 
 
 def main() -> int:
-    words = argparse.ArgumentParser(description="Says which must-fail edits are tried, and records those that were.")
+    words = argparse.ArgumentParser(description="Prints which mutation tests are tried, and records those that were.")
     jobs = words.add_subparsers(dest="job", required=True)
-    planning = jobs.add_parser("plan", help="say, crate by crate, why its edits are tried or not")
+    planning = jobs.add_parser("plan", help="print, crate by crate, why its mutation tests are tried or not")
     planning.add_argument("--all", action="store_true", help="as in a run that tries all")
     planning.add_argument("root", type=Path, nargs="?", default=ROOT)
-    jobs.add_parser("apply", help="say which edits can't be applied")
-    recording = jobs.add_parser("record", help="run rt ci over crates, and write the lines of those that it refused")
+    jobs.add_parser("apply", help="print which mutation tests can't be applied")
+    recording = jobs.add_parser("record", help="run rt ci over crates, and write the lines of those that it rejected")
     recording.add_argument("names", nargs="*", metavar="NAME", help="crates (those whose line doesn't hold)")
     said = words.parse_args()
     if said.job == "apply":

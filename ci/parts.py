@@ -1,4 +1,4 @@
-"""The parts of the gate: commands that are run, with what they say, the clock and the processor time of each."""
+"""The parts of the full test run: commands that are run, with what they say, the clock and the processor time of each."""
 
 from __future__ import annotations
 
@@ -25,7 +25,7 @@ class Ran:
 
 @dataclass(frozen=True)
 class Part:
-    """A part of the gate: how much of it passed and failed, and why where something failed."""
+    """A part of the full test run: how much of it passed and failed, and why where something failed."""
 
     name: str
     passed: int

@@ -1,4 +1,4 @@
-"""What `rt ci` and `rt must-fail` say, read back: which edits were refused, and the counts of the last line."""
+"""What `rt ci` and `rt must-fail` print, read back: which mutation tests were rejected, and the counts of the last line."""
 
 from __future__ import annotations
 
@@ -12,7 +12,7 @@ COUNTS = re.compile(r"^([0-9]+) passed, ([0-9]+) failed(?: \(.*\))?$")
 
 
 def tried_edits(said: str) -> dict[str, dict[str, str]]:
-    """By crate and edit what its try came to: REFUSED, or rt's own words (NOT REFUSED, NOT TRIED, BAD EDIT).
+    """By crate and mutation test what its try came to: REFUSED, or rt's own words (NOT REFUSED, NOT TRIED, BAD EDIT).
 
     rt tells an edit that it kept from an identical check in the same words as one that it has just tried.
     """
@@ -33,5 +33,5 @@ def counts_of(said: str) -> tuple[int, int] | None:
 
 
 def unrefused(edits: list[str], tried: dict[str, str]) -> list[str]:
-    """Those of a crate's edits that this run hasn't seen refused, each with what it came to."""
+    """Those of a crate's mutation tests that this run hasn't seen rejected, each with what it came to."""
     return [f"{edit}: {tried.get(edit, 'not seen')}" for edit in edits if tried.get(edit) != REFUSED]

@@ -1,10 +1,11 @@
-"""The gate: every proof, test and program, must-fail edits by what changed, and all tests beside the crates.
+"""The full test run: every proof, test and program, mutation tests by what changed, and all tests next to the crates.
 
-    sh test.sh               # must-fail edits of crates that changed since they were last seen refused, and of others by turn
-    sh test.sh --all         # all must-fail edits
-    sh test.sh --record      # the same as either, and writes ci/edits.txt by what was seen refused
+    sh test.sh               # mutation tests of crates that changed since they were last seen rejected, and of others by turn
+    sh test.sh --all         # all mutation tests
+    sh test.sh --record      # the same as either, and writes ci/edits.txt by what was seen rejected
 
-The last line is 'N passed, M failed', and the status is 0 where nothing failed. README.md beside this file says more.
+The last line ends with 'N passed, M failed', and the status is 0 if nothing failed. README.md in this folder has the details.
+An edit, here and in the code, is a mutation test: a file in a crate's must-fail/.
 """
 
 from __future__ import annotations
@@ -38,7 +39,7 @@ COUNTED_BY_RT = ("NOT REFUSED", "NOT TRIED")
 
 @dataclass
 class Report:
-    """What the gate has to say at its end."""
+    """What the full test run reports at its end."""
 
     parts: list[Part] = field(default_factory=list)
     notes: list[str] = field(default_factory=list)
@@ -56,7 +57,7 @@ class Report:
 
 
 def of_plan(planned: list[Planned]) -> str:
-    """How many edits are tried, and why; how many stand by their sums."""
+    """How many mutation tests are tried, and why; how many aren't, since their sums hold."""
     crates, edits = Counter(it.why for it in planned), Counter[Why]()
     for it in planned:
         edits[it.why] += len(it.edits)
@@ -69,7 +70,7 @@ def of_plan(planned: list[Planned]) -> str:
 
 
 def judge(planned: list[Planned], said: str, report: Report) -> dict[str, list[str]]:
-    """By crate whose edits were to be tried, those that the run hasn't seen refused."""
+    """By crate whose mutation tests were to be tried, those that the run hasn't seen rejected."""
     tried, uncounted, unseen = tried_edits(said), 0, {}
     for it in planned:
         if not it.is_tried:
@@ -86,7 +87,7 @@ def judge(planned: list[Planned], said: str, report: Report) -> dict[str, list[s
 
 
 def prove(place: Path, planned: list[Planned], report: Report, records: bool, built: Event) -> dict[str, list[str]]:
-    """`rt ci` over a tree; answers what of the planned edits it hasn't refused. It tells when the program is built there."""
+    """`rt ci` over a tree; answers which planned mutation tests it hasn't rejected. It tells when the program is built there."""
 
     def hear(line: str) -> None:
         if PROGRAM_BUILT.match(line):
@@ -108,7 +109,7 @@ def prove(place: Path, planned: list[Planned], report: Report, records: bool, bu
 
 
 def leave_out(place: Path, planned: list[Planned]) -> None:
-    """Takes the edits out of a copy whose crates' lines hold and whose turn it isn't."""
+    """Deletes from a copy the mutation tests of crates whose lines hold and whose turn it isn't."""
     for it in planned:
         if not it.is_tried:
             shutil.rmtree(place / "crates" / it.name / "must-fail")
@@ -127,7 +128,7 @@ def suites_with_program(place: Path, report: Report, built: Event) -> None:
 
 
 def gate(place: Path, said: argparse.Namespace, report: Report) -> None:
-    """Runs all parts over a tree: what is cheap first, and no proof where that fails."""
+    """Runs all parts over a tree: what is cheap first, and no proof if that fails."""
     lacking = provided(place / "ci")
     if lacking:
         names = ", ".join(it.name for it in lacking)
@@ -165,9 +166,9 @@ def gate(place: Path, said: argparse.Namespace, report: Report) -> None:
 
 
 def main() -> int:
-    words = argparse.ArgumentParser(prog="test.sh", description="The gate.")
-    words.add_argument("--all", action="store_true", help="try all must-fail edits, over the tree itself")
-    words.add_argument("--record", action="store_true", help="write ci/edits.txt by what was seen refused")
+    words = argparse.ArgumentParser(prog="test.sh", description="The full test run: every proof and every test.")
+    words.add_argument("--all", action="store_true", help="try all mutation tests, over the tree itself")
+    words.add_argument("--record", action="store_true", help="write ci/edits.txt by what was seen rejected")
     said = words.parse_args()
     report = Report()
     with tempfile.TemporaryDirectory(prefix="outagebook-ci-") as folder:

@@ -1,10 +1,10 @@
-"""Sums of all that the check of a crate's must-fail edits reads, over contents alone: no times, no places, no comments.
+"""Sums of all that the check of a crate's mutation tests reads, over contents alone: no times, no places, no comments.
 
 Of the crate itself: src/, specs/, proofs/, c/ and must-fail/. Of each crate below it, whose statements the check reads:
 src/, specs/ and c/, and its lemmas (the files right in proofs/, and folders that proofs/Lib.antt makes public) where
 Lib.antt makes any public, since a proof above may cite them and a tactic may find them. A function's own proof below
 (proofs/F/) can't be cited from above, and is left out unless a lemma there takes something from one: that it holds is
-what the gate's proofs show each time. Then the lines of these
+what the proofs of the full test run show each time. Then the lines of these
 crates in crates.txt, HANDLES, and the toolchain by its name.
 """
 
@@ -95,7 +95,7 @@ def sum_below(root: Path, crate: Crate) -> str:
 
 
 def edit_sums(root: Path, kit: str) -> dict[str, str]:
-    """The sum of each crate that has edits, by name, under a toolchain of that name."""
+    """The sum of each crate that has mutation tests, by name, under a toolchain of that name."""
     crates = read_crates(root)
     handles = root / "HANDLES"
     house = [kit.encode(), handles.read_bytes() if handles.exists() else b""]

@@ -144,7 +144,7 @@ class Shell:
 def left_behind(page: Path, shell: Shell, folder: Path) -> list[str]:
     """The files of a page that are there still once its own words have taken them away."""
     for words in GOES_AWAY.findall(page.read_text(encoding="utf-8")):
-        shell.paste(words)
+        shell.paste(" ".join(words.split()))
     return sorted(path.name for path in folder.iterdir() if path.name not in GIVEN)
 
 

@@ -1,5 +1,5 @@
 #!/usr/bin/env python3
-"""See outagebook/districts.py."""
+"""See outage_tools/districts.py."""
 
 import sys
 

@@ -1,5 +1,5 @@
 #!/usr/bin/env python3
-"""See outagebook/major_days.py."""
+"""See outage_tools/major_days.py."""
 
 import sys
 

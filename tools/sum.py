@@ -1,5 +1,5 @@
 #!/usr/bin/env python3
-"""See outagebook/sums.py."""
+"""See outage_tools/sums.py."""
 
 import sys
 

@@ -1,5 +1,5 @@
 #!/usr/bin/env python3
-"""See outagebook/warehouse.py."""
+"""See outage_tools/warehouse.py."""
 
 import sys
 

@@ -2,6 +2,7 @@
 
 from __future__ import annotations
 
+import re
 from collections.abc import Callable, Sequence
 from dataclasses import dataclass, replace
 from datetime import date
@@ -11,9 +12,31 @@ from .reader import Command, Device, Entry, Moves, Service
 from .roll import Roll
 from .state import SECTION, Change, Moved, Refused, Run, Sheet, State, with_device, with_entry
 
-KINDS = (
-    "cause bus section device life connect revise switch correct withdraw mark unmark".split()
-)  # those that a book knows
+FIELDS: dict[str, tuple[str, ...]] = {
+    "cause": ("code", "name"),
+    "bus": ("name",),
+    "section": ("name", "home feeder"),
+    "device": ("name", "first node", "second node", "normal position", "beginning", "end"),
+    "life": ("device", "beginning", "end"),
+    "connect": ("customer", "section", "since", "until"),
+    "revise": ("customer", "since", "until"),
+    "switch": ("device", "position", "second", "cause", "crew"),
+    "correct": ("entry", "revision", "position", "second", "cause", "crew"),
+    "withdraw": ("entry", "revision"),
+    "mark": ("day", "engineer"),
+    "unmark": ("day", "engineer"),
+}
+KINDS = list(FIELDS)  # those that a book knows
+NAME = r"[A-Z0-9_-]{1,24}", "1 to 24 of A-Z, 0-9, - and _"
+CREW = r"[A-Z0-9_-]{1,16}", "1 to 16 of A-Z, 0-9, - and _"
+CODE, NUMBER = (r"[0-9]{1,2}", "a number of 1 to 2 digits"), (r"[0-9]{1,10}", "a number of 1 to 10 digits")
+SPELLINGS: dict[str, tuple[str, str]] = {
+    **dict.fromkeys(("name", "device", "first node", "second node", "section"), NAME),
+    **dict.fromkeys(("crew", "engineer"), CREW),
+    **dict.fromkeys(("code", "cause"), CODE),
+    **dict.fromkeys(("customer", "entry", "revision"), NUMBER),
+    "home feeder": (r"[0-9]{1,3}", "a number of 1 to 3 digits"),
+}
 NOTHING = Change(None, {}, {}, [])
 
 
@@ -26,6 +49,7 @@ class Plan:
     take: Callable[[State], None]
     device: int | None = None
     hints: tuple[str, ...] = ()
+    second: int | None = None  # at which an entry acts that is made or changed
 
     @property
     def moves(self) -> Moves:
@@ -37,10 +61,21 @@ def plan(state: State, kind: str, fields: Sequence[str]) -> Plan:
     planner = PLANNERS.get(kind)
     if planner is None:
         raise Refused(f"there is no command {kind}")
+    check_spelling(kind, fields)
     try:
         return planner(state, *fields)
     except (TypeError, ValueError):
         raise Refused("a field is missing or can't be read") from None
+
+
+def check_spelling(kind: str, fields: Sequence[str]) -> None:
+    """Refuses what the desk can't read. Empty names are refused by name, further on."""
+    for name, text in zip(FIELDS[kind], fields):
+        letters, words = SPELLINGS.get(name, (".*", ""))
+        if text and not re.fullmatch(letters, text, re.ASCII):
+            raise Refused(f"the {name} {text[:40]} can't be read, it has to be {words}")
+        if not text and name in ("crew", "engineer"):
+            raise Refused(f"the {name} is missing")
 
 
 def accept(state: State, command: Command) -> Moves:
@@ -91,7 +126,7 @@ def changed_sheet(state: State, old: Entry | None, new: Entry, seconds: Sequence
     sheet = with_entry(state.sheet, old, new)
     window = state.entry_window(new.device, seconds, (state.sheet, sheet))
     change = state.change_of(sheet, window)
-    return Plan(change, sheet, lambda _: None, new.device, tuple(hints))
+    return Plan(change, sheet, lambda _: None, new.device, tuple(hints), new.second if new.is_kept else None)
 
 
 def plan_switch(state: State, name: str, action: str, second: str, cause: str, crew: str) -> Plan:
@@ -110,8 +145,6 @@ def hints_of(state: State, device: Device, closes: bool, second: int) -> list[st
         )
     if state.sheet.position(device, second + 1) == closes:
         hints.append(f"{device.name} is {'closed' if closes else 'open'} at that second already.")
-    if second < state.latest_told:
-        hints.append("A later second was told before: this is a late entry.")
     return hints
 
 
@@ -345,4 +378,4 @@ def uncovered(runs: Sequence[Run], others: Sequence[Run]) -> list[tuple[int, int
     return parts
 
 
-__all__ = ["KINDS", "Plan", "accept", "plan", "sections_of"]
+__all__ = ["FIELDS", "KINDS", "Plan", "accept", "plan", "sections_of"]

@@ -16,6 +16,7 @@ class Journal:
     def __init__(self, path: Path | None):
         self.path = path
         self.latest: deque[dict[str, Any]] = deque(maxlen=KEPT_FOR_PAGES)
+        self.sent: dict[str, int] = {}  # by reference: the second at which a switching was sent first
         if path is not None and path.exists():
             with path.open(encoding="utf-8") as file:
                 for line in file:
@@ -28,12 +29,18 @@ class Journal:
         except ValueError:
             return
         if isinstance(row, dict):
-            self.latest.append(row)
+            self._keep(row)
+
+    def _keep(self, row: dict[str, Any]) -> None:
+        self.latest.append(row)
+        sent = row.get("sent")
+        if isinstance(sent, dict) and sent.get("kind") == "switch":
+            self.sent.setdefault(str(row.get("reference")), second_of(row))
 
     def write(self, login: str, reference: str, **said: Any) -> None:
         row = {"time": datetime.now(timezone.utc).isoformat(timespec="milliseconds"), "login": login}
         row |= {"reference": reference, **said}
-        self.latest.append(row)
+        self._keep(row)
         if self.path is None:
             return
         data = (json.dumps(row) + "\n").encode()
@@ -42,3 +49,11 @@ class Journal:
             os.write(place, data)
         finally:
             os.close(place)
+
+
+def second_of(row: dict[str, Any]) -> int:
+    """The second at which a row was written; 0 where it doesn't say so."""
+    try:
+        return int(datetime.fromisoformat(str(row.get("time"))).timestamp())
+    except ValueError:
+        return 0

@@ -24,6 +24,13 @@ def moment_of(zone: Zone, second: int) -> Moment:
     return Moment(second, zone.text_of(second))
 
 
+def duration(seconds: int) -> str:
+    """A length of time by its two largest units."""
+    parts = ((seconds // 86_400, "d"), (seconds // 3_600 % 24, "h"), (seconds // 60 % 60, "min"), (seconds % 60, "s"))
+    first = next((place for place, (count, _) in enumerate(parts) if count), len(parts) - 1)
+    return " ".join(f"{count} {unit}" for count, unit in parts[first : first + 2] if count) or "0 s"
+
+
 def read_moment(zone: Zone, text: str) -> list[Moment]:
     """The seconds that a typed moment may mean: one, or two where the clock shows it twice."""
     text = text.strip()

@@ -10,7 +10,7 @@ from pathlib import Path
 from typing import Any
 
 from . import refusals, views
-from .commands import accept, plan
+from .commands import FIELDS, accept, plan
 from .desk import IMPORT_SECONDS, Answer, Away, Desk
 from .journal import Journal
 from .reader import Command, Differs, Moves, moves_by_second_program, read_later, read_rows
@@ -54,6 +54,7 @@ class Hub:
 class Office:
     def __init__(self, book: Path, state: State, desk: Desk | None, journal: Journal):
         self.book, self.state, self.desk, self.journal = book, state, desk, journal
+        self.state.sent = journal.sent
         self.hub = Hub()
         self.in_step = asyncio.Lock()
         self.counted: OrderedDict[int, Moves] = OrderedDict()
@@ -105,6 +106,7 @@ class Office:
         except Refused as refused:  # the state isn't the book's: it is read anew, and that is told
             self.differs = f"command {self.state.number + 1} was taken by the desk, and not here: {refused}"
             self.state = await loop.run_in_executor(None, new_state, self.book)
+            self.state.sent = self.journal.sent
         if later:
             self.tell_commands(later[-1][0], later[-1][1], len(later))
 
@@ -119,7 +121,8 @@ class Office:
 
     def tell_commands(self, command: Command, moves: Moves, count: int) -> None:
         moved = sum(amount for dim, _, amount in moves if dim == "cause")
-        event = {"what": "commands", "count": count, "command": views.history_view(self.state, command), "moved": moved}
+        shown = views.history_view(self.state, command)
+        event = {"what": "commands", "count": count, "command": shown, "moved": moved}
         self.hub.tell({**event, **self.desk_view()})
 
     async def learn(self, number: int, command: Command, moves: Moves) -> None:
@@ -135,8 +138,9 @@ class Office:
 
     # Commands.
 
-    async def send(self, login: str, command: dict[str, str]) -> tuple[int, dict[str, Any]]:
-        """Sends a command until the desk has answered it: the status and what the page is told."""
+    async def send(self, login: str, command: dict[str, str], seen: int | None) -> tuple[int, dict[str, Any]]:
+        """Sends a command until the desk has answered it: the status and what the page is told. `seen` is the last command
+        that the page knew of when it showed what this one would do."""
         assert self.desk is not None
         known = self.state.number
         self.journal.write(login, command["ref"], sent=command)
@@ -153,6 +157,8 @@ class Office:
         number, moves = reply["no"], [(dim, key, amount) for dim, key, amount in reply["moved"]]
         await self.learn(number, accepted(number, command), moves)
         shown = {"reply": reply, "text": answer.body.decode(), "tries": tries, "again": number <= known}
+        shown["entry"] = self.state.entry_made_by(number)
+        shown["between"] = [] if seen is None else views.between_view(self.state, seen, number)
         here = self.counted.get(number)
         if here is not None:
             shown |= {"counted": [list(move) for move in here], "equal": here == moves}
@@ -185,7 +191,7 @@ class Office:
         return answer.status, {"reply": answer.json(), "text": answer.body.decode()}
 
     def forecast(self, kind: str, fields: list[str]) -> dict[str, Any]:
-        return views.forecast_view(self.state, plan(self.state, kind, fields))
+        return views.forecast_view(self.state, plan(self.state, kind, fields), kind, fields)
 
     # What the desk shows, word for word.
 
@@ -202,7 +208,7 @@ class Office:
 
 def away_words() -> str:
     return (
-        "The desk gave no answer, so it isn't known whether this stands. Send it again: it goes under the same reference, "
+        "The desk gave no answer, so it isn't known whether this is saved. Send it again: it goes under the same reference, "
         "and acts once."
     )
 
@@ -226,7 +232,7 @@ def is_canonical(command: Command) -> bool:
 def accepted(number: int, command: dict[str, str]) -> Command:
     """A command as the book keeps it: its fields, with `-` for an end that is none and 0 for a beginning that is none."""
     kind = command["kind"]
-    fields = [command.get(f"f{place}", "") for place in range(1, len(refusals.FIELDS[kind]) + 1)]
+    fields = [command.get(f"f{place}", "") for place in range(1, len(FIELDS[kind]) + 1)]
     if kind in ("device", "life", "connect", "revise"):
         fields[-1] = fields[-1] or "-"
         fields[-2] = fields[-2] or "0"

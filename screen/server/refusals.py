@@ -4,23 +4,10 @@ from __future__ import annotations
 
 from typing import Any
 
+from .commands import FIELDS
 from .state import State
 from .views import entry_view, text
 
-FIELDS: dict[str, tuple[str, ...]] = {
-    "cause": ("code", "name"),
-    "bus": ("name",),
-    "section": ("name", "home feeder"),
-    "device": ("name", "first node", "second node", "normal position", "beginning", "end"),
-    "life": ("device", "beginning", "end"),
-    "connect": ("customer", "section", "since", "until"),
-    "revise": ("customer", "since", "until"),
-    "switch": ("device", "position", "second", "cause", "crew"),
-    "correct": ("entry", "revision", "position", "second", "cause", "crew"),
-    "withdraw": ("entry", "revision"),
-    "mark": ("day", "engineer"),
-    "unmark": ("day", "engineer"),
-}
 FIRST_FIELD = 3
 PLAIN = {
     3: "The name, the code or the customer's number is in use already.",
@@ -52,7 +39,7 @@ def words_of(state: State, command: dict[str, str], reply: dict[str, Any]) -> st
         first, last = text(state, state.period.first), text(state, state.period.end - 1)
         return f"The second or the day lies outside the book's period, which goes from {first} to {last}."
     if number == 7:
-        return f"Somebody told this entry anew: it has revision {detail} by now. Look at what it is, and correct that if need be."
+        return f"Somebody changed this entry: it has revision {detail} by now. Look at what it is, and correct that if need be."
     if number == 11:
         return f"This reference was used for another command, number {detail}. Nothing was done."
     if number == 12:

@@ -8,8 +8,9 @@ is the screen's own count, to be compared with the desk's reply.
 
 from __future__ import annotations
 
+import time
 from bisect import bisect_left, bisect_right, insort
-from collections import defaultdict
+from collections import defaultdict, deque
 from collections.abc import Iterable, Sequence
 from dataclasses import dataclass
 from functools import cached_property
@@ -20,6 +21,8 @@ from .roll import Roll
 
 NO_ENTRY = 0
 SECTION = 2
+LATE_SECONDS = 900
+KEPT_COMMANDS = 500
 Places = list[tuple[int, int]]  # the second and the number of an entry, rising
 
 
@@ -209,8 +212,8 @@ class State:
         self.sheet = sheet_of(rows.devices, rows.entries)
         self.histories: dict[int, list[Command]] = defaultdict(list)
         self.made_by: dict[tuple[str, str], int] = {}
-        self.behind: dict[int, int] = {}
-        self.latest_told = 0
+        self.latest: deque[Command] = deque(maxlen=KEPT_COMMANDS)
+        self.sent: dict[str, int] = {}  # by reference: when a command was sent from here, as far as the log knows
         self.crews: set[str] = set()
         self.members: dict[int, list[int]] = defaultdict(list)
         for number, (section, _, _) in self.customers.items():
@@ -226,19 +229,45 @@ class State:
     # What is known of commands.
 
     def note(self, command: Command) -> None:
-        """Keeps a command with the entry that it tells of, and how far it lies behind what was told before."""
+        """Keeps a command with the entry that it makes or changes."""
         kind, fields = command.kind, command.fields
+        self.latest.append(command)
         if kind == "switch":
             self.entries_told += 1
-            entry, second = self.entries_told, int(fields[2])
-            self.behind[command.number] = max(0, self.latest_told - second)
-            self.latest_told = max(self.latest_told, second)
             self.crews.add(fields[4])
-            self.histories[entry].append(command)
+            self.histories[self.entries_told].append(command)
         elif kind in ("correct", "withdraw"):
             self.histories[int(fields[0])].append(command)
         elif kind in ("device", "life", "bus", "section"):
             self.made_by[kind, fields[0]] = command.number
+
+    def now(self) -> int:
+        """The second that is now, or the one of the period that is nearest to it."""
+        return min(max(int(time.time()), self.period.first), self.period.end - 1)
+
+    def late_entries(self) -> set[int]:
+        """The entries that were sent more than a quarter of an hour after their second. For one of another client, of which
+        it isn't known when it was sent: so far behind the latest second before it, of those that are kept and not to come.
+        """
+        found: set[int] = set()
+        latest, now = 0, self.now()
+        for entry in self.sheet.entries:
+            history = self.histories.get(entry.number)
+            if history:
+                sent = self.sent.get(history[0].ref)
+                as_of = latest if sent is None else min(sent, self.period.end - 1)
+                if as_of - int(history[0].fields[2]) > LATE_SECONDS:
+                    found.add(entry.number)
+            if entry.is_kept and entry.second <= now:
+                latest = max(latest, entry.second)
+        return found
+
+    def entry_made_by(self, command: int) -> int | None:
+        """The entry that a command made or changed; among the latest ones."""
+        for number in range(len(self.sheet.entries), 0, -1):
+            if any(each.number == command for each in self.histories.get(number, ())):
+                return number
+        return None
 
     # What follows from the rows.
 

@@ -6,14 +6,19 @@ import re
 from collections.abc import Callable, Sequence
 from typing import Any
 
-from .commands import Plan, sections_of
+from .commands import FIELDS, Plan, sections_of
 from .diagram import Layout, layout_of, normal_ways
+from .moments import duration
 from .network import Supply
 from .reader import Command, Entry
-from .state import Run, State
+from .state import LATE_SECONDS, SECTION, Refused, Run, State
 
 Json = dict[str, Any]
 PAGE_ROWS = 100
+FUTURE_SECONDS = 60  # clocks of browsers and servers differ
+TIMES = ("second", "beginning", "end", "since", "until")  # fields of commands that are moments
+STATUSES = ("late", "corrected", "withdrawn")
+ORDERS = ("", "newest", "second")
 
 
 def text(state: State, second: int) -> str:
@@ -142,12 +147,7 @@ def diagram_view(state: State, at: int, closed: Sequence[bool]) -> Json:
 # The switching sheet.
 
 
-def is_late(state: State, entry: int) -> bool:
-    history = state.histories.get(entry)
-    return bool(history) and state.behind.get(history[0].number, 0) > 0  # type: ignore[index]
-
-
-def entry_view(state: State, entry: Entry) -> Json:
+def entry_view(state: State, entry: Entry, late: set[int] | None = None) -> Json:
     history = state.histories.get(entry.number, [])
     return {
         "no": entry.number,
@@ -159,67 +159,117 @@ def entry_view(state: State, entry: Entry) -> Json:
         "cause_name": state.causes.get(entry.cause, ""),
         "crew": entry.crew,
         "kept": entry.is_kept,
-        "late": is_late(state, entry.number),
+        "late": entry.number in (state.late_entries() if late is None else late),
         "corrected": any(command.kind == "correct" for command in history),
         "commands": [{"no": command.number, "ref": command.ref, "kind": command.kind} for command in history],
     }
 
 
 def sheet_view(state: State, wanted: dict[str, str]) -> Json:
-    """A page of the entries that are asked for, newest first or by second."""
-    tests = tests_of(state, wanted)
+    """A page of the entries that are asked for, newest first or by second. What can't be read is refused."""
+    late = state.late_entries()
+    tests = tests_of(state, wanted, late)
     found = [entry for entry in state.sheet.entries if all(test(entry) for test in tests)]
+    if wanted.get("order", "") not in ORDERS:
+        raise Refused(f"there is no order {wanted['order']}")
     if wanted.get("order") == "second":
         found.sort(key=lambda entry: (entry.second, entry.number))
     else:
         found.reverse()
-    begin = int(wanted["from"]) if re.fullmatch(r"\d{1,5}", wanted.get("from", "")) else 0
+    begin = int(wanted["from"]) if re.fullmatch(r"\d{1,5}", wanted.get("from", ""), re.ASCII) else 0
     shown = found[begin : begin + PAGE_ROWS]
     return {
         "number": state.number,
         "found": len(found),
         "of": len(state.sheet.entries),
         "from": begin,
-        "rows": [entry_view(state, entry) for entry in shown],
+        "rows": [entry_view(state, entry, late) for entry in shown],
     }
 
 
-def tests_of(state: State, wanted: dict[str, str]) -> list[Callable[[Entry], bool]]:
+def tests_of(state: State, wanted: dict[str, str], late: set[int]) -> list[Callable[[Entry], bool]]:
     """What the fields of a search ask of an entry; an empty field asks for nothing."""
     name, crew = wanted.get("device", "").upper(), wanted.get("crew", "").upper()
     day, cause, marked = wanted.get("day", ""), wanted.get("cause", ""), wanted.get("marked", "")
     tests: list[Callable[[Entry], bool]] = []
     if name:
+        if not any(name in device.name for device in state.sheet.devices):
+            raise Refused(f"no device has {name} in its name")
         tests.append(lambda entry: name in state.sheet.devices[entry.device].name)
     if crew:
         tests.append(lambda entry: crew in entry.crew)
     if cause:
+        if cause not in map(str, state.causes):
+            raise Refused(f"there is no cause {cause}")
         tests.append(lambda entry: str(entry.cause) == cause)
     if day:
+        check_day(state, day)
         tests.append(lambda entry: text(state, entry.second)[:10] == day)
     if marked:
-        tests.append(lambda entry: marked in marks_of(state, entry))
+        if marked not in STATUSES:
+            raise Refused(f"entries are {', '.join(STATUSES)}, and not {marked}")
+        tests.append(lambda entry: marked in marks_of(state, entry, late))
     if wanted.get("section"):
-        tests.append(of_section(state, wanted["section"].upper()))
+        tests.append(of_sections(state, wanted["section"].upper()))
     return tests
 
 
-def of_section(state: State, section: str) -> Callable[[Entry], bool]:
-    """Entries of the devices at a section, and those that cut it off."""
-    node = state.node_numbers.get(section, -1)
-    beside = {device.number for device in state.sheet.devices if node in (device.a, device.b)}
-    cutters = {run.cutter for run in state.runs.get(node, [])}
+def check_day(state: State, typed: str) -> None:
+    """Refuses what is no day of the period, as YYYY-MM-DD."""
+    if typed not in {day.isoformat() for day in state.period.days}:
+        first, last = day_name(state, 0), day_name(state, len(state.period.days) - 1)
+        raise Refused(f"{typed} is no day of the book's period: days are typed as {first}, from then to {last}")
+
+
+def of_sections(state: State, part: str) -> Callable[[Entry], bool]:
+    """Entries of the devices at the sections that have a part in their name, and those that cut them off."""
+    nodes = {number for number, (name, kind, _) in enumerate(state.nodes) if kind == SECTION and part in name}
+    if not nodes:
+        raise Refused(f"no section has {part} in its name")
+    beside = {device.number for device in state.sheet.devices if not nodes.isdisjoint((device.a, device.b))}
+    cutters = {run.cutter for node in nodes for run in state.runs.get(node, [])}
     return lambda entry: entry.device in beside or entry.number in cutters
 
 
-def marks_of(state: State, entry: Entry) -> list[str]:
+def marks_of(state: State, entry: Entry, late: set[int]) -> list[str]:
     """What the sheet marks of an entry."""
     found = ["withdrawn"] if not entry.is_kept else []
-    if is_late(state, entry.number):
+    if entry.number in late:
         found.append("late")
     if any(command.kind == "correct" for command in state.histories.get(entry.number, [])):
         found.append("corrected")
     return found
+
+
+def command_words(state: State, kind: str, fields: Sequence[str]) -> str:
+    """What a command is, for people: its kind and all of its fields."""
+    values = dict(zip(FIELDS.get(kind, ()), fields))
+    for name, value in values.items():
+        if name in TIMES and re.fullmatch(r"[0-9]{1,11}", value) and value != "0":
+            shown = text(state, int(value))
+            values[name] = f"{shown[:10]} {shown[11:19]} {shown[19:]}"
+    if kind in ("switch", "correct"):
+        cause = state.causes.get(int(values["cause"]), "") if values["cause"].isdecimal() else ""
+        what = f"{values['position']} at {values['second']}, cause {values['cause']} {cause}, crew {values['crew']}"
+        return f"{values['device']} {what}" if kind == "switch" else f"correct entry {values['entry']}: {what}"
+    if kind == "withdraw":
+        return f"withdraw entry {values['entry']}"
+    rest = [f"{name} {value}" for name, value in values.items() if value not in ("", "-")]
+    return f"{kind}: {', '.join(rest)}"
+
+
+def between_view(state: State, seen: int, number: int) -> list[Json]:
+    """The commands that came after one that a page had seen and before another one."""
+    return [
+        {
+            "no": command.number,
+            "ref": command.ref,
+            "words": command_words(state, command.kind, command.fields),
+            "entry": state.entry_made_by(command.number),
+        }
+        for command in state.latest
+        if seen < command.number < number
+    ]
 
 
 def history_view(state: State, command: Command) -> Json:
@@ -232,8 +282,9 @@ def history_view(state: State, command: Command) -> Json:
 # Forecasts.
 
 
-def forecast_view(state: State, planned: Plan) -> Json:
+def forecast_view(state: State, planned: Plan, kind: str, fields: Sequence[str]) -> Json:
     """What a command would do as the book stands: computed here."""
+    ahead = 0 if planned.second is None else planned.second - state.now()
     sections = sections_of(state, planned)
     window = planned.change.window
     for row in sections:
@@ -245,8 +296,18 @@ def forecast_view(state: State, planned: Plan) -> Json:
         "to": moment(state, window.until) if window and window.until < state.period.end else None,
         "moved": [list(move) for move in planned.moves],
         "total": sum(amount for dim, _, amount in planned.moves if dim == "cause"),
-        "hints": list(planned.hints),
+        "hints": [*planned.hints, *late_hints(kind, ahead)],
+        "future": duration(ahead) if ahead > FUTURE_SECONDS else None,
+        "words": command_words(state, kind, fields),
     }
+
+
+def late_hints(kind: str, ahead: int) -> list[str]:
+    return (
+        [f"This is a late entry: it lies {duration(-ahead)} back."]
+        if kind == "switch" and -ahead > LATE_SECONDS
+        else []
+    )
 
 
 # Customers.

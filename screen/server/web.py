@@ -19,9 +19,11 @@ from urllib.parse import urlsplit
 
 from aiohttp import web
 
-from . import moments, refusals, views, year
+from . import moments, views, year
+from .commands import FIELDS
 from .desk import Away
 from .guard import BODY_BYTES
+from .journal import second_of
 from .office import NAME, REFERENCE, Office, name_of_login
 from .reader import BookError
 from .state import Refused
@@ -249,7 +251,7 @@ def second_within(request: web.Request) -> int:
     office, typed = office_of(request), request.query.get("at", "")
     period = office.state.period
     if not typed:
-        return min(max(int(time.time()), period.first), period.end - 1)
+        return office.state.now()
     found = moments.read_moment(period.zone, typed)
     at = found[int(request.query.get("which") == "1") % len(found)].second
     if not period.first <= at < period.end:
@@ -258,8 +260,9 @@ def second_within(request: web.Request) -> int:
 
 
 async def second(request: web.Request) -> web.StreamResponse:
-    """The second that is now, or the one of the period that is nearest to it."""
-    return answer(200, views.moment(office_of(request).state, second_within(request)))
+    """The second that is now, or the one of the period that is nearest to it; `goes` where it is now."""
+    state, at = office_of(request).state, second_within(request)
+    return answer(200, {**views.moment(state, at), "goes": state.period.first <= time.time() < state.period.end})
 
 
 async def now(request: web.Request) -> web.StreamResponse:
@@ -278,9 +281,15 @@ async def entry(request: web.Request) -> web.StreamResponse:
         raise web.HTTPNotFound()
     shown = views.entry_view(office.state, office.state.sheet.entries[number - 1])
     shown["history"] = []
+    is_away = False
     for command in office.state.histories[number]:
-        status, text = await office.moves_of(command.number)
-        shown["history"].append({**views.history_view(office.state, command), "text": text if status == 200 else None})
+        text = None
+        try:
+            status, body = (0, "") if is_away else await office.moves_of(command.number)
+            text = body if status == 200 else None
+        except Away:
+            is_away = True  # the entry is shown all the same, and the desk isn't waited for again
+        shown["history"].append({**views.history_view(office.state, command), "text": text})
     return answer(200, shown)
 
 
@@ -303,7 +312,7 @@ async def position(request: web.Request) -> web.StreamResponse:
 
 async def forecast(request: web.Request) -> web.StreamResponse:
     kind = request.query.get("kind", "")
-    names = refusals.FIELDS.get(kind, ())
+    names = FIELDS.get(kind, ())
     fields = [request.query.get(f"f{place}", "") for place in range(1, len(names) + 1)]
     return answer(200, office_of(request).forecast(kind, fields))
 
@@ -312,13 +321,14 @@ async def command(request: web.Request) -> web.StreamResponse:
     """Sends a command under the page's reference, which has to be the login's own."""
     login, body = login_of(request) or "", await json_body(request)
     names = {"kind", "ref", *(f"f{place}" for place in range(1, 7))}
-    if not {"kind", "ref"} <= body.keys() <= names or body["kind"] not in refusals.FIELDS:
+    if not {"kind", "ref"} <= body.keys() <= names or body["kind"] not in FIELDS:
         raise Refused("a command has kind, ref and f1 to f6")
     if not REFERENCE.fullmatch(body["ref"]) or not body["ref"].startswith(f"SCR-{name_of_login(login)}-"):
         raise Refused(f"the reference has to begin with SCR-{name_of_login(login)}-")
     if body["kind"] in ("mark", "unmark") and body.get("f2") != name_of_login(login):
         raise Refused("a day is marked by the login's own name")
-    return answer(*await asyncio.shield(office_of(request).send(login, body)))
+    seen = int(number) if (number := request.query.get("seen", "")).isdecimal() and len(number) < 12 else None
+    return answer(*await asyncio.shield(office_of(request).send(login, body, seen)))
 
 
 async def rows(request: web.Request) -> web.StreamResponse:
@@ -331,7 +341,10 @@ async def customers(request: web.Request) -> web.StreamResponse:
 
 
 async def journal(request: web.Request) -> web.StreamResponse:
-    return answer(200, list(office_of(request).journal.latest)[::-1])
+    """The screen's log, latest first, with the time by the clock of the book's zone."""
+    office = office_of(request)
+    rows = list(office.journal.latest)[::-1]
+    return answer(200, [{**row, "at": views.text(office.state, second_of(row))} for row in rows])
 
 
 # The year.

@@ -1,72 +1,15 @@
-// What all pages share: the head, requests with the page's token, the events, and elements whose texts are set as text.
+// What all pages share: the head, the events, tables and fields.
+import { duration, el, svg } from "./elements.js";
+import { get, known, post, Trouble } from "./requests.js";
+import { Stream } from "./stream.js";
+import { unanswered } from "./unanswered.js";
 
-export const known = { me: null, book: null };
+export { duration, el, get, known, post, svg };
+
+const AGAIN_SECONDS = 2; // between two questions of a page that can't begin
+
 export const own = new Set(); // references of this page: their answers are shown where they were sent
 const listeners = [];
-
-/** An element: attributes, listeners where a value is a function, and children, which are texts or elements. */
-export function el(tag, attributes = {}, ...children) {
-  const made = document.createElement(tag);
-  fill(made, attributes, children);
-  return made;
-}
-
-export function svg(tag, attributes = {}, ...children) {
-  const made = document.createElementNS("http://www.w3.org/2000/svg", tag);
-  fill(made, attributes, children);
-  return made;
-}
-
-function fill(made, attributes, children) {
-  for (const [name, value] of Object.entries(attributes)) {
-    if (typeof value === "function") made.addEventListener(name, value);
-    else if (value === true) made.setAttribute(name, "");
-    else if (value !== false && value !== null && value !== undefined) made.setAttribute(name, value);
-  }
-  made.append(...children.flat().filter((child) => child !== null && child !== undefined && child !== ""));
-}
-
-/** What went wrong with a request: its status (0 where nothing was answered) and the server's words. */
-export class Trouble extends Error {
-  constructor(status, shown) {
-    super(shown.words || "the screen's server gives no answer");
-    this.status = status;
-    this.shown = shown;
-  }
-}
-
-async function answerOf(request) {
-  let reply;
-  let shown;
-  try {
-    reply = await request();
-    shown = await reply.json();
-  } catch {
-    throw new Trouble(0, {});
-  }
-  if (!reply.ok) throw new Trouble(reply.status, shown);
-  return shown;
-}
-
-export function get(route, query = {}) {
-  const words = new URLSearchParams(query).toString();
-  return answerOf(() => fetch(words ? `${route}?${words}` : route));
-}
-
-/** Posts with the page's token; where the server was started anew, once more with the new one. */
-export async function post(route, body, type = "application/json") {
-  const send = () =>
-    answerOf(() =>
-      fetch(route, { method: "POST", body, headers: { "Content-Type": type, "X-Screen-Token": known.me.token } }),
-    );
-  try {
-    return await send();
-  } catch (trouble) {
-    if (trouble.shown?.error !== "token") throw trouble;
-    known.me = await get("/api/me");
-    return send();
-  }
-}
 
 /** A reference for one intent, made before its first try. */
 export function newReference() {
@@ -92,16 +35,6 @@ export function moment(value) {
   if (!text) return "";
   const parts = clock(text).map((part) => [" ", el("span", { class: "nowrap" }, part)]);
   return el("time", { datetime: text }, parts.flat().slice(1));
-}
-
-export function duration(seconds) {
-  const parts = [
-    [Math.floor(seconds / 86400), "d"],
-    [Math.floor(seconds / 3600) % 24, "h"],
-    [Math.floor(seconds / 60) % 60, "min"],
-    [seconds % 60, "s"],
-  ].filter(([count]) => count);
-  return parts.map(([count, unit]) => `${count} ${unit}`).join(" ") || "0 s";
 }
 
 const BRIEF = 12; // letters, that stay in one line
@@ -219,7 +152,7 @@ const PAGES = [
   ["/year", "Year"],
 ];
 const state = el("span", { role: "status", class: "state" });
-const banner = el("div", { role: "alert" });
+const banner = el("div", { class: "alarm", role: "alert" });
 export const said = el("div", { class: "said", role: "status" });
 
 function head() {
@@ -227,13 +160,13 @@ function head() {
     el("a", { href, "aria-current": location.pathname === href ? "page" : null }, name),
   );
   const me = known.me;
-  const rename = me.asks_name ? el("button", { type: "button", class: "small", click: () => askName(true) }, "Change name") : "";
-  const who = el("span", {}, me.name ? `You are ${me.name}${me.may_send ? "" : ", looking only"}` : "No name yet");
+  const rename = me.asks_name && me.could_send ? el("button", { type: "button", class: "small", click: () => askName(true) }, "Change name") : "";
+  const who = el("span", {}, me.name ? `You are ${me.name}${me.may_send ? "" : ", looking only"}` : me.could_send ? "No name yet" : "Looking only");
   document.getElementById("head").replaceChildren(
     el("nav", { "aria-label": "Pages" }, links),
     el("div", { class: "who" }, state, who, rename),
   );
-  document.querySelector("main h1").after(banner);
+  document.querySelector("main h1").before(banner, unanswered());
   document.body.append(said);
 }
 
@@ -242,15 +175,28 @@ function say(place, words) {
   if (place.textContent !== words) place.textContent = words;
 }
 
+const alarms = new Map(); // why what is shown may be old or wrong, by what it comes from
+const title = document.title;
+
+/** Shows or takes back an alarm: a banner that stays in sight however far the page is scrolled, and a sign in the tab. */
+function alarm(name, words) {
+  if (words) alarms.set(name, words);
+  else alarms.delete(name);
+  const told = [...alarms.values()].join("\n");
+  document.title = alarms.size ? `(!) ${title}` : title;
+  if (told === banner.dataset.told) return;
+  banner.dataset.told = told;
+  banner.replaceChildren(...[...alarms.values()].map((each) => el("p", {}, each)));
+}
+
+const time = () => new Date().toLocaleTimeString("en-GB");
+
 export function showDesk(shown) {
   const words = { here: "Desk: here", away: "Desk: AWAY", none: "No desk: a copy" };
   say(state, `${words[shown.desk]}, ${number(shown.number)} commands`);
-  const parts = [];
-  if (shown.desk === "away") {
-    parts.push(el("p", { class: "bad" }, `The desk is away; the screen tries again each second. What is shown is as of command ${shown.number}. (${shown.why})`));
-  }
-  if (shown.differs) parts.push(el("p", { class: "bad" }, `The screen's own count differs from the desk: ${shown.differs}. Believe the desk.`));
-  if (banner.textContent !== parts.map((part) => part.textContent).join("")) banner.replaceChildren(...parts);
+  alarm("server", null);
+  alarm("desk", shown.desk === "away" && `The desk is away: nothing can be saved now. What is shown is as of command ${shown.number}. The screen tries again each second. (${shown.why})`);
+  alarm("differs", shown.differs && `The screen's own count differs from the desk: ${shown.differs}. Believe the desk.`);
 }
 
 function askName(again = false) {
@@ -284,17 +230,30 @@ export function onCommands(work) {
   listeners.push(work);
 }
 
+let seen = null; // the number of the last command whose news this page has taken in
+let heardAt = null;
+let isDue = false; // the page is hidden: it is shown again when somebody looks at it
+
 function listen() {
-  const source = new EventSource("/events");
-  let heard = false;
-  source.addEventListener("message", (message) => {
-    const event = JSON.parse(message.data);
+  const heard = (event) => {
+    const isLater = event.number !== seen || (event.what === "hello" && heardAt !== null);
+    seen = event.number;
+    heardAt = time();
     showDesk(event);
     if (event.what === "commands") tell(event);
-    if (event.what === "commands" || (event.what === "hello" && heard)) listeners.forEach((work) => work(event));
-    heard = true;
-  });
-  source.addEventListener("error", () => say(state, "The screen's server is away"));
+    if (event.what === "commands" || isLater) renewAll(event);
+  };
+  const lost = (words) => {
+    say(state, "The screen's server is away");
+    alarm("server", `WHAT IS SHOWN MAY BE OLD: ${words}. ${heardAt ? `Last news at ${heardAt} by this computer's clock.` : ""} This page tries again by itself.`);
+  };
+  document.addEventListener("visibilitychange", () => !document.hidden && isDue && renewAll({}));
+  new Stream({ heard, lost });
+}
+
+function renewAll(event) {
+  isDue = document.hidden;
+  if (!isDue) listeners.forEach((work) => work(event));
 }
 
 let hush = null;
@@ -319,20 +278,35 @@ function tell(event) {
   showSaid(`${words}: ${command.kind} ${command.fields.slice(0, 2).join(" ")} (${command.ref}) moved W by ${signed(event.moved)}`);
 }
 
+/** Who asks, and the book's names; asked for until the server answers. */
+async function ask() {
+  for (;;) {
+    try {
+      [known.me, known.book] = await Promise.all([get("/api/me"), get("/api/book")]);
+      return;
+    } catch (trouble) {
+      document.querySelector("main h1").before(banner);
+      alarm("server", `Nothing can be shown: ${trouble.message}. This page tries again by itself.`);
+      await new Promise((resolve) => setTimeout(resolve, AGAIN_SECONDS * 1000));
+    }
+  }
+}
+
 /** Begins a page: who asks, the book's names, the head, the events. */
 export async function begin(work) {
-  try {
-    [known.me, known.book] = await Promise.all([get("/api/me"), get("/api/book")]);
-  } catch (trouble) {
-    document.getElementById("main").append(el("p", { class: "bad" }, trouble.message));
-    return;
-  }
+  await ask();
   head();
   showDesk(known.me);
+  seen = known.me.number;
   if (known.me.asks_name && !known.me.name && known.me.could_send) askName();
-  await work();
-  document.body.dataset.ready = "yes";
   listen();
+  try {
+    await work();
+  } catch (trouble) {
+    if (!(trouble instanceof Trouble)) throw trouble;
+    document.getElementById("main").append(el("p", { class: "bad" }, trouble.message));
+  }
+  document.body.dataset.ready = "yes";
 }
 
 export function reloadBook() {
@@ -341,4 +315,31 @@ export function reloadBook() {
 
 export const causes = () => known.book.causes.filter(([code]) => code > 0).map(([code, name]) => [String(code), `${code} ${name}`]);
 export const HERE = () => el("span", { class: "from" }, "computed here");
-export const PROGRAM = () => el("span", { class: "from" }, "from the desk");
+export const PROGRAM = () => el("span", { class: "from" }, known.me.desk === "none" ? "from the book" : "from the desk");
+
+/** Why nothing can be sent, for a page with a form; nothing where something can. */
+export function lookOnly() {
+  const { me } = known;
+  if (me.may_send) return "";
+  const why = me.desk === "none" ? "This is a copy of a book" : me.could_send ? "This login is for looking" : "This screen is for looking";
+  const words = me.could_send && me.asks_name && !me.name ? "Give your name first" : why;
+  return el("p", { class: "warn" }, `${words}: what a command would do is shown, and nothing can be sent.`);
+}
+
+const LETTERS = { crew: 16, name: 24 };
+
+/** A field for a name: what the book can't hold is said beside it. Answers the note to show there. */
+export function spelled(input, kind) {
+  const most = LETTERS[kind];
+  const note = el("div", { class: "note spelling", role: "status" });
+  input.pattern = `[A-Za-z0-9_\\-]{1,${most}}`;
+  const check = () => {
+    const wrong = [...new Set(input.value.trim().replace(/[A-Za-z0-9_-]/g, ""))].map((each) => (each === " " ? "a space" : each));
+    const words = wrong.length ? `A ${kind} has A-Z, 0-9, - and _ alone, and not ${wrong.join(", ")}.` : input.value.trim().length > most ? `A ${kind} has ${most} letters at most.` : "";
+    input.setAttribute("aria-invalid", String(Boolean(words)));
+    note.replaceChildren(words ? el("span", { class: "bad" }, words) : "");
+  };
+  input.addEventListener("input", check);
+  check();
+  return note;
+}

@@ -1,5 +1,5 @@
 // A switching: what was switched, at the second at which it was.
-import { begin, causes, choice, el, field, get, known, list, momentWords, onCommands, reloadBook, settled, text } from "./common.js";
+import { begin, causes, choice, el, field, get, known, list, lookOnly, onCommands, reloadBook, settled, spelled, text } from "./common.js";
 import { MomentField } from "./moments.js";
 import { Sender } from "./sender.js";
 
@@ -16,18 +16,22 @@ begin(async () => {
     const command = { kind: "switch", f1: device.value.trim().toUpperCase(), f2: position.value, f3: second.second, f4: cause.value, f5: crew.value.trim().toUpperCase() };
     return command.f1 && command.f3 && command.f4 && command.f5 ? command : null;
   };
-  const second = new MomentField("Second, by the clock of the book's zone", "", () => look());
+  const second = new MomentField("Second, by the clock of the book's zone", "", () => look(), { goes: true, touched: () => sender.age() });
+  const form = el("form", { class: "card" });
   const inputs = [device, position, cause, crew, second.input];
   const sender = new Sender({
     read,
+    form,
+    clock: second,
     label: "Send to the desk",
+    after: (shown) => shown && second.now({ quiet: true }),
     lock: (locked) => inputs.forEach((input) => (input.disabled = locked)),
   });
   const offerOther = async () => {
     const name = device.value.trim().toUpperCase();
     const isKnown = known.book.devices.some((each) => each.name === name);
     if (!isKnown || !second.second) {
-      stands.replaceChildren(name && !isKnown ? "The book knows no such device yet." : "");
+      stands.replaceChildren(name && !isKnown ? "The book knows no such device." : "");
       return;
     }
     const found = await get("/api/position", { device: name, at: second.second }).catch(() => null);
@@ -40,12 +44,10 @@ begin(async () => {
     if (!sender.intent) await offerOther();
     sender.update();
   }, 60);
-  device.addEventListener("input", look);
+  device.addEventListener("input", () => { sender.age(); look(); });
   for (const input of [position, cause, crew]) input.addEventListener("input", sender.update);
-  const now = el("button", { type: "button", click: () => get("/api/second").then((now) => second.set(momentWords(now.text))) }, "Now");
-  const form = el(
-    "form",
-    { class: "card", submit: (event) => { event.preventDefault(); sender.send(); } },
+  const now = el("button", { type: "button", click: () => second.now() }, "Now");
+  form.append(
     list("devices", known.book.devices.map((each) => each.name)),
     list("crews", known.book.crews),
     field("Device", device),
@@ -53,15 +55,14 @@ begin(async () => {
     el("div", { class: "row" }, second.element, now),
     field("From that second on it is", position, "The other position than its own is offered first."),
     field("Cause", cause, "An outage counts under the cause of the opening that began it."),
-    field("Crew, who switched", crew),
+    field("Crew, who switched", crew, spelled(crew, "crew")),
   );
   main.append(
-    known.me.may_send ? "" : el("p", { class: "warn" }, "This login may look: a forecast is shown, and nothing can be sent."),
+    lookOnly(),
     el("div", { class: "two wide" }, form, el("div", { class: "card" }, sender.element)),
   );
   onCommands(() => reloadBook());
   const at = wanted.get("at");
-  await second.set(at || momentWords((await get("/api/second")).text));
-  sender.resume();
+  await (at ? second.set(at) : second.now());
   device.focus();
 });

@@ -1,9 +1,21 @@
 // A field for a moment, typed by the clock of the book's zone. The server reads it: the browser's zone has no part in it.
 import { el, field, get, momentWords, settled, text } from "./common.js";
 
+const SET_AGAIN_SECONDS = 20; // between two questions for the server's clock
+
+/** A moment's text some seconds later, by the same offset. */
+function later(words, seconds) {
+  const shown = new Date(Date.parse(`${words.slice(0, 19)}Z`) + seconds * 1000);
+  return shown.toISOString().slice(0, 19) + words.slice(19);
+}
+
 export class MomentField {
-  constructor(label, value, changed, { may_be_empty = false } = {}) {
+  /** With `goes` the field shows the time that is now, as a clock, until something is typed. `touched` is called at once when
+   * something is typed, `changed` when it has been read. */
+  constructor(label, value, changed, { may_be_empty = false, goes = false, touched = () => {} } = {}) {
     this.second = null;
+    this.isNow = false;
+    this.goes = goes;
     this.input = text({ value, placeholder: "2025-04-05 06:10:00", });
     this.told = el("div", { class: "note", role: "status" });
     this.changed = changed;
@@ -12,13 +24,47 @@ export class MomentField {
     this.count = 0;
     const read = settled(() => this.read());
     this.input.addEventListener("input", () => {
+      this.isNow = false;
       this.second = null;
+      touched();
       read();
     });
+    if (!goes) return;
+    this.input.addEventListener("blur", () => this.input.value.trim() || this.now());
+    setInterval(() => this.isNow && this.tick(), 1000);
+    setInterval(() => this.isNow && this.ask(), SET_AGAIN_SECONDS * 1000);
+    document.addEventListener("visibilitychange", () => !document.hidden && this.isNow && this.ask());
+  }
+
+  /** The time by the server's clock, from which the field's own goes on. */
+  async ask() {
+    const found = await get("/api/second");
+    this.base = { ...found, at: Date.now() };
+    return found;
+  }
+
+  /** Back to the time that is now; a book whose period is over, or hasn't begun, has its nearest second. */
+  async now({ quiet = false } = {}) {
+    const count = ++this.count;
+    const found = await this.ask();
+    if (count !== this.count) return;
+    this.isNow = found.goes;
+    this.input.value = momentWords(found.text);
+    this.second = String(found.second);
+    this.told.replaceChildren(found.goes ? "Now: this clock goes on until you type a time." : "The book's period doesn't hold today: this is its nearest second.");
+    if (!quiet) this.changed();
+  }
+
+  /** Goes on by what has passed; a field in which somebody may be about to type keeps its text until its moment is sent. */
+  tick({ isSent = false } = {}) {
+    const gone = Math.floor((Date.now() - this.base.at) / 1000);
+    this.second = String(this.base.second + gone);
+    if (isSent || document.activeElement !== this.input) this.input.value = momentWords(later(this.base.text, gone));
   }
 
   /** Sets a moment, also one as a number of seconds: it is shown as it would be typed. */
   async set(value) {
+    this.isNow = false;
     this.input.value = value;
     const found = await this.read();
     if (found?.length === 1 && this.input.value === value) this.input.value = momentWords(found[0].text);
@@ -28,7 +74,7 @@ export class MomentField {
     const count = ++this.count;
     this.second = null;
     if (!this.input.value.trim()) {
-      this.told.replaceChildren(this.may_be_empty ? "" : "A moment is wanted.");
+      this.told.replaceChildren(this.may_be_empty ? "" : this.goes ? "Type a time, or leave the field empty for now." : "A time is needed.");
       this.second = this.may_be_empty ? "" : null;
       this.changed();
       return;
@@ -48,14 +94,14 @@ export class MomentField {
       this.second = String(found[0].second);
       this.told.replaceChildren(`${found[0].text.slice(0, 10)} ${found[0].text.slice(11, 19)}, ${found[0].text.slice(19)} from UTC`);
     } else {
-      this.ask(found);
+      this.choose(found);
     }
     this.changed();
     return found;
   }
 
   /** The clock shows this hour twice: which one is meant? */
-  ask(found) {
+  choose(found) {
     const name = `which-${Math.random().toString(36).slice(2)}`;
     const options = found.map((each, place) =>
       el(

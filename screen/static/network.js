@@ -1,5 +1,5 @@
 // The network: nodes, devices with their lives, customers by section; and the commands that change them.
-import { begin, choice, el, field, get, HERE, known, list, number, onCommands, reloadBook, renew, scrolling, settled, table, text } from "./common.js";
+import { begin, choice, el, field, get, HERE, known, list, lookOnly, number, onCommands, reloadBook, renew, scrolling, settled, spelled, table, text } from "./common.js";
 import { MomentField } from "./moments.js";
 import { Sender } from "./sender.js";
 
@@ -20,38 +20,39 @@ const KINDS = {
   revise: ["A customer's service is set anew", ["number", "moment", "until"], ["Customer's number", "In service from", "Until before"]],
 };
 
-function inputOf(type, label, changed) {
+function inputOf(type, label, changed, touched) {
   if (type === "since" || type === "until" || type === "moment") {
     const note = type === "since" ? " (empty: always)" : type === "until" ? " (empty: without end)" : "";
-    const made = new MomentField(label + note, "", changed, { may_be_empty: type !== "moment" });
+    const made = new MomentField(label + note, "", changed, { may_be_empty: type !== "moment", touched });
     if (type !== "moment") made.second = "";
     return { element: made.element, input: made.input, value: () => made.second, needed: type === "moment" };
   }
   const lists = { node: "nodes", section: "sections", device: "devices" };
   const input = type === "normal" ? choice([["open", "open: a tie"], ["closed", "closed"]]) : text({ list: lists[type], maxlength: 24 });
   input.addEventListener("input", changed);
-  return { element: field(label, input), input, value: () => input.value.trim().toUpperCase().replace(/^(OPEN|CLOSED)$/, (word) => (type === "normal" ? word.toLowerCase() : word)), needed: true };
+  return { element: field(label, input, type === "normal" || type === "number" ? null : spelled(input, "name")), input, value: () => input.value.trim().toUpperCase().replace(/^(OPEN|CLOSED)$/, (word) => (type === "normal" ? word.toLowerCase() : word)), needed: true };
 }
 
 function commandForm() {
   const kind = choice(Object.entries(KINDS).map(([name, [label]]) => [name, label]), "device");
   const place = el("div", {});
+  const card = el("form", { class: "card" }, el("h2", {}, "Change the network"), field("What", kind), place);
   let inputs = [];
   const read = () => {
     const values = inputs.map((input) => input.value());
     if (inputs.some((input, at) => values[at] === null || (input.needed && !values[at]))) return null;
     return { kind: kind.value, ...Object.fromEntries(values.map((value, at) => [`f${at + 1}`, value])) };
   };
-  const sender = new Sender({ read, lock: (locked) => [kind, ...inputs.map((each) => each.input)].forEach((input) => (input.disabled = locked)) });
+  const sender = new Sender({ read, form: card, lock: (locked) => [kind, ...inputs.map((each) => each.input)].forEach((input) => (input.disabled = locked)) });
   const build = () => {
     const [, types, labels] = KINDS[kind.value];
-    inputs = types.map((type, at) => inputOf(type, labels[at], () => sender.update()));
+    inputs = types.map((type, at) => inputOf(type, labels[at], () => sender.update(), () => sender.age()));
     place.replaceChildren(...inputs.map((input) => input.element));
     sender.update();
   };
   kind.addEventListener("input", build);
   build();
-  return { element: el("div", { class: "two no-print" }, el("form", { class: "card", submit: (event) => { event.preventDefault(); sender.send(); } }, el("h2", {}, "Change the network"), field("What", kind), place), el("div", { class: "card" }, sender.element)), choose: (name, ...values) => { kind.value = name; build(); values.forEach((value, at) => (inputs[at].input.value = value)); sender.update(); inputs[0].input.focus(); }, sender };
+  return { element: el("div", { class: "two no-print" }, card, el("div", { class: "card" }, sender.element)), choose: (name, ...values) => { kind.value = name; build(); values.forEach((value, at) => (inputs[at].input.value = value)); sender.update(); inputs[0].input.focus(); }, sender };
 }
 
 let form = null;
@@ -105,8 +106,7 @@ function show() {
 begin(async () => {
   const search = text({ input: settled(() => { searched = search.value.trim().toUpperCase(); show(); }) });
   form = known.me.may_send ? commandForm() : null;
-  main.append(words, form ? form.element : "", el("div", { class: "card short no-print" }, field("Search nodes and devices", search)), customers, el("div", { class: "two" }, devices, nodes));
+  main.append(words, lookOnly(), form ? form.element : "", el("div", { class: "card short no-print" }, field("Search nodes and devices", search)), customers, el("div", { class: "two" }, devices, nodes));
   onCommands(async () => { await reloadBook(); show(); });
   show();
-  form?.sender.resume();
 });

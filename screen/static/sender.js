@@ -1,7 +1,8 @@
 // A command on its way: what it would do, computed here; then, under one reference, the desk's answer beside it.
 import { el, get, HERE, known, moment, momentWords, newReference, number, onCommands, own, post, PROGRAM, scrolling, settled, signed, table, duration } from "./common.js";
+import { adopt, forget, keep, look, onAnswered, release, senderOf, underWay } from "./unanswered.js";
 
-const KEPT = "outagebook-unanswered";
+const FOLLOW_SECONDS = 20; // between two forecasts of a switching whose time is the one that is now
 
 export function sectionsTable(sections) {
   const rows = sections.map((row) => [
@@ -35,20 +36,35 @@ export function movesTable(moved, beside = null) {
 export const total = (moved) => moved.filter(([dim]) => dim === "cause").reduce((sum, move) => sum + move[2], 0);
 
 const SHOWN_FIRST = "Not sent: what it would do is shown first. Look at it, and send then.";
+const same = (one, other) => JSON.stringify(one) === JSON.stringify(other);
+const supplyOf = (found) => found.sections.map((row) => [row.section, row.loses > 0, row.gets_back > 0]);
 
-/** `read` answers the command, or null where a field is missing. */
+/** It did something else than what was shown, since the book had changed in between: what came first, and a way back. */
+function otherwise(intent, shown) {
+  const words = `You saw ${signed(total(intent.forecast.moved))} customer-seconds; it moved ${signed(total(shown.reply.moved))}, since the book had changed in between.`;
+  const first = shown.between.map((each) => el("li", {}, `${senderOf(each.ref) ?? `another program (${each.ref})`} had sent: ${each.words}${each.entry ? ` (entry ${each.entry})` : ""}`));
+  const back = intent.command.kind === "switch" && shown.entry ? el("p", {}, el("a", { class: "back", href: `/sheet?entry=${shown.entry}&withdraw=yes` }, "Withdraw mine")) : "";
+  return el("div", { class: "warn otherwise" }, el("p", {}, el("b", {}, words)), first.length ? el("ul", {}, first) : "", back);
+}
+
+/** `read` answers the command, or null where a field is missing. `form` sends it by the Enter key too. While the field `clock`
+ * shows the time that is now, the command's second is the one at which it is sent. */
 export class Sender {
-  constructor({ read, lock, after = () => {}, label = "Send", missing = "Fill in the fields: what it would do is shown here before it is sent." }) {
+  constructor({ read, lock, form, clock = null, after = () => {}, label = "Send", missing = "Fill in the fields: what it would do is shown here before it is sent." }) {
     this.read = read;
     this.missing = missing;
     this.lock = lock || (() => {});
+    this.clock = clock;
     this.after = after;
     this.intent = null;
+    this.isBusy = false;
     this.count = 0;
-    this.shown = null;
+    this.shown = null; // the forecast, and the command that it is of
+    this.command = null;
     this.forecast = el("div", { class: "forecast", "aria-live": "polite" });
     this.outcome = el("div", { class: "outcome", role: "status", tabindex: "-1" });
-    this.button = el("button", { type: "button", class: "main send", disabled: true, click: () => this.send() }, label);
+    this.tick = el("input", { type: "checkbox", input: () => this.enable() });
+    this.button = el("button", { type: "submit", class: "main send", disabled: true }, label);
     this.element = el("div", { class: "sender" }, this.forecast, el("div", { class: "buttons" }, this.button), this.outcome);
     this.rests = false; // after an answer, until a field is changed
     const later = settled(() => this.rests || this.look());
@@ -58,14 +74,47 @@ export class Sender {
       later();
     };
     onCommands(() => this.intent || this.rests || later());
+    onAnswered((ref) => ref === this.intent?.command.ref && !this.isBusy && this.answeredElsewhere());
+    if (form) this.attach(form);
+    if (clock) setInterval(() => clock.isNow && this.shown && !this.rests && !this.isBusy && this.follow(), FOLLOW_SECONDS * 1000);
+  }
+
+  /** The Enter key in a field of the form does what the button does; if nothing can be sent yet, that is said. */
+  attach(form) {
+    form.id ||= "command";
+    form.noValidate = true;
+    this.button.setAttribute("form", form.id);
+    form.addEventListener("submit", (event) => {
+      event.preventDefault();
+      this.send();
+    });
+    form.addEventListener("keydown", (event) => {
+      if (event.key === "Enter" && event.target.matches("input, select") && this.button.disabled) this.send();
+    });
+  }
+
+  /** What the form says, for comparing: the time that is now counts as one. */
+  told_by(command) {
+    return JSON.stringify(command && this.clock?.isNow ? { ...command, f3: "now" } : command);
   }
 
   /** A forecast of what the form said before counts no more, at once; it stays where the book alone has changed. */
   age() {
-    const told = JSON.stringify(this.read());
-    if (told === this.told) return;
+    if (this.told_by(this.read()) === this.told) return;
     this.shown = null;
-    this.button.disabled = true;
+    this.tick.checked = false;
+    this.enable();
+  }
+
+  enable() {
+    this.button.disabled = !known.me.may_send || !this.shown || Boolean(this.shown.future && !this.tick.checked) || Boolean(this.intent);
+  }
+
+  /** Looks again while the clock goes on: nobody has asked, so nothing is read out. */
+  async follow() {
+    this.forecast.setAttribute("aria-live", "off");
+    await this.look();
+    setTimeout(() => this.forecast.setAttribute("aria-live", "polite"), 1000);
   }
 
   async look() {
@@ -73,24 +122,23 @@ export class Sender {
     const count = ++this.count;
     const command = this.read();
     this.age();
-    this.told = JSON.stringify(command);
+    this.told = this.told_by(command);
     if (!command) {
       this.forecast.replaceChildren(el("p", { class: "note" }, this.missing));
       return;
     }
     try {
-      const { ref, ...query } = command;
-      const found = await get("/api/forecast", query);
+      const found = await get("/api/forecast", command);
       if (count !== this.count) return;
       this.shown = found;
+      this.command = command;
       this.draw(found);
-      this.button.disabled = !known.me.may_send;
     } catch (trouble) {
       if (count !== this.count) return;
       this.shown = null;
-      this.button.disabled = true;
-      this.forecast.replaceChildren(el("p", { class: "bad" }, `As the book stands this can't be: ${trouble.message}.`));
+      this.forecast.replaceChildren(el("p", { class: "bad" }, `Not possible: ${trouble.message}.`));
     }
+    this.enable();
   }
 
   /** Shows a forecast; one that says the same as what stands there moves nothing on the page, and is read out no second time. */
@@ -104,6 +152,7 @@ export class Sender {
   forecastParts(found) {
     const parts = [el("h2", {}, "What it would do ", HERE())];
     for (const hint of found.hints) parts.push(el("p", { class: "warn hint" }, hint));
+    if (found.future) parts.push(el("div", { class: "warn hint" }, el("p", {}, `This lies ${found.future} in the future.`), el("label", { class: "check" }, this.tick, " Yes, it is planned for then")));
     if (!found.sections.length) parts.push(el("p", {}, "No section loses or gets back supply."));
     else {
       const customers = found.sections.reduce((sum, row) => sum + row.customers, 0);
@@ -116,29 +165,53 @@ export class Sender {
 
   /** Sends the one intent, whose forecast is shown: the second click of a double one finds it on its way. */
   async send() {
-    if (this.intent || this.rests) return;
+    if (this.intent || this.rests || this.isBusy) return;
     const command = this.read();
     this.age();
-    if (!command || !this.shown) {
-      this.outcome.replaceChildren(el("p", { class: "note" }, command ? SHOWN_FIRST : this.missing));
-      this.update();
+    if (!command || !this.shown || this.button.disabled || !(await this.isOfNow())) {
+      const why = !command ? this.missing : this.shown?.future && !this.tick.checked ? "Not sent: it lies in the future. Tick that it is planned, and send then." : SHOWN_FIRST;
+      this.outcome.replaceChildren(el("p", { class: "note" }, why));
+      if (!this.shown) this.update();
       return;
     }
     const ref = newReference();
     own.add(ref);
-    this.intent = { command: { ...command, ref }, forecast: this.shown, path: location.pathname };
-    sessionStorage.setItem(KEPT, JSON.stringify(this.intent));
+    this.intent = { command: { ...this.command, ref }, forecast: this.shown, words: this.shown.words, sent: Date.now() };
+    adopt(ref, () => this.tryIt());
     await this.tryIt();
   }
 
+  /** Where the time is the one that is now, it is that of the sending: the forecast is made for it, and has to name the same
+   * sections as the one that was shown. */
+  async isOfNow() {
+    if (!this.clock?.isNow) return true;
+    const before = supplyOf(this.shown);
+    this.isBusy = true;
+    this.clock.tick({ isSent: true });
+    await this.look();
+    this.isBusy = false;
+    return Boolean(this.shown) && same(before, supplyOf(this.shown));
+  }
+
   async tryIt() {
+    if (this.isBusy) return;
+    this.isBusy = true;
     this.lock(true);
-    this.button.disabled = true;
-    this.outcome.replaceChildren(el("p", { class: "ask" }, `On its way to the desk as ${this.intent.command.ref}.`));
+    this.enable();
+    const { command, forecast } = this.intent;
+    this.outcome.replaceChildren(el("p", { class: "ask" }, `On its way to the desk as ${command.ref}.`));
     try {
-      this.done(await post("/api/command", JSON.stringify(this.intent.command)));
+      const shown = await underWay(command.ref, () => {
+        keep(this.intent);
+        return post(`/api/command?seen=${forecast.number}`, JSON.stringify(command));
+      });
+      this.isBusy = false;
+      this.done(shown);
     } catch (trouble) {
-      if (trouble.status === 0 || trouble.status >= 500) this.unknown(trouble);
+      this.isBusy = false;
+      if (trouble.status === undefined) throw trouble;
+      const isOpen = trouble.status === 0 || trouble.status >= 500 || (this.intent.isUnknown && !trouble.shown.reply);
+      if (isOpen) this.unknown(trouble);
       else this.refused(trouble);
     }
     this.outcome.focus({ preventScroll: true });
@@ -146,30 +219,53 @@ export class Sender {
   }
 
   unknown(trouble) {
+    const { intent } = this;
+    intent.isUnknown = true;
     const again = el("button", { type: "button", class: "main again", click: () => this.tryIt() }, "Send again");
-    const words = "It isn't known whether this stands. Send it again: it goes under the same reference, and acts once.";
-    this.outcome.replaceChildren(el("div", { class: "bad" }, el("p", {}, trouble.shown.words || words), el("p", {}, this.intent.command.ref), again));
+    const leave = el("button", { type: "button", class: "leave", click: () => this.leave() }, "Leave it in the list above, and enter another");
+    const words = "It isn't known whether this is saved. Send it again: it goes under the same reference, and acts once.";
+    const why = trouble.shown.error === "away" ? trouble.message : `${words} (${trouble.message})`;
+    this.outcome.replaceChildren(el("div", { class: "bad" }, el("p", {}, why), el("p", {}, `${intent.words} (${intent.command.ref})`), el("div", { class: "buttons" }, again, leave)));
+    look();
+  }
+
+  /** The form is free for another command; this one stays in the list of those without an answer. */
+  leave() {
+    const { ref } = this.intent.command;
+    this.intent = null;
+    this.lock(false);
+    this.outcome.replaceChildren();
+    release(ref);
+    this.update();
+  }
+
+  answeredElsewhere() {
+    this.outcome.replaceChildren(el("p", { class: "warn" }, `This command isn't in the list of unanswered ones any more: ${this.intent.words}. The switching log shows what is saved.`));
+    this.end();
+    this.update();
   }
 
   done(shown) {
     const { intent } = this;
     this.end();
-    const parts = [el("h2", {}, `Command ${shown.reply.no} stands `, PROGRAM())];
-    if (shown.again) parts.push(el("p", { class: "warn" }, "This is the stored reply: the command stood already, and nothing was done twice."));
+    const { no, moved } = shown.reply;
+    const parts = [el("h2", {}, `Saved: command ${no}${shown.entry ? `, entry ${shown.entry}` : ""} `, PROGRAM())];
+    if (shown.again) parts.push(el("p", { class: "warn" }, "This is the stored reply: the command was saved already, and nothing was done twice."));
     else if (shown.tries > 1) parts.push(el("p", { class: "warn" }, `It took ${shown.tries} tries under one reference; it acted once.`));
-    const counted = shown.counted || intent.forecast?.moved;
-    const equal = JSON.stringify(shown.reply.moved) === JSON.stringify(counted);
-    const sameBook = !intent.forecast || intent.forecast.number === shown.reply.no - 1;
-    parts.push(el("p", { class: equal ? "good equal" : "bad differs" }, equal ? "The forecast is equal to the desk's reply." : "The forecast DIFFERS from the desk's reply: believe the desk."));
-    if (!sameBook && !shown.again) parts.push(el("p", { class: "warn" }, "Another command came between; the count was made again for the book as the desk had it."));
-    parts.push(el("p", {}, `W moved by ${signed(total(shown.reply.moved))} customer-seconds. Reference ${intent.command.ref}.`));
-    parts.push(scrolling("What it moved", movesTable(counted || [], shown.reply.moved)), el("p", { class: "mono reply" }, shown.text));
+    const isAsShown = same(moved, intent.forecast.moved);
+    const differs = shown.counted && !same(moved, shown.counted);
+    if (differs) parts.push(el("p", { class: "bad differs" }, "The forecast DIFFERS from the desk's reply: believe the desk."));
+    else if (isAsShown) parts.push(el("p", { class: "good equal" }, "The forecast is equal to the desk's reply."));
+    else parts.push(otherwise(intent, shown));
+    parts.push(el("p", {}, `W moved by ${signed(total(moved))} customer-seconds. Reference ${intent.command.ref}.`));
+    parts.push(scrolling("What it moved", movesTable(differs ? shown.counted : intent.forecast.moved, moved)), el("p", { class: "mono reply" }, shown.text));
     this.outcome.replaceChildren(el("div", { class: "card" }, parts));
     this.forecast.replaceChildren();
     this.shown = null;
     this.told = null;
     this.count += 1;
     this.rests = true;
+    this.enable();
     this.after(shown);
   }
 
@@ -185,19 +281,11 @@ export class Sender {
   }
 
   end() {
+    const { ref } = this.intent.command;
     this.intent = null;
-    sessionStorage.removeItem(KEPT);
+    forget(ref);
+    release(ref);
     this.lock(false);
-  }
-
-  /** Goes on with what this page sent and had no answer to before it was loaded again. */
-  resume() {
-    const kept = JSON.parse(sessionStorage.getItem(KEPT) || "null");
-    if (!kept || kept.path !== location.pathname) return;
-    this.intent = kept;
-    this.lock(true);
-    this.button.disabled = true;
-    this.unknown({ shown: { words: `This page had sent ${kept.command.kind} ${kept.command.f1} and was loaded again before it knew the answer. Send it again: it goes under the same reference, and acts once.` } });
   }
 }
 

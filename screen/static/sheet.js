@@ -1,5 +1,5 @@
 // The switching sheet: entries, what each command moved, corrections and withdrawals; and the screen's own log.
-import { begin, causes, choice, el, field, get, HERE, known, list, moment, momentWords, number, onCommands, PROGRAM, renew, scrolling, settled, table, text } from "./common.js";
+import { begin, causes, choice, el, field, get, HERE, known, list, lookOnly, moment, momentWords, number, onCommands, PROGRAM, renew, scrolling, settled, spelled, table, text } from "./common.js";
 import { MomentField } from "./moments.js";
 import { entryWords, movesTable, Sender } from "./sender.js";
 
@@ -14,12 +14,39 @@ let opened = null;
 
 const tags = (entry) => ["late", "corrected"].filter((name) => entry[name]).concat(entry.kept ? [] : ["withdrawn"]).map((name) => el("span", { class: `tag ${name}` }, name));
 
-function filters() {
+const NOT_READ = 422; // the status of a search that can't be read
+const SEARCHED = { device: "device", cause: "cause", crew: "crew", section: "section", day: "day", marked: "mark" };
+const inputs = {};
+
+/** What is searched for changed: the first rows of it are shown. */
+function search() {
+  for (const name of Object.keys(inputs)) wanted[name] = inputs[name].value.trim();
+  from = 0;
+  show();
+}
+
+/** Buttons for two days of the book: today and yesterday, or the last two of a period that is over. */
+async function dayButtons() {
+  const now = await get("/api/second");
+  const today = now.text.slice(0, 10);
+  const yesterday = new Date(Date.parse(`${today}T12:00:00Z`) - 86400000).toISOString().slice(0, 10);
+  const days = now.goes ? [["Today", today], ["Yesterday", yesterday]] : [["Last day", today], ["Day before", yesterday]];
+  const button = ([words, day]) => el("button", { type: "button", click: () => { inputs.day.value = day; search(); } }, words);
+  return days.filter(([, day]) => known.book.days.includes(day)).map(button);
+}
+
+function clear() {
+  for (const [name, input] of Object.entries(inputs)) if (name in SEARCHED) input.value = "";
+  search();
+}
+
+async function filters() {
   const make = (name, input) => {
-    input.addEventListener("input", settled(() => { wanted[name] = input.value.trim(); from = 0; show(); }));
+    inputs[name] = input;
+    input.addEventListener("input", settled(search));
     return input;
   };
-  const order = make("order", choice([["newest", "newest first"], ["second", "by second"]]));
+  const { days } = known.book;
   return el(
     "form",
     { class: "card short", submit: (event) => event.preventDefault(), "aria-label": "Search" },
@@ -33,15 +60,35 @@ function filters() {
       field("Cause", make("cause", choice([["", "any"], ...causes()]))),
       field("Crew", make("crew", text({ list: "crews" }))),
       field("Section", make("section", text({ list: "sections" }))),
-      field("Day", make("day", text({ placeholder: "2025-04-05" }))),
+      field("Day", make("day", el("input", { type: "date", min: days[0], max: days[days.length - 1] }))),
+      await dayButtons(),
       field("Marked", make("marked", choice([["", "all"], ["late", "late"], ["corrected", "corrected"], ["withdrawn", "withdrawn"]]))),
-      field("Order", order),
+      field("Order", make("order", choice([["newest", "newest first"], ["second", "by second"]]))),
     ),
   );
 }
 
+const searchWords = () => Object.entries(SEARCHED).filter(([name]) => wanted[name]).map(([name, words]) => `${words} ${wanted[name]}`).join(", ");
+const clearing = () => el("div", { class: "buttons no-print" }, el("button", { type: "button", class: "clear", click: clear }, "Clear the search"));
+
+/** Turns the pages of the list; which way they lead is said by the order. */
+function turns(shown) {
+  const [back, on] = wanted.order === "second" ? ["Earlier entries", "Later entries"] : ["Newer entries", "Older entries"];
+  const turn = (by, words, ends) => el("button", { type: "button", disabled: ends, click: () => { from += by; show(); } }, words);
+  const last = from + shown.rows.length;
+  const place = el("span", {}, `${number(from + 1)}\u2013${number(last)} of ${number(shown.found)}`);
+  return el("div", { class: "buttons turns" }, turn(-100, back, from === 0), place, turn(100, on, last >= shown.found));
+}
+
 async function show() {
-  const shown = await get("/api/sheet", { ...wanted, from });
+  let shown;
+  try {
+    shown = await get("/api/sheet", { ...wanted, from });
+  } catch (trouble) {
+    if (trouble.status !== NOT_READ && rows.children.length) throw trouble; // the rows stay: the head says that they may be old
+    renew(rows, el("h2", {}, "Not searched"), el("p", { class: "bad" }, `${trouble.message}.`), searchWords() ? clearing() : "");
+    return;
+  }
   const lines = shown.rows.map((entry) => [
     el("button", { type: "button", class: "small open-entry", "data-entry": entry.no, "aria-label": `Entry ${entry.no}: look, correct, withdraw`, click: () => open(entry.no) }, String(entry.no)),
     moment(entry.second),
@@ -54,50 +101,57 @@ async function show() {
     tags(entry).length ? el("span", {}, tags(entry)) : "",
   ]);
   const classes = shown.rows.map((entry) => (entry.kept ? "" : "gone"));
-  const turn = (by, words) => el("button", { type: "button", disabled: by < 0 ? from === 0 : from + 100 >= shown.found, click: () => { from += by; show(); } }, words);
+  const empty = searchWords() ? [el("p", { class: "warn" }, `No entries for ${searchWords()}.`), clearing()] : [el("p", {}, "The book has no entries yet.")];
   renew(
     rows,
     el("h2", {}, `${number(shown.found)} of ${number(shown.of)} entries `, HERE()),
-    table(["entry", "second", "device", "position", "cause", "crew", "#revision", "reference", "marks"], lines, null, classes),
-    shown.found > 100 ? el("div", { class: "buttons" }, turn(-100, "Earlier rows"), turn(100, "Later rows")) : "",
+    ...(lines.length ? [table(["entry", "second", "device", "position", "cause", "crew", "#revision", "reference", "marks"], lines, null, classes)] : empty),
+    shown.found > 100 ? turns(shown) : "",
   );
   document.body.dataset.number = shown.number;
 }
 
-/** The entry that is looked at was told anew by somebody: it is offered as it is now. */
+/** Somebody changed the entry that is open: it is offered as it is now. */
 async function lookAgain() {
   if (!opened || opened.sender?.intent) return;
   const entry = await get(`/api/entries/${opened.no}`);
   if (entry.revision === opened.revision || detail.querySelector(".changed")) return;
   const again = el("button", { type: "button", class: "main anew", click: () => open(entry.no) }, "Look at it as it is now");
-  detail.firstElementChild?.prepend(el("div", { class: "warn changed", role: "status" }, el("p", {}, `Somebody told this entry anew: ${entryWords(entry)}`), again));
+  detail.firstElementChild?.prepend(el("div", { class: "warn changed", role: "status" }, el("p", {}, `Somebody changed this entry: ${entryWords(entry)}`), again));
 }
 
-async function open(no, focus = true) {
-  const entry = await get(`/api/entries/${no}`);
+async function open(no, { kind = "correct" } = {}) {
+  let entry;
+  try {
+    entry = await get(`/api/entries/${no}`);
+  } catch (trouble) {
+    detail.replaceChildren(el("p", { class: "bad" }, `Entry ${no} can't be shown: ${trouble.message}.`));
+    return;
+  }
   opened = { no: entry.no, revision: entry.revision, sender: null };
   const words = el("p", {}, entryWords(entry));
   const parts = [el("h2", {}, `Entry ${entry.no} `, tags(entry)), words];
   for (const command of entry.history) {
     const reply = command.text ? JSON.parse(command.text) : null;
     const words = `Command ${command.no}, ${command.kind}, ${command.ref}${command.second ? `, ${momentWords(command.second)}` : ""}`;
-    parts.push(el("details", {}, el("summary", {}, words, " ", PROGRAM()), reply ? scrolling("What it moved", movesTable(reply.moved)) : "the desk gives no reply"));
+    parts.push(el("details", {}, el("summary", {}, words, " ", PROGRAM()), reply ? scrolling("What it moved", movesTable(reply.moved)) : "the desk gives no reply now"));
   }
-  if (entry.kept && known.me.may_send) parts.push(work(entry, words));
+  if (entry.kept && known.me.may_send) parts.push(work(entry, words, kind));
   parts.push(el("div", { class: "buttons" }, el("button", { type: "button", click: () => { opened = null; detail.replaceChildren(); rows.querySelector(`[data-entry="${no}"]`)?.focus(); } }, "Close")));
   detail.replaceChildren(el("div", { class: "card" }, parts));
-  if (focus) detail.focus();
+  detail.focus();
 }
 
 /** A correction or a withdrawal, from the revision that is seen. */
-function work(entry, words) {
-  const kind = choice([["correct", "Correct it"], ["withdraw", "Withdraw it"]]);
+function work(entry, words, asked) {
+  const form = el("form", { class: "two wide" });
+  const kind = choice([["correct", "Correct it"], ["withdraw", "Withdraw it"]], asked);
   const position = choice([["open", "open"], ["close", "close"]], entry.action);
   const cause = choice(causes(), String(entry.cause));
   const crew = text({ list: "crews", maxlength: 16, value: entry.crew });
   const changed = () => sender.update();
-  const second = new MomentField("Second", momentWords(entry.second.text), changed);
-  const told = el("div", {}, second.element, field("Position", position), field("Cause", cause), field("Crew", crew));
+  const second = new MomentField("Second", momentWords(entry.second.text), changed, { touched: () => sender.age() });
+  const told = el("div", {}, second.element, field("Position", position), field("Cause", cause), field("Crew", crew, spelled(crew, "crew")));
   const read = () => {
     const seen = { f1: String(entry.no), f2: String(entry.revision) };
     if (kind.value === "withdraw") return { kind: "withdraw", ...seen };
@@ -110,6 +164,7 @@ function work(entry, words) {
   const inputs = [kind, position, cause, crew, second.input];
   const sender = new Sender({
     read,
+    form,
     missing: "Change a field, or choose to withdraw it: what that would do is shown here before it is sent.",
     lock: (locked) => inputs.forEach((input) => (input.disabled = locked)),
     after: (shown, refused) => {
@@ -122,16 +177,18 @@ function work(entry, words) {
     sender.outcome.append(el("div", { class: "buttons" }, again));
   };
   opened.sender = sender;
+  told.hidden = kind.value === "withdraw";
   kind.addEventListener("input", () => { told.hidden = kind.value === "withdraw"; changed(); });
   for (const input of [position, cause, crew]) input.addEventListener("input", changed);
   second.read();
-  return el("form", { class: "two wide", submit: (event) => { event.preventDefault(); sender.send(); } }, el("div", {}, field("What", kind), told), sender.element);
+  form.append(el("div", {}, field("What", kind), told), sender.element);
+  return form;
 }
 
 async function showLog() {
   const shown = await get("/api/log");
   const lines = shown.slice(0, 60).map((row) => [
-    `${row.time.slice(0, 19).replace("T", " ")} UTC`, row.login, row.reference,
+    moment(row.at), row.login, row.reference,
     row.sent ? `sent ${row.sent.kind} ${row.sent.f1 || ""} ${row.sent.f2 || ""}` : row.unanswered ? "not answered" : String(row.status),
     el("span", { class: "mono" }, JSON.stringify(row.answer ?? row.unanswered ?? "").slice(0, 160)),
   ]);
@@ -140,9 +197,9 @@ async function showLog() {
 
 begin(async () => {
   const narrow = matchMedia("(max-width: 40rem)").matches;
-  main.append(el("details", { class: "search no-print", open: !narrow }, el("summary", {}, "Search"), filters()), detail, rows, log);
+  main.append(lookOnly(), el("details", { class: "search no-print", open: !narrow }, el("summary", {}, "Search"), await filters()), detail, rows, log);
   onCommands(() => { show(); showLog(); lookAgain(); });
   await Promise.all([show(), showLog()]);
-  const asked = new URLSearchParams(location.search).get("entry");
-  if (asked) await open(asked);
+  const asked = new URLSearchParams(location.search);
+  if (asked.get("entry")) open(asked.get("entry"), { kind: asked.has("withdraw") ? "withdraw" : "correct" });
 });

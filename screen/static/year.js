@@ -1,5 +1,6 @@
 // The year as the desk answers it: indices, totals, days, causes, feeders; marks, imports, downloads.
 import { begin, choice, el, field, get, known, list, number, onCommands, post, PROGRAM, reloadBook, renew, scrolling, table, text } from "./common.js";
+import { IMPORT_SECONDS } from "./requests.js";
 import { Sender } from "./sender.js";
 
 const main = document.getElementById("main");
@@ -7,11 +8,18 @@ const figures = el("div", {});
 let early = get("/api/year").catch(() => null); // is asked for while the page's head is
 
 const indexText = (value) => (value ? value.join(" ") : "");
-const bar = (amount, most) => el("meter", { min: 0, max: Math.max(1, most), value: amount, "aria-hidden": "true" });
+
+/** The share of an amount in the whole, as a bar and in per cent. */
+function share(amount, whole) {
+  const part = whole ? (100 * amount) / whole : 0;
+  const words = amount && part < 0.1 ? "< 0.1 %" : `${part.toFixed(1)} %`;
+  return el("span", { class: "share" }, el("meter", { min: 0, max: 100, value: part, "aria-hidden": "true" }), el("span", {}, words));
+}
 
 function amounts(rows, nameOf, heads) {
-  const most = Math.max(0, ...rows.map((row) => Number(row[row.length - 1])));
-  return table(heads, rows.map((row) => [...nameOf(row), number(row[row.length - 1]), bar(Number(row[row.length - 1]), most)]));
+  const amountOf = (row) => Number(row[row.length - 1]);
+  const whole = rows.reduce((sum, row) => sum + amountOf(row), 0);
+  return table(heads, rows.map((row) => [...nameOf(row), number(amountOf(row)), share(amountOf(row), whole)]));
 }
 
 async function show() {
@@ -43,10 +51,12 @@ function markForm() {
   const kind = choice([["mark", "Mark as a major event day"], ["unmark", "Take the mark away"]]);
   const day = text({ list: "days", placeholder: known.book.days[0] });
   const read = () => (/^\d{4}-\d\d-\d\d$/.test(day.value.trim()) ? { kind: kind.value, f1: day.value.trim(), f2: known.me.name } : null);
-  const sender = new Sender({ read, lock: (locked) => [kind, day].forEach((input) => (input.disabled = locked)) });
+  const form = el("form", { class: "card" }, el("h2", {}, "Mark a day"), list("days", known.book.days), field("What", kind), field("Day", day, `Marked by ${known.me.name}.`));
+  const sender = new Sender({ read, form, lock: (locked) => [kind, day].forEach((input) => (input.disabled = locked)) });
   for (const input of [kind, day]) input.addEventListener("input", sender.update);
   sender.update();
-  return { element: el("form", { class: "card", submit: (event) => { event.preventDefault(); sender.send(); } }, el("h2", {}, "Mark a day"), list("days", known.book.days), field("What", kind), field("Day", day, `Marked by ${known.me.name}.`), sender.element), sender };
+  form.append(sender.element);
+  return form;
 }
 
 function importForm() {
@@ -59,7 +69,7 @@ function importForm() {
     button.disabled = true;
     report.replaceChildren(el("p", { class: "ask" }, "On its way to the desk."));
     try {
-      report.replaceChildren(reportOf(await post("/api/import", await file.files[0].arrayBuffer(), "text/csv")));
+      report.replaceChildren(reportOf(await post("/api/import", await file.files[0].arrayBuffer(), { type: "text/csv", seconds: IMPORT_SECONDS })));
     } catch (trouble) {
       report.replaceChildren(trouble.shown.reply ? reportOf(trouble.shown) : el("p", { class: "bad" }, `${trouble.message} The same file may be sent again: what is known counts once.`));
     }
@@ -81,9 +91,8 @@ begin(async () => {
   main.append(
     el("div", { class: "buttons no-print" }, links.map(([href, words]) => el("a", { href, target: href === "/report" ? "_blank" : null, rel: "noopener" }, words))),
     figures,
-    mark ? el("div", { class: "two no-print" }, mark.element, importForm()) : "",
+    mark ? el("div", { class: "two no-print" }, mark, importForm()) : "",
   );
   onCommands(() => { show(); reloadBook(); });
   await show();
-  mark?.sender.resume();
 });

@@ -6,13 +6,16 @@ import atexit
 import json
 import os
 import shutil
+import socket
 import subprocess
 import sys
 import tempfile
+import threading
 import time
 import urllib.error
 import urllib.request
 from collections.abc import Callable
+from datetime import datetime, timedelta, timezone
 from functools import lru_cache
 from pathlib import Path
 from typing import Any
@@ -52,8 +55,45 @@ def new_book(name: str, text: Path | None = None, period: tuple[str, str, str] =
     return book
 
 
+@lru_cache(maxsize=None)
+def made(name: str, text: Path, period: tuple[str, str, str]) -> Path:
+    """The folder of a book that is imported once, and copied for each test; SCREEN_BOOKS keeps it for later runs."""
+    kept = os.environ.get("SCREEN_BOOKS")
+    if not kept:
+        return new_book(f"made-{name}", text, period).parent
+    place = Path(kept) / name
+    if not place.exists():
+        shutil.copytree(new_book(f"made-{name}", text, period).parent, place)
+    return place
+
+
 def fortnight(name: str) -> Path:
-    return new_book(name, FORTNIGHT_FILES / "fortnight.csv")
+    """The sample's book in a folder of its own."""
+    shutil.copytree(made("fortnight", FORTNIGHT_FILES / "fortnight.csv", FORTNIGHT), folder() / name)
+    return folder() / name / "book.db"
+
+
+SMALL = """kind,ref,f1,f2,f3,f4,f5,f6
+cause,N1,1,TREE,,,,
+cause,N2,2,STORM,,,,
+section,N3,QUAY,1,,,,
+section,N4,MILL,1,,,,
+device,N5,CB-1,GRID,QUAY,closed,,
+device,N6,LBS-1,QUAY,MILL,closed,,
+connect,N7,1,QUAY,0,,,
+connect,N8,2,MILL,0,,,
+connect,N9,3,MILL,0,,,
+"""
+LAST_OF_SMALL = 9  # its last command
+
+
+def small(name: str, days_ago: int = 7) -> Path:
+    """A book of two sections, whose fortnight began some days ago: its desk is quick to start."""
+    first = (datetime.now(timezone.utc).date() - timedelta(days=days_ago)).isoformat()
+    text = folder() / "small.csv"
+    text.write_text(SMALL)
+    shutil.copytree(made(f"small-{first}", text, (first, *FORTNIGHT[1:])), folder() / name)
+    return folder() / name / "book.db"
 
 
 def until(seen: Callable[[], Any], seconds: float = 20, what: str = "it") -> Any:
@@ -174,3 +214,64 @@ class Screen:
         """The process of the desk that this screen started."""
         children = Path(f"/proc/{self.process.pid}/task/{self.process.pid}/children").read_text().split()
         return int(children[0])
+
+
+class Between:
+    """A proxy before the screen. It hands bytes on; while it has a status, it answers each request with that and a page of
+    its own, as nginx does while the screen is away."""
+
+    def __init__(self) -> None:
+        self.screen, self.status = 0, 0
+        self.open: set[socket.socket] = set()
+        self.socket = socket.create_server(("127.0.0.1", 0))
+        self.port = self.socket.getsockname()[1]
+        threading.Thread(target=self.run, daemon=True).start()
+
+    def answer(self, status: int) -> None:
+        """Answers with a status from now on (0: hands on again), and cuts what is open."""
+        self.status = status
+        for each in list(self.open):
+            try:
+                each.shutdown(socket.SHUT_RDWR)
+            except OSError:
+                pass
+
+    def run(self) -> None:
+        while True:
+            try:
+                client, _ = self.socket.accept()
+            except OSError:
+                return
+            threading.Thread(target=self.serve, args=(client,), daemon=True).start()
+
+    def serve(self, client: socket.socket) -> None:
+        self.open.add(client)
+        try:
+            with client:
+                data = client.recv(65_536)
+                if self.status:
+                    page = f"HTTP/1.1 {self.status} No\r\nContent-Type: text/html\r\nContent-Length: 2\r\n"
+                    client.sendall(f"{page}Connection: close\r\n\r\nno".encode())
+                    return
+                with socket.create_connection(("127.0.0.1", self.screen)) as screen:
+                    screen.sendall(data)
+                    threading.Thread(target=pump, args=(client, screen), daemon=True).start()
+                    pump(screen, client)
+        except OSError:
+            pass
+        finally:
+            self.open.discard(client)
+
+    def end(self) -> None:
+        self.socket.close()
+        self.answer(502)
+
+
+def pump(source: socket.socket, to: socket.socket) -> None:
+    """Hands bytes on until one side ends."""
+    try:
+        while data := source.recv(65_536):
+            to.sendall(data)
+        to.shutdown(socket.SHUT_RDWR)
+    except OSError:
+        pass

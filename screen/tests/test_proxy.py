@@ -87,8 +87,8 @@ class Nginx:
 class BehindNginx(unittest.TestCase):
     def setUp(self) -> None:
         self.port = free_port()
-        words = ("--proxy", "127.0.0.1", "--senders", "desk-", "--host", NAME, "--host", f"{NAME}:{self.port}")
-        self.screen = support.Screen(support.fortnight(self._testMethodName), *words)
+        self.words = ("--proxy", "127.0.0.1", "--senders", "desk-", "--host", NAME, "--host", f"{NAME}:{self.port}")
+        self.screen = support.Screen(support.fortnight(self._testMethodName), *self.words)
         self.addCleanup(self.screen.end)
         self.nginx = Nginx(support.folder() / f"nginx-{self._testMethodName}", self.screen.port, self.port)
         self.addCleanup(lambda: self.nginx.end())
@@ -108,20 +108,48 @@ class BehindNginx(unittest.TestCase):
                 self.nginx.ask("POST", "/api/command", login, command, **told, Origin="https://evil.example")[0], 403
             )
 
-    def test_a_browser_through_tls_and_a_proxy_that_dies(self) -> None:
+    def test_one_connection_for_all_pages(self) -> None:
+        """By HTTP/2 a browser's pages share one connection: six streams of events don't fill it."""
+        context = ssl._create_unverified_context()
+        context.set_alpn_protocols(["h2", "http/1.1"])
+        with socket.create_connection(("127.0.0.1", self.port)) as plain, context.wrap_socket(plain) as connection:
+            self.assertEqual(connection.selected_alpn_protocol(), "h2")
+
+    def test_the_screen_is_started_again_behind_the_proxy(self) -> None:
+        """Meanwhile the proxy answers 502, after which a browser makes no stream of events by itself."""
+        page = self.browser()
+        page.open(f"https://{NAME}:{self.port}/", None)
+        page.says("main", "LIGHTHOUSE")
+        self.screen.end()
+        page.says(".alarm", "WHAT IS SHOWN MAY BE OLD")
+        self.screen = support.Screen(self.screen.book, *self.words, "--port", str(self.screen.port))
+        self.addCleanup(self.screen.end)
+        page.wait(lambda: page.text(".alarm") == "", "the page without its alarm")
+        me = json.loads(self.nginx.ask("GET", "/api/me", "desk-anna")[1])
+        told = {"Content_Type": "application/json", "X_Screen_Token": me["token"]}
+        command = json.dumps({**LIGHTHOUSE, "ref": "SCR-DESK-ANNA-1"})
+        self.assertEqual(self.nginx.ask("POST", "/api/command", "desk-anna", command, **told)[0], 200)
+        page.says("main", "All sections are supplied")
+
+    def browser(self) -> browser.Browser:
+        """A browser with a login of the switching desk."""
         rules = (f"--host-resolver-rules=MAP {NAME} 127.0.0.1", "--ignore-certificate-errors")
         page = browser.Browser(words=rules)
         self.addCleanup(page.end)
         headers = {"Authorization": "Basic " + base64.b64encode(b"desk-anna:word").decode()}
         page.driver.execute_cdp_cmd("Network.enable", {})
         page.driver.execute_cdp_cmd("Network.setExtraHTTPHeaders", {"headers": headers})
+        return page
+
+    def test_a_browser_through_tls_and_a_proxy_that_dies(self) -> None:
+        page = self.browser()
         page.open(f"https://{NAME}:{self.port}/enter?device=LBS-22&at=2025-04-06T23:52:00%2B02:00", None)
         page.says("header", "You are DESK-ANNA")
         page.wait(lambda: page.find(".send").is_enabled(), "the button")
         os.kill(self.nginx.process.pid, signal.SIGTERM)
         self.nginx.process.wait()
         page.click(".send")
-        page.says(".outcome", "It isn't known whether this stands")
+        page.says(".outcome", "It isn't known whether this is saved")
         self.nginx.process = self.nginx.start()
         page.click(".again")
         page.says(".outcome .equal", "equal")

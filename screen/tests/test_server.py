@@ -9,8 +9,10 @@ import socket
 import threading
 import time
 import unittest
+import urllib.parse
+from datetime import date
 from pathlib import Path
-from typing import cast
+from typing import Any, cast
 
 import support
 from server import guard, moments, reader
@@ -122,7 +124,7 @@ class Commands(Case):
         """A book whose period is over is looked at, and told, at its last second."""
         screen = self.screen("now")
         last = {"second": 1_743_976_799, "text": "2025-04-06T23:59:59+02:00"}
-        self.assertEqual(screen.call("/api/second")[1], last)
+        self.assertEqual(screen.call("/api/second")[1], {**last, "goes": False})
         self.assertEqual(screen.call("/api/now")[1]["at"], last)
 
     def test_the_log_has_login_reference_and_answer(self) -> None:
@@ -164,6 +166,99 @@ class Commands(Case):
         self.assertEqual(screen.post({**LIGHTHOUSE, "ref": "SCR-ANNA-1"})[0], 403)
 
 
+class Figures(unittest.TestCase):
+    """What is asked of a book whose period goes on: searches, times, spellings, what came between."""
+
+    screen: support.Screen
+
+    @classmethod
+    def setUpClass(cls) -> None:
+        cls.screen = support.Screen(support.small(cls.__name__))
+        cls.addClassCleanup(cls.screen.end)
+        cls.screen.log_in("ANNA")
+
+    def switch(self, seconds_ahead: int, position: str = "open", seen: str = "") -> dict[str, Any]:
+        """Sends a switching of LBS-1, some seconds from now: what the page is told."""
+        second = str(int(time.time()) + seconds_ahead)
+        command = {"kind": "switch", "f1": "LBS-1", "f2": position, "f3": second, "f4": "1", "f5": "ANNA"}
+        body = json.dumps({**command, "ref": f"SCR-ANNA-{time.time_ns()}"}).encode()
+        status, shown = self.screen.call(f"/api/command{seen}", body, {"Content-Type": "application/json"})
+        self.assertEqual(status, 200, shown)
+        return cast(dict[str, Any], shown)
+
+    def forecast(self, **fields: str) -> tuple[int, Any]:
+        told = {"kind": "switch", "f1": "LBS-1", "f2": "open", "f4": "1", "f5": "ANNA", "f3": str(int(time.time()))}
+        return self.screen.call(f"/api/forecast?{urllib.parse.urlencode({**told, **fields})}")
+
+    def test_late_and_future(self) -> None:
+        """A second to come doesn't make all that follows late; more than a quarter of an hour back is late."""
+        ahead = self.switch(4 * 3_600)["entry"]
+        entry = self.switch(-60)["entry"]
+        late = self.switch(-3_600)["entry"]
+        found = {each: self.screen.call(f"/api/entries/{each}")[1]["late"] for each in (ahead, entry, late)}
+        self.assertEqual(found, {ahead: False, entry: False, late: True})
+        now = int(time.time())
+        self.assertEqual(self.forecast(f2="close", f3=str(now))[1]["hints"], [])
+        self.assertIn("1 h", self.forecast(f2="close", f3=str(now - 3_600))[1]["hints"][0])
+        self.assertEqual(self.forecast(f3=str(now + 7_230))[1]["future"], "2 h")
+        self.assertIsNone(self.forecast(f3=str(now))[1]["future"])
+
+    def test_searches_that_cannot_be_read(self) -> None:
+        self.switch(-10)
+        for query, words in (
+            ("day=27.11.2026", "27.11.2026 is no day of the book's period"),
+            ("day=2026-11", "is no day"),
+            ("day=2026-99-99", "is no day"),
+            ("day=1999-01-01", "is no day"),
+            ("section=0303", "no section has 0303 in its name"),
+            ("device=NOSUCH", "no device has NOSUCH in its name"),
+            ("cause=99", "no cause 99"),
+            ("marked=odd", "odd"),
+            ("order=odd", "odd"),
+        ):
+            status, shown = self.screen.call(f"/api/sheet?{query}")
+            self.assertEqual(status, 422, query)
+            self.assertIn(words, shown["words"])
+        for query in ("section=ILL", "section=mill", "device=lbs", f"day={date.today().isoformat()}"):
+            self.assertGreater(self.screen.call(f"/api/sheet?{query}")[1]["found"], 0, query)
+
+    def test_what_came_between(self) -> None:
+        seen = self.screen.number()
+        first = self.switch(-20, "close")
+        second = self.switch(-20, "open", f"?seen={seen}")
+        between = second["between"]
+        self.assertEqual([(each["no"], each["entry"]) for each in between], [(first["reply"]["no"], first["entry"])])
+        self.assertIn("LBS-1 close at ", between[0]["words"])
+        self.assertEqual(self.switch(-20, "close")["between"], [])
+
+    def test_what_the_desk_cannot_read_is_refused_before(self) -> None:
+        for fields, words in (
+            ({"f5": "TEAM ÄÖ 7"}, "the crew TEAM ÄÖ 7 can't be read"),
+            ({"f5": "X" * 17}, "1 to 16 of A-Z"),
+            ({"f5": ""}, "the crew is missing"),
+            ({"f1": "lbs-1"}, "the device lbs-1 can't be read"),
+            ({"f4": "٣"}, "the cause"),
+        ):
+            status, shown = self.forecast(**fields)
+            self.assertEqual(status, 422, fields)
+            self.assertIn(words, shown["words"])
+
+    def test_times_of_the_log(self) -> None:
+        self.switch(-5)
+        told = self.screen.call("/api/log")[1][0]
+        zone = reader.Zone(support.FORTNIGHT[2])
+        self.assertLess(abs(moments.read_moment(zone, told["at"])[0].second - time.time()), 60)
+        self.assertRegex(told["at"], r"\+0[12]:00$")
+
+    def test_an_entry_while_the_desk_hangs(self) -> None:
+        """The entry is shown without the desk's replies, after one wait at most."""
+        entry = self.switch(-5)["entry"]
+        os.kill(self.screen.desk_process(), signal.SIGKILL)
+        status, shown = self.screen.call(f"/api/entries/{entry}")
+        self.assertEqual((status, shown["no"]), (200, entry))
+        support.until(lambda: self.screen.call("/health")[0] == 200, 60, "the next desk")
+
+
 class Faults(Case):
     def test_own_desk_is_killed_again_and_again(self) -> None:
         """The desk is killed at random moments while commands are sent: none is lost, none acts twice. One that had no answer
@@ -191,7 +286,7 @@ class Faults(Case):
             command = {**LIGHTHOUSE, "f2": ("close", "open")[sent % 2], "f3": str(1_743_974_500 + sent)}
             status, shown = screen.post({**command, "ref": f"SCR-ANNA-{sent}"})
             while status == 503:
-                self.assertIn("it isn't known whether this stands", shown["words"])
+                self.assertIn("it isn't known whether this is saved", shown["words"])
                 status, shown = screen.post({**command, "ref": f"SCR-ANNA-{sent}"})
             self.assertEqual(status, 200, shown)
             self.assertEqual((shown["reply"]["no"], shown["equal"]), (103 + sent, True))

@@ -3,7 +3,7 @@
     python3 tools/agree.py BOOK OMS.csv [--csv | --json] [--most N] [--by-step] [--table FILE | --program PATH]
 
 OMS.csv has the columns `ticket`, `customers` and `customer_minutes`. What belongs to a ticket in the book is said in
-tickets.py and in docs/use/IMPORTING.md. The book is compared with the program first.
+tickets.py and in docs/use/CHECKING.md. The book is compared with the program first.
 """
 
 import argparse

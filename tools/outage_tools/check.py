@@ -6,7 +6,7 @@
 
 It takes the exports as `outagebook-from-oms` takes them, and writes no rows. Each number stands beside the book's limit; the
 network is looked at with all devices in their normal positions, as of the first second and wherever a life begins or ends.
-The status is 0 where all fits and nothing is wrong, and 2 where something is. docs/use/IMPORTING.md says what each finding means.
+The status is 0 where all fits and nothing is wrong, and 2 where something is. docs/use/CHECKING.md says what each finding means.
 """
 
 import argparse

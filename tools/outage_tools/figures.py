@@ -9,7 +9,7 @@
 
 Before it answers, the book's postings and the program's annual table are compared with what is found here (compare.py).
 Quotients are exact fractions, each with its three decimals in a column beside it. Moments are by the clock of the book's
-zone, with their offset. docs/use/REPORTS.md says what each figure means.
+zone, with their offset. docs/use/REPORTS.md and docs/use/INDICES.md say what each figure means.
 """
 
 from argparse import Namespace
