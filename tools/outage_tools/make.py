@@ -16,8 +16,8 @@ import shutil
 import signal
 import subprocess
 import sys
-from collections.abc import Callable
-from contextlib import ExitStack
+from collections.abc import Callable, Iterator
+from contextlib import ExitStack, contextmanager
 from dataclasses import dataclass
 from pathlib import Path
 from typing import NoReturn
@@ -53,10 +53,21 @@ class ExportsWrong(Exception):
 # The program.
 
 
-def ends_with(parent: int) -> Callable[[], None]:
+@contextmanager
+def held() -> Iterator[set[int]]:
+    """Signals to end wait until the block is over: one that comes while Python forks would be lost. Gives the mask before."""
+    before = signal.pthread_sigmask(signal.SIG_BLOCK, ENDING)
+    try:
+        yield {int(number) for number in before}
+    finally:
+        signal.pthread_sigmask(signal.SIG_SETMASK, before)
+
+
+def ends_with(parent: int, mask: set[int]) -> Callable[[], None]:
     """What a child does first, so that it ends when its parent is killed."""
 
     def prepare() -> None:
+        signal.pthread_sigmask(signal.SIG_SETMASK, mask)
         LIBC.prctl(PR_SET_PDEATHSIG, signal.SIGKILL)
         if os.getppid() != parent:
             os._exit(1)
@@ -64,35 +75,47 @@ def ends_with(parent: int) -> Callable[[], None]:
     return prepare
 
 
+def output_of(command: list[str]) -> tuple[int, str, str]:
+    """The status of a program and what it printed. On a terminal its messages go there, since they show how far it is."""
+    child: subprocess.Popen[str] | None = None
+    try:
+        with held() as mask:
+            child = subprocess.Popen(
+                command,
+                stdin=subprocess.DEVNULL,
+                stdout=subprocess.PIPE,
+                stderr=None if sys.stderr.isatty() else subprocess.PIPE,
+                text=True,
+                preexec_fn=ends_with(os.getpid(), mask),
+            )
+        printed, told = child.communicate()
+        return child.returncode, printed, told or ""
+    except BaseException:
+        if child is not None:
+            child.kill()
+            child.wait()
+        raise
+
+
 @dataclass(frozen=True)
 class Program:
-    """The proved program, at work on a book. On a terminal it shows how far it is."""
+    """The proved program, at work on a book."""
 
     path: str
     book: Path
 
     def run(self, job: str, *words: object) -> str:
         """What one of its jobs prints, which ends well."""
-        command = [self.path, job, "--book", str(self.book), *map(str, words)]
-        told = None if sys.stderr.isatty() else subprocess.PIPE
         try:
-            done = subprocess.run(
-                command,
-                stdin=subprocess.DEVNULL,
-                stdout=subprocess.PIPE,
-                stderr=told,
-                text=True,
-                check=False,
-                preexec_fn=ends_with(os.getpid()),
-            )
+            status, printed, told = output_of([self.path, job, "--book", str(self.book), *map(str, words)])
         except OSError as error:
             raise BookError(
                 f"the program {self.path} can't be run ({error.strerror}): --program PATH names it"
             ) from None
-        if done.returncode != 0:
-            reason = (done.stderr or done.stdout).strip() or f"status {done.returncode}"
+        if status != 0:
+            reason = (told or printed).strip() or f"status {status}"
             raise BookError(f"{job}: {reason}; no book was made")
-        return done.stdout
+        return printed
 
 
 # The steps.

@@ -140,7 +140,7 @@ class Files(unittest.TestCase):
             ).encode(),
             "row 4: the device 'ß' isn't": oms.replace("T-2042,1,SW-81", "T-2042,1,ß").encode(),
             "isn't of the encoding utf-8": b"\x89PNG\r\n\x1a\n",
-            "isn't of the encoding": os.urandom(4_000).replace(b"\n", b"\xff").replace(b"\r", b"\xff"),
+            "isn't of the encoding": os.urandom(4_000).translate(None, b'\n\r"'),
         }
         for reason, data in cases.items():
             with self.subTest(reason):
