@@ -260,9 +260,11 @@ def second_within(request: web.Request) -> int:
 
 
 async def second(request: web.Request) -> web.StreamResponse:
-    """The second that is now, or the one of the period that is nearest to it; `goes` where it is now."""
+    """The second that is now, or the one of the period that is nearest to it; `goes` where it is now, with the part of it that is gone."""
+    read_at = time.time()
     state, at = office_of(request).state, second_within(request)
-    return answer(200, {**views.moment(state, at), "goes": state.period.first <= time.time() < state.period.end})
+    goes = state.period.first <= read_at < state.period.end
+    return answer(200, {**views.moment(state, at), "goes": goes, "gone": max(0.0, read_at - at) if goes else 0.0})
 
 
 async def now(request: web.Request) -> web.StreamResponse:

@@ -57,7 +57,7 @@ export class MomentField {
 
   /** Goes on by what has passed; a field in which somebody may be about to type keeps its text until its moment is sent. */
   tick({ isSent = false } = {}) {
-    const gone = Math.floor((Date.now() - this.base.at) / 1000);
+    const gone = Math.floor(this.base.gone + (Date.now() - this.base.at) / 1000);
     this.second = String(this.base.second + gone);
     if (isSent || document.activeElement !== this.input) this.input.value = momentWords(later(this.base.text, gone));
   }

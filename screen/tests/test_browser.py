@@ -498,7 +498,7 @@ class Live(Case):
         page.click(".send")
         page.says(".outcome", "Saved:")
         sent = self.live.call("/api/sheet")[1]["rows"][0]["second"]["second"]
-        self.assertTrue(begun <= sent <= time.time(), (begun, sent))
+        self.assertTrue(begun - 1 <= sent <= time.time(), (begun, sent))  # an answer's way takes a part of a second
         page.says(".moment", "Now: this clock goes on")
         page.fill("Second", str(sent - 7_200))
         page.says(".moment", "from UTC")

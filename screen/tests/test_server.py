@@ -124,7 +124,7 @@ class Commands(Case):
         """A book whose period is over is looked at, and told, at its last second."""
         screen = self.screen("now")
         last = {"second": 1_743_976_799, "text": "2025-04-06T23:59:59+02:00"}
-        self.assertEqual(screen.call("/api/second")[1], {**last, "goes": False})
+        self.assertEqual(screen.call("/api/second")[1], {**last, "goes": False, "gone": 0.0})
         self.assertEqual(screen.call("/api/now")[1]["at"], last)
 
     def test_the_log_has_login_reference_and_answer(self) -> None:
