@@ -1,7 +1,7 @@
 #!/bin/sh
 # Proves and builds the program, makes a book of the sample fortnight, and prints its SAIDI, SAIFI and CAIDI.
 #
-#     sh run.sh               # a first time about half an hour on four processors, later some seconds
+#     sh run.sh               # the first time an hour or so on four processors, later a second
 #     sh run.sh --quick       # a first figure in some minutes, without any proof
 #
 # It installs Debian's packages that are missing: as root, or by sudo once it has named them.

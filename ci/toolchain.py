@@ -17,8 +17,9 @@ def has_toolchain() -> bool:
 
 
 def said_by_rt(folder: Path, word: str) -> str:
-    """What `rt` prints of itself."""
-    return subprocess.run(["rt", word], cwd=folder, check=False, capture_output=True, text=True).stdout
+    """What `rt` prints of itself; its usage is on standard error."""
+    ran = subprocess.run(["rt", word], cwd=folder, check=False, capture_output=True, text=True)
+    return ran.stdout + ran.stderr
 
 
 def kit_of(root: Path) -> str:

@@ -54,7 +54,7 @@ if __name__ == "__main__":
         print(SETTINGS["kit"])
         sys.exit(0)
     if sys.argv[1:] == ["help"]:
-        print("  rt ci NAME..  some crates" if SETTINGS["takes_names"] else "  rt ci")
+        print("  rt ci NAME..  some crates" if SETTINGS["takes_names"] else "  rt ci", file=sys.stderr)
         sys.exit(0)
     if sys.argv[1] == "ci" and sys.argv[2:] and not SETTINGS["takes_names"]:
         sys.exit("usage: rt ci")
