@@ -1,18 +1,17 @@
 -- Where no section's runs change, the empty delta alone leads from the old runs to the new ones; and the law of changes
 -- that change no position.
-use Rattle.std.proofs.Common.{◌≡◌, ◌≢◌, ◌==◌, ℕ, ◌≤◌, Bool, true, false, cond, List, [], ◌∷◌, Some, refl, sym, ◌∙◌, ap, arith, subst, inl, inr}
+use Rattle.std.proofs.Common.{◌≡◌, ◌==◌, ℕ, ◌≤◌, false, List, [], ◌∷◌, Some, refl, sym, ◌∙◌, arith, subst, inl, inr}
 use Rattle.std.specs.Prelude.{◌↔◌}
 use Rattle.std.proofs.lemmas.Bool.{cases_Bool, cond-false, cond-true, eq-eqb}
 use Rattle.ob_net.specs.Network.{Network}
 use Rattle.ob_sheet.specs.declared.Entry.{Entry}
-use Rattle.ob_sheet.specs.Sheet.{AreNumbered}
 use Rattle.ob_sweep.specs.Deltas.{IsDelta, new_runs}
-use Rattle.ob_sweep.specs.Laws.{ChangesNothing, SamePositionsLaw}
+use Rattle.ob_sweep.specs.Laws.{SamePositionsLaw}
 use Rattle.ob_sweep.specs.Runs.{history, runs_between}
 use Rattle.ob_sweep.specs.SamePositions.{changes_no_position}
 use Rattle.ob_sweep.specs.Searches.{sheet_searches}
-use Rattle.ob_sweep.specs.SheetChanges.{CanChange, with_change}
-use Rattle.ob_sweep.specs.Timeline.{AreRuns, IsSection, runs_at}
+use Rattle.ob_sweep.specs.SheetChanges.{with_change}
+use Rattle.ob_sweep.specs.Timeline.{IsSection, runs_at}
 use Rattle.ob_sweep.specs.Windows.{window_searches}
 use Rattle.ob_sweep.specs.declared.Run.{Run}
 use Rattle.ob_sweep.specs.declared.change.SheetChange.{SheetChange}
@@ -26,7 +25,7 @@ module _ (net : Network) (lists : List (List Run)) (now : ℕ → List Run) (sam
       let found : new_runs (x ∷ delta) x.0 ≡ Some x.1 = cond-true (x.0 == x.0) (Some x.1) (new_runs delta x.0) (eq-eqb x.0 x.0 refl) in
       absurd ((is.named x.0 x.1 found).1 (same x.0 (is.sections x.0 x.1 found)))
 
-  pub empty_alone : (delta : List (ℕ × List Run)) → IsDelta net delta lists now ↔ (delta ≡ [])
+  empty_alone : (delta : List (ℕ × List Run)) → IsDelta net delta lists now ↔ (delta ≡ [])
   empty_alone delta =
       (none_named delta, λ is. subst (λ (d : List (ℕ × List Run)). IsDelta net d lists now) (sym is) (nothing_new net lists now same))
 
@@ -43,7 +42,7 @@ same_positions_law net change entries numbered ok none =
     }
 
 -- where a change may change a position, the searches are those of its window; they are never more
-pub searches_of_window : (net : Network) (change : SheetChange) (entries : List Entry) (last : ℕ) → changes_no_position net change entries ≡ false
+searches_of_window : (net : Network) (change : SheetChange) (entries : List Entry) (last : ℕ) → changes_no_position net change entries ≡ false
     → sheet_searches net change entries last ≡ window_searches net change entries last
 searches_of_window net change entries last some =
     cond-false (changes_no_position net change entries) 0 (window_searches net change entries last) some

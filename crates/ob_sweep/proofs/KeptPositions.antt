@@ -1,15 +1,15 @@
 -- Positions and histories with an entry that repeats the position before it, and without it.
-use Rattle.std.proofs.Common.{◌≡◌, ◌==◌, ◌&&◌, ℕ, zero, suc, ◌<◌, ◌≤◌, Bool, true, false, not, nat_le, cond, List, [], ◌∷◌, ◌++◌, Some, refl, sym, ◌∙◌, ap, arith, subst, set, append_assoc, inl, inr}
+use Rattle.std.proofs.Common.{◌≡◌, ◌&&◌, ℕ, zero, suc, ◌≤◌, Bool, true, false, not, nat_le, cond, List, [], ◌∷◌, ◌++◌, Some, refl, sym, ◌∙◌, ap, arith, subst, set, append_assoc, inl, inr}
 use Rattle.std.specs.List.{AllByRecursion, filter, slice_get}
-use Rattle.std.proofs.lemmas.Bool.{and_from, and_parts, and_right, cases_Bool, cases_eq, cases_lt, false≢true, le-leb}
+use Rattle.std.proofs.lemmas.Bool.{and_from, and_parts, cases_Bool, cases_eq, cases_lt}
 use Rattle.std.proofs.lemmas.Bool.Decides.{nat_tests}
 use Rattle.std.proofs.lemmas.List.{append-nil}
-use Rattle.std.proofs.lemmas.Option.{none-some, same_Some}
+use Rattle.std.proofs.lemmas.Option.{same_Some}
 use Rattle.ob_base.specs.declared.Pos.{Pos}
 use Rattle.ob_net.specs.Network.{Network}
-use Rattle.ob_sheet.proofs.Sorting.{EachIsBefore, IsInOrder, IsInOrder-put_in_order, IsNumberedApart, before_on}
+use Rattle.ob_sheet.proofs.Sorting.{IsInOrder, IsInOrder-put_in_order, IsNumberedApart, before_on}
 use Rattle.ob_sheet.specs.declared.Entry.{Entry}
-use Rattle.ob_sheet.specs.Order.{is_before, put_in_order, upto}
+use Rattle.ob_sheet.specs.Order.{is_before, put_in_order}
 use Rattle.ob_sheet.specs.Positions.{entered}
 use Rattle.ob_sheet.specs.Supply.{is_supplied_under}
 use Rattle.ob_sweep.specs.Runs.{history}
@@ -65,7 +65,7 @@ module _ (net : Network) where
 
   -- one more entry that repeats the position before it
   module _ (es : List Entry) (e : Entry) (kept : e.kept ≡ true) (ok : AllBefore e es) (repeated : slice_get (entered net es) e.device ≡ Some e.pos) where
-    pub same_entered : entered net (es ++ e ∷ []) ≡ entered net es
+    same_entered : entered net (es ++ e ∷ []) ≡ entered net es
     same_entered = entered_more es e ok net ∙ set_same (entered net es) e.device e.pos repeated
 
     same_as_far : (q : Entry → Bool) → PassesEarlier q → entered net (filter q (es ++ e ∷ [])) ≡ entered net (filter q es)

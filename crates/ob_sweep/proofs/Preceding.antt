@@ -1,12 +1,11 @@
 -- The kept entries just before an entry's place, and its device's last one of them.
-use Rattle.std.proofs.Common.{◌≡◌, ◌≢◌, ℕ, ◌-◌, ◌<◌, ◌≤◌, ◌==◌, ◌&&◌, ◌||◌, Bool, true, false, not, nat_lt, cond, List, [], ◌∷◌, ◌++◌, Option, Some, None, IfSome, refl, sym, ◌∙◌, ap, arith, subst, length, get_or, take, drop, option_map, inl, inr}
+use Rattle.std.proofs.Common.{◌≡◌, ℕ, ◌-◌, ◌<◌, ◌≤◌, ◌==◌, ◌&&◌, ◌||◌, Bool, true, false, not, nat_lt, List, [], ◌∷◌, ◌++◌, Option, Some, None, IfSome, refl, sym, ◌∙◌, ap, arith, subst, length, get_or, take, drop, option_map, inl, inr}
 use Rattle.std.specs.List.{All, AllByRecursion, filter, slice_get}
 use Rattle.std.specs.Option.{option_and_then}
 use Rattle.std.proofs.lemmas.Bool.{and_from, and_right, cases_Bool, cond-false, cond-true}
 use Rattle.std.proofs.lemmas.Bool.Decides.{nat_tests}
-use Rattle.std.proofs.lemmas.List.{append-nil, length-append, take-append-drop}
+use Rattle.std.proofs.lemmas.List.{append-nil, take-append-drop}
 use Rattle.std.proofs.lemmas.List.Elements.{All-drop, All-filter, All-take, filter-append, filter_passes, recursion_from_All}
-use Rattle.std.proofs.Math.Seq.{get_or-append_seam}
 use Rattle.ob_base.specs.declared.Pos.{Pos}
 use Rattle.ob_net.specs.declared.net.Device.{Device}
 use Rattle.ob_net.specs.Network.{Network}
@@ -40,11 +39,11 @@ last_looked_up entries q place named =
     (greatest_has (λ e. entry_of entries e.«no» ≡ Some e) (filter q set) (recursion_from_All (λ e. entry_of entries e.«no» ≡ Some e) (filter q set) each))
 
 -- entries that all pass, or of which none does
-pub filter_whole : (q : Entry → Bool) (es : List Entry) → AllByRecursion (λ f. q f ≡ true) es → filter q es ≡ es
+filter_whole : (q : Entry → Bool) (es : List Entry) → AllByRecursion (λ f. q f ≡ true) es → filter q es ≡ es
 filter_whole q [] h = refl
 filter_whole q (e ∷ es) h = cond-true (q e) (e ∷ filter q es) (filter q es) h.0 ∙ ap (λ w. e ∷ w) (filter_whole q es h.1)
 
-pub filter_none : (q : Entry → Bool) (es : List Entry) → AllByRecursion (λ f. q f ≡ false) es → filter q es ≡ []
+filter_none : (q : Entry → Bool) (es : List Entry) → AllByRecursion (λ f. q f ≡ false) es → filter q es ≡ []
 filter_none q [] h = refl
 filter_none q (e ∷ es) h = cond-false (q e) (e ∷ filter q es) (filter q es) h.0 ∙ filter_none q es h.1
 
@@ -73,7 +72,7 @@ module _ (entries : List Entry) (numbered : AreNumbered entries) (e : Entry) (pl
   some : All (λ f. 1 ≤ f.«no») order
   some k d l = (stands_in_order entries numbered k d l).0
 
-  pub taken_is_before : before order e ≡ take place order
+  taken_is_before : before order e ≡ take place order
   taken_is_before =
       let q : Entry → Bool = λ f. f.kept && is_before f e in
       let some_first = All-take (λ (f : Entry). 1 ≤ f.«no») place order some in
@@ -175,10 +174,6 @@ position_there net entries e place p numbered first rest within is =
     ap (λ ps. slice_get ps e.device) (sym (entered_in_order net entries (λ f. is_before f e) numbered) ∙ ap (entered net) (taken_is_before entries numbered e place first rest))
     ∙ position_at net (take place (in_order entries)) e.device p within is
 
--- the devices of the entries that a change makes or takes away
-pub new_named : (devices : ℕ) (entries : List Entry) (new : Entry) → NameDevices devices (entries ++ new ∷ []) → new.device < devices
-new_named devices entries new named =
-    subst (λ (e : Entry). e.device < devices) (get_or-append_seam entries new [] new) (named (length entries) new (omega (arith, length-append entries (new ∷ []))))
-
+-- the device of an entry that is found by its number
 pub old_named : (devices : ℕ) (entries : List Entry) (old : Entry) → NameDevices devices entries → entry_of entries old.«no» ≡ Some old → old.device < devices
 old_named devices entries old named on = found_has (λ e. e.device < devices) (λ e. e.«no» == old.«no») entries old named on

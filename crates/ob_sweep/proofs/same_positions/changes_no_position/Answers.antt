@@ -1,8 +1,8 @@
-use Rattle.std.proofs.Common.{◌≡◌, ◌<◌, ◌&&◌, ℕ, true, length, sym, ap, ◌∙◌, subst}
+use Rattle.std.proofs.Common.{◌<◌, ◌&&◌, ℕ, length, sym, ap, ◌∙◌, subst}
 use Rattle.ob_sweep.specs.SamePositions.{changes_no_position, repeats}
 use Rattle.ob_sweep.specs.SheetChanges.{CanChange}
 use Rattle.ob_sweep.proofs.KeptRuns.{corrected_repeats, old_repeats}
-use Rattle.ob_sweep.proofs.Preceding.{new_named, old_named}
+use Rattle.ob_sweep.proofs.Preceding.{old_named}
 use Rattle.ob_sweep.proofs.same_positions.changes_no_position.Goals as goal
 
 pub repeats-requires-in-Corrected : goal.repeats-requires-in-Corrected

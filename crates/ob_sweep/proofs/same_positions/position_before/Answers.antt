@@ -1,4 +1,4 @@
-use Rattle.std.proofs.Common.{◌≡◌, ◌-◌, arith, get_or, refl, sym, ap, ◌∙◌, take}
+use Rattle.std.proofs.Common.{◌≡◌, ◌-◌, arith, get_or, refl, sym, ◌∙◌, take}
 use Rattle.ob_sheet.proofs.Numbered.{entry_with}
 use Rattle.ob_sheet.proofs.Writing.{latest_position, normal_at, normal_position}
 use Rattle.ob_sheet.specs.declared.Entry.{Entry}
