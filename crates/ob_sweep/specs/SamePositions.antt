@@ -11,7 +11,7 @@ use Rattle.ob_sweep.specs.SheetChanges.{with_change}
 use Rattle.ob_sweep.specs.declared.change.SheetChange.{SheetChange}
 use Rattle.ob_sweep.specs.declared.change.SheetChange.TheVariants.{Entered, Corrected, Withdrawn}
 
--- the two positions are one
+-- the two positions are the same
 abbrev pub is_same : Pos → Pos → Bool
 is_same Opened Opened = true
 is_same Closed Closed = true
@@ -23,7 +23,7 @@ is_same Closed Opened = false
 abbrev pub repeats : Network → List Entry → Entry → Bool
 repeats net entries e = option_map_or (is_same e.pos) (slice_get (entered net (before entries e)) e.device) false
 
--- each entry that the change makes or takes away repeats the position before it: a new one on the sheet as it is, a
+-- each entry that the change makes or removes repeats the position before it: a new one on the sheet as it is, a
 -- withdrawn one on the sheet without it, and a corrected one there both as it was and as it will be
 abbrev pub changes_no_position : Network → SheetChange → List Entry → Bool
 changes_no_position net (Entered new) entries = repeats net entries new

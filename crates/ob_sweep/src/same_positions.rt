@@ -14,7 +14,7 @@ use ob_base::Pos;
 use ob_net::Net;
 use ob_sheet::{Entry, Sheet};
 
-/// Whether each entry that a change makes or takes away repeats the position that its device has
+/// Whether each entry that a change makes or removes repeats the position that its device has
 /// just before it. Looks at a few entries of the switching log alone, found by binary search.
 pub fn changes_no_position(net: &Net, sheet: &Sheet, change: &SheetChange) -> bool
     requires applies { CanChange change.now sheet.now.entries }
