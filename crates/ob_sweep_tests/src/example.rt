@@ -37,33 +37,54 @@ pub const DAY_OF_2024: Days = Days {
     count: 1,
 };
 
-/// Lives of devices and the commands of the switching log, one a line; the expected outage
-/// intervals of the sections S1 to S5, and the searches that building them takes.
-#[derive(Clone, Copy)]
-pub struct Built {
-    pub title: &'static str,
-    pub days: Days,
-    pub lives: &'static str,
-    pub script: &'static str,
-    pub searches: u128,
-    pub runs: &'static str,
+// The scripts of most cases. From 3600 on S1 has no supply until its breaker closes, and S2 has none
+// until the tie closes at 4200.
+const TAKEN_OVER: &'static str = "\
+switch B1 open 3600 3 K1
+switch W1 open 4200 3 K1
+switch T1 close 4200 3 K1
+switch B1 close 7200 3 K1
+";
+
+// S1 and S2 have no supply until their breaker closes.
+const WAITING: &'static str = "\
+switch B1 open 3600 3 K1
+switch B1 close 7200 3 K1
+";
+
+// A part of a case, by its place from 0. ` | ` stands between them.
+fn part<'t>(case: &'t str, place: usize) -> &'t str {
+    let mut rest = case;
+    for _ in 0..place {
+        rest = match rest.split_once(" | ") {
+            Some((_, rest)) => rest,
+            None => "",
+        };
+    }
+    match rest.split_once(" | ") {
+        Some((part, _)) => part,
+        None => rest,
+    }
 }
 
-/// Lives of devices, the commands of the switching log, and the effect of one more command. The
-/// effect is the searches, the touched sections, and the outage intervals of the sections S1 to S5
-/// afterwards. There are two numbers of searches: on a timeline that finds outage intervals from
-/// scratch (`Scratch`), and on one that finds them in windows (`Windowed`). The window of a change
-/// is the seconds in which the change can alter the supply.
-#[derive(Clone, Copy)]
-pub struct Case {
-    pub title: &'static str,
-    pub days: Days,
-    pub lives: &'static str,
-    pub script: &'static str,
-    pub ask: &'static str,
-    pub searches: (u128, u128),
-    pub touched: &'static str,
-    pub runs: &'static str,
+// The lines of a part, which has `; ` between them, or `-` in place of them.
+fn lines_in(alloc: Global, case: &str, place: usize) -> Result<String, Fail> {
+    let part = part(case, place);
+    if part == "-" {
+        return Ok(String::new(alloc));
+    }
+    let mut lines = part.replace(alloc, "; ", "\n")?;
+    lines.push_str("\n")?;
+    Ok(lines)
+}
+
+// The commands of the switching log in a part, which may name one of the scripts above.
+fn script_in(alloc: Global, case: &str, place: usize) -> Result<String, Fail> {
+    match part(case, place) {
+        "taken over" => Ok(String::from_str(alloc, TAKEN_OVER)?),
+        "waiting" => Ok(String::from_str(alloc, WAITING)?),
+        _ => lines_in(alloc, case, place),
+    }
 }
 
 // The line of an outage interval: its section, its first second, the second after its last, and the
@@ -112,12 +133,14 @@ fn new_lines(alloc: Global, delta: &Delta) -> Result<String, Fail> {
     Ok(text)
 }
 
-// The names of nodes, each followed by a space.
+// The names of nodes, with a space between them.
 fn names_of(alloc: Global, nodes: &[u16]) -> Result<String, Fail> {
     let mut text = String::new(alloc);
+    let mut between = "";
     for node in nodes {
+        text.push_str(between)?;
         text.push_str(name_at(&NODES, *node)?)?;
-        text.push_str(" ")?;
+        between = " ";
     }
     Ok(text)
 }
@@ -125,20 +148,16 @@ fn names_of(alloc: Global, nodes: &[u16]) -> Result<String, Fail> {
 // The sections S1 to S5.
 const SECTIONS: &'static [u16] = &[2, 3, 4, 5, 6];
 
-// The network, the days and the switching log.
-fn days_of(
-    alloc: Global,
-    days: &Days,
-    lives: &str,
-    script: &str,
-) -> Result<(Net, Period, Sheet), Fail>
+// The network, the days and the switching log of a case.
+fn days_of(alloc: Global, days: &Days, case: &str) -> Result<(Net, Period, Sheet), Fail>
     ensures devices { IfOk result (λ d. NameDevices (length d.0.network.devices) d.2.entries) }
     ensures all { IfOk result (λ d. All (λ e. (first_second_of d.1 ≤ e.second)
         × (e.second < end_second_of d.1)) d.2.entries) }
 {
-    let net = feeders(alloc, lives)?;
+    let (lives, script) = (lines_in(alloc, case, 1)?, script_in(alloc, case, 2)?);
+    let net = feeders(alloc, lives.as_str())?;
     let period = period_of(alloc, days.first, days.count)?;
-    let sheet = sheet_of(alloc, &net, &period, script)?;
+    let sheet = sheet_of(alloc, &net, &period, script.as_str())?;
     Ok((net, period, sheet))
 }
 
@@ -158,23 +177,30 @@ fn lines_built<T: Timeline>(
     Ok((lines, net.searches()))
 }
 
-fn build_on<T: Timeline>(rt: &impl Abort, alloc: Global, case: &Built) -> Result<(), Fail> {
-    let (mut net, period, sheet) = days_of(alloc, &case.days, case.lives, case.script)?;
+fn build_on<T: Timeline>(
+    rt: &impl Abort,
+    alloc: Global,
+    days: &Days,
+    case: &str,
+) -> Result<(), Fail> {
+    let (mut net, period, sheet) = days_of(alloc, days, case)?;
     let (runs, searches) = lines_built::<T>(alloc, &mut net, &sheet, &period)?;
+    let searches = format!(in alloc; "{searches}")?;
     assert!(rt;
-        net.nodes() == 6 && searches == case.searches,
-        "{}",
-        case.title
+        net.nodes() == 6 && searches.as_str() == part(case, 3),
+        "{case}"
     );
-    assert!(rt; runs.as_str() == case.runs, "{}: {runs}", case.title);
+    assert!(rt; runs == lines_in(alloc, case, 4)?, "{case}: {runs}");
     Ok(())
 }
 
-/// Checks that each timeline builds these outage intervals.
-pub fn build(rt: &impl Abort, alloc: Global, cases: &[Built]) -> Result<(), Fail> {
-    for case in cases {
-        build_on::<Scratch>(rt, alloc, case)?;
-        build_on::<Windowed>(rt, alloc, case)?;
+/// Checks that each timeline builds the outage intervals of cases, one a line: the title, lives of
+/// devices, the commands of the switching log, the searches that building takes, and the intervals
+/// of the sections S1 to S5. ` | ` stands between these parts, and `; ` between the lines of one.
+pub fn build(rt: &impl Abort, alloc: Global, days: &Days, cases: &str) -> Result<(), Fail> {
+    for case in cases.lines() {
+        build_on::<Scratch>(rt, alloc, days, case)?;
+        build_on::<Windowed>(rt, alloc, days, case)?;
     }
     Ok(())
 }
@@ -285,53 +311,58 @@ fn take_over<T: Timeline>(
     })
 }
 
-fn effect_of<T: Timeline>(alloc: Global, case: &Case) -> Result<Effect, Fail> {
-    let command = read_body(case.ask.as_bytes()).ok_or("a command")?;
-    let (mut net, period, mut sheet) = days_of(alloc, &case.days, case.lives, case.script)?;
+fn effect_of<T: Timeline>(alloc: Global, days: &Days, case: &str) -> Result<Effect, Fail> {
+    let command = read_body(part(case, 3).as_bytes()).ok_or("a command")?;
+    let (mut net, period, mut sheet) = days_of(alloc, days, case)?;
     take_over::<T>(alloc, &mut net, &mut sheet, &period, &command)
 }
 
-// Checks that the effect and the number of searches are those that the case expects.
-fn is_wanted(rt: &impl Abort, case: &Case, searches: u128, effect: &Effect) {
-    let title = case.title;
+// Checks that the effect is that which the case expects.
+fn is_wanted(rt: &impl Abort, alloc: Global, case: &str, effect: &Effect) -> Result<(), Fail> {
+    let touched = part(case, 5);
+    let touched = if touched == "-" { "" } else { touched };
     assert!(rt;
-        effect.searches == searches,
-        "{title}: {} searches",
-        effect.searches
-    );
-    assert!(rt;
-        effect.touched.as_str() == case.touched,
-        "{title}: {}",
+        effect.touched.as_str() == touched,
+        "{case}: {}",
         effect.touched
     );
     assert!(rt;
         effect.adopted == effect.planned,
-        "{title}: {}",
+        "{case}: {}",
         effect.adopted
     );
     assert!(rt;
-        effect.runs.as_str() == case.runs,
-        "{title}: {}",
+        effect.runs == lines_in(alloc, case, 6)?,
+        "{case}: {}",
         effect.runs
     );
-    assert!(rt; effect.is_as_built, "{title}: built anew");
+    assert!(rt; effect.is_as_built, "{case}: built anew");
+    Ok(())
 }
 
-/// Checks on each timeline that these changes have the expected effects.
-pub fn alter(rt: &impl Abort, alloc: Global, cases: &[Case]) -> Result<(), Fail> {
-    for case in cases {
-        is_wanted(
-            rt,
-            case,
-            case.searches.0,
-            &effect_of::<Scratch>(alloc, case)?,
-        );
-        is_wanted(
-            rt,
-            case,
-            case.searches.1,
-            &effect_of::<Windowed>(alloc, case)?,
-        );
+fn alter_one(rt: &impl Abort, alloc: Global, days: &Days, case: &str) -> Result<(), Fail> {
+    let scratch = effect_of::<Scratch>(alloc, days, case)?;
+    is_wanted(rt, alloc, case, &scratch)?;
+    let windowed = effect_of::<Windowed>(alloc, days, case)?;
+    is_wanted(rt, alloc, case, &windowed)?;
+    let (all, few) = (scratch.searches, windowed.searches);
+    let searches = format!(in alloc; "{all} {few}")?;
+    assert!(rt;
+        searches.as_str() == part(case, 4),
+        "{case}: {searches} searches"
+    );
+    Ok(())
+}
+
+/// Checks on each timeline the effects of changes, one a line: the title, lives of devices, the
+/// commands of the switching log, and one more command; the searches, the touched sections, and the
+/// outage intervals of the sections S1 to S5 afterwards. There are two numbers of searches: on a
+/// timeline that finds outage intervals from scratch (`Scratch`), and on one that finds them in
+/// windows (`Windowed`). The window of a change is the seconds in which the change can alter the
+/// supply.
+pub fn alter(rt: &impl Abort, alloc: Global, days: &Days, cases: &str) -> Result<(), Fail> {
+    for case in cases.lines() {
+        alter_one(rt, alloc, days, case)?;
     }
     Ok(())
 }
