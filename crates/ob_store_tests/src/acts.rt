@@ -3,7 +3,7 @@ use crate::books::{OUTAGE_BOOK, TWO_FEEDERS_BOOK};
 use crate::scripts::{
     CORRECTED, JOINS_IN_OUTAGE, OUTAGE, PARTS_JOIN, REFUSED, TIE_STAYS, WITHDRAWN,
 };
-use crate::steps::{Step, leave, tell};
+use crate::steps::{Step, Story, leave, tell};
 use ob_net::Stop;
 
 // Scripts on the two feeders, one after another; the numbers of rows that they leave, and the total.
@@ -57,16 +57,20 @@ fn commands_and_what_they_leave(rt: HostRuntime) -> Result<(), Stop> {
 }
 
 // The stored replies after the outage and its correction.
-const REPLIES: &[Step] = &[
-    Step::Tell(CORRECTED),
-    Step::Reply(0, "none"),
-    Step::Reply(1, "1"),
-    Step::Reply(22, "22: cause 3 414000, feeder 1 414000, day 0 414000"),
-    Step::Reply(26, "26: cause 3 -1200, feeder 1 -1200, day 0 -1200"),
-    Step::Reply(27, "none"),
-];
+const REPLIES: Story = Story {
+    book: OUTAGE_BOOK,
+    cases: &[&[
+        Step::Tell(CORRECTED),
+        Step::Reply(0, "none"),
+        Step::Reply(1, "1"),
+        Step::Reply(22, "22: cause 3 414000, feeder 1 414000, day 0 414000"),
+        Step::Reply(26, "26: cause 3 -1200, feeder 1 -1200, day 0 -1200"),
+        Step::Reply(27, "none"),
+    ]],
+    then: &[],
+};
 
 #[test]
 fn stored_replies(rt: HostRuntime) -> Result<(), Stop> {
-    tell(&rt, rt.alloc(), &[OUTAGE_BOOK, REPLIES])
+    tell(&rt, rt.alloc(), REPLIES)
 }

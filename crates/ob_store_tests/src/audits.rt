@@ -2,7 +2,7 @@
 //! loaded.
 use crate::books::MARKED_BOOK;
 use crate::office::{BAD_BOOK, OLD_VERSION};
-use crate::steps::{Step, spoil, tell};
+use crate::steps::{Step, Story, spoil, tell};
 use ob_net::Stop;
 
 // After such a change no book is loaded.
@@ -114,22 +114,26 @@ fn tables_of_version_one(rt: HostRuntime) -> Result<(), Stop> {
 }
 
 // Databases with nothing or something else in them hold no book.
-const NONE: &[Step] = &[
-    Step::Audit("BadBook"),
-    Step::Load(BAD_BOOK),
-    Step::Has(false),
-    Step::Change("CREATE TABLE note (id INTEGER PRIMARY KEY) STRICT"),
-    Step::Audit("BadBook"),
-    Step::Load(BAD_BOOK),
-    Step::Has(false),
-    Step::Open,
-    Step::Change("CREATE TABLE meta (id INTEGER PRIMARY KEY) STRICT"),
-    Step::Audit("BadBook"),
-    Step::Load(BAD_BOOK),
-    Step::Has(false),
-];
+const NONE: Story = Story {
+    book: &[],
+    cases: &[&[
+        Step::Audit("BadBook"),
+        Step::Load(BAD_BOOK),
+        Step::Has(false),
+        Step::Change("CREATE TABLE note (id INTEGER PRIMARY KEY) STRICT"),
+        Step::Audit("BadBook"),
+        Step::Load(BAD_BOOK),
+        Step::Has(false),
+        Step::Open,
+        Step::Change("CREATE TABLE meta (id INTEGER PRIMARY KEY) STRICT"),
+        Step::Audit("BadBook"),
+        Step::Load(BAD_BOOK),
+        Step::Has(false),
+    ]],
+    then: &[],
+};
 
 #[test]
 fn databases_of_something_else(rt: HostRuntime) -> Result<(), Stop> {
-    tell(&rt, rt.alloc(), &[NONE])
+    tell(&rt, rt.alloc(), NONE)
 }

@@ -4,7 +4,7 @@ use crate::books::OUTAGE_BOOK;
 use crate::office::{BAD_BOOK, NO_OLD_BOOK, OLD_VERSION};
 use crate::old::TO_VERSION_ONE;
 use crate::scripts::{CORRECTED, JOINS_IN_OUTAGE, OUTAGE, TWO_FEEDERS};
-use crate::steps::{NEW, Step, spoil, tell};
+use crate::steps::{NEW, Step, Story, spoil, tell};
 use ob_net::Stop;
 
 // The tables of the outage become those of a book of version 1, which can't be loaded. They are
@@ -23,14 +23,18 @@ const MIGRATED: &[Step] = &[
 ];
 
 // Notes what the outage leaves in version 2; then a book with it is created over another database.
-const OF_TODAY: &[Step] = &[
-    Step::Note,
-    Step::NoteRows,
-    Step::Open,
-    NEW,
-    Step::Tell(TWO_FEEDERS),
-    Step::Tell(OUTAGE),
-];
+const OF_TODAY: Story = Story {
+    book: OUTAGE_BOOK,
+    cases: &[&[
+        Step::Note,
+        Step::NoteRows,
+        Step::Open,
+        NEW,
+        Step::Tell(TWO_FEEDERS),
+        Step::Tell(OUTAGE),
+    ]],
+    then: AS_TODAY,
+};
 
 // A migration of its tables of version 1 gives, row by row, the tables that the outage leaves in
 // version 2. They hold its book: what it shows, its replies, and a life without bounds for each
@@ -50,7 +54,7 @@ const AS_TODAY: &[Step] = &[
 
 #[test]
 fn the_outage_of_version_one(rt: HostRuntime) -> Result<(), Stop> {
-    tell(&rt, rt.alloc(), &[OUTAGE_BOOK, OF_TODAY, AS_TODAY])
+    tell(&rt, rt.alloc(), OF_TODAY)
 }
 
 // A device's command is known under its reference, another command is not that one, and from then
@@ -61,47 +65,52 @@ N7 device I1 GRID BUS-A closed 0 1704153600 => no: 11 RefConflict 7
 N22 switch B1 open 1704070800 3 K1 => 22: cause 3 414000, feeder 1 414000, day 0 414000
 ";
 
-const AFTER_A_MIGRATION: &[&[Step]] = &[
-    // A correction.
-    &[
-        Step::Load(Ok(())),
-        Step::Tell(AGAIN),
-        Step::Tell(CORRECTED),
-        Step::Audit("none"),
-        Step::Leave(&[1, 3, 5, 5, 5, 10, 4, 0, 26, 12, 320], 7_800),
+const AFTER_A_MIGRATION: Story = Story {
+    book: MIGRATED,
+    cases: &[
+        // A correction.
+        &[
+            Step::Load(Ok(())),
+            Step::Tell(AGAIN),
+            Step::Tell(CORRECTED),
+            Step::Audit("none"),
+            Step::Leave(&[1, 3, 5, 5, 5, 10, 4, 0, 26, 12, 320], 7_800),
+        ],
+        // A new device.
+        &[
+            Step::Load(Ok(())),
+            Step::Tell(AGAIN),
+            Step::Tell(JOINS_IN_OUTAGE),
+            Step::Audit("none"),
+            Step::Leave(&[1, 3, 5, 6, 6, 10, 4, 0, 26, 12, 320], 4_600),
+        ],
     ],
-    // A new device.
-    &[
-        Step::Load(Ok(())),
-        Step::Tell(AGAIN),
-        Step::Tell(JOINS_IN_OUTAGE),
-        Step::Audit("none"),
-        Step::Leave(&[1, 3, 5, 6, 6, 10, 4, 0, 26, 12, 320], 4_600),
-    ],
-];
+    then: &[],
+};
 
 #[test]
 fn commands_of_a_migrated_book(rt: HostRuntime) -> Result<(), Stop> {
-    for case in AFTER_A_MIGRATION {
-        tell(&rt, rt.alloc(), &[MIGRATED, *case])?;
-    }
-    Ok(())
+    tell(&rt, rt.alloc(), AFTER_A_MIGRATION)
 }
 
 // A book of version 2 stays, in the tables and in memory.
-const OF_VERSION_TWO: &[Step] = &[
-    Step::Note,
-    Step::Migrate(Ok(false)),
-    Step::Same,
-    Step::NoteRows,
-    Step::Migrate(Ok(false)),
-    Step::Has(false),
-    Step::SameRows,
-];
+const OF_VERSION_TWO: Story = Story {
+    book: OUTAGE_BOOK,
+    cases: &[&[
+        Step::Note,
+        Step::Migrate(Ok(false)),
+        Step::Same,
+        Step::NoteRows,
+        Step::Migrate(Ok(false)),
+        Step::Has(false),
+        Step::SameRows,
+    ]],
+    then: &[],
+};
 
 #[test]
 fn a_book_of_today(rt: HostRuntime) -> Result<(), Stop> {
-    tell(&rt, rt.alloc(), &[OUTAGE_BOOK, OF_VERSION_TWO])
+    tell(&rt, rt.alloc(), OF_VERSION_TWO)
 }
 
 // The tables aren't those of a book of version 1, and stay as they are, row by row.
@@ -198,18 +207,22 @@ fn other_tables(rt: HostRuntime) -> Result<(), Stop> {
 
 // Commands that version 1 didn't accept after a switching, or at all, and that version 2 accepts. A
 // device's body text is changed to the old form.
-const LATER_PARTS: &[&[Step]] = &[
-    &[Step::Tell("N26 bus BUS-B => 26")],
-    &[Step::Tell("N26 section S9 9 => 26")],
-    &[
-        Step::Tell("N26 device X1 BUS-A S3 closed 0 - => 26"),
-        Step::Change("UPDATE cmd SET body = 'device X1 BUS-A S3 closed' WHERE id = 26"),
+const LATER_PARTS: Story = Story {
+    book: OUTAGE_BOOK,
+    cases: &[
+        &[Step::Tell("N26 bus BUS-B => 26")],
+        &[Step::Tell("N26 section S9 9 => 26")],
+        &[
+            Step::Tell("N26 device X1 BUS-A S3 closed 0 - => 26"),
+            Step::Change("UPDATE cmd SET body = 'device X1 BUS-A S3 closed' WHERE id = 26"),
+        ],
+        &[Step::Tell("N26 life T1 0 - => 26")],
+        &[Step::Tell(
+            "N26 withdraw 3 1 => 26: cause 3 246600, feeder 1 246600, day 0 246600\nN27 bus BUS-B => 27",
+        )],
     ],
-    &[Step::Tell("N26 life T1 0 - => 26")],
-    &[Step::Tell(
-        "N26 withdraw 3 1 => 26: cause 3 246600, feeder 1 246600, day 0 246600\nN27 bus BUS-B => 27",
-    )],
-];
+    then: OLD_LEFT,
+};
 
 // The tables become those of version 1, and the migration leaves them as they are.
 const OLD_LEFT: &[Step] = &[
@@ -222,70 +235,73 @@ const OLD_LEFT: &[Step] = &[
 
 #[test]
 fn parts_behind_a_switching(rt: HostRuntime) -> Result<(), Stop> {
-    for case in LATER_PARTS {
-        tell(&rt, rt.alloc(), &[OUTAGE_BOOK, *case, OLD_LEFT])?;
-    }
-    Ok(())
+    tell(&rt, rt.alloc(), LATER_PARTS)
 }
 
 // Version 1 over the tables of version 2, and version 2 over the ten tables of version 1. The
 // migration takes the latter for tables of version 2, and they hold no book.
-const OTHER_VERSIONS: &[&[Step]] = &[
-    &[
-        Step::Change("UPDATE meta SET version = 1"),
-        Step::NoteRows,
-        Step::Migrate(NO_OLD_BOOK),
-        Step::Has(false),
-        Step::SameRows,
+const OTHER_VERSIONS: Story = Story {
+    book: OUTAGE_BOOK,
+    cases: &[
+        &[
+            Step::Change("UPDATE meta SET version = 1"),
+            Step::NoteRows,
+            Step::Migrate(NO_OLD_BOOK),
+            Step::Has(false),
+            Step::SameRows,
+        ],
+        &[
+            Step::Change(TO_VERSION_ONE),
+            Step::Change("UPDATE meta SET version = 2"),
+            Step::NoteRows,
+            Step::Migrate(Ok(false)),
+            Step::Has(false),
+            Step::SameRows,
+            Step::Load(BAD_BOOK),
+            Step::Audit("BadBook"),
+        ],
     ],
-    &[
-        Step::Change(TO_VERSION_ONE),
-        Step::Change("UPDATE meta SET version = 2"),
-        Step::NoteRows,
-        Step::Migrate(Ok(false)),
-        Step::Has(false),
-        Step::SameRows,
-        Step::Load(BAD_BOOK),
-        Step::Audit("BadBook"),
-    ],
-];
+    then: &[],
+};
 
 #[test]
 fn another_number_in_the_heading(rt: HostRuntime) -> Result<(), Stop> {
-    for case in OTHER_VERSIONS {
-        tell(&rt, rt.alloc(), &[OUTAGE_BOOK, *case])?;
-    }
-    Ok(())
+    tell(&rt, rt.alloc(), OTHER_VERSIONS)
 }
 
 // Databases with nothing or something else in them.
-const SOMETHING_ELSE: &[&[Step]] = &[
-    &[],
-    &[Step::Change("CREATE TABLE note (id INTEGER PRIMARY KEY) STRICT")],
-    &[Step::Change("CREATE TABLE meta (id INTEGER PRIMARY KEY) STRICT")],
-];
+const SOMETHING_ELSE: Story = Story {
+    book: &[],
+    cases: &[
+        &[],
+        &[Step::Change("CREATE TABLE note (id INTEGER PRIMARY KEY) STRICT")],
+        &[Step::Change("CREATE TABLE meta (id INTEGER PRIMARY KEY) STRICT")],
+    ],
+    then: LEFT,
+};
 
 #[test]
 fn databases_of_something_else(rt: HostRuntime) -> Result<(), Stop> {
-    for case in SOMETHING_ELSE {
-        tell(&rt, rt.alloc(), &[*case, LEFT])?;
-    }
-    Ok(())
+    tell(&rt, rt.alloc(), SOMETHING_ELSE)
 }
 
 // A book of version 1 with only its period.
-const BEGUN: &[Step] = &[
-    NEW,
-    Step::NoteRows,
-    Step::Change("DROP TABLE life; UPDATE meta SET version = 1"),
-    Step::Migrate(Ok(true)),
-    Step::Has(false),
-    Step::Migrate(Ok(false)),
-    Step::SameRows,
-    Step::Load(Ok(())),
-];
+const BEGUN: Story = Story {
+    book: &[],
+    cases: &[&[
+        NEW,
+        Step::NoteRows,
+        Step::Change("DROP TABLE life; UPDATE meta SET version = 1"),
+        Step::Migrate(Ok(true)),
+        Step::Has(false),
+        Step::Migrate(Ok(false)),
+        Step::SameRows,
+        Step::Load(Ok(())),
+    ]],
+    then: &[],
+};
 
 #[test]
 fn a_book_without_commands(rt: HostRuntime) -> Result<(), Stop> {
-    tell(&rt, rt.alloc(), &[BEGUN])
+    tell(&rt, rt.alloc(), BEGUN)
 }

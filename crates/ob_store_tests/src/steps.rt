@@ -66,10 +66,22 @@ impl Noted {
     }
 }
 
-/// Checks steps, one part after another, with a `Keeper` over an empty store in memory. The message
-/// about a failed step has the text of the last script or change of the tables in the parts.
-pub fn tell(rt: &impl Abort, alloc: Global, parts: &[&[Step]]) -> Result<(), Stop> {
-    is_told::<InMemory>(rt, alloc, title_of(parts), parts)
+/// Several cases, each for a `Keeper` of its own over an empty store in memory: first the steps of
+/// a book, then those of the case, then those that follow each case.
+#[derive(Clone, Copy)]
+pub struct Story {
+    pub book: &'static [Step],
+    pub cases: &'static [&'static [Step]],
+    pub then: &'static [Step],
+}
+
+/// Checks each case of a story. The message about a failed step has the text of the last script or
+/// change of the tables in the case.
+pub fn tell(rt: &impl Abort, alloc: Global, story: Story) -> Result<(), Stop> {
+    for case in story.cases {
+        is_told::<InMemory>(rt, alloc, title_of(case), &[story.book, *case, story.then])?;
+    }
+    Ok(())
 }
 
 /// Checks each line of a text, a change of the tables of a book and, after ` => `, the answer to an
@@ -123,24 +135,15 @@ fn left<O: Office>(
     Ok(())
 }
 
-fn title_of(parts: &[&[Step]]) -> &'static str {
+fn title_of(case: &[Step]) -> &'static str {
     let mut title = "";
-    for steps in parts {
-        title = last_text(steps).unwrap_or(title);
-    }
-    title
-}
-
-// The text of the last script or change of the tables in some steps.
-fn last_text(steps: &[Step]) -> Option<&'static str> {
-    let mut last = None;
-    for step in steps {
+    for step in case {
         match step {
-            Step::Change(text) | Step::Tell(text) => last = Some(*text),
+            Step::Change(text) | Step::Tell(text) => title = *text,
             _ => {}
         }
     }
-    last
+    title
 }
 
 // Checks steps, one part after another, with a `Keeper` over an empty store.
