@@ -2,36 +2,35 @@
 
     python3 oracle/compare.py [--seeds N] [--program FILE]
 
-For each text: `init`, `import`, and the same import again; `table`, `export`, `audit`; and every row of the eleven tables.
-All that is printed, the messages and the statuses have to be the model's. It ends with status 1 at the first
-difference; the text is then bench-data/difference.csv.
+For each text: `init`, `import`, and the same import again; `table`, `export`, `audit`; every row of the eleven tables;
+and `total`, of the network, the customers and the entries that the book has in the end. Then the same books served
+(compare_streams.py), and books of version 1 (compare_old.py). All that is printed, the messages and the statuses have to
+be the model's. It ends with status 1 at the first difference; the text is then bench-data/difference.csv.
 """
 
 import argparse
-import os
 import subprocess
 import sys
 import tempfile
 from collections.abc import Callable, Iterator
 from pathlib import Path
 
-from commands import RowRefusal
-from make_commands import period_of, text_of
-from model import Book, first_difference
+import compare_old
+import compare_streams
+from commands import HEADER, RowRefusal
+from make_commands import old_text_of, period_of, text_of
+from model import Book, first_difference, total_of
+from over_program import CREATED, PROGRAM, ROOT, SOUND, Difference, OneBook, PeriodWords, Said, first_of
 from state import Period
 
-ROOT = Path(__file__).resolve().parent.parent
-PROGRAM = Path(os.environ.get("OUTAGEBOOK", ROOT / "crates/outagebook/out/outagebook"))
+# What benches/ and tests/ take from here.
+__all__ = ["DATA", "EXAMPLES", "FORTNIGHT", "PROGRAM", "Difference", "PeriodWords", "compare", "said_of", "texts"]
+
 DATA = ROOT / "bench-data"
 EXAMPLES = ROOT / "examples/fortnight"
 FORTNIGHT = ("2025-03-24", 14, "CET-1CEST,M3.5.0,M10.5.0/3")
 FEEDER = ROOT / "examples/ieee/feeder.csv"  # the worked example of IEEE Std 1366
 FEEDER_YEAR = ("2025-01-01", 365, "EST5EDT,M3.2.0,M11.1.0")
-
-
-PeriodWords = tuple[str, int, str]  # first day, days, zone
-Said = tuple[str, str, int]  # printed, told on standard error, status
-Difference = tuple[str, object, object]  # a job or a table, what was wanted and what was found
 
 
 def said_of(added: int, again: int, refusal: RowRefusal | None) -> Said:
@@ -49,32 +48,47 @@ def wanted_of(book: Book, data: bytes) -> dict[str, object]:
         "table": (lines[0], "", 0),
         "export": (f"rows {len(book.moves)}\n", "", 0),
         "moves": lines[1],
-        "audit": ("audit ok\n", "", 0),
+        "audit": SOUND,
     }
 
 
-def found_of(program: str | Path, folder: str, period: PeriodWords, data: bytes) -> dict[str, object]:
+def found_of(book: OneBook, period: PeriodWords, data: bytes) -> dict[str, object]:
     """What the program answers, job by job."""
-    first, days, zone = period
-    book, text, moves = (str(Path(folder) / name) for name in ["book.db", "text.csv", "moves.csv"])
-    Path(text).write_bytes(data)
-
-    def run(word: str, *rest: str) -> Said:
-        done = subprocess.run([program, word, "--book", book, *rest], capture_output=True, text=True)
-        return done.stdout, done.stderr, done.returncode
-
-    created = run("init", "--first", first, "--days", str(days), "--zone", zone)
-    if created != ("created\n", "", 0):
+    created = book.create(period)
+    if created != CREATED:
         return {"import": created}
-    found: dict[str, object] = {
-        "import": run("import", text),
-        "second import": run("import", text),
-        "table": run("table"),
-    }
-    found["export"] = run("export", moves)
-    found["moves"] = Path(moves).read_text() if Path(moves).exists() else None
-    found["audit"] = run("audit")
+    moves = book.book.with_name("moves.csv")
+    found: dict[str, object] = {"import": book.take(data), "second import": book.take(data), "table": book.run("table")}
+    found["export"] = book.run("export", str(moves))
+    found["moves"] = moves.read_text() if moves.exists() else None
+    found["audit"] = book.run("audit")
     return found
+
+
+def total_text(book: Book) -> bytes:
+    """The text of which `total` counts the customer-seconds of a book: its parts, customers and entries of now."""
+    rows: list[list[object]] = [["span", "X", book.period.first, book.period.end]]
+    for name, feeder in [*book.feeders.items()][1:]:
+        rows.append(["bus", "X", name] if feeder is None else ["section", "X", name, feeder])
+    for device in book.devices.values():
+        until = "" if device.until == "-" else device.until
+        rows.append(["device", "X", device.name, *device.ends, device.normal, device.since, until])
+    for number, (section, since, end) in book.customers.items():
+        rows.append(["connect", "X", number, section, since, "" if end == "-" else end])
+    for entry in book.entries:
+        act = "close" if entry.position == "closed" else "open"
+        if entry.is_kept:
+            rows.append(["switch", "X", entry.device, act, entry.second, entry.cause, entry.crew])
+    lines = [",".join(map(str, row)) + "," * (8 - len(row)) for row in rows]
+    return "\n".join([",".join(HEADER), *lines]).encode()
+
+
+def total_difference(program: str | Path, book: Book) -> Difference | None:
+    """What `total` finds of a book, where that isn't the sum of its amounts; it takes spans of less than 2^25 seconds."""
+    wanted: Said = (f"W {total_of(book.amounts(), 1)}\n", "", 0)
+    done = subprocess.run([program, "total"], input=total_text(book), capture_output=True)
+    found = done.stdout.decode(), done.stderr.decode(), done.returncode
+    return ("total", wanted, found) if found != wanted else None
 
 
 def difference(program: str | Path, period: PeriodWords, data: bytes) -> Difference | None:
@@ -82,12 +96,11 @@ def difference(program: str | Path, period: PeriodWords, data: bytes) -> Differe
     book = Book(Period(*period))
     wanted = wanted_of(book, data)
     with tempfile.TemporaryDirectory() as folder:
-        found = found_of(program, folder, period, data)
-        for job, answer in wanted.items():
-            if found.get(job) != answer:
-                return job, answer, found.get(job)
-        table = first_difference(book, f"{folder}/book.db")
-    return (f"table {table}", None, None) if table else None
+        over = OneBook(program, folder)
+        if found := first_of(wanted, found_of(over, period, data)):
+            return found
+        table = first_difference(book, over.book)
+    return (f"table {table}", None, None) if table else total_difference(program, book)
 
 
 def texts(seeds: int) -> Iterator[tuple[str, PeriodWords, bytes]]:
@@ -116,12 +129,37 @@ def compare(seeds: int, difference_of: Callable[[PeriodWords, bytes], Difference
     return 0
 
 
+def others(program: str | Path, seeds: int) -> Iterator[tuple[str, Difference | None]]:
+    """The name of each book that is served or was of version 1, and how it differs."""
+    for sql, name, period in compare_old.OLD_FILES:
+        yield f"{sql}", compare_old.old_file_difference(program, sql, name, period)
+    for seed in range(1, seeds + 1):
+        yield f"seed {seed}, served", compare_streams.difference(program, seed)
+        period = period_of(seed)
+        yield f"seed {seed} of version 1", compare_old.difference(program, period, old_text_of(seed))
+        if seed % 4 == 0:
+            yield f"seed {seed}, made one of version 1", compare_old.difference(program, period, text_of(seed))
+
+
+def compare_others(program: str | Path, seeds: int) -> int:
+    """Compares these up to the first difference, which it prints; answers the status to end with."""
+    count = 0
+    for name, found in others(program, seeds):
+        if found:
+            print(f"{name}: {found[0]}\nwanted {found[1]!r}\nfound {found[2]!r}")
+            return 1
+        count += 1
+    print(f"{count} books that are served or of version 1 are those of the model")
+    return 0
+
+
 def main() -> int:
     parser = argparse.ArgumentParser(description="Compares the program with the plain model.")
     parser.add_argument("--seeds", type=int, default=200, help="how many random books (200)")
     parser.add_argument("--program", default=PROGRAM, help="the program (that of crates/outagebook)")
     words = parser.parse_args()
-    return compare(words.seeds, lambda period, data: difference(words.program, period, data))
+    status = compare(words.seeds, lambda period, data: difference(words.program, period, data))
+    return status or compare_others(words.program, words.seeds)
 
 
 if __name__ == "__main__":

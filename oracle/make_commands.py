@@ -7,7 +7,8 @@ Meshed networks, devices side by side, parts that come after customers and after
 the period, at its bounds or outside, lives that are set anew, switchings outside them, several switchings in one second
 and at the period's first and last one, also where a life begins or ends, switchings that change nothing, days of 23 and
 25 hours, midnights that don't come or come twice, entries in any order of their seconds, corrections and withdrawals,
-marks, rows that are sent again in another spelling. The last row of every third text is refused.
+marks, rows that are sent again in another spelling. The last row of every third text is refused. `calls_of` has the
+commands of such a book one by one, most of the refused ones among them, and `old_text_of` a book of version 1.
 """
 
 import argparse
@@ -15,8 +16,8 @@ import random
 from collections.abc import Iterator
 from datetime import datetime, timedelta, timezone
 
-from commands import HEADER, Refusal, Value
-from state import Period, State
+from commands import HEADER, Refusal, Value, body_text, read_row
+from state import Period, State, is_old
 
 PERIODS = [
     ("2024-01-01", "UTC0"),
@@ -57,12 +58,19 @@ class Accepted(State):
 
 
 class Text:
-    """The rows of a text, drawn one after another; those that would be refused are left out."""
+    """The rows of a text, drawn one after another; those that would be refused are left out.
 
-    def __init__(self, seed: int) -> None:
+    `calls` has the refused ones too, and between the rows some that nearly every state refuses, and some that change what
+    was said before. A text of version 1 has the rows alone that this version accepted.
+    """
+
+    def __init__(self, seed: int, is_of_version_1: bool = False) -> None:
         self.rng = random.Random(f"commands {seed}")
+        self.calls_rng = random.Random(f"calls {seed}")
+        self.is_of_version_1 = is_of_version_1
         self.state = Accepted(Period(*period_of(seed)))
         self.rows: list[list[str]] = []
+        self.calls: list[list[str]] = []
         self.draw_parts()
         self.draw_sheet()
         if seed % 3 == 0:
@@ -72,6 +80,9 @@ class Text:
         """Adds a row where it is accepted; some are sent again later."""
         row = [kind, f"R-{self.state.accepted() + 1}", *map(str, fields)]
         row += [""] * (8 - len(row))
+        if self.is_of_version_1 and not self.is_old_row(row):
+            return
+        self.calls.append(row)
         try:
             self.state.act(row)
         except Refusal:
@@ -80,6 +91,19 @@ class Text:
         self.rows.append(row)
         if self.rng.random() < 0.05:
             self.rows.append(self.spelled_anew(self.rng.choice(self.rows)))
+            self.calls.append(self.rows[-1])
+        if self.calls_rng.random() < 0.3:
+            self.calls.append(self.refused_row(self.calls_rng))
+        if self.calls_rng.random() < 0.2:
+            self.calls.append(self.other_row(self.calls_rng))
+
+    def is_old_row(self, row: list[str]) -> bool:
+        """Whether version 1 had the command of a row."""
+        try:
+            _, kind, values = read_row(row)
+        except Refusal:
+            return True
+        return is_old(body_text(kind, values), bool(self.state.entries))
 
     def spelled_anew(self, row: list[str]) -> list[str]:
         """The same command in another spelling: moments with another offset, zeros before numbers."""
@@ -222,15 +246,30 @@ class Text:
 
     def draw_refused(self) -> None:
         """A last row that is refused, but for chance."""
-        rng = self.rng
+        self.rows.append(self.refused_row(self.rng))
+
+    def refused_row(self, rng: random.Random) -> list[str]:
+        """A row that is refused, but for chance."""
         if rng.random() < 0.3:
             row = list(rng.choice(self.rows))
             row[rng.randrange(8)] = rng.choice(["*", " ", "a", "100000000000"])
-        else:
-            kind, *fields = map(str, rng.choice(list(self.refused_commands())))
-            row = [kind, rng.choice(["R-1", "X", "X", "X"]), *fields]
-            row += [""] * (8 - len(row))
-        self.rows.append(row)
+            return row
+        kind, *fields = map(str, rng.choice(list(self.refused_commands())))
+        row = [kind, rng.choice(["R-1", "X", "X", "X"]), *fields]
+        return row + [""] * (8 - len(row))
+
+    def other_row(self, rng: random.Random) -> list[str]:
+        """A row of what is seldom in a text: a day marked or unmarked, a service or an entry changed once more."""
+        state, period = self.state, self.state.period
+        day, since = rng.choice(period.days[:-1]), rng.randrange(period.first, period.end)
+        commands: list[tuple[object, ...]] = [("mark", day, "ENG-9"), ("unmark", day, "ENG-9")]
+        for number in list(state.customers)[-2:]:
+            commands.append(("revise", number, since, rng.choice(["", since + rng.randint(1, 100_000)])))
+        for number, entry in list(enumerate(state.entries, 1))[-2:]:
+            commands.append(("withdraw", number, entry.revision))
+        kind, *fields = map(str, rng.choice(commands))
+        row = [kind, f"E-{len(self.calls)}", *fields]
+        return row + [""] * (8 - len(row))
 
     def refused_commands(self) -> Iterator[tuple[object, ...]]:
         """Commands that most states refuse, each for another reason."""
@@ -282,6 +321,16 @@ class Text:
 def text_of(seed: int) -> bytes:
     """The bytes of a seed's text."""
     return Text(seed).data()
+
+
+def calls_of(seed: int) -> list[list[str]]:
+    """The commands of a seed's book in the order in which they are sent, with those that are refused or sent again."""
+    return Text(seed).calls
+
+
+def old_text_of(seed: int) -> bytes:
+    """The bytes of a seed's text whose rows version 1 accepted too, but for a last one that is refused."""
+    return Text(seed, is_of_version_1=True).data()
 
 
 def main() -> None:

@@ -259,6 +259,14 @@ class State(ABC):
         del self.marks[self.day_said(day)]
 
 
+def is_old(body: str, has_entries: bool) -> bool:
+    """Whether version 1 had a command: no life, each device in service for ever, no part once there is an entry."""
+    kind, *fields = body.split()
+    if kind == "life" or (kind == "device" and fields[4:] != ["0", "-"]):
+        return False
+    return kind not in ["bus", "section", "device"] or not has_entries
+
+
 def refuse_if(condition: bool, number: int, detail: int | None = None) -> None:
     if condition:
         raise Refusal(number, detail)

@@ -8,16 +8,18 @@ are on S1, three on S2, five on S3.
 """
 
 import contextlib
-import re
 import sqlite3
 import subprocess
 import sys
 import unittest
+from collections import Counter
 from fractions import Fraction
 from pathlib import Path
 
-from commands import KINDS, Refusal, RowRefusal, read_date, read_row, read_second
+from commands import KINDS, NAMES, Refusal, RowRefusal, read_date, read_row, read_second
 from compare import FEEDER, FEEDER_YEAR
+from compare_old import OLD_FILES, book_of_file, was_old
+from make_commands import calls_of, old_text_of, period_of
 from model import Book, quotient, quotient_text
 from state import Period, midnight_of
 
@@ -383,34 +385,53 @@ class Examples(unittest.TestCase):
         ]
         self.assertEqual(shown, ["86.11", "53.57", "0.999836"])
 
-    def test_texts_of_the_tests(self) -> None:
-        """The crates' tests have the files of the sample fortnight as they stand in `examples/fortnight/`."""
-        root = Path(__file__).resolve().parent.parent
-        sources = [root / f"crates/ob_office_tests/src/fortnight_{name}.rt" for name in ["texts", "moves"]]
-        source = "".join(file.read_text(encoding="ascii") for file in sources)
-        for name in ["fortnight", "corrections"]:
-            for file in [f"{name}.{end}" for end in ["csv", "table.txt", "moves.csv"]]:
-                text = (root / "examples/fortnight" / file).read_text(encoding="ascii")
-                self.assertIn(f'"\\\n{text}";', source, file)
-        source = (root / "crates/ob_office_tests/src/old_fortnight.rt").read_text(encoding="ascii")
-        source = re.sub(r" \\\n +", " ", source)
-        for file in ["version-1.sql", "version-1.table.txt"]:
-            text = (root / "examples/fortnight" / file).read_text(encoding="ascii")
-            self.assertIn(f'"\\\n{text}";', source, file)
+    def test_files_of_version_1(self) -> None:
+        """Books as the program of version 1 left them: their commands have their tables and their moves."""
+        for sql, name, period in OLD_FILES:
+            with contextlib.closing(sqlite3.connect(":memory:")) as database:
+                database.executescript(sql.read_text(encoding="ascii"))
+                moves = database.execute("SELECT cmd, dim, k, delta FROM moved ORDER BY cmd, dim, k").fetchall()
+            book = book_of_file(sql, period)
+            table = sql.with_name(f"{name}.table.txt").read_text(encoding="ascii")
+            self.assertEqual("".join(f"{line}\n" for line in book.table_lines()), table)
+            self.assertEqual(sorted(book.moves), moves)
+            self.assertTrue(was_old(book))
 
-    def test_file_of_version_1(self) -> None:
-        """The fortnight as the program of version 1 left it: its commands have its table and its moves."""
-        examples = Path(__file__).resolve().parent.parent / "examples/fortnight"
-        with contextlib.closing(sqlite3.connect(":memory:")) as database:
-            database.executescript((examples / "version-1.sql").read_text(encoding="ascii"))
-            commands = database.execute("SELECT body, ref FROM cmd ORDER BY id").fetchall()
-            moves = database.execute("SELECT cmd, dim, k, delta FROM moved ORDER BY cmd, dim, k").fetchall()
-        book = Book(Period("2025-03-24", 14, "CET-1CEST,M3.5.0,M10.5.0/3"))
-        for number, (body, ref) in enumerate(commands, 1):
-            self.assertEqual(book.act(row_of(body.removesuffix(" -"), ref)), number)
-        table = (examples / "version-1.table.txt").read_text(encoding="ascii")
-        self.assertEqual("".join(f"{line}\n" for line in book.table_lines()), table)
-        self.assertEqual(sorted(book.moves), moves)
+    def test_rows_of_version_1_again(self) -> None:
+        """The rows of a book of version 1 are its commands, also with a life that was always; with another they aren't."""
+        sql, name, period = OLD_FILES[0]
+        book = book_of_file(sql, period)
+        self.assertEqual(book.import_text(sql.with_name(f"{name}.csv").read_bytes()), (0, 24, None))
+        rows = "device,A5,I1,GRID,BUS-A,closed,0,\ndevice,A6,B1,BUS-A,S1,closed,1970-01-01T00:00:00Z,\n"
+        self.assertEqual(book.import_text((HEADER + rows).encode()), (0, 2, None))
+        with self.assertRaises(Refusal) as raised:
+            book.act(["device", "A6", "B1", "BUS-A", "S1", "closed", "1704067200", ""])
+        self.assertEqual((raised.exception.number, raised.exception.detail), (11, 6))
+        book.act(["life", "L1", "T1", "", "1704240000", "", "", ""])
+        self.assertFalse(was_old(book))
+
+    def test_what_the_random_books_show(self) -> None:
+        """The calls of 200 seeds: every kind is accepted, every refusal given, and many come again or move something."""
+        kinds, refused, again, moving, others = Counter[str](), Counter[int](), 0, 0, 0
+        for seed in range(1, 201):
+            book = Book(Period(*period_of(seed)), keeps_moves=seed <= 20)
+            for row in calls_of(seed):
+                try:
+                    if book.act(row) is None:
+                        again += 1
+                    else:
+                        kinds[row[0]] += 1
+                except Refusal as refusal:
+                    refused[refusal.number] += 1
+            moving += len({move[0] for move in book.moves})
+            old = Book(Period(*period_of(seed)), keeps_moves=False)
+            old.import_text(old_text_of(seed))
+            others += was_old(old)
+        self.assertEqual(set(kinds), set(KINDS))
+        self.assertEqual(set(refused), set(NAMES) - {12})
+        self.assertGreater(min(*kinds.values(), *refused.values(), again), 20)
+        self.assertGreater(moving, 60)
+        self.assertGreater(others, 180)
 
 
 class Fields(unittest.TestCase):

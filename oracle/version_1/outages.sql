@@ -1,32 +1,20 @@
-//! A small book of version 1, made by the program of that version: the file that it left, and what
-//! it printed.
-
-/// The file, as text: three outages and a momentary one on two feeders with a tie, a correction and
-/// a marked day.
-pub const OUTAGES_FILE: &'static str = "\
-CREATE TABLE meta (id INTEGER PRIMARY KEY CHECK (id = 1), version INTEGER NOT NULL, day0 TEXT NOT NULL, days \
-    INTEGER NOT NULL, zone TEXT NOT NULL) STRICT;
+-- A small book of version 1: what the program of that version left in its file.
+CREATE TABLE meta (id INTEGER PRIMARY KEY CHECK (id = 1), version INTEGER NOT NULL, day0 TEXT NOT NULL, days INTEGER NOT NULL, zone TEXT NOT NULL) STRICT;
 INSERT INTO meta (id, version, day0, days, zone) VALUES
 (1, 1, '2024-01-01', 2, 'UTC0');
 CREATE TABLE cause (code INTEGER PRIMARY KEY, name TEXT NOT NULL UNIQUE) STRICT;
 INSERT INTO cause (code, name) VALUES
 (0, 'UNASSIGNED'), (3, 'STORM');
-CREATE TABLE node (id INTEGER PRIMARY KEY, name TEXT NOT NULL UNIQUE, kind INTEGER NOT NULL, feeder INTEGER NOT \
-    NULL) STRICT;
+CREATE TABLE node (id INTEGER PRIMARY KEY, name TEXT NOT NULL UNIQUE, kind INTEGER NOT NULL, feeder INTEGER NOT NULL) STRICT;
 INSERT INTO node (id, name, kind, feeder) VALUES
 (0, 'GRID', 0, 0), (1, 'BUS-A', 1, 0), (2, 'S1', 2, 1), (3, 'S2', 2, 2);
-CREATE TABLE device (id INTEGER PRIMARY KEY, name TEXT NOT NULL UNIQUE, a INTEGER NOT NULL REFERENCES node (id), \
-    b INTEGER NOT NULL REFERENCES node (id), normal INTEGER NOT NULL CHECK (normal >= 0 AND normal <= 1)) \
-    STRICT;
+CREATE TABLE device (id INTEGER PRIMARY KEY, name TEXT NOT NULL UNIQUE, a INTEGER NOT NULL REFERENCES node (id), b INTEGER NOT NULL REFERENCES node (id), normal INTEGER NOT NULL CHECK (normal >= 0 AND normal <= 1)) STRICT;
 INSERT INTO device (id, name, a, b, normal) VALUES
 (0, 'I1', 0, 1, 1), (1, 'B1', 1, 2, 1), (2, 'B2', 1, 3, 1), (3, 'T1', 2, 3, 0);
-CREATE TABLE customer (id INTEGER PRIMARY KEY, section INTEGER NOT NULL REFERENCES node (id), since INTEGER NOT \
-    NULL, until INTEGER) STRICT;
+CREATE TABLE customer (id INTEGER PRIMARY KEY, section INTEGER NOT NULL REFERENCES node (id), since INTEGER NOT NULL, until INTEGER) STRICT;
 INSERT INTO customer (id, section, since, until) VALUES
 (1, 2, 1704067200, NULL), (2, 2, 1704067200, NULL), (3, 3, 1704067200, NULL), (4, 3, 1704100000, 1704150000);
-CREATE TABLE entry (id INTEGER PRIMARY KEY, rev INTEGER NOT NULL, device INTEGER NOT NULL REFERENCES device \
-    (id), pos INTEGER NOT NULL CHECK (pos >= 0 AND pos <= 1), second INTEGER NOT NULL, cause INTEGER NOT NULL \
-    REFERENCES cause (code), crew TEXT NOT NULL, kept INTEGER NOT NULL CHECK (kept >= 0 AND kept <= 1)) STRICT;
+CREATE TABLE entry (id INTEGER PRIMARY KEY, rev INTEGER NOT NULL, device INTEGER NOT NULL REFERENCES device (id), pos INTEGER NOT NULL CHECK (pos >= 0 AND pos <= 1), second INTEGER NOT NULL, cause INTEGER NOT NULL REFERENCES cause (code), crew TEXT NOT NULL, kept INTEGER NOT NULL CHECK (kept >= 0 AND kept <= 1)) STRICT;
 INSERT INTO entry (id, rev, device, pos, second, cause, crew, kept) VALUES
 (1, 1, 1, 0, 1704070800, 3, 'K1', 1), (2, 2, 3, 1, 1704072000, 3, 'K1', 1), (3, 1, 3, 0, 1704074400, 3, 'K1', 1),
 (4, 1, 1, 1, 1704074400, 3, 'K1', 1), (5, 1, 2, 0, 1704110400, 3, 'K2', 1), (6, 1, 2, 1, 1704110520, 3, 'K2', 1),
@@ -48,8 +36,7 @@ INSERT INTO cmd (id, ref, body) VALUES
 (20, 'E8', 'switch I1 close 1704160800 3 K1'), (21, 'E9', 'switch B2 open 1704200000 3 K2'),
 (22, 'E10', 'switch B2 close 1704203600 3 K2'), (23, 'FIX1', 'correct 2 1 close 1704072000 3 K1'),
 (24, 'M1', 'mark 2024-01-02 E1');
-CREATE TABLE moved (cmd INTEGER NOT NULL REFERENCES cmd (id), dim INTEGER NOT NULL, k INTEGER NOT NULL, delta \
-    INTEGER NOT NULL CHECK (delta <> 0), PRIMARY KEY (cmd, dim, k)) STRICT;
+CREATE TABLE moved (cmd INTEGER NOT NULL REFERENCES cmd (id), dim INTEGER NOT NULL, k INTEGER NOT NULL, delta INTEGER NOT NULL CHECK (delta <> 0), PRIMARY KEY (cmd, dim, k)) STRICT;
 INSERT INTO moved (cmd, dim, k, delta) VALUES
 (13, 1, 3, 338400), (13, 2, 1, 338400), (13, 3, 0, 165600), (13, 3, 1, 172800), (14, 1, 3, -334800),
 (14, 2, 1, -334800), (14, 3, 0, -162000), (14, 3, 1, -172800), (15, 1, 3, 331200), (15, 2, 1, 331200),
@@ -60,8 +47,7 @@ INSERT INTO moved (cmd, dim, k, delta) VALUES
 (20, 2, 1, -158400), (20, 2, 2, -79200), (20, 3, 1, -237600), (21, 1, 3, 40000), (21, 2, 2, 40000),
 (21, 3, 1, 40000), (22, 1, 3, -36400), (22, 2, 2, -36400), (22, 3, 1, -36400), (23, 1, 3, -1200),
 (23, 2, 1, -1200), (23, 3, 0, -1200);
-CREATE TABLE posting (dim INTEGER NOT NULL, k INTEGER NOT NULL, amount INTEGER NOT NULL CHECK (amount >= 0), \
-    PRIMARY KEY (dim, k)) STRICT;
+CREATE TABLE posting (dim INTEGER NOT NULL, k INTEGER NOT NULL, amount INTEGER NOT NULL CHECK (amount >= 0), PRIMARY KEY (dim, k)) STRICT;
 INSERT INTO posting (dim, k, amount) VALUES
 (1, 0, 0), (1, 1, 0), (1, 2, 0), (1, 3, 38640), (1, 4, 0), (1, 5, 0), (1, 6, 0), (1, 7, 0), (1, 8, 0), (1, 9, 0),
 (1, 10, 0), (1, 11, 0), (1, 12, 0), (1, 13, 0), (1, 14, 0), (1, 15, 0), (1, 16, 0), (1, 17, 0), (1, 18, 0),
@@ -101,126 +87,3 @@ INSERT INTO posting (dim, k, amount) VALUES
 (2, 236, 0), (2, 237, 0), (2, 238, 0), (2, 239, 0), (2, 240, 0), (2, 241, 0), (2, 242, 0), (2, 243, 0),
 (2, 244, 0), (2, 245, 0), (2, 246, 0), (2, 247, 0), (2, 248, 0), (2, 249, 0), (2, 250, 0), (2, 251, 0),
 (2, 252, 0), (2, 253, 0), (2, 254, 0), (2, 255, 0), (3, 0, 13440), (3, 1, 25200);
-";
-
-/// The imported text.
-pub const OUTAGES: &'static str = "\
-kind,ref,f1,f2,f3,f4,f5,f6
-cause,A1,3,STORM,,,,
-bus,A2,BUS-A,,,,,
-section,A3,S1,1,,,,
-section,A4,S2,2,,,,
-device,A5,I1,GRID,BUS-A,closed,,
-device,A6,B1,BUS-A,S1,closed,,
-device,A7,B2,BUS-A,S2,closed,,
-device,A8,T1,S1,S2,open,,
-connect,A9,1,S1,1704067200,,,
-connect,A10,2,S1,1704067200,,,
-connect,A11,3,S2,1704067200,,,
-connect,A12,4,S2,1704100000,1704150000,,
-switch,E1,B1,open,1704070800,3,K1,
-switch,E2,T1,close,1704072600,3,K1,
-switch,E3,T1,open,1704074400,3,K1,
-switch,E4,B1,close,1704074400,3,K1,
-switch,E5,B2,open,1704110400,3,K2,
-switch,E6,B2,close,1704110520,3,K2,
-switch,E7,I1,open,1704150000,3,K1,
-switch,E8,I1,close,1704160800,3,K1,
-switch,E9,B2,open,1704200000,3,K2,
-switch,E10,B2,close,1704203600,3,K2,
-correct,FIX1,2,1,close,1704072000,3,K1
-mark,M1,2024-01-02,E1,,,,
-";
-
-/// The annual table that it printed.
-pub const OUTAGES_TABLE: &'static str = "\
-OUTAGE BOOK 2024-01-01 days 2 zone UTC0
-P 172800 S 568400 W 38640
-cause   0 UNASSIGNED                             0
-cause   3 STORM                              38640
-feeder   1                                   24000
-feeder   2                                   14640
-day 2024-01-01                               13440
-day 2024-01-02                               25200 marked
-SAIFI     all      2592/1421 1.824
-SAIDI     all      276480/1421 194.567
-CAIDI     all      320/3 106.667
-CAIFI     all      2/1 2.000
-ASAI      all      1325/1421 0.932
-CEMI-1    all      1296/1421 0.912
-CEMI-2    all      1296/1421 0.912
-CEMI-3    all      0/1 0.000
-CEMI-4    all      0/1 0.000
-CEMI-5    all      0/1 0.000
-CEMI-6    all      0/1 0.000
-CEMI-7    all      0/1 0.000
-CEMI-8    all      0/1 0.000
-CEMI-9    all      0/1 0.000
-CEMI-10   all      0/1 0.000
-SUSTAINED all      6
-MOMENTARY all      2
-SAIFI     unmarked 2160/1421 1.520
-SAIDI     unmarked 8640/49 176.327
-CAIDI     unmarked 116/1 116.000
-CAIFI     unmarked 5/3 1.667
-ASAI      unmarked 46/49 0.939
-CEMI-1    unmarked 1296/1421 0.912
-CEMI-2    unmarked 864/1421 0.608
-CEMI-3    unmarked 0/1 0.000
-CEMI-4    unmarked 0/1 0.000
-CEMI-5    unmarked 0/1 0.000
-CEMI-6    unmarked 0/1 0.000
-CEMI-7    unmarked 0/1 0.000
-CEMI-8    unmarked 0/1 0.000
-CEMI-9    unmarked 0/1 0.000
-CEMI-10   unmarked 0/1 0.000
-SUSTAINED unmarked 5
-MOMENTARY unmarked 2
-";
-
-/// The moves that it exported.
-pub const OUTAGES_MOVES: &'static str = "\
-cmd,dim,key,delta
-13,cause,3,338400
-13,feeder,1,338400
-13,day,0,165600
-13,day,1,172800
-14,cause,3,-334800
-14,feeder,1,-334800
-14,day,0,-162000
-14,day,1,-172800
-15,cause,3,331200
-15,feeder,1,331200
-15,day,0,158400
-15,day,1,172800
-16,cause,3,-331200
-16,feeder,1,-331200
-16,day,0,-158400
-16,day,1,-172800
-17,cause,3,169200
-17,feeder,2,169200
-17,day,0,82800
-17,day,1,86400
-18,cause,3,-168960
-18,feeder,2,-168960
-18,day,0,-82560
-18,day,1,-86400
-19,cause,3,270000
-19,feeder,1,180000
-19,feeder,2,90000
-19,day,0,10800
-19,day,1,259200
-20,cause,3,-237600
-20,feeder,1,-158400
-20,feeder,2,-79200
-20,day,1,-237600
-21,cause,3,40000
-21,feeder,2,40000
-21,day,1,40000
-22,cause,3,-36400
-22,feeder,2,-36400
-22,day,1,-36400
-23,cause,3,-1200
-23,feeder,1,-1200
-23,day,0,-1200
-";

@@ -1,0 +1,138 @@
+"""What the desk answers by the model: requests of a stream, and the bytes of the reply to each."""
+
+import json
+from collections.abc import Iterator, Sequence
+from dataclasses import dataclass
+from fractions import Fraction
+
+from commands import HEADER, NAMES, Refusal, RowRefusal
+from model import DIMENSIONS, Book, quotient_text
+from state import Imported
+
+CONFLICTS = (3, 7, 8, 11, 13, 14)  # the refusals that the book as it is now is the reason of
+REASONS = {200: "OK", 404: "Not Found", 409: "Conflict", 422: "Unprocessable Entity"}
+
+Answer = tuple[int, str, str]  # status, media type, body
+
+
+@dataclass(frozen=True)
+class Request:
+    method: str
+    target: str
+    body: bytes = b""
+
+    def data(self, is_last: bool) -> bytes:
+        """Its bytes. After the last one of a stream the desk has to end it."""
+        fields = ["Host: a", *(["Connection: close"] if is_last else [])]
+        if self.method == "POST":
+            fields.append(f"Content-Length: {len(self.body)}")
+        return "\r\n".join([f"{self.method} {self.target} HTTP/1.1", *fields, "", ""]).encode() + self.body
+
+
+def command_request(row: Sequence[str], is_reversed: bool) -> Request:
+    """The command of a row: its texts as members, without the empty ones."""
+    members = [(name, text) for name, text in zip(HEADER, row) if text]
+    return Request("POST", "/commands", json.dumps(dict(members[::-1] if is_reversed else members)).encode())
+
+
+def view_requests(book: Book) -> Iterator[Request]:
+    """All that a desk shows of a book, and an entry and a command that aren't there."""
+    for target in ["totals", "indices", "table"]:
+        yield Request("GET", f"/{target}")
+    for target, count in [("entries", len(book.entries)), ("commands", book.accepted())]:
+        for number in range(count + 2):
+            yield Request("GET", f"/{target}/{number}")
+
+
+def reply_data(answer: Answer, is_last: bool) -> bytes:
+    """The bytes of a reply."""
+    status, media_type, body = answer
+    fields = [f"HTTP/1.1 {status} {REASONS[status]}", *([f"Content-Type: {media_type}"] if media_type else [])]
+    fields += [f"Content-Length: {len(body)}", *(["Connection: close"] if is_last else []), "", ""]
+    return ("\r\n".join(fields) + body).encode()
+
+
+def answer_of(book: Book, request: Request) -> Answer:
+    """What a book answers to a request of these modules, and what it does."""
+    if request.target == "/commands":
+        return command_answer(book, request.body)
+    if request.target == "/import":
+        return import_answer(book.import_text(request.body))
+    if request.target == "/table":
+        return 200, "text/plain", "".join(f"{line}\n" for line in book.table_lines())
+    body = view_of(book, request.target)
+    return (200, "application/json", body) if body else (404, "", "")
+
+
+def view_of(book: Book, target: str) -> str | None:
+    """The JSON text of a view, None where there is none."""
+    if target == "/totals":
+        return book.totals_text()
+    if target == "/indices":
+        return indices_text(book)
+    _, kind, number = target.split("/")
+    return entry_text(book, int(number)) if kind == "entries" else accepted_text(book, int(number))
+
+
+def text_of_json(value: object) -> str:
+    return json.dumps(value, separators=(",", ":"), sort_keys=True)
+
+
+def ratio_text(value: Fraction | None) -> str:
+    return quotient_text(value).split(" ")[0]
+
+
+def indices_text(book: Book) -> str:
+    """The indices as JSON."""
+    both: dict[str, object] = {}
+    for word in ["all", "unmarked"]:
+        indices, counts = book.indices(word == "unmarked")
+        shown: dict[str, object] = {name.lower(): count for name, count in counts.items()}
+        shown |= {name.lower(): ratio_text(value) for name, value in indices.items() if "-" not in name}
+        shown["cemi"] = [ratio_text(indices[f"CEMI-{n}"]) for n in range(1, 11)]
+        both[word] = shown
+    return text_of_json(both)
+
+
+def entry_text(book: Book, number: int) -> str | None:
+    """An entry as JSON."""
+    if not 1 <= number <= len(book.entries):
+        return None
+    entry = book.entries[number - 1]
+    shown = {"cause": entry.cause, "crew": entry.crew, "device": entry.device, "kept": entry.is_kept, "no": number}
+    return text_of_json(shown | {"position": entry.position, "revision": entry.revision, "second": entry.second})
+
+
+def accepted_text(book: Book, number: int) -> str | None:
+    """The reply to an accepted command as JSON."""
+    if not 1 <= number <= book.accepted():
+        return None
+    moves = [move[1:] for move in book.moves if move[0] == number]
+    return text_of_json({"moved": [[DIMENSIONS[d - 1], key, delta] for d, key, delta in moves], "no": number})
+
+
+def refused_members(refusal: Refusal) -> dict[str, object]:
+    """The members of a refusal."""
+    members: dict[str, object] = {"name": NAMES[refusal.number], "refused": refusal.number}
+    return members if refusal.detail is None else members | {"detail": refusal.detail}
+
+
+def command_answer(book: Book, body: bytes) -> Answer:
+    """The answer to a command, whose first reply is that to the same one again."""
+    members: dict[str, str] = json.loads(body)
+    row = [members.get(name, "") for name in HEADER]
+    try:
+        number = book.act(row)
+    except Refusal as refusal:
+        return 409 if refusal.number in CONFLICTS else 422, "application/json", text_of_json(refused_members(refusal))
+    text = accepted_text(book, number or book.number_of[row[1]])
+    assert text is not None
+    return 200, "application/json", text
+
+
+def import_answer(imported: Imported) -> Answer:
+    """The report of an import."""
+    added, again, stop = imported
+    stopped = refused_members(stop.refusal) | {"row": stop.row} if isinstance(stop, RowRefusal) else None
+    report = {"added": added, "again": again, "stopped": stopped}
+    return 422 if stop else 200, "application/json", text_of_json(report)
