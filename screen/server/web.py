@@ -27,6 +27,7 @@ from .journal import second_of
 from .office import NAME, REFERENCE, Office, name_of_login
 from .reader import BookError
 from .state import Refused
+from .to_now import to_now_view
 
 STATIC = Path(__file__).resolve().parent.parent / "static"
 PAGES = {"/": "now", "/sheet": "sheet", "/enter": "enter", "/network": "network", "/year": "year"}
@@ -51,6 +52,8 @@ class Settings:
     proxy: str | None = None
     read_only: bool = False
     senders: str = ""  # logins that begin with this may send commands
+    name: str = ""  # the book's, as pages show it
+    training: bool = False
     secret: bytes = field(default_factory=lambda: secrets.token_bytes(32))
 
 
@@ -225,6 +228,8 @@ async def me(request: web.Request) -> web.StreamResponse:
             "asks_name": settings.proxy is None,
             "may_send": may_send(request, login),
             "could_send": not settings.read_only and office.desk is not None,
+            "book": settings.name,
+            "training": settings.training,
             "token": token_of(settings, login),
             **office.desk_view(),
         },
@@ -365,7 +370,8 @@ async def table_text(request: web.Request) -> str:
 
 
 async def table(request: web.Request) -> web.StreamResponse:
-    return answer(200, year.table_view(await table_text(request)))
+    text = await table_text(request)
+    return answer(200, {**year.table_view(text), **to_now_view(office_of(request).state)})
 
 
 async def totals(request: web.Request) -> web.StreamResponse:
