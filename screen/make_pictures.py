@@ -58,7 +58,7 @@ SHOTS = {
 
 def main() -> int:
     PICTURES.mkdir(exist_ok=True)
-    screen = support.Screen(support.fortnight("pictures"))
+    screen = support.Screen(support.fortnight("pictures"), "--name", "Sample fortnight")
     try:
         for name, (shown, width, height, dark) in SHOTS.items():
             page = browser.Browser(width, height, dark)

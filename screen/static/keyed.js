@@ -4,6 +4,7 @@ import { breakable } from "./common.js";
 import { el } from "./elements.js";
 
 const BRIEF = 12; // letters, that stay in one line
+const HELD_SECONDS = 120; // after the last sign of a reader: a page that nobody touches shows its rows in their order
 const KINDS = { "#": "n", "~": "no-print" };
 
 /** A cell's text as it is shown; a cell is a text, or `told` with what makes its content anew. */
@@ -17,20 +18,27 @@ export class KeyedTable {
     this.rows = new Map(); // by key: the row's element, its cells, and what they tell
     this.wanted = [];
     this.isPointed = false;
+    this.touched = 0; // when the reader last gave a sign
     this.body = el("tbody", {});
     const head = heads.map((words) => el("th", { scope: "col", class: KINDS[words[0]] }, words.replace(/^[#~]/, "")));
     this.element = el("div", { class: "scroll" }, el("table", { class: `cards ${name}` }, el("thead", {}, el("tr", {}, head)), this.body));
-    this.body.addEventListener("pointerenter", () => (this.isPointed = true));
+    this.body.addEventListener("pointerenter", () => { this.isPointed = true; this.touch(); });
     this.body.addEventListener("pointerleave", () => { this.isPointed = false; this.settle(); });
     this.body.addEventListener("focusout", () => setTimeout(() => this.settle()));
-    document.addEventListener("selectionchange", () => this.settle());
+    document.addEventListener("selectionchange", () => { this.touch(); this.settle(); });
+    for (const name of ["pointermove", "focusin", "keydown"]) this.body.addEventListener(name, () => this.touch());
   }
 
-  /** Somebody points at a row, has the focus in one, or has selected some of its text: no row moves meanwhile. */
+  touch() {
+    this.touched = Date.now();
+  }
+
+  /** Somebody points at a row, goes over them by the keyboard, or has selected some of their text: no row moves meanwhile. */
   get isHeld() {
+    if (Date.now() - this.touched > HELD_SECONDS * 1000) return false;
     const selected = document.getSelection();
     const isSelected = selected && !selected.isCollapsed && selected.containsNode(this.body, true);
-    return this.isPointed || isSelected || this.body.contains(document.activeElement);
+    return this.isPointed || isSelected || this.body.querySelector(":focus-visible") !== null;
   }
 
   settle() {

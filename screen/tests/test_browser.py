@@ -669,6 +669,22 @@ class Live(Case):
         self.assertFalse(page.find(".send").is_enabled())
 
 
+SAID = """
+const fields = [...document.querySelectorAll("[placeholder]")].map((each) => each.placeholder);
+return [document.title, document.body.textContent, ...fields].join("\\n");
+"""
+OLD_WORDS = [
+    "Desk: here",
+    " commands,",
+    "W moves",
+    "moved W",
+    "not told yet",
+    "told anew",
+    "stands",
+    "2025-04-05",
+    "Sheet",
+]
+OLD_WORDS += ["clock of the book's zone", "From that second on", "Another second", "Set its life", "unmarked"]
 STATE = """
 const rows = [...document.querySelectorAll("table.outages tbody tr")];
 return rows.map((row) => [row.cells[0].innerText, row.cells[1].innerText, row.className, Math.round(row.getBoundingClientRect().top)]);
@@ -788,6 +804,19 @@ class Storm(Case):
             self.assertIn("TRAINING: North 2026", page.text("header"))
             self.assertEqual(page.driver.title, f"{words} - TRAINING - North 2026 - outage book")
             self.assertEqual(page.driver.execute_script(FAINT), [], route)
+
+    def test_words_that_nobody_has_to_look_up(self) -> None:
+        """What the pages say, in the fields too; where figures come from is one line at the foot."""
+        page = self.one
+        page.driver.delete_all_cookies()
+        for route in ("/", "/sheet?entry=1", "/enter?device=CB-3", "/network", "/year"):
+            page.open(self.live.url + route)
+            page.says("header", "Connected")
+            said = page.driver.execute_script(SAID)
+            for old in OLD_WORDS:
+                self.assertNotIn(old, said, route)
+            self.assertEqual(len(page.all(".foot")), 1)
+            self.assertEqual(said.count("computed here"), 1, route)
 
     def test_a_forecast_is_a_few_lines(self) -> None:
         """Sections stand in one list below what happens to them and when; amounts and the reply are folded."""
