@@ -16,7 +16,7 @@ let early = at ? null : get("/api/now").catch(() => null); // is asked for while
 let field, slider, outages, count = 0;
 
 const link = (device) => `/enter?${new URLSearchParams({ device: device.name, ...(at ? { at } : {}) })}`;
-const tile = (isOut, words, value, more = "") => el("div", { class: isOut ? "tile out" : "tile" }, words, el("b", {}, value), more);
+const tile = (isOut, words, value, more = "") => el("div", { class: isOut ? "tile out" : "tile" }, `${words} `, el("b", {}, value), more && ` ${more}`);
 
 async function show({ anew = false } = {}) {
   const mine = ++count;
@@ -37,7 +37,7 @@ async function show({ anew = false } = {}) {
     tile(shown.customers_out, "Customers without supply", number(shown.customers_out), `of ${number(shown.customers_served)} in service`),
     tile(found, "Outages", number(found)),
     tile(shown.outages.length, "Sections without supply", number(shown.outages.length)),
-    el("div", { class: "tile" }, "As of", el("b", { class: "when" }, moment(shown.at))),
+    el("div", { class: "tile" }, "As of ", el("b", { class: "when" }, moment(shown.at))),
   );
   document.body.dataset.number = shown.number;
   await painted();
