@@ -1,8 +1,9 @@
 // Who is out at a second, and how the network stands.
+import { fromAddress, toAddress } from "./address.js";
 import { begin, el, foot, get, known, moment, number, onCommands, painted, settled } from "./common.js";
 import { MomentField } from "./moments.js";
 import { Diagram, legend } from "./diagram.js";
-import { keepInAddress, Outages } from "./outages.js";
+import { Outages } from "./outages.js";
 
 const AGAIN_SECONDS = 15; // after which a page that shows the time that is now is shown again
 
@@ -11,7 +12,7 @@ const tiles = el("div", { class: "tiles" });
 const picture = el("section", { "aria-label": "The network" });
 const trouble = el("div", {});
 const diagram = new Diagram();
-let at = new URLSearchParams(location.search).get("at") ?? "";
+let at = fromAddress(["at"]).at ?? "";
 let early = at ? null : get("/api/now").catch(() => null); // is asked for while the page's head is
 let field, slider, outages, count = 0;
 
@@ -46,7 +47,7 @@ async function show({ anew = false } = {}) {
 
 function goTo(second) {
   at = second;
-  keepInAddress({ at });
+  toAddress({ at });
   return show({ anew: true });
 }
 
