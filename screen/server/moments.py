@@ -12,7 +12,7 @@ from .state import Refused
 
 TYPED = re.compile(r"(\d{4}-\d\d-\d\d)[ T](\d\d:\d\d)(:\d\d)? ?(Z|[+-]\d\d:\d\d)?")
 UNIX = re.compile(r"\d{1,11}", re.ASCII)
-OF_A_DAY = re.compile(r"(?:(today|yesterday) ?)?(\d{1,2}:\d\d(?::\d\d)?)?", re.ASCII | re.IGNORECASE)
+OF_A_DAY = re.compile(r"(?:(today|yesterday)(?: |$))?(\d{1,2}:\d\d(?::\d\d)?)?", re.ASCII | re.IGNORECASE)
 NO_COLON = re.compile(r"\d{3,4}", re.ASCII)
 DAYS_BACK = {"today": 0, "yesterday": 1}
 LAST = 99_999_999_999

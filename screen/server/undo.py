@@ -30,4 +30,4 @@ def undo_of(state: State, command: Command) -> tuple[str, ...] | None:
 
 
 def end_text(until: int | None) -> str:
-    return "-" if until is None else str(until)
+    return "" if until is None else str(until)

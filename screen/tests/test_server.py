@@ -136,7 +136,9 @@ class Commands(Case):
         self.assertEqual({line["login"] for line in lines}, {"ANNA"})
         self.assertEqual(lines[0]["sent"]["f1"], "LBS-22")
         self.assertEqual((lines[1]["status"], lines[1]["answer"]["no"]), (200, 103))
-        self.assertEqual([row["reference"] for row in screen.call("/api/log")[1]], ["SCR-ANNA-1", "SCR-ANNA-1"])
+        shown = screen.call("/api/log")[1]
+        self.assertEqual([(row["reference"], row["login"]) for row in shown], [("SCR-ANNA-1", "ANNA")])
+        self.assertEqual(shown[0]["result"], "saved: command 103, entry 36")
 
     def test_import_with_its_report(self) -> None:
         screen = self.screen("import")
