@@ -38,8 +38,9 @@ export class MomentField {
 
   /** The time by the server's clock, from which the field's own goes on. */
   async ask() {
+    const asked = Date.now();
     const found = await get("/api/second");
-    this.base = { ...found, at: Date.now() };
+    this.base = { ...found, at: (asked + Date.now()) / 2 }; // the server looked at its clock in between
     return found;
   }
 

@@ -199,10 +199,10 @@ export class Sender {
     this.lock(true);
     this.enable();
     const { command, forecast } = this.intent;
-    this.outcome.replaceChildren(el("p", { class: "ask" }, `On its way to the desk as ${command.ref}.`));
     try {
       const shown = await underWay(command.ref, () => {
-        keep(this.intent);
+        keep(this.intent); // first: what is said to be on its way is known after the page is left, too
+        this.outcome.replaceChildren(el("p", { class: "ask" }, `On its way to the desk as ${command.ref}.`));
         return post(`/api/command?seen=${forecast.number}`, JSON.stringify(command));
       });
       this.isBusy = false;

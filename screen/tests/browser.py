@@ -11,12 +11,36 @@ from typing import Any
 
 import support
 from selenium import webdriver
+from selenium.common.exceptions import ElementClickInterceptedException, StaleElementReferenceException
 from selenium.webdriver.chrome.service import Service
 from selenium.webdriver.common.by import By
 from selenium.webdriver.common.keys import Keys
 from selenium.webdriver.remote.webelement import WebElement
 
 CHROMIUM, DRIVER = "/usr/bin/chromium", "/usr/bin/chromedriver"
+CLICKS = 5  # on an element that moves
+MOVED = (ElementClickInterceptedException, StaleElementReferenceException)
+# An element that is enabled, once its place was the same for a tenth of a second.
+RESTS = """
+const [selector, done] = arguments, found = document.querySelector(selector);
+if (!found || found.disabled) done(null);
+else {
+  found.scrollIntoView({ block: "center" });
+  const place = () => { const box = found.getBoundingClientRect(); return [box.x, box.y, box.width, box.height].join(); };
+  const before = place();
+  setTimeout(() => done(found.isConnected && !found.disabled && place() === before ? found : null), 100);
+}
+"""
+HEARS = """
+window.isClicked = false;
+arguments[0].addEventListener("click", () => { window.isClicked = true; }, { once: true, capture: true });
+"""
+RECORDS = """
+const place = document.querySelector(arguments[0]);
+window.recorded = [place.innerText];
+const note = () => window.recorded.push(place.innerText);
+new MutationObserver(note).observe(place, { childList: true, subtree: true, characterData: true });
+"""
 
 
 class Browser:
@@ -110,17 +134,36 @@ class Browser:
         )
         return str(found)
 
-    def says(self, selector: str, words: str, seconds: float = 20) -> str:
+    def says(self, selector: str, words: str, seconds: float = support.WAIT_SECONDS) -> str:
         """Waits until an element says some words: all that it says."""
         support.until(lambda: words in self.text(selector), seconds, f"{words!r} in {selector}")
         return self.text(selector)
 
     def click(self, selector: str) -> None:
-        support.until(
-            lambda: self.all(selector) and self.all(selector)[0].is_enabled(), what=f"{selector} to be clicked"
-        )
-        self.driver.execute_script("arguments[0].scrollIntoView({block: 'center'})", self.find(selector))
-        self.find(selector).click()
+        """Clicks on an element once it can be clicked and rests; again where it moved away from under the click."""
+        for _ in range(CLICKS):
+            found = support.until(lambda: self.resting(selector), what=f"{selector} to be clicked")
+            try:
+                self.driver.execute_script(HEARS, found)
+                found.click()
+            except MOVED:
+                continue
+            if self.driver.execute_script("return window.isClicked !== false"):  # another page knows nothing of it
+                return
+        raise AssertionError(f"{selector} wasn't hit by a click")
+
+    def resting(self, selector: str) -> WebElement | None:
+        """An element in the window's middle, if it is enabled and stays where it is."""
+        found: WebElement | None = self.driver.execute_async_script(RESTS, selector)
+        return found
+
+    def record(self, selector: str) -> None:
+        """Keeps all that an element says from now on, also what is gone before it is read."""
+        self.driver.execute_script(RECORDS, selector)
+
+    def recorded(self, words: str) -> None:
+        """Waits until an element has said some words since it is recorded."""
+        support.until(lambda: words in self.driver.execute_script("return window.recorded.join('\\n')"), what=words)
 
     def tap(self, element: WebElement) -> None:
         """Taps on an element as a finger does; by its own clock, so that it is no long press where the machine is busy."""

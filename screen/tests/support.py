@@ -96,7 +96,10 @@ def small(name: str, days_ago: int = 7) -> Path:
     return folder() / name / "book.db"
 
 
-def until(seen: Callable[[], Any], seconds: float = 20, what: str = "it") -> Any:
+WAIT_SECONDS = 90  # as long as a busy machine may take; what comes sooner isn't waited for
+
+
+def until(seen: Callable[[], Any], seconds: float = WAIT_SECONDS, what: str = "it") -> Any:
     """What is seen at last; a failure where it isn't seen in time."""
     end = time.monotonic() + seconds
     while True:
