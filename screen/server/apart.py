@@ -21,18 +21,29 @@ class Apart:
 
 
 class Kept:
-    """What is made of the whole book: once for all who ask for it, until the book has another command."""
+    """What is made of the whole book: once for all who ask for it, until the book has another command. Who asks while it is
+    being made gets that one, or its failure."""
 
     def __init__(self, version: Callable[[], object], make: Callable[[], Awaitable[Any]]):
         self.version, self.make = version, make
         self.order = asyncio.Lock()
         self.of: object = None
         self.made: Any = None
+        self.failures = 0
+        self.failure: Exception = RuntimeError("nothing has failed")
 
     async def get(self) -> Any:
+        failures = self.failures
         async with self.order:
             version = self.version()
-            if self.of != version:
+            if self.of == version:
+                return self.made
+            if self.failures > failures:
+                raise self.failure
+            try:
                 self.made = await self.make()
-                self.of = version
+            except Exception as failure:
+                self.failures, self.failure = self.failures + 1, failure
+                raise
+            self.of = version
             return self.made

@@ -1,5 +1,6 @@
 // A command on its way: what it would do, computed here; then, under one reference, the desk's answer beside it.
 import { el, get, HERE, known, moment, momentWords, newReference, number, onCommands, own, post, PROGRAM, scrolling, settled, signed, table, duration } from "./common.js";
+import { offerUndo } from "./undo.js";
 import { adopt, forget, keep, look, onAnswered, release, senderOf, underWay } from "./unanswered.js";
 
 const FOLLOW_SECONDS = 20; // between two forecasts of a switching whose time is the one that is now
@@ -267,6 +268,7 @@ export class Sender {
     this.rests = true;
     this.enable();
     this.after(shown);
+    offerUndo(this.outcome, shown.undo);
   }
 
   refused(trouble) {

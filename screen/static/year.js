@@ -1,6 +1,7 @@
 // The year as the desk answers it: indices, totals, days, causes, feeders; marks, imports, downloads.
 import { begin, choice, el, field, get, known, list, number, onCommands, post, PROGRAM, reloadBook, renew, scrolling, table, text } from "./common.js";
 import { IMPORT_SECONDS } from "./requests.js";
+import { markedDays } from "./marks.js";
 import { Sender } from "./sender.js";
 
 const main = document.getElementById("main");
@@ -91,6 +92,7 @@ begin(async () => {
   main.append(
     el("div", { class: "buttons no-print" }, links.map(([href, words]) => el("a", { href, target: href === "/report" ? "_blank" : null, rel: "noopener" }, words))),
     figures,
+    markedDays(),
     mark ? el("div", { class: "two no-print" }, mark, importForm()) : "",
   );
   onCommands(() => { show(); reloadBook(); });

@@ -27,6 +27,7 @@ WHOLE = {"SCREEN_KILLS": "100", "SCREEN_COMMANDS": "200", "SCREEN_SECONDS": "60"
 IN_SHORT = (
     "test_forecasts",
     "test_server",
+    "test_shift",
     "test_proxy.BehindNginx.test_logins_and_who_may_send",
     "test_proxy.BehindNginx.test_one_connection_for_all_pages",
     "test_browser.Live.test_eight_tabs_or_windows_of_one_browser",

@@ -15,7 +15,8 @@ from pathlib import Path
 from typing import Any, cast
 
 import support
-from server import guard, moments, reader
+from server import apart, guard, moments, reader
+from server.desk import Away
 from server.state import Refused
 
 LIGHTHOUSE = {"kind": "switch", "f1": "LBS-22", "f2": "close", "f3": "1743976320", "f4": "5", "f5": "CREW-3"}
@@ -297,6 +298,30 @@ class Reports(Case):
         made = calls.read_text().split().count("table")
         self.assertEqual(support.call(f"{screen.url}/report")[0], 200)
         self.assertEqual(calls.read_text().split().count("table"), made)
+
+    def test_what_is_made_once(self) -> None:
+        """Who asks while it is being made gets that one, or its failure; another version is made anew."""
+        made, version = [0], ["one"]
+
+        async def make() -> int:
+            made[0] += 1
+            await asyncio.sleep(0.01)
+            if version[0] == "none":
+                raise Away("the desk gives no answer")
+            return made[0]
+
+        async def all_of(kept: apart.Kept) -> list[Any]:
+            return await asyncio.gather(*(kept.get() for _ in range(5)), return_exceptions=True)
+
+        async def ask() -> list[list[Any]]:
+            kept = apart.Kept(lambda: version[0], make)
+            found = []
+            for version[0] in ("one", "one", "two", "none", "none", "three"):
+                found.append([str(each) for each in await all_of(kept)])
+            return found
+
+        away = "the desk gives no answer"
+        self.assertEqual(asyncio.run(ask()), [[each] * 5 for each in ("1", "1", "2", away, away, "5")])
 
     def test_the_table_is_asked_for_once_a_command(self) -> None:
         desk = self.desk("tables")

@@ -9,6 +9,7 @@ from datetime import datetime, timedelta
 from html.parser import HTMLParser
 from typing import Any, cast
 
+import browser
 import support
 from server import moments, reader
 from server.state import Refused
@@ -208,6 +209,95 @@ class Shift(unittest.TestCase):
             status, shown = self.screen.call(f"/api/sheet?{query}")
             self.assertEqual(status, 422, query)
             self.assertIn(words, shown["words"])
+
+
+class Pages(unittest.TestCase):
+    """The same on the pages, in a browser."""
+
+    page: browser.Browser
+    screen: support.Screen
+
+    @classmethod
+    def setUpClass(cls) -> None:
+        cls.screen = support.Screen(support.small(cls.__name__))
+        cls.addClassCleanup(cls.screen.end)
+        cls.page = browser.Browser()
+        cls.addClassCleanup(cls.page.end)
+        cls.screen.log_in("BERT")
+        second = str(int(time.time()) - 60)
+        for number, position in enumerate(("open", "close")):
+            command = {"kind": "switch", "f1": "LBS-1", "f2": position, "f3": second, "f4": "1", "f5": "BERT"}
+            cls.screen.post({**command, "ref": f"SCR-BERT-{number}"})
+
+    def test_a_search_is_kept_by_the_address(self) -> None:
+        """By loading the page again, by Back, and by a link to somebody else."""
+        page, url = self.page, self.screen.url
+        page.open(f"{url}/sheet?feeder=1&device=LBS&order=second")
+        page.says("main", "2 of 2 entries")
+        self.assertEqual(page.field("Device").get_attribute("value"), "LBS")
+        self.assertEqual(page.field("Feeder").get_attribute("value"), "1")
+        page.fill("Crew", "NOBODY")
+        page.says("main", "No entries for device LBS, crew NOBODY, feeder 1.")
+        self.assertIn("crew=NOBODY", page.driver.current_url)
+        page.driver.refresh()
+        page.ready()
+        page.says("main", "No entries for device LBS, crew NOBODY, feeder 1.")
+        page.driver.get(f"{url}/year")
+        page.ready()
+        page.driver.back()
+        page.ready()
+        page.says("main", "No entries for device LBS, crew NOBODY, feeder 1.")
+        page.click(".clear")
+        page.says("main", "2 of 2 entries")
+        self.assertEqual(page.driver.current_url, f"{url}/sheet?order=second")
+        page.open(f"{url}/sheet?day=yesterday")
+        page.says("main", "No entries for day yesterday.")
+        page.open(f"{url}/sheet?section=NOSUCH")
+        page.says("main", "no section has NOSUCH in its name")
+
+    def test_undo_on_the_reply(self) -> None:
+        page, url = self.page, self.screen.url
+        page.open(f"{url}/enter?device=LBS-1&at={int(time.time()) - 5}")
+        page.fill("Cause", "1")
+        page.says(".forecast", "LOSES supply")
+        page.click(".send")
+        page.says(".outcome", "Saved:")
+        page.click(".undo")
+        page.says(".outcome .forecast", "gets back supply")
+        page.click(".outcome .send")
+        page.says(".outcome .outcome", "Saved:")
+        entry = self.screen.call("/api/sheet")[1]["rows"][0]
+        self.assertEqual((entry["device"], entry["kept"]), ("LBS-1", False))
+        self.assertEqual(page.complaints(), [])
+
+    def test_the_log_and_the_hand_over(self) -> None:
+        page, url = self.page, self.screen.url
+        page.open(f"{url}/sheet")
+        page.click('section[aria-label="The screen\'s log"] summary')
+        page.says('section[aria-label="The screen\'s log"]', "LBS-1 close at ")
+        page.fill("By", "nobody")
+        page.says('section[aria-label="The screen\'s log"]', "Nothing was sent.")
+        self.assertIn("name=nobody", page.find("a[href^='/shift']").get_attribute("href"))
+        for width in (1_280, 390):
+            page.resize(width, 900)
+            page.driver.get(f"{url}/shift?name=BERT")
+            page.says("h1", "Hand-over of book")
+            self.assertEqual(page.driver.execute_script("return document.documentElement.scrollWidth"), width)
+            page.says("main", "entered at")
+        page.resize(1_280, 900)
+        page.fill("Since", "never")
+        page.click("button.main")
+        page.says("main", "Not shown as asked")
+        self.assertEqual(page.field("Since").get_attribute("value"), "never")
+        self.assertEqual(page.complaints(), [])
+
+    def test_marked_days_on_the_year(self) -> None:
+        day = self.screen.call("/api/book")[1]["days"][3]
+        self.page.open(f"{self.screen.url}/year")
+        self.page.says("main", "No day is marked.")
+        self.screen.post({"kind": "mark", "ref": "SCR-BERT-MARK", "f1": day, "f2": "BERT"})
+        marked = self.page.says("section[aria-label='Marked days']", day)
+        self.assertIn("BERT", marked)
 
 
 class Stops(unittest.TestCase):
