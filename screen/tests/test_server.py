@@ -311,7 +311,8 @@ class Reports(Case):
             return made[0]
 
         async def all_of(kept: apart.Kept) -> list[Any]:
-            return await asyncio.gather(*(kept.get() for _ in range(5)), return_exceptions=True)
+            found: list[Any] = await asyncio.gather(*(kept.get() for _ in range(5)), return_exceptions=True)
+            return found
 
         async def ask() -> list[list[Any]]:
             kept = apart.Kept(lambda: version[0], make)
