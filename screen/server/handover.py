@@ -60,9 +60,8 @@ def form(query: dict[str, str]) -> str:
         )
         fields.append(element("div", *parts, class_="field"))
     button = element("div", element("button", "Show", class_="main", type="submit"), class_="buttons")
-    return element(
-        "form", *fields, button, method="get", class_="card no-print", aria_label="Which time, and sent by whom"
-    )
+    row = element("div", *fields, class_="row top")
+    return element("form", row, button, method="get", class_="card no-print", aria_label="Which time, and sent by whom")
 
 
 def table(caption: str, heads: Sequence[str], rows: Iterable[Sequence[Cell]], empty: str) -> str:
@@ -79,7 +78,7 @@ def table(caption: str, heads: Sequence[str], rows: Iterable[Sequence[Cell]], em
     if not body:
         return element("h2", escape(caption)) + element("p", escape(empty))
     head = element("tr", *(element("th", escape(name), scope="col", class_=kind) for name, kind in zip(names, kinds)))
-    parts = element("caption", escape(caption)), element("thead", head), element("tbody", *body)
+    parts = element("caption", element("h2", escape(caption))), element("thead", head), element("tbody", *body)
     shown = element("table", *parts, class_="cards")
     return element("div", shown, class_="scroll", role="region", tabindex="0", aria_label=f"{caption}, scrolls")
 
@@ -178,9 +177,7 @@ class Tables:
         return table(caption, heads, rows, "No switching was entered or changed in this time.")
 
     def rest(self) -> str:
-        rows = [
-            [self.clock({"text": row["at"]}), row["login"], row["words"], row["result"]] for row in self.shown["rest"]
-        ]
+        rows = [[self.clock({"text": row["at"]}), row["by"], row["words"], row["result"]] for row in self.shown["rest"]]
         caption = f"Other commands, and those that aren't saved: {self.counted('rest')}"
         return table(caption, ["sent", "by", "command", "result"], rows, "Nothing else was sent in this time.")
 

@@ -20,6 +20,7 @@ from .views import Json, command_words, day_name, entry_view, moment, outage_vie
 SHIFT_SECONDS = 8 * 3_600
 MOST_ROWS = 500
 DAY = re.compile(r"\d{4}-\d\d-\d\d", re.ASCII)
+OTHER = "another program"
 MADE = {"switch": "entered", "correct": "corrected", "withdraw": "withdrawn"}
 
 
@@ -64,6 +65,7 @@ def sending_view(state: State, sending: Sending) -> Json:
         "second": sending.at,
         "at": text(state, sending.at),
         "login": sending.login,
+        "by": sending.login or OTHER,
         "reference": sending.reference,
         "kind": sending.kind,
         "words": words_of(state, sending),
@@ -79,13 +81,21 @@ def words_of(state: State, sending: Sending) -> str:
     if sending.kind == IMPORT:
         return "a file of commands"
     if sending.kind == ELSEWHERE:
-        return "commands of another program"
+        return elsewhere_words(state, *(sending.commands or (0, 0)))
     fields = list(sending.fields[: len(FIELDS.get(sending.kind, ()))])
     while fields and not fields[-1]:
         fields.pop()
     words = command_words(state, sending.kind, fields)
     device = device_of(state, fields[0]) if sending.kind in ("correct", "withdraw") and fields else ""
     return words + (f" ({device})" if device else "")
+
+
+def elsewhere_words(state: State, first: int, last: int) -> str:
+    """Commands of another program; a single one by what it is, where it is one of the latest."""
+    found = next((each for each in state.latest if each.number == first == last), None)
+    if found is None:
+        return f"{last - first + 1} commands" if first < last else "a command"
+    return f"{command_words(state, found.kind, found.fields)} ({found.ref})"
 
 
 def device_of(state: State, entry: str) -> str:
@@ -96,14 +106,18 @@ def device_of(state: State, entry: str) -> str:
 
 def result_of(sending: Sending, entry: int | None) -> str:
     """What came of it, in words."""
-    numbers = sending.commands and f"commands {sending.commands[0]} to {sending.commands[1]}"
+    numbers = sending.commands and numbers_words(*sending.commands)
     if sending.outcome == "refused":
-        return f"refused: {sending.refusal}" + (f"; {numbers} are saved" if numbers else "")
+        return f"refused: {sending.refusal}" + (f"; saved before it: {numbers}" if numbers else "")
     if sending.outcome == "unanswered":
         return "no answer: it isn't known whether it is saved"
     if sending.number is None:
         return f"saved: {numbers}" if numbers else "saved already"
     return f"saved: command {sending.number}" + (f", entry {entry}" if entry else "")
+
+
+def numbers_words(first: int, last: int) -> str:
+    return f"commands {first} to {last}" if first < last else f"command {first}"
 
 
 # What a shift hands over.
@@ -115,7 +129,7 @@ def shift_view(office: Office, wanted: dict[str, str]) -> Json:
     since, until = bounds_of(state, wanted, int(time.time()) - SHIFT_SECONDS)
     sendings = list(office.journal.between(since, until, part))
     entered = entered_view(state, sendings)
-    rest = [each for each in sendings if each.kind not in (*MADE, ELSEWHERE) or each.outcome != "saved"]
+    rest = [each for each in sendings if not is_entered(state, each)]
     return {
         "book": office.book.stem,
         "number": state.number,
@@ -124,7 +138,7 @@ def shift_view(office: Office, wanted: dict[str, str]) -> Json:
         "printed": moment(state, int(time.time())),
         "as_of": moment(state, state.now()),
         "since": moment(state, since),
-        "until": moment(state, until),
+        "until": moment(state, min(until, int(time.time()))),
         "open": open_view(state),
         "ended": ended_view(state, since, until),
         "entered": entered[:MOST_ROWS],
@@ -134,6 +148,13 @@ def shift_view(office: Office, wanted: dict[str, str]) -> Json:
         "unanswered": sum(is_open(office, each) for each in sendings),
         "marks": marks_view(office),
     }
+
+
+def is_entered(state: State, sending: Sending) -> bool:
+    """Whether the list of entries tells all of a sending."""
+    if sending.kind == ELSEWHERE and sending.commands is not None:
+        return len(numbers_of(state, sending)) > sending.commands[1] - sending.commands[0]
+    return sending.kind in MADE and sending.outcome == "saved"
 
 
 def is_open(office: Office, sending: Sending) -> bool:
@@ -149,7 +170,7 @@ def entered_view(state: State, sendings: Iterable[Sending]) -> list[Json]:
         for number in numbers_of(state, sending):
             entry = state.changed[number]
             command = next(each for each in state.histories[entry] if each.number == number)
-            by = sending.login or name_in(command.ref) or "another program"
+            by = sending.login or name_in(command.ref) or OTHER
             done = {"what": MADE[command.kind], "at": moment(state, sending.at), "by": by, "no": number}
             if all(each["no"] != number for each in found.setdefault(entry, [])):
                 found[entry].append({**done, "reference": command.ref})

@@ -21,7 +21,7 @@ export async function showLog() {
   }
   const lines = shown.slice(0, MOST).map((row) => [
     moment(row.at),
-    row.login,
+    row.by,
     row.words,
     row.entry ? el("a", { href: `/sheet?entry=${row.entry}` }, row.result) : row.result,
     row.reference,

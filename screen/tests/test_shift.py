@@ -324,7 +324,8 @@ class Stops(unittest.TestCase):
         rows = again.call("/api/log")[1]
         self.assertEqual([row["kind"] for row in rows], ["elsewhere", "switch"])
         last = support.LAST_OF_SMALL + 2
-        self.assertIn(f"commands {last} to {last}", rows[0]["result"])
+        self.assertEqual((rows[0]["result"], rows[0]["by"]), (f"saved: command {last}", "another program"))
+        self.assertIn("LBS-1 close at ", rows[0]["words"])
         shown = again.call("/api/changes")[1]
         self.assertEqual([row["no"] for row in shown["entered"]], [2, 1])
         ended = [(row["entry"], row["sections"], row["customers"]) for row in shown["ended"]]
