@@ -15,13 +15,22 @@ FIELDS = (
     ("until", "Until", "the same; empty: now"),
     ("name", "Sent by", "a login or a name, or a part of it; empty: everybody"),
 )
-PAGES = (("/", "Now"), ("/sheet", "Sheet"), ("/enter", "Enter"), ("/network", "Network"), ("/year", "Year"))
+PATH = "/shift"
+PAGES = (
+    ("/", "Now"),
+    ("/sheet", "Sheet"),
+    ("/enter", "Enter"),
+    ("/network", "Network"),
+    ("/year", "Year"),
+    ("/shift", "Hand-over"),
+)
 
 
 def page(shown: Json, query: dict[str, str], reader: str, why: str) -> str:
     """The whole page; `why` says what of the query can't be read."""
     title = f"Hand-over of {shown['book']}"
-    nav = element("nav", *(element("a", name, href=href) for href, name in PAGES), aria_label="Pages")
+    links = (element("a", name, href=href, aria_current="page" if href == PATH else "") for href, name in PAGES)
+    nav = element("nav", *links, aria_label="Pages")
     tables = Tables(shown)
     body = [
         element("h1", escape(title)),

@@ -150,6 +150,7 @@ const PAGES = [
   ["/enter", "Enter"],
   ["/network", "Network"],
   ["/year", "Year"],
+  ["/shift", "Hand-over"],
 ];
 const state = el("span", { role: "status", class: "state" });
 const banner = el("div", { class: "alarm", role: "alert" });
