@@ -107,6 +107,7 @@ async def serve(given: argparse.Namespace) -> None:
             given.book.resolve(), new_state(given.book.resolve()), desk, Journal(None if given.no_desk else log)
         )
         if desk is not None:
+            office.note_start()
             tasks.append(asyncio.create_task(office.watch()))
         await listen(given, office, ended)
     finally:
@@ -131,7 +132,8 @@ async def listen(given: argparse.Namespace, office: Office, ended: asyncio.Event
     except OSError as error:
         raise BookError(f"port {given.port} can't be bound: {error.strerror}") from None
     port = server.sockets[0].getsockname()[1]
-    settings.hosts |= {f"127.0.0.1:{port}", f"localhost:{port}"}
+    settings.own_hosts = {f"127.0.0.1:{port}", f"localhost:{port}"}
+    settings.hosts |= settings.own_hosts
     print(f"listening 127.0.0.1:{port}", flush=True)
     try:
         await ended.wait()

@@ -1,6 +1,7 @@
 // A command on its way: what it would do, computed here; then, under one reference, the desk's answer beside it.
 import { el, get, known, momentWords, newReference, onCommands, own, post, settled } from "./common.js";
 import { forecastParts, replyParts, same } from "./forecast.js";
+import { offerUndo } from "./undo.js";
 import { adopt, forget, keep, look, onAnswered, release, underWay } from "./unanswered.js";
 
 const FOLLOW_SECONDS = 20; // between two forecasts of a switching whose time is the one that is now
@@ -205,6 +206,7 @@ export class Sender {
     this.rests = true;
     this.enable();
     this.after(shown);
+    offerUndo(this.outcome, shown.undo);
   }
 
   refused(trouble) {

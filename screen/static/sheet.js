@@ -1,15 +1,15 @@
 // The switching log: entries, what each command moved, corrections and withdrawals; and the screen's own log.
+import { fromAddress, toAddress } from "./address.js";
 import { begin, causes, choice, el, field, foot, get, known, list, lookOnly, moment, momentWords, number, onCommands, renew, scrolling, settled, source, spelled, table, text, zoneName } from "./common.js";
 import { ticketOf } from "./elements.js";
 import { MomentField } from "./moments.js";
 import { movesTable } from "./forecast.js";
 import { entryWords, Sender } from "./sender.js";
+import { shiftLog, showLog } from "./shiftlog.js";
 
 const main = document.getElementById("main");
 const detail = el("section", { id: "detail", tabindex: "-1", "aria-label": "An entry" });
 const rows = el("section", { "aria-label": "Entries" });
-const logged = el("div", {});
-const log = el("section", { "aria-label": "The screen's log" }, el("details", {}, el("summary", {}, "The screen's own log: who sent what, when"), logged));
 const wanted = {};
 let from = 0;
 let opened = null;
@@ -17,7 +17,7 @@ let opened = null;
 const tags = (entry) => ["late", "corrected"].filter((name) => entry[name]).concat(entry.kept ? [] : ["withdrawn"]).map((name) => el("span", { class: `tag ${name}` }, name));
 
 const NOT_READ = 422; // the status of a search that can't be read
-const SEARCHED = { device: "device", cause: "cause", crew: "crew", section: "section", day: "day", marked: "status" };
+const SEARCHED = { device: "device", cause: "cause", crew: "crew", section: "section", feeder: "feeder", day: "day", marked: "status" };
 const inputs = {};
 
 /** What is searched for changed: the first rows of it are shown. */
@@ -42,9 +42,12 @@ function clear() {
   search();
 }
 
+const feeders = () => [...new Set(known.book.nodes.filter((node) => node.kind === 2).map((node) => node.feeder))].sort((one, other) => one - other).map((each) => [String(each), String(each)]);
+
 async function filters() {
   const make = (name, input) => {
     inputs[name] = input;
+    if (wanted[name]) input.value = wanted[name];
     input.addEventListener("input", settled(search));
     return input;
   };
@@ -62,6 +65,7 @@ async function filters() {
       field("Cause", make("cause", choice([["", "any"], ...causes()]))),
       field("Crew", make("crew", text({ list: "crews" }))),
       field("Section", make("section", text({ list: "sections" }))),
+      field("Feeder", make("feeder", choice([["", "any"], ...feeders()]))),
       field("Day", make("day", el("input", { type: "date", min: days[0], max: days[days.length - 1] }))),
       await dayButtons(),
       field("Status", make("marked", choice([["", "all"], ["late", "late"], ["corrected", "corrected"], ["withdrawn", "withdrawn"]]))),
@@ -84,6 +88,7 @@ function turns(shown) {
 
 async function show() {
   let shown;
+  toAddress({ ...wanted, order: wanted.order === "newest" ? "" : wanted.order, from: from ? String(from) : "" });
   try {
     shown = await get("/api/sheet", { ...wanted, from });
   } catch (trouble) {
@@ -91,6 +96,7 @@ async function show() {
     renew(rows, el("h2", {}, "Not searched"), el("p", { class: "bad" }, `${trouble.message}.`), searchWords() ? clearing() : "");
     return;
   }
+  if (shown.day) inputs.day.value = shown.day; // a day in words, as its date
   const lines = shown.rows.map((entry) => [
     el("button", { type: "button", class: "small open-entry", "data-entry": entry.no, "aria-label": `Entry ${entry.no}: look, correct, withdraw`, click: () => open(entry.no) }, String(entry.no)),
     moment(entry.second),
@@ -186,19 +192,11 @@ function work(entry, words, asked) {
   return form;
 }
 
-async function showLog() {
-  const shown = await get("/api/log");
-  const lines = shown.slice(0, 60).map((row) => [
-    moment(row.at), row.login, row.reference,
-    row.sent ? `sent ${row.sent.kind} ${row.sent.f1 || ""} ${row.sent.f2 || ""}` : row.unanswered ? "not answered" : String(row.status),
-    el("span", { class: "mono" }, JSON.stringify(row.answer ?? row.unanswered ?? "").slice(0, 160)),
-  ]);
-  logged.replaceChildren(table(["time", "login", "reference", "what", "answer"], lines));
-}
-
 begin(async () => {
+  Object.assign(wanted, fromAddress([...Object.keys(SEARCHED), "order"]));
+  from = Number(fromAddress(["from"]).from ?? 0) || 0;
   const narrow = matchMedia("(max-width: 40rem)").matches;
-  main.append(lookOnly(), el("details", { class: "search no-print", open: !narrow }, el("summary", {}, "Search"), await filters()), detail, rows, log, foot(`What a command changed is ${source()}, in its own reply; status and search are computed here.`));
+  main.append(lookOnly(), el("details", { class: "search no-print", open: !narrow }, el("summary", {}, "Search"), await filters()), detail, rows, shiftLog(), foot(`What a command changed is ${source()}, in its own reply; status and search are computed here.`));
   onCommands(() => { show(); showLog(); lookAgain(); });
   await Promise.all([show(), showLog()]);
   const asked = new URLSearchParams(location.search);

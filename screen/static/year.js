@@ -1,6 +1,7 @@
 // The figures: up to now where the period goes on, and of the whole period as the desk answers them; marks, imports, downloads.
 import { begin, choice, el, field, foot, get, inMinutes, known, list, moment, number, onCommands, post, reloadBook, renew, scrolling, source, table, text } from "./common.js";
 import { IMPORT_SECONDS } from "./requests.js";
+import { markedDays } from "./marks.js";
 import { Sender } from "./sender.js";
 
 const main = document.getElementById("main");
@@ -160,6 +161,7 @@ begin(async () => {
   main.append(
     el("div", { class: "buttons no-print" }, links.map(([href, words]) => el("a", { href, target: href === "/report" ? "_blank" : null, rel: "noopener" }, words))),
     figures,
+    markedDays(),
     mark ? el("div", { class: "two no-print" }, mark, importForm()) : "",
   );
   onCommands(() => { show(); reloadBook(); });

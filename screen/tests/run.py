@@ -28,6 +28,7 @@ IN_SHORT = (
     "test_forecasts",
     "test_figures",
     "test_server",
+    "test_shift",
     "test_proxy.BehindNginx.test_logins_and_who_may_send",
     "test_proxy.BehindNginx.test_one_connection_for_all_pages",
     "test_browser.Live.test_eight_tabs_or_windows_of_one_browser",
