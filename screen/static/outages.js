@@ -1,6 +1,6 @@
 // Outages: what one switching cut off and is still without supply, largest first; filtered and sorted by the page's address.
 import { fromAddress, toAddress } from "./address.js";
-import { breakable, causes, choice, duration, el, field, known, moment, number, settled, text } from "./common.js";
+import { breakable, BRIEF, causes, choice, duration, el, field, known, moment, number, settled, text } from "./common.js";
 import { ticketOf } from "./elements.js";
 import { KeyedTable } from "./keyed.js";
 
@@ -137,5 +137,5 @@ function unfolded(outage, names) {
 /** An entry's number, and its ticket's. */
 function entryLink({ entry, reference }) {
   const ticket = ticketOf(reference);
-  return [el("a", { href: `/sheet?entry=${entry}`, "aria-label": `Entry ${entry}` }, String(entry)), ...(ticket ? [" ", ...breakable(ticket)] : [])];
+  return [el("a", { href: `/sheet?entry=${entry}`, "aria-label": `Entry ${entry}` }, String(entry)), ...(ticket ? [" ", ticket.length > BRIEF ? breakable(ticket) : el("span", { class: "nowrap" }, ticket)] : [])].flat();
 }
