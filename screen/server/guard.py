@@ -16,6 +16,7 @@ BODY_BYTES = 4_194_304
 MOST_CONNECTIONS = 2_000
 END_OF_HEAD = b"\r\n\r\n"
 FIRST_LINE = re.compile(rb"[A-Z]{1,20} /[!-~]{0,8000} HTTP/1\.[01]\r\n")
+FOLDED = re.compile(rb"\r?\n[ \t]")  # a field that goes on in the next line
 MOST_FIELDS = 100
 
 
@@ -108,7 +109,7 @@ class Guard(asyncio.Protocol):
     def _told_length(self, head: bytes) -> int | None:
         """The length of the body by Content-Length; None where the head isn't one that is taken."""
         fields = [line.partition(b":") for line in head.split(b"\r\n")[1:] if line]
-        if not FIRST_LINE.match(head) or len(fields) > MOST_FIELDS:
+        if not FIRST_LINE.match(head) or len(fields) > MOST_FIELDS or FOLDED.search(head):
             return None
         names = [name.strip().lower() for name, _, _ in fields]
         lengths = [value.strip() for name, _, value in fields if name.strip().lower() == b"content-length"]

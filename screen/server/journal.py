@@ -4,21 +4,47 @@ from __future__ import annotations
 
 import json
 import os
-from collections import deque
+from collections.abc import Iterator
+from dataclasses import dataclass
 from datetime import datetime, timezone
 from pathlib import Path
 from typing import Any
 
-KEPT_FOR_PAGES = 200
+from .names import Names, folded, name_in
+
+MOST_FIELDS = 6
+IMPORT, ELSEWHERE = "import", "elsewhere"  # kinds of sendings beside those of commands
+
+
+@dataclass(slots=True)
+class Sending:
+    """A command, or a file of them, that was sent; or commands of another program, at the second at which they were seen."""
+
+    at: int
+    login: str
+    reference: str
+    kind: str
+    fields: tuple[str, ...] = ()
+    outcome: str = "unanswered"  # or saved, refused
+    number: int | None = None  # of the command, once it is saved
+    moved: int = 0  # customer-seconds
+    refusal: str = ""
+    commands: tuple[int, int] | None = None  # the first and the last number of those that came at once
+
+    def is_by(self, part: str) -> bool:
+        """Whether its sender has a text in the login or in the name; upper case."""
+        return part in self.login.upper() or part in folded(self.login) or part in (name_in(self.reference) or "")
 
 
 class Journal:
     def __init__(self, path: Path | None):
         self.path = path
-        self.latest: deque[dict[str, Any]] = deque(maxlen=KEPT_FOR_PAGES)
-        self.sent: dict[str, int] = {}  # by reference: the second at which a switching was sent first
+        self.sendings: list[Sending] = []
+        self.open: dict[tuple[str, str], Sending] = {}  # by login and reference: those whose answer isn't read yet
+        self.sent: dict[str, int] = {}  # by reference: the second at which a command was sent first
+        self.names = Names()
         if path is not None and path.exists():
-            with path.open(encoding="utf-8") as file:
+            with path.open(encoding="utf-8", errors="replace") as file:
                 for line in file:
                     self._remember(line)
 
@@ -26,16 +52,37 @@ class Journal:
         """A line that was cut off by a loss of power is left out of what pages show; the file keeps it."""
         try:
             row = json.loads(line)
-        except ValueError:
-            return
-        if isinstance(row, dict):
-            self._keep(row)
+            if isinstance(row, dict):
+                self._keep(row)
+        except (ValueError, TypeError, LookupError):
+            pass
 
     def _keep(self, row: dict[str, Any]) -> None:
-        self.latest.append(row)
-        sent = row.get("sent")
-        if isinstance(sent, dict) and sent.get("kind") == "switch":
-            self.sent.setdefault(str(row.get("reference")), second_of(row))
+        at, login, reference = second_of(row), str(row.get("login", "")), str(row.get("reference", ""))
+        sent, commands = row.get("sent"), numbers_of(row.get("commands"))
+        if isinstance(sent, dict):
+            fields = tuple(str(sent.get(f"f{place}", "")) for place in range(1, MOST_FIELDS + 1))
+            sending = Sending(at, login, reference, str(sent.get("kind")), fields)
+            self.sendings.append(sending)
+            self.open[login, reference] = sending
+            if reference:
+                self.sent.setdefault(reference, at)
+            self._keep_name(login, row.get("name"), name_in(reference))
+        elif login:
+            opened = self.open.pop((login, reference), None)
+            if opened is not None:
+                opened.commands = commands
+                take_answer(opened, row.get("answer"))
+        elif commands is not None:
+            self.sendings.append(Sending(at, "", "", ELSEWHERE, outcome="saved", commands=commands))
+
+    def _keep_name(self, login: str, told: object, used: str | None) -> None:
+        """The name of a proxy's login. A line of an older screen tells none: there it is the one in the reference, unless
+        the login is a name that somebody gave by hand."""
+        if isinstance(told, str):
+            self.names.keep(login, told)
+        elif used is not None and used != login:
+            self.names.keep(login, used)
 
     def write(self, login: str, reference: str, **said: Any) -> None:
         row = {"time": datetime.now(timezone.utc).isoformat(timespec="milliseconds"), "login": login}
@@ -49,6 +96,45 @@ class Journal:
             os.write(place, data)
         finally:
             os.close(place)
+
+    def between(self, since: int, until: int, part: str = "") -> Iterator[Sending]:
+        """What was sent from one second up to another, latest first, by whoever has a text in the name."""
+        for sending in reversed(self.sendings):
+            if since <= sending.at < until and sending.is_by(part):
+                yield sending
+
+    def last_number(self) -> int | None:
+        """The last command that the log knows of; None where it knows of none."""
+        found = (each.commands[1] if each.commands else each.number for each in reversed(self.sendings))
+        return max((number for number in found if number), default=None)
+
+
+def take_answer(sending: Sending, answer: object) -> None:
+    """What the desk answered; an answer that isn't one of the desk's leaves the sending unanswered."""
+    if not isinstance(answer, dict):
+        return
+    if isinstance(answer.get("no"), int):
+        sending.outcome, sending.number = "saved", answer["no"]
+        sending.moved = sum(move[2] for move in answer.get("moved", ()) if move[0] == "cause")
+    elif sending.kind == IMPORT and "added" in answer:
+        stopped = answer.get("stopped")
+        sending.outcome = "refused" if stopped else "saved"
+        sending.refusal = f"row {stopped.get('row')}: {refusal_of(stopped)}" if isinstance(stopped, dict) else ""
+    elif "refused" in answer:
+        sending.outcome, sending.refusal = "refused", refusal_of(answer)
+
+
+def refusal_of(answer: dict[str, Any]) -> str:
+    """The number and the name of a refusal, as the desk writes them."""
+    parts = (answer.get(name) for name in ("refused", "name", "detail"))
+    return " ".join(str(part) for part in parts if part is not None)
+
+
+def numbers_of(told: object) -> tuple[int, int] | None:
+    """The first and the last number of some commands."""
+    if isinstance(told, list) and len(told) == 2 and all(isinstance(number, int) for number in told):
+        return told[0], told[1]
+    return None
 
 
 def second_of(row: dict[str, Any]) -> int:

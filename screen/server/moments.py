@@ -3,14 +3,18 @@
 from __future__ import annotations
 
 import re
+import time
 from dataclasses import dataclass
-from datetime import datetime
+from datetime import date, datetime, timedelta
 
 from .reader import Zone
 from .state import Refused
 
 TYPED = re.compile(r"(\d{4}-\d\d-\d\d)[ T](\d\d:\d\d)(:\d\d)? ?(Z|[+-]\d\d:\d\d)?")
-UNIX = re.compile(r"\d{1,11}")
+UNIX = re.compile(r"\d{1,11}", re.ASCII)
+OF_A_DAY = re.compile(r"(?:(today|yesterday)(?: |$))?(\d{1,2}:\d\d(?::\d\d)?)?", re.ASCII | re.IGNORECASE)
+NO_COLON = re.compile(r"\d{3,4}", re.ASCII)
+DAYS_BACK = {"today": 0, "yesterday": 1}
 LAST = 99_999_999_999
 
 
@@ -31,14 +35,32 @@ def duration(seconds: int) -> str:
     return " ".join(f"{count} {unit}" for count, unit in parts[first : first + 2] if count) or "0 s"
 
 
+def day_of_word(zone: Zone, word: str) -> date:
+    """Today or yesterday, by the clock of the book's zone."""
+    today = date.fromisoformat(zone.text_of(int(time.time()))[:10])
+    return today - timedelta(days=DAYS_BACK[word.lower()])
+
+
+def spelled_out(zone: Zone, text: str) -> str:
+    """A moment of today or yesterday with its date: `yesterday 22:00`, `6:05`; `today` alone is its first second."""
+    match = OF_A_DAY.fullmatch(text)
+    if not text or match is None:
+        return text
+    word, clock = match.groups()
+    return f"{day_of_word(zone, word or 'today')} {(clock or '00:00').zfill(5 if (clock or '').count(':') < 2 else 8)}"
+
+
 def read_moment(zone: Zone, text: str) -> list[Moment]:
     """The seconds that a typed moment may mean: one, or two where the clock shows it twice."""
-    text = text.strip()
+    text = spelled_out(zone, text.strip())
+    if NO_COLON.fullmatch(text):
+        raise Refused(f"{text} can't be read: a time is typed as {text[:-2].zfill(2)}:{text[-2:]}, for today")
     if UNIX.fullmatch(text):
         return [moment_of(zone, int(text))]
     match = TYPED.fullmatch(text)
     if match is None:
-        raise Refused("a moment is typed as 2025-04-05 06:10:00, by the clock of the book's zone")
+        example = f"{day_of_word(zone, 'today')} 06:10:00"
+        raise Refused(f"a moment is typed as {example}, or 06:10 for today, by the clock of the book's zone")
     day, minute, second, offset = match.groups()
     try:
         shown = datetime.fromisoformat(f"{day}T{minute}{second or ':00'}{offset or ''}")

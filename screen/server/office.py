@@ -6,10 +6,12 @@ import asyncio
 import json
 import re
 from collections import OrderedDict
+from dataclasses import dataclass
 from pathlib import Path
 from typing import Any
 
-from . import refusals, views
+from . import refusals, undo, views
+from .apart import Apart, Kept
 from .commands import FIELDS, accept, plan
 from .desk import IMPORT_SECONDS, Answer, Away, Desk
 from .journal import Journal
@@ -19,21 +21,19 @@ from .state import Refused, State
 WATCH_SECONDS = 1.0
 KEPT_COUNTS = 2_000
 WAITING_EVENTS = 64
-NAME = re.compile(r"[A-Z0-9_-]{1,16}")
 PLAIN = re.compile(r"0|[1-9][0-9]*|-")
-REFERENCE = re.compile(r"[A-Z0-9_-]{1,40}")
-
-
-def name_of_login(login: str) -> str:
-    """A login as the book takes it for a crew or an engineer: upper case, of its alphabet, 16 bytes at most."""
-    return re.sub(r"[^A-Z0-9_-]", "-", login.upper())[:16]
 
 
 class Hub:
-    """All open pages. A page that reads too slowly loses single events and is told to look at everything anew."""
+    """All open pages, each with its login. A page that reads too slowly loses single events and is told to look at
+    everything anew."""
 
     def __init__(self) -> None:
-        self.pages: set[asyncio.Queue[dict[str, Any]]] = set()
+        self.pages: dict[asyncio.Queue[dict[str, Any]], str] = {}
+
+    def count(self, login: str) -> int:
+        """The open pages of a login."""
+        return sum(each == login for each in self.pages.values())
 
     def tell(self, event: dict[str, Any]) -> None:
         for page in self.pages:
@@ -42,13 +42,21 @@ class Hub:
                     page.get_nowait()
             page.put_nowait(event)
 
-    def join(self) -> asyncio.Queue[dict[str, Any]]:
+    def join(self, login: str) -> asyncio.Queue[dict[str, Any]]:
         page: asyncio.Queue[dict[str, Any]] = asyncio.Queue(WAITING_EVENTS)
-        self.pages.add(page)
+        self.pages[page] = login
         return page
 
     def leave(self, page: asyncio.Queue[dict[str, Any]]) -> None:
-        self.pages.discard(page)
+        self.pages.pop(page, None)
+
+
+@dataclass(frozen=True)
+class Counted:
+    """What a command moved as counted here, and the kind and fields of the one that takes it back."""
+
+    moves: Moves
+    undo: tuple[str, ...] | None
 
 
 class Office:
@@ -57,7 +65,10 @@ class Office:
         self.state.sent = journal.sent
         self.hub = Hub()
         self.in_step = asyncio.Lock()
-        self.counted: OrderedDict[int, Moves] = OrderedDict()
+        self.rows, self.tables, self.reports = Apart("rows"), Apart("tables"), Apart("reports")
+        self.kept: dict[str, Kept] = {}  # what is made of the whole book, by name
+        self.counted: OrderedDict[int, Counted] = OrderedDict()
+        self.is_importing = False
         self.differs: str | None = None
         self.told_away: str | None = None
 
@@ -96,24 +107,33 @@ class Office:
 
     # Keeping in step.
 
+    def note_start(self) -> None:
+        """Writes into the log which commands came while the screen was stopped."""
+        last = self.journal.last_number()
+        if last is not None and last < self.state.number:
+            self.journal.write("", "", commands=[last + 1, self.state.number])
+
     async def catch_up(self) -> None:
         """Takes the commands that the file has and the state has not."""
-        loop = asyncio.get_running_loop()
-        later = await loop.run_in_executor(None, read_later, self.book, self.state.number)
+        known = self.state.number
+        later = await self.rows.run(read_later, self.book, known)
         try:
             for command, moves in later:
                 self.take(command, moves)
         except Refused as refused:  # the state isn't the book's: it is read anew, and that is told
             self.differs = f"command {self.state.number + 1} was taken by the desk, and not here: {refused}"
-            self.state = await loop.run_in_executor(None, new_state, self.book)
+            self.state = await self.rows.run(new_state, self.book)
             self.state.sent = self.journal.sent
         if later:
             self.tell_commands(later[-1][0], later[-1][1], len(later))
+        if not self.is_importing and any(command.ref not in self.journal.sent for command, _ in later):
+            self.journal.write("", "", commands=[known + 1, known + len(later)])
 
     def take(self, command: Command, moves: Moves) -> None:
         """Takes the next command, and compares what was counted here with what the desk moved."""
+        undone = undo.undo_of(self.state, command)
         here = accept(self.state, command)
-        self.counted[command.number] = here
+        self.counted[command.number] = Counted(here, undone)
         while len(self.counted) > KEPT_COUNTS:
             self.counted.popitem(last=False)
         if here != moves and self.differs is None:
@@ -138,12 +158,14 @@ class Office:
 
     # Commands.
 
-    async def send(self, login: str, command: dict[str, str], seen: int | None) -> tuple[int, dict[str, Any]]:
+    async def send(
+        self, login: str, command: dict[str, str], seen: int | None, **told: str
+    ) -> tuple[int, dict[str, Any]]:
         """Sends a command until the desk has answered it: the status and what the page is told. `seen` is the last command
-        that the page knew of when it showed what this one would do."""
+        that the page knew of when it showed what this one would do; `told` goes into the log."""
         assert self.desk is not None
         known = self.state.number
-        self.journal.write(login, command["ref"], sent=command)
+        self.journal.write(login, command["ref"], sent=command, **told)
         try:
             answer, tries = await self.desk.send(command)
         except Away as away:
@@ -157,11 +179,12 @@ class Office:
         number, moves = reply["no"], [(dim, key, amount) for dim, key, amount in reply["moved"]]
         await self.learn(number, accepted(number, command), moves)
         shown = {"reply": reply, "text": answer.body.decode(), "tries": tries, "again": number <= known}
-        shown["entry"] = self.state.entry_made_by(number)
+        shown["entry"] = self.state.changed.get(number)
         shown["between"] = [] if seen is None else views.between_view(self.state, seen, number)
         here = self.counted.get(number)
         if here is not None:
-            shown |= {"counted": [list(move) for move in here], "equal": here == moves}
+            shown |= {"counted": [list(move) for move in here.moves], "equal": here.moves == moves}
+            shown["undo"] = views.command_view(self.state, here.undo)
         return 200, shown
 
     async def refused(self, command: dict[str, str], reply: dict[str, Any], answer: Answer) -> dict[str, Any]:
@@ -180,14 +203,18 @@ class Office:
         """Hands a CSV text to the desk: its report."""
         assert self.desk is not None
         self.journal.write(login, "", sent={"kind": "import", "bytes": len(rows)})
+        known, self.is_importing = self.state.number, True
         try:
             answer = await self.desk.ask("POST", "/import", rows, IMPORT_SECONDS)
+            async with self.in_step:
+                await self.catch_up()
         except Away as away:
             self.journal.write(login, "", unanswered=str(away))
             return 503, {"error": "away", "words": away_words(), "why": str(away)}
-        self.journal.write(login, "", status=answer.status, answer=body_of(answer))
-        async with self.in_step:
-            await self.catch_up()
+        finally:
+            self.is_importing = False
+        commands = [known + 1, self.state.number] if self.state.number > known else None
+        self.journal.write(login, "", status=answer.status, answer=body_of(answer), commands=commands)
         return answer.status, {"reply": answer.json(), "text": answer.body.decode()}
 
     def forecast(self, kind: str, fields: list[str]) -> dict[str, Any]:
@@ -202,7 +229,7 @@ class Office:
             return answer.status, answer.body.decode()
         if not 1 <= number <= self.state.number:
             return 404, ""
-        moves = await asyncio.get_running_loop().run_in_executor(None, moves_by_second_program, self.book, number)
+        moves = await self.tables.run(moves_by_second_program, self.book, number)
         return 200, json.dumps({"moved": moves, "no": number}, separators=(",", ":"))
 
 

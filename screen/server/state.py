@@ -211,7 +211,7 @@ class State:
         self.number = rows.commands[-1].number if rows.commands else 0
         self.sheet = sheet_of(rows.devices, rows.entries)
         self.histories: dict[int, list[Command]] = defaultdict(list)
-        self.made_by: dict[tuple[str, str], int] = {}
+        self.changed: dict[int, int] = {}  # by command: the entry that it made or changed
         self.latest: deque[Command] = deque(maxlen=KEPT_COMMANDS)
         self.sent: dict[str, int] = {}  # by reference: when a command was sent from here, as far as the log knows
         self.crews: set[str] = set()
@@ -235,11 +235,11 @@ class State:
         if kind == "switch":
             self.entries_told += 1
             self.crews.add(fields[4])
-            self.histories[self.entries_told].append(command)
+            self.changed[command.number] = self.entries_told
         elif kind in ("correct", "withdraw"):
-            self.histories[int(fields[0])].append(command)
-        elif kind in ("device", "life", "bus", "section"):
-            self.made_by[kind, fields[0]] = command.number
+            self.changed[command.number] = int(fields[0])
+        if command.number in self.changed:
+            self.histories[self.changed[command.number]].append(command)
 
     def now(self) -> int:
         """The second that is now, or the one of the period that is nearest to it."""
@@ -261,13 +261,6 @@ class State:
             if entry.is_kept and entry.second <= now:
                 latest = max(latest, entry.second)
         return found
-
-    def entry_made_by(self, command: int) -> int | None:
-        """The entry that a command made or changed; among the latest ones."""
-        for number in range(len(self.sheet.entries), 0, -1):
-            if any(each.number == command for each in self.histories.get(number, ())):
-                return number
-        return None
 
     # What follows from the rows.
 

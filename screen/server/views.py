@@ -3,22 +3,21 @@
 from __future__ import annotations
 
 import re
-from collections.abc import Callable, Sequence
+from collections.abc import Sequence
 from typing import Any
 
-from .commands import FIELDS, Plan, sections_of
+from .commands import FIELDS, Plan, day_of, sections_of
 from .diagram import Layout, layout_of, normal_ways
 from .moments import duration
 from .network import Supply
 from .reader import Command, Entry
-from .state import LATE_SECONDS, SECTION, Refused, Run, State
+from .reasons import still_cut_off
+from .state import LATE_SECONDS, Run, State
+from .to_now import is_live, marks_view
 
 Json = dict[str, Any]
-PAGE_ROWS = 100
 FUTURE_SECONDS = 60  # clocks of browsers and servers differ
 TIMES = ("second", "beginning", "end", "since", "until")  # fields of commands that are moments
-STATUSES = ("late", "corrected", "withdrawn")
-ORDERS = ("", "newest", "second")
 
 
 def text(state: State, second: int) -> str:
@@ -42,6 +41,7 @@ def book_view(state: State) -> Json:
         "last": moment(state, period.end - 1),
         "days": [day.isoformat() for day in period.days],
         "zone": period.zone.text,
+        "today": text(state, state.now())[:10],
         "causes": sorted(state.causes.items()),
         "nodes": [{"name": name, "kind": kind, "feeder": feeder} for name, kind, feeder in state.nodes],
         "devices": [device_view(state, number) for number in range(len(state.sheet.devices))],
@@ -165,82 +165,6 @@ def entry_view(state: State, entry: Entry, late: set[int] | None = None) -> Json
     }
 
 
-def sheet_view(state: State, wanted: dict[str, str]) -> Json:
-    """A page of the entries that are asked for, newest first or by second. What can't be read is refused."""
-    late = state.late_entries()
-    tests = tests_of(state, wanted, late)
-    found = [entry for entry in state.sheet.entries if all(test(entry) for test in tests)]
-    if wanted.get("order", "") not in ORDERS:
-        raise Refused(f"there is no order {wanted['order']}")
-    if wanted.get("order") == "second":
-        found.sort(key=lambda entry: (entry.second, entry.number))
-    else:
-        found.reverse()
-    begin = int(wanted["from"]) if re.fullmatch(r"\d{1,5}", wanted.get("from", ""), re.ASCII) else 0
-    shown = found[begin : begin + PAGE_ROWS]
-    return {
-        "number": state.number,
-        "found": len(found),
-        "of": len(state.sheet.entries),
-        "from": begin,
-        "rows": [entry_view(state, entry, late) for entry in shown],
-    }
-
-
-def tests_of(state: State, wanted: dict[str, str], late: set[int]) -> list[Callable[[Entry], bool]]:
-    """What the fields of a search ask of an entry; an empty field asks for nothing."""
-    name, crew = wanted.get("device", "").upper(), wanted.get("crew", "").upper()
-    day, cause, marked = wanted.get("day", ""), wanted.get("cause", ""), wanted.get("marked", "")
-    tests: list[Callable[[Entry], bool]] = []
-    if name:
-        if not any(name in device.name for device in state.sheet.devices):
-            raise Refused(f"no device has {name} in its name")
-        tests.append(lambda entry: name in state.sheet.devices[entry.device].name)
-    if crew:
-        tests.append(lambda entry: crew in entry.crew)
-    if cause:
-        if cause not in map(str, state.causes):
-            raise Refused(f"there is no cause {cause}")
-        tests.append(lambda entry: str(entry.cause) == cause)
-    if day:
-        check_day(state, day)
-        tests.append(lambda entry: text(state, entry.second)[:10] == day)
-    if marked:
-        if marked not in STATUSES:
-            raise Refused(f"entries are {', '.join(STATUSES)}, and not {marked}")
-        tests.append(lambda entry: marked in marks_of(state, entry, late))
-    if wanted.get("section"):
-        tests.append(of_sections(state, wanted["section"].upper()))
-    return tests
-
-
-def check_day(state: State, typed: str) -> None:
-    """Refuses what is no day of the period, as YYYY-MM-DD."""
-    if typed not in {day.isoformat() for day in state.period.days}:
-        first, last = day_name(state, 0), day_name(state, len(state.period.days) - 1)
-        raise Refused(f"{typed} is no day of the book's period: days are typed as {first}, from then to {last}")
-
-
-def of_sections(state: State, part: str) -> Callable[[Entry], bool]:
-    """Entries of the devices at the sections that have a part in their name, and those that cut them off."""
-    nodes = {number for number, (name, kind, _) in enumerate(state.nodes) if kind == SECTION and part in name}
-    if not nodes:
-        raise Refused(f"no section has {part} in its name")
-    beside = {device.number for device in state.sheet.devices if not nodes.isdisjoint((device.a, device.b))}
-    cutters = {run.cutter for node in nodes for run in state.runs.get(node, [])}
-    return lambda entry: entry.device in beside or entry.number in cutters
-
-
-def marks_of(state: State, entry: Entry, late: set[int]) -> list[str]:
-    """What the sheet marks of an entry."""
-    found = ["withdrawn"] if not entry.is_kept else []
-    if entry.number in late:
-        found.append("late")
-    if any(command.kind == "correct" for command in state.histories.get(entry.number, [])):
-        found.append("corrected")
-    return found
-
-
 def command_words(state: State, kind: str, fields: Sequence[str]) -> str:
     """What a command is, for people: its kind and all of its fields."""
     values = dict(zip(FIELDS.get(kind, ()), fields))
@@ -258,6 +182,15 @@ def command_words(state: State, kind: str, fields: Sequence[str]) -> str:
     return f"{kind}: {', '.join(rest)}"
 
 
+def command_view(state: State, told: Sequence[str] | None) -> Json | None:
+    """A command as a page sends it, with its words; nothing where there is none."""
+    if told is None:
+        return None
+    kind, *fields = told
+    named = {f"f{place}": field for place, field in enumerate(fields, 1)}
+    return {"command": {"kind": kind, **named}, "words": command_words(state, kind, fields)}
+
+
 def between_view(state: State, seen: int, number: int) -> list[Json]:
     """The commands that came after one that a page had seen and before another one."""
     return [
@@ -265,7 +198,7 @@ def between_view(state: State, seen: int, number: int) -> list[Json]:
             "no": command.number,
             "ref": command.ref,
             "words": command_words(state, command.kind, command.fields),
-            "entry": state.entry_made_by(command.number),
+            "entry": state.changed.get(command.number),
         }
         for command in state.latest
         if seen < command.number < number
@@ -297,6 +230,9 @@ def forecast_view(state: State, planned: Plan, kind: str, fields: Sequence[str])
         "moved": [list(move) for move in planned.moves],
         "total": sum(amount for dim, _, amount in planned.moves if dim == "cause"),
         "hints": [*planned.hints, *late_hints(kind, ahead)],
+        "reason": None if sections else still_cut_off(state, planned),
+        "is_live": is_live(state),
+        "unmarked": marks_view(state, kind, day_of(state, fields[0])) if kind in ("mark", "unmark") else None,
         "future": duration(ahead) if ahead > FUTURE_SECONDS else None,
         "words": command_words(state, kind, fields),
     }

@@ -19,19 +19,22 @@ from urllib.parse import urlsplit
 
 from aiohttp import web
 
-from . import moments, views, year
+from . import handover, moments, search, shift, views, year
+from .apart import Kept
 from .commands import FIELDS
 from .desk import Away
 from .guard import BODY_BYTES
-from .journal import second_of
-from .office import NAME, REFERENCE, Office, name_of_login
+from .names import NAME, folded, name_in
+from .office import Office
 from .reader import BookError
 from .state import Refused
+from .to_now import to_now_view
 
 STATIC = Path(__file__).resolve().parent.parent / "static"
 PAGES = {"/": "now", "/sheet": "sheet", "/enter": "enter", "/network": "network", "/year": "year"}
 COMMAND_BYTES = 16_384
 MOST_PAGES = 500
+MOST_OF_A_LOGIN = 50
 HEARTBEAT_SECONDS = 10.0
 SLOW_SECONDS = 20.0
 COOKIE = "screen_name"
@@ -51,6 +54,9 @@ class Settings:
     proxy: str | None = None
     read_only: bool = False
     senders: str = ""  # logins that begin with this may send commands
+    name: str = ""  # the book's, as pages show it
+    training: bool = False
+    own_hosts: set[str] = field(default_factory=set)  # of this machine: asked without TLS
     secret: bytes = field(default_factory=lambda: secrets.token_bytes(32))
 
 
@@ -96,6 +102,16 @@ def may_send(request: web.Request, login: str) -> bool:
     return not settings.read_only and office.desk is not None and bool(login) and login.startswith(settings.senders)
 
 
+def name_of(request: web.Request, login: str) -> str:
+    """The name of a login in the book. A login that only looks has none of its own: it takes none from those that send."""
+    return office_of(request).journal.names.of(login) if is_named(request, login) else folded(login)
+
+
+def is_named(request: web.Request, login: str) -> bool:
+    """Whether the login is a proxy's, and may send: then its name has to be its own."""
+    return settings_of(request).proxy is not None and may_send(request, login)
+
+
 def token_of(settings: Settings, login: str) -> str:
     return hmac.new(settings.secret, login.encode(errors="replace"), "sha256").hexdigest()
 
@@ -133,7 +149,8 @@ def refusal_of(request: web.Request) -> web.Response | None:
         reply.headers["Allow"] = "GET, HEAD, POST"
         return reply
     site, is_visit = request.headers.get("Sec-Fetch-Site", "none"), request.headers.get("Sec-Fetch-Mode") == "navigate"
-    if site not in ("same-origin", "none") and not (is_visit and request.method == "GET" and request.path in PAGES):
+    is_visit = is_visit and request.method == "GET" and request.path in (*PAGES, "/shift")  # by a link from elsewhere
+    if site not in ("same-origin", "none") and not is_visit:
         return complaint(403, "origin", "asked by a page from elsewhere")
     if request.path == "/health":
         return None
@@ -144,8 +161,7 @@ def refusal_of(request: web.Request) -> web.Response | None:
 
 
 def refusal_of_post(request: web.Request, login: str) -> web.Response | None:
-    origin = request.headers.get("Origin")
-    if origin is not None and urlsplit(origin).netloc != request.headers.get("Host"):
+    if not is_own_origin(request):
         return complaint(403, "origin", "sent by a page from elsewhere")
     wanted = "text/csv" if request.path == "/api/import" else "application/json"
     if request.content_type != wanted:
@@ -155,6 +171,16 @@ def refusal_of_post(request: web.Request, login: str) -> web.Response | None:
     if request.path != "/api/name" and not may_send(request, login):
         return complaint(403, "look only", "this login may look, and not send")
     return None
+
+
+def is_own_origin(request: web.Request) -> bool:
+    """A page of the screen sent it, where that is told; on this machine it has no TLS."""
+    origin, host = request.headers.get("Origin"), request.headers.get("Host", "")
+    if origin is None:
+        return True
+    parts = urlsplit(origin)
+    schemes = ("http",) if host in settings_of(request).own_hosts else ("http", "https")
+    return parts.netloc == host and parts.scheme in schemes
 
 
 async def secure(request: web.Request, response: web.StreamResponse) -> None:
@@ -221,10 +247,12 @@ async def me(request: web.Request) -> web.StreamResponse:
         200,
         {
             "login": login,
-            "name": name_of_login(login),
+            "name": name_of(request, login),
             "asks_name": settings.proxy is None,
             "may_send": may_send(request, login),
             "could_send": not settings.read_only and office.desk is not None,
+            "book": settings.name,
+            "training": settings.training,
             "token": token_of(settings, login),
             **office.desk_view(),
         },
@@ -234,7 +262,7 @@ async def me(request: web.Request) -> web.StreamResponse:
 async def give_name(request: web.Request) -> web.StreamResponse:
     if settings_of(request).proxy is not None:
         raise web.HTTPForbidden()
-    name = name_of_login((await json_body(request)).get("name", "").strip())
+    name = folded((await json_body(request)).get("name", "").strip())
     if not NAME.fullmatch(name):
         raise Refused("a name has 1 to 16 of A-Z, 0-9, - and _")
     reply = answer(200, {"name": name})
@@ -273,7 +301,7 @@ async def now(request: web.Request) -> web.StreamResponse:
 
 
 async def sheet(request: web.Request) -> web.StreamResponse:
-    return answer(200, views.sheet_view(office_of(request).state, dict(request.query)))
+    return answer(200, search.sheet_view(office_of(request).state, dict(request.query)))
 
 
 async def entry(request: web.Request) -> web.StreamResponse:
@@ -322,15 +350,17 @@ async def forecast(request: web.Request) -> web.StreamResponse:
 async def command(request: web.Request) -> web.StreamResponse:
     """Sends a command under the page's reference, which has to be the login's own."""
     login, body = login_of(request) or "", await json_body(request)
+    name = name_of(request, login)
     names = {"kind", "ref", *(f"f{place}" for place in range(1, 7))}
     if not {"kind", "ref"} <= body.keys() <= names or body["kind"] not in FIELDS:
         raise Refused("a command has kind, ref and f1 to f6")
-    if not REFERENCE.fullmatch(body["ref"]) or not body["ref"].startswith(f"SCR-{name_of_login(login)}-"):
-        raise Refused(f"the reference has to begin with SCR-{name_of_login(login)}-")
-    if body["kind"] in ("mark", "unmark") and body.get("f2") != name_of_login(login):
+    if name_in(body["ref"]) != name:
+        raise Refused(f"the reference has to be SCR-{name}- and some of A-Z, 0-9 and _, 40 letters at most")
+    if body["kind"] in ("mark", "unmark") and body.get("f2") != name:
         raise Refused("a day is marked by the login's own name")
     seen = int(number) if (number := request.query.get("seen", "")).isdecimal() and len(number) < 12 else None
-    return answer(*await asyncio.shield(office_of(request).send(login, body, seen)))
+    told = {"name": name} if is_named(request, login) else {}
+    return answer(*await asyncio.shield(office_of(request).send(login, body, seen, **told)))
 
 
 async def rows(request: web.Request) -> web.StreamResponse:
@@ -343,29 +373,54 @@ async def customers(request: web.Request) -> web.StreamResponse:
 
 
 async def journal(request: web.Request) -> web.StreamResponse:
-    """The screen's log, latest first, with the time by the clock of the book's zone."""
-    office = office_of(request)
-    rows = list(office.journal.latest)[::-1]
-    return answer(200, [{**row, "at": views.text(office.state, second_of(row))} for row in rows])
+    """The screen's log by time of sending, latest first; `since`, `until` and `name` ask for a part of it."""
+    return answer(200, shift.log_view(office_of(request), dict(request.query)))
+
+
+async def changes(request: web.Request) -> web.StreamResponse:
+    """What a shift hands over: open outages, what was entered since a time and by whom, the marked days."""
+    return answer(200, shift.shift_view(office_of(request), dict(request.query)))
+
+
+async def shift_page(request: web.Request) -> web.StreamResponse:
+    """The same, as a page to be printed."""
+    login, query = login_of(request) or "", dict(request.query)
+    try:
+        status, shown, why = 200, shift.shift_view(office_of(request), query), ""
+    except Refused as refused:  # the page is shown with the fields as they were typed
+        status, shown, why = 422, shift.shift_view(office_of(request), {}), str(refused)
+    data = handover.page(shown, query, name_of(request, login), why)
+    return web.Response(status=status, text=data, content_type="text/html", charset="utf-8")
+
+
+async def marks(request: web.Request) -> web.StreamResponse:
+    return answer(200, shift.marks_view(office_of(request)))
 
 
 # The year.
 
 
-async def apart(work: Callable[[], Any]) -> Any:
-    """Work that takes its time, off the loop."""
-    return await asyncio.get_running_loop().run_in_executor(None, work)
+async def whole(request: web.Request, name: str, make: Callable[[], Awaitable[Any]]) -> Any:
+    """Something that is made of the whole book: one at a time, and kept until the book has another command."""
+    office = office_of(request)
+    kept = office.kept.setdefault(name, Kept(lambda: office.state.number, make))
+    return await kept.get()
 
 
 async def table_text(request: web.Request) -> str:
-    office = office_of(request)
-    if office.desk is None:
-        return str(await apart(partial(year.table_of_copy, settings_of(request).program, office.book)))
-    return (await office.desk.ask("GET", "/table")).body.decode()
+    office, program = office_of(request), settings_of(request).program
+
+    async def make() -> str:
+        if office.desk is None:
+            return await office.tables.run(year.table_of_copy, program, office.book)
+        return (await office.desk.ask("GET", "/table")).body.decode()
+
+    return str(await whole(request, "table", make))
 
 
 async def table(request: web.Request) -> web.StreamResponse:
-    return answer(200, year.table_view(await table_text(request)))
+    text = await table_text(request)
+    return answer(200, {**year.table_view(text), **to_now_view(office_of(request).state)})
 
 
 async def totals(request: web.Request) -> web.StreamResponse:
@@ -380,9 +435,9 @@ async def download(request: web.Request) -> web.StreamResponse:
     if name == "table.txt":
         data = (await table_text(request)).encode()
     elif name == "commands.csv":
-        data = await apart(partial(year.commands_csv, program, office.book))
+        data = await office.tables.run(year.commands_csv, program, office.book)
     elif name == "moves.csv":
-        data = await apart(partial(year.moves_csv, program, office.book))
+        data = await office.tables.run(year.moves_csv, program, office.book)
     else:
         raise web.HTTPNotFound()
     kind = "text/csv" if name.endswith(".csv") else "text/plain"
@@ -392,7 +447,8 @@ async def download(request: web.Request) -> web.StreamResponse:
 
 async def report(request: web.Request) -> web.StreamResponse:
     """The printed report. Its style stands in the page, so the policy names just that by its hash."""
-    data = await apart(partial(year.report_page, settings_of(request).program, office_of(request).book))
+    office, program = office_of(request), settings_of(request).program
+    data = await whole(request, "report", partial(office.reports.run, year.report_page, program, office.book))
     styles = re.findall(rb"<style>(.*?)</style>", data, re.S)
     hashes = " ".join(f"'sha256-{base64.b64encode(hashlib.sha256(style).digest()).decode()}'" for style in styles)
     headers = {"Content-Security-Policy": f"default-src 'none'; style-src {hashes}; frame-ancestors 'none'"}
@@ -404,11 +460,14 @@ async def report(request: web.Request) -> web.StreamResponse:
 
 async def events(request: web.Request) -> web.StreamResponse:
     """Tells a page of each accepted command, and where the desk goes or comes."""
-    office = office_of(request)
+    office, login = office_of(request), login_of(request) or ""
     if len(office.hub.pages) >= MOST_PAGES:
         raise web.HTTPServiceUnavailable()
+    most = MOST_OF_A_LOGIN if login else MOST_PAGES - MOST_OF_A_LOGIN  # those without a login leave some for the others
+    if office.hub.count(login) >= most:
+        return complaint(429, "pages", f"this login has {most} pages open: close some of them")
     stream = web.StreamResponse(headers={"Content-Type": "text/event-stream", "X-Accel-Buffering": "no"})
-    queue = office.hub.join()
+    queue = office.hub.join(login)
     try:
         await stream.prepare(request)
         await write_event(stream, {"what": "hello", **office.desk_view()})
@@ -447,6 +506,9 @@ GETS: dict[str, Handler] = {
     "/api/forecast": forecast,
     "/api/customers": customers,
     "/api/log": journal,
+    "/api/changes": changes,
+    "/api/marks": marks,
+    "/shift": shift_page,
     "/api/year": table,
     "/api/totals": totals,
 }

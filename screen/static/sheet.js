@@ -1,13 +1,15 @@
-// The switching sheet: entries, what each command moved, corrections and withdrawals; and the screen's own log.
-import { begin, causes, choice, el, field, get, HERE, known, list, lookOnly, moment, momentWords, number, onCommands, PROGRAM, renew, scrolling, settled, spelled, table, text } from "./common.js";
+// The switching log: entries, what each command moved, corrections and withdrawals; and the screen's own log.
+import { fromAddress, toAddress } from "./address.js";
+import { begin, causes, choice, el, field, foot, get, known, list, lookOnly, moment, momentWords, number, onCommands, renew, scrolling, settled, source, spelled, table, text, zoneName } from "./common.js";
+import { ticketOf } from "./elements.js";
 import { MomentField } from "./moments.js";
-import { entryWords, movesTable, Sender } from "./sender.js";
+import { movesTable } from "./forecast.js";
+import { entryWords, Sender } from "./sender.js";
+import { shiftLog, showLog } from "./shiftlog.js";
 
 const main = document.getElementById("main");
 const detail = el("section", { id: "detail", tabindex: "-1", "aria-label": "An entry" });
 const rows = el("section", { "aria-label": "Entries" });
-const logged = el("div", {});
-const log = el("section", { "aria-label": "The screen's log" }, el("details", {}, el("summary", {}, "The screen's own log: who sent what, when"), logged));
 const wanted = {};
 let from = 0;
 let opened = null;
@@ -15,7 +17,7 @@ let opened = null;
 const tags = (entry) => ["late", "corrected"].filter((name) => entry[name]).concat(entry.kept ? [] : ["withdrawn"]).map((name) => el("span", { class: `tag ${name}` }, name));
 
 const NOT_READ = 422; // the status of a search that can't be read
-const SEARCHED = { device: "device", cause: "cause", crew: "crew", section: "section", day: "day", marked: "mark" };
+const SEARCHED = { device: "device", cause: "cause", crew: "crew", section: "section", feeder: "feeder", day: "day", marked: "status" };
 const inputs = {};
 
 /** What is searched for changed: the first rows of it are shown. */
@@ -40,9 +42,12 @@ function clear() {
   search();
 }
 
+const feeders = () => [...new Set(known.book.nodes.filter((node) => node.kind === 2).map((node) => node.feeder))].sort((one, other) => one - other).map((each) => [String(each), String(each)]);
+
 async function filters() {
   const make = (name, input) => {
     inputs[name] = input;
+    if (wanted[name]) input.value = wanted[name];
     input.addEventListener("input", settled(search));
     return input;
   };
@@ -60,9 +65,10 @@ async function filters() {
       field("Cause", make("cause", choice([["", "any"], ...causes()]))),
       field("Crew", make("crew", text({ list: "crews" }))),
       field("Section", make("section", text({ list: "sections" }))),
+      field("Feeder", make("feeder", choice([["", "any"], ...feeders()]))),
       field("Day", make("day", el("input", { type: "date", min: days[0], max: days[days.length - 1] }))),
       await dayButtons(),
-      field("Marked", make("marked", choice([["", "all"], ["late", "late"], ["corrected", "corrected"], ["withdrawn", "withdrawn"]]))),
+      field("Status", make("marked", choice([["", "all"], ["late", "late"], ["corrected", "corrected"], ["withdrawn", "withdrawn"]]))),
       field("Order", make("order", choice([["newest", "newest first"], ["second", "by second"]]))),
     ),
   );
@@ -82,6 +88,7 @@ function turns(shown) {
 
 async function show() {
   let shown;
+  toAddress({ ...wanted, order: wanted.order === "newest" ? "" : wanted.order, from: from ? String(from) : "" });
   try {
     shown = await get("/api/sheet", { ...wanted, from });
   } catch (trouble) {
@@ -89,6 +96,7 @@ async function show() {
     renew(rows, el("h2", {}, "Not searched"), el("p", { class: "bad" }, `${trouble.message}.`), searchWords() ? clearing() : "");
     return;
   }
+  if (shown.day) inputs.day.value = shown.day; // a day in words, as its date
   const lines = shown.rows.map((entry) => [
     el("button", { type: "button", class: "small open-entry", "data-entry": entry.no, "aria-label": `Entry ${entry.no}: look, correct, withdraw`, click: () => open(entry.no) }, String(entry.no)),
     moment(entry.second),
@@ -96,16 +104,15 @@ async function show() {
     entry.action,
     `${entry.cause} ${entry.cause_name}`,
     entry.crew,
-    String(entry.revision),
-    entry.commands[0]?.ref || "",
+    ticketOf(entry.commands[0]?.ref),
     tags(entry).length ? el("span", {}, tags(entry)) : "",
   ]);
   const classes = shown.rows.map((entry) => (entry.kept ? "" : "gone"));
   const empty = searchWords() ? [el("p", { class: "warn" }, `No entries for ${searchWords()}.`), clearing()] : [el("p", {}, "The book has no entries yet.")];
   renew(
     rows,
-    el("h2", {}, `${number(shown.found)} of ${number(shown.of)} entries `, HERE()),
-    ...(lines.length ? [table(["entry", "second", "device", "position", "cause", "crew", "#revision", "reference", "marks"], lines, null, classes)] : empty),
+    el("h2", {}, `${number(shown.found)} of ${number(shown.of)} entries`),
+    ...(lines.length ? [table(["entry", "time", "device", "position", "cause", "crew", "reference", "status"], lines, null, classes)] : empty),
     shown.found > 100 ? turns(shown) : "",
   );
   document.body.dataset.number = shown.number;
@@ -134,7 +141,7 @@ async function open(no, { kind = "correct" } = {}) {
   for (const command of entry.history) {
     const reply = command.text ? JSON.parse(command.text) : null;
     const words = `Command ${command.no}, ${command.kind}, ${command.ref}${command.second ? `, ${momentWords(command.second)}` : ""}`;
-    parts.push(el("details", {}, el("summary", {}, words, " ", PROGRAM()), reply ? scrolling("What it moved", movesTable(reply.moved)) : "the desk gives no reply now"));
+    parts.push(el("details", {}, el("summary", {}, words), reply ? scrolling("What it changed", movesTable(reply.moved)) : "the desk gives no reply now"));
   }
   if (entry.kept && known.me.may_send) parts.push(work(entry, words, kind));
   parts.push(el("div", { class: "buttons" }, el("button", { type: "button", click: () => { opened = null; detail.replaceChildren(); rows.querySelector(`[data-entry="${no}"]`)?.focus(); } }, "Close")));
@@ -150,7 +157,7 @@ function work(entry, words, asked) {
   const cause = choice(causes(), String(entry.cause));
   const crew = text({ list: "crews", maxlength: 16, value: entry.crew });
   const changed = () => sender.update();
-  const second = new MomentField("Second", momentWords(entry.second.text), changed, { touched: () => sender.age() });
+  const second = new MomentField(`Time (${zoneName()})`, momentWords(entry.second.text), changed, { touched: () => sender.age() });
   const told = el("div", {}, second.element, field("Position", position), field("Cause", cause), field("Crew", crew, spelled(crew, "crew")));
   const read = () => {
     const seen = { f1: String(entry.no), f2: String(entry.revision) };
@@ -185,19 +192,11 @@ function work(entry, words, asked) {
   return form;
 }
 
-async function showLog() {
-  const shown = await get("/api/log");
-  const lines = shown.slice(0, 60).map((row) => [
-    moment(row.at), row.login, row.reference,
-    row.sent ? `sent ${row.sent.kind} ${row.sent.f1 || ""} ${row.sent.f2 || ""}` : row.unanswered ? "not answered" : String(row.status),
-    el("span", { class: "mono" }, JSON.stringify(row.answer ?? row.unanswered ?? "").slice(0, 160)),
-  ]);
-  logged.replaceChildren(table(["time", "login", "reference", "what", "answer"], lines));
-}
-
 begin(async () => {
+  Object.assign(wanted, fromAddress([...Object.keys(SEARCHED), "order"]));
+  from = Number(fromAddress(["from"]).from ?? 0) || 0;
   const narrow = matchMedia("(max-width: 40rem)").matches;
-  main.append(lookOnly(), el("details", { class: "search no-print", open: !narrow }, el("summary", {}, "Search"), await filters()), detail, rows, log);
+  main.append(lookOnly(), el("details", { class: "search no-print", open: !narrow }, el("summary", {}, "Search"), await filters()), detail, rows, shiftLog(), foot(`What a command changed is ${source()}, in its own reply; status and search are computed here.`));
   onCommands(() => { show(); showLog(); lookAgain(); });
   await Promise.all([show(), showLog()]);
   const asked = new URLSearchParams(location.search);

@@ -15,7 +15,8 @@ from pathlib import Path
 from typing import Any, cast
 
 import support
-from server import guard, moments, reader
+from server import apart, guard, moments, reader
+from server.desk import Away
 from server.state import Refused
 
 LIGHTHOUSE = {"kind": "switch", "f1": "LBS-22", "f2": "close", "f3": "1743976320", "f4": "5", "f5": "CREW-3"}
@@ -136,7 +137,9 @@ class Commands(Case):
         self.assertEqual({line["login"] for line in lines}, {"ANNA"})
         self.assertEqual(lines[0]["sent"]["f1"], "LBS-22")
         self.assertEqual((lines[1]["status"], lines[1]["answer"]["no"]), (200, 103))
-        self.assertEqual([row["reference"] for row in screen.call("/api/log")[1]], ["SCR-ANNA-1", "SCR-ANNA-1"])
+        shown = screen.call("/api/log")[1]
+        self.assertEqual([(row["reference"], row["login"]) for row in shown], [("SCR-ANNA-1", "ANNA")])
+        self.assertEqual(shown[0]["result"], "saved: command 103, entry 36")
 
     def test_import_with_its_report(self) -> None:
         screen = self.screen("import")
@@ -259,6 +262,83 @@ class Figures(unittest.TestCase):
         support.until(lambda: self.screen.call("/health")[0] == 200, 60, "the next desk")
 
 
+SLOW_PROGRAM = """#!/bin/sh
+echo "$1" >> "{calls}"
+[ "$1" = table ] && sleep 3
+exec "{program}" "$@"
+"""
+
+
+class Reports(Case):
+    def test_eight_who_ask_for_the_report(self) -> None:
+        """It is made once for all of them, and again after a command. What comes another way isn't kept waiting by it."""
+        desk = self.desk("reports")
+        calls, program = desk.book.with_name("calls"), desk.book.with_name("slow")
+        program.write_text(SLOW_PROGRAM.format(calls=calls, program=support.PROGRAM))
+        program.chmod(0o755)
+        screen = support.Screen(desk.book, desk=desk, program=program)
+        self.addCleanup(screen.end)
+        found: list[tuple[int, bytes]] = []
+        readers = [
+            threading.Thread(target=lambda: found.append(support.call(f"{screen.url}/report"))) for _ in range(8)
+        ]
+        for reader_of_it in readers:
+            reader_of_it.start()
+        support.until(calls.exists, what="a report that is being made")
+        self.assertEqual(desk.post({**LIGHTHOUSE, "ref": "CURL-1"})[0], 200)
+        support.until(lambda: screen.number() == 103, 2.5, "the command of another client, before the report is made")
+        self.assertEqual(found, [])
+        for reader_of_it in readers:
+            reader_of_it.join()
+        self.assertEqual({status for status, _ in found}, {200})
+        self.assertLessEqual(calls.read_text().split().count("table"), 2)
+        made = calls.read_text().split().count("table")
+        self.assertEqual(support.call(f"{screen.url}/report")[0], 200)
+        self.assertLessEqual(calls.read_text().split().count("table"), made + 1)
+        made = calls.read_text().split().count("table")
+        self.assertEqual(support.call(f"{screen.url}/report")[0], 200)
+        self.assertEqual(calls.read_text().split().count("table"), made)
+
+    def test_what_is_made_once(self) -> None:
+        """Who asks while it is being made gets that one, or its failure; another version is made anew."""
+        made, version = [0], ["one"]
+
+        async def make() -> int:
+            made[0] += 1
+            await asyncio.sleep(0.01)
+            if version[0] == "none":
+                raise Away("the desk gives no answer")
+            return made[0]
+
+        async def all_of(kept: apart.Kept) -> list[Any]:
+            found: list[Any] = await asyncio.gather(*(kept.get() for _ in range(5)), return_exceptions=True)
+            return found
+
+        async def ask() -> list[list[Any]]:
+            kept = apart.Kept(lambda: version[0], make)
+            found = []
+            for version[0] in ("one", "one", "two", "none", "none", "three"):
+                found.append([str(each) for each in await all_of(kept)])
+            return found
+
+        away = "the desk gives no answer"
+        self.assertEqual(asyncio.run(ask()), [[each] * 5 for each in ("1", "1", "2", away, away, "5")])
+
+    def test_the_table_is_asked_for_once_a_command(self) -> None:
+        desk = self.desk("tables")
+        between = Cutter(desk.port)
+        self.addCleanup(between.end)
+        screen = support.Screen(desk.book, "--desk", f"http://127.0.0.1:{between.port}")
+        self.addCleanup(screen.end)
+        screen.log_in("ANNA")
+        first = screen.call("/api/year")[1]
+        self.assertEqual([screen.call("/api/year")[1] for _ in range(3)], [first] * 3)
+        self.assertEqual(between.routes.count("/table"), 1)
+        self.assertEqual(screen.post({**LIGHTHOUSE, "ref": "SCR-ANNA-1"})[0], 200)
+        self.assertNotEqual(screen.call("/api/year")[1]["totals"]["W"], first["totals"]["W"])
+        self.assertEqual(between.routes.count("/table"), 2)
+
+
 class Faults(Case):
     def test_own_desk_is_killed_again_and_again(self) -> None:
         """The desk is killed at random moments while commands are sent: none is lost, none acts twice. One that had no answer
@@ -339,10 +419,11 @@ class Faults(Case):
 
 
 class Cutter:
-    """A proxy that hands requests to the desk, counts the POSTs, and cuts some of their replies off."""
+    """A proxy that hands requests to the desk, counts the POSTs, notes the routes, and cuts some of the replies off."""
 
     def __init__(self, desk: int):
         self.desk, self.cuts, self.posts = desk, 0, 0
+        self.routes: list[str] = []
         self.socket = socket.create_server(("127.0.0.1", 0))
         self.port = self.socket.getsockname()[1]
         threading.Thread(target=self.run, daemon=True).start()
@@ -358,6 +439,7 @@ class Cutter:
                 while data.startswith(b"POST") and b"}" not in data and (more := client.recv(65_536)):
                     data += more
                 self.posts += data.startswith(b"POST")
+                self.routes += data.decode(errors="replace").split(" ")[1:2]
                 reply = talk(self.desk, data)
                 if data.startswith(b"POST") and self.cuts > 0:
                     self.cuts -= 1
@@ -435,6 +517,7 @@ class Hostile(Case):
         self.assertEqual(self.command(X_Screen_Token="0" * 64), 403)
         self.assertEqual(self.command(Origin="https://evil.example"), 403)
         self.assertEqual(self.command(Origin="null"), 403)
+        self.assertEqual(self.command(Origin=f"https://127.0.0.1:{self.seen.port}"), 403)
         self.assertEqual(self.command(Host="evil.example"), 403)
         self.assertEqual(self.command(Sec_Fetch_Site="cross-site"), 403)
         self.assertEqual(self.command(Content_Type="text/plain"), 415)
@@ -445,7 +528,13 @@ class Hostile(Case):
         self.assertEqual(self.seen.number(), 102)
 
     def test_others_references_and_fields(self) -> None:
-        for change in ({"ref": "SCR-BERT-1"}, {"ref": "X" * 41}, {"kind": "drop"}, {"f7": "1"}):
+        others: list[dict[str, str]] = [{"ref": "SCR-BERT-1"}, {"ref": "X" * 41}, {"kind": "drop"}, {"f7": "1"}]
+        others += [
+            {"ref": "SCR-ANNA-B-1"},
+            {"ref": "SCR-ANNA-"},
+            {"ref": "SCR-ANNA-" + "X" * 32},
+        ]  # ANNA-B is somebody else
+        for change in others:
             self.assertEqual(self.seen.post({**LIGHTHOUSE, "ref": "SCR-ANNA-1", **change})[0], 422, change)
         for body in (b"", b"[1]", b"{", b'{"kind":1}', b"\xff\xfe", b"[" * 16_000):
             status, _ = self.seen.call("/api/command", body, {"Content-Type": "application/json"})
@@ -467,6 +556,9 @@ class Hostile(Case):
         texts += [b"POST /api/command HTTP/1.1\r\n" + host + b"Content-Length: x\r\n\r\n"]
         texts += [b"POST /api/import HTTP/1.1\r\n" + host + b"Content-Length: 99999999\r\n\r\n"]
         texts += [b"GET / HTTP/1.1\r\n" + host + b"X: " + b"y" * 20_000 + b"\r\n\r\n"]
+        texts += [
+            b"GET / HTTP/1.1\r\n" + host + b"X: y" + fold + b"z: 1\r\n\r\n" for fold in (b"\r\n ", b"\r\n\t", b"\n ")
+        ]
         texts += [b"GET / HTTP/1.1\r\n" + host + b"A: b\r\n" * 4_000 + b"\r\n"]
         texts += [
             b"GET /../../etc/passwd HTTP/1.1\r\n" + host + b"\r\n",
@@ -561,6 +653,46 @@ class Logins(Case):
         self.assertEqual(screen.post({**LIGHTHOUSE, "ref": "SCR-READER-1"})[0], 403)
         screen.headers["X-Screen-Token"] = screen.call("/api/me")[1]["token"]
         self.assertEqual(screen.post({**LIGHTHOUSE, "ref": "SCR-READER-1"})[0], 403)
+
+    def test_logins_that_fold_to_one_name(self) -> None:
+        """Each has a name of its own, also after the screen was started again; readers take none."""
+        desk = self.desk("folded")
+        words = ("--proxy", "127.0.0.1", "--senders", "desk-")
+
+        def names(screen: support.Screen, logins: tuple[str, ...]) -> list[str]:
+            return [screen.call("/api/me", headers={"X-Remote-User": login})[1]["name"] for login in logins]
+
+        screen = support.Screen(desk.book, *words, desk=desk)
+        logins = ("desk-anna.b", "desk-anna-b", "desk-ANNA B", "desk-anna-b-2")
+        self.assertEqual(names(screen, ("desk.anna-b", *logins[:1])), ["DESK-ANNA-B", "DESK-ANNA-B"])
+        found = names(screen, logins)
+        self.assertEqual(found, ["DESK-ANNA-B", "DESK-ANNA-B-2", "DESK-ANNA-B-3", "DESK-ANNA-B-2-2"])
+        for number, (login, name) in enumerate(zip(logins, found)):
+            screen.headers = {"X-Remote-User": login}
+            screen.headers["X-Screen-Token"] = screen.call("/api/me")[1]["token"]
+            command = {**LIGHTHOUSE, "f3": str(int(LIGHTHOUSE["f3"]) + number), "f2": ("close", "open")[number % 2]}
+            self.assertEqual(screen.post({**command, "ref": f"SCR-{name}-1"})[0], 200)
+            other = found[number - 1]
+            self.assertEqual(screen.post({**command, "ref": f"SCR-{other}-2"})[0], 422)
+        screen.end()
+        again = support.Screen(desk.book, *words, desk=desk)
+        self.addCleanup(again.end)
+        self.assertEqual(names(again, logins[::-1]), found[::-1])
+
+    def test_open_pages_are_counted_by_login(self) -> None:
+        """One login that opens pages without end leaves the others theirs."""
+        screen = self.screen("streams")
+        request = f"GET /events HTTP/1.1\r\nHost: 127.0.0.1:{screen.port}\r\nCookie: screen_name="
+
+        def status(login: str) -> bytes:
+            connection = socket.create_connection(("127.0.0.1", screen.port), timeout=20)
+            self.addCleanup(connection.close)
+            connection.sendall(f"{request}{login}\r\n\r\n".encode())
+            return connection.recv(12)[9:]
+
+        self.assertEqual({status("ANNA") for _ in range(50)}, {b"200"})
+        self.assertEqual(status("ANNA"), b"429")
+        self.assertEqual(status("BERT"), b"200")
 
     def test_a_login_of_a_browser_is_no_proxys(self) -> None:
         screen = self.screen("no-proxy")

@@ -1,0 +1,249 @@
+"""What a shift did and hands over: the log by time of sending, what was entered since a time and by whom, open outages,
+marked days."""
+
+from __future__ import annotations
+
+import re
+import time
+from collections.abc import Iterable
+from datetime import date, timedelta
+from itertools import islice
+
+from .commands import FIELDS
+from .journal import ELSEWHERE, IMPORT, Sending
+from .moments import DAYS_BACK, LAST, day_of_word, read_moment
+from .names import name_in
+from .office import Office
+from .state import Refused, Run, State
+from .views import Json, command_words, day_name, entry_view, moment, outage_view, text
+
+SHIFT_SECONDS = 8 * 3_600
+MOST_ROWS = 500
+DAY = re.compile(r"\d{4}-\d\d-\d\d", re.ASCII)
+OTHER = "another program"
+MADE = {"switch": "entered", "correct": "corrected", "withdraw": "withdrawn"}
+
+
+# From when, until when, and by whom.
+
+
+def bound_of(state: State, typed: str, is_end: bool) -> int:
+    """The second of a moment; a day alone is its first second, or as an end the one after its last."""
+    zone, typed = state.period.zone, typed.strip()
+    if typed.lower() in DAYS_BACK or DAY.fullmatch(typed):
+        try:
+            day = day_of_word(zone, typed) if typed.lower() in DAYS_BACK else date.fromisoformat(typed)
+            found = zone.midnight(day + timedelta(days=int(is_end)))
+        except (ValueError, OverflowError):
+            raise Refused(f"{typed} is no day") from None
+        if not 0 <= found <= LAST:
+            raise Refused(f"{typed} lies outside of what a book can hold")
+        return found
+    return read_moment(zone, typed)[-1 if is_end else 0].second
+
+
+def bounds_of(state: State, wanted: dict[str, str], since: int) -> tuple[int, int]:
+    """The seconds that are asked for, from the first up to the last; where none are told, from one up to now."""
+    begin, end = wanted.get("since", "").strip(), wanted.get("until", "").strip()
+    first = bound_of(state, begin, False) if begin else since
+    last = bound_of(state, end, True) if end else int(time.time()) + 1
+    if begin and end and first >= last:
+        raise Refused("the time until which has to lie after the one since which")
+    return first, last
+
+
+# The log.
+
+
+def log_view(office: Office, wanted: dict[str, str]) -> list[Json]:
+    """What was sent, latest first."""
+    since, until = bounds_of(office.state, wanted, 0)
+    found = office.journal.between(since, until, wanted.get("name", "").strip().upper())
+    return [sending_view(office.state, each) for each in islice(found, MOST_ROWS)]
+
+
+def sending_view(state: State, sending: Sending) -> Json:
+    entry = state.changed.get(sending.number) if sending.number else None
+    return {
+        "second": sending.at,
+        "at": text(state, sending.at),
+        "login": sending.login,
+        "by": sending.login or OTHER,
+        "reference": sending.reference,
+        "kind": sending.kind,
+        "words": words_of(state, sending),
+        "outcome": sending.outcome,
+        "result": result_of(sending, entry),
+        "no": sending.number,
+        "entry": entry,
+        "moved": sending.moved,
+    }
+
+
+def words_of(state: State, sending: Sending) -> str:
+    if sending.kind == IMPORT:
+        return "a file of commands"
+    if sending.kind == ELSEWHERE:
+        return elsewhere_words(state, *(sending.commands or (0, 0)))
+    fields = list(sending.fields[: len(FIELDS.get(sending.kind, ()))])
+    while fields and not fields[-1]:
+        fields.pop()
+    words = command_words(state, sending.kind, fields)
+    device = device_of(state, fields[0]) if sending.kind in ("correct", "withdraw") and fields else ""
+    return words + (f" ({device})" if device else "")
+
+
+def elsewhere_words(state: State, first: int, last: int) -> str:
+    """Commands of another program; a single one by what it is, where it is one of the latest."""
+    found = next((each for each in state.latest if each.number == first == last), None)
+    if found is None:
+        return f"{last - first + 1} commands" if first < last else "a command"
+    return f"{command_words(state, found.kind, found.fields)} ({found.ref})"
+
+
+def device_of(state: State, entry: str) -> str:
+    """The device of an entry, for words that name its number alone."""
+    known = re.fullmatch(r"\d{1,6}", entry, re.ASCII) and 1 <= int(entry) <= len(state.sheet.entries)
+    return state.sheet.devices[state.sheet.entries[int(entry) - 1].device].name if known else ""
+
+
+def result_of(sending: Sending, entry: int | None) -> str:
+    """What came of it, in words."""
+    numbers = sending.commands and numbers_words(*sending.commands)
+    if sending.outcome == "refused":
+        return f"refused: {sending.refusal}" + (f"; saved before it: {numbers}" if numbers else "")
+    if sending.outcome == "unanswered":
+        return "no answer: it isn't known whether it is saved"
+    if sending.number is None:
+        return f"saved: {numbers}" if numbers else "saved already"
+    return f"saved: command {sending.number}" + (f", entry {entry}" if entry else "")
+
+
+def numbers_words(first: int, last: int) -> str:
+    return f"commands {first} to {last}" if first < last else f"command {first}"
+
+
+# What a shift hands over.
+
+
+def shift_view(office: Office, wanted: dict[str, str]) -> Json:
+    """Open outages, and what changed from a second up to another, by whom."""
+    state, part = office.state, wanted.get("name", "").strip().upper()
+    since, until = bounds_of(state, wanted, int(time.time()) - SHIFT_SECONDS)
+    sendings = list(office.journal.between(since, until, part))
+    entered = entered_by(state, sendings)
+    rest = [each for each in sendings if not is_entered(state, each)]
+    return {
+        "book": office.book.stem,
+        "number": state.number,
+        "first": moment(state, state.period.first),
+        "last": moment(state, state.period.end - 1),
+        "printed": moment(state, int(time.time())),
+        "as_of": moment(state, state.now()),
+        "since": moment(state, since),
+        "until": moment(state, min(until, int(time.time()))),
+        "open": open_view(state),
+        "ended": ended_view(state, since, until),
+        "entered": entered_view(state, dict(islice(entered.items(), MOST_ROWS))),
+        "entered_found": len(entered),
+        "rest": [sending_view(state, each) for each in rest[:MOST_ROWS]],
+        "rest_found": len(rest),
+        "unanswered": sum(is_open(office, each) for each in sendings),
+        "marks": marks_view(office),
+    }
+
+
+def is_entered(state: State, sending: Sending) -> bool:
+    """Whether the list of entries tells all of a sending."""
+    if sending.kind == ELSEWHERE and sending.commands is not None:
+        return len(numbers_of(state, sending)) > sending.commands[1] - sending.commands[0]
+    return sending.kind in MADE and sending.outcome == "saved"
+
+
+def is_open(office: Office, sending: Sending) -> bool:
+    """Whether a sending has no answer, nor another one under its reference."""
+    others = (each for each in office.journal.sendings if each.reference == sending.reference)
+    return sending.outcome == "unanswered" and all(each.outcome == "unanswered" for each in others)
+
+
+def entered_view(state: State, found: dict[int, list[Json]]) -> list[Json]:
+    """Entries as they are now, each with what was done to it."""
+    late = state.late_entries()
+    shown = [(entry_view(state, state.sheet.entries[entry - 1], late), done) for entry, done in found.items()]
+    return [{**row, "withdrawn": not row["kept"], "done": done} for row, done in shown]
+
+
+def entered_by(state: State, sendings: Iterable[Sending]) -> dict[int, list[Json]]:
+    """What was done to each entry that was made or changed, latest first."""
+    found: dict[int, list[Json]] = {}
+    for sending in sendings:
+        for number in numbers_of(state, sending):
+            entry = state.changed[number]
+            command = next(each for each in state.histories[entry] if each.number == number)
+            by = sending.login or name_in(command.ref) or OTHER
+            done = {"what": MADE[command.kind], "at": moment(state, sending.at), "by": by, "no": number}
+            if all(each["no"] != number for each in found.setdefault(entry, [])):
+                found[entry].append({**done, "reference": command.ref})
+    return found
+
+
+def numbers_of(state: State, sending: Sending) -> list[int]:
+    """The commands of a sending that made or changed an entry, latest first."""
+    if sending.number is not None:
+        return [sending.number] if sending.number in state.changed else []
+    if sending.commands is None:
+        return []
+    span = range(sending.commands[0], sending.commands[1] + 1)
+    shorter = span if len(span) < len(state.changed) else state.changed
+    return sorted((number for number in shorter if number in span and number in state.changed), reverse=True)
+
+
+def outages_of(state: State, runs: Iterable[tuple[int, Run]], at: int) -> list[Json]:
+    """Outages of sections, gathered by what cut them off; those of most customers first."""
+    found: dict[tuple[int, int], Json] = {}
+    for node, run in runs:
+        row = outage_view(state, node, run, at if run.since <= at < run.until else run.since)
+        key = run.cutter, 0 if run.cutter else run.since
+        whole = found.setdefault(key, {**row, "sections": [], "customers": 0, "feeders": [], "until": row["until"]})
+        whole["sections"].append(row["section"])
+        whole["customers"] += row["customers"]
+        whole["feeders"] = sorted({*whole["feeders"], row["feeder"]})
+        if row["since"]["second"] < whole["since"]["second"]:
+            whole["since"] = row["since"]
+        if not row["until"] or (whole["until"] and row["until"]["second"] > whole["until"]["second"]):
+            whole["until"] = row["until"]
+    return sorted(found.values(), key=lambda row: (-row["customers"], row["since"]["second"]))
+
+
+def sections_with_runs(state: State) -> Iterable[tuple[int, Run]]:
+    return ((node, run) for node, runs in state.runs.items() if state.is_section(node) for run in runs)
+
+
+def open_view(state: State) -> list[Json]:
+    """The outages that go on now, as the book stands."""
+    at = state.now()
+    nodes = (node for node in state.runs if state.is_section(node))
+    return outages_of(state, ((node, run) for node in nodes if (run := state.run_at(node, at)) is not None), at)
+
+
+def ended_view(state: State, since: int, until: int) -> list[Json]:
+    """The outages that ended from a second up to another, and not at the period's end."""
+    end = min(until, state.now() + 1, state.period.end)
+    return outages_of(state, (each for each in sections_with_runs(state) if since <= each[1].until < end), -1)
+
+
+def marks_view(office: Office) -> list[Json]:
+    """The marked days, each with who marked it, and when, where the log knows that."""
+    state, told = office.state, dict[str, Sending]()
+    for sending in office.journal.sendings:
+        if sending.kind == "mark" and sending.outcome == "saved":
+            told[sending.fields[0]] = sending
+    rows = []
+    for number, engineer in sorted(state.marks.items()):
+        day = day_name(state, number)
+        row: Json = {"day": day, "engineer": engineer, "at": None, "login": ""}
+        found = told.get(day)
+        if found is not None and found.fields[1] == engineer:
+            row |= {"at": moment(state, found.at), "login": found.login}
+        rows.append(row)
+    return rows

@@ -1,0 +1,22 @@
+// A way back for what was just saved: the command that takes it back, forecast and sent as any other.
+import { el } from "./common.js";
+import { Sender } from "./sender.js";
+
+let made = 0;
+
+/** Offers it below a reply; nothing where there is no such command. */
+export function offerUndo(place, undo) {
+  if (!undo) return;
+  const button = el("button", { type: "button", class: "undo", click: () => ask() }, "Undo");
+  const part = el("div", { class: "buttons no-print" }, button);
+  place.append(part);
+  const ask = () => {
+    const form = el("form", { id: `undo-${(made += 1)}`, class: "card", tabindex: "-1", "aria-label": "Undo" });
+    const read = () => (form.isConnected ? undo.command : null);
+    const sender = new Sender({ read, form, label: "Send the undo", missing: "This undo isn't offered any more." });
+    form.append(el("h2", {}, `Undo: ${undo.words}`), sender.element);
+    part.replaceWith(form);
+    form.focus();
+    sender.update();
+  };
+}

@@ -1,0 +1,369 @@
+"""What a shift asks of the screen's server: the log by time and by whom, the hand-over, undo, searches of a feeder and of a day."""
+
+import json
+import re
+import time
+import unittest
+import urllib.parse
+from datetime import datetime, timedelta
+from html.parser import HTMLParser
+from typing import Any, cast
+
+import browser
+import support
+from server import moments, reader
+from server.state import Refused
+
+ZONE = reader.Zone(support.FORTNIGHT[2])
+
+
+class Page(HTMLParser):
+    """A page's elements by tag with their attributes, and its text."""
+
+    def __init__(self, text: str):
+        super().__init__()
+        self.elements: list[tuple[str, dict[str, str | None]]] = []
+        self.words: list[str] = []
+        self.feed(text)
+        self.text = " ".join(" ".join(self.words).split())
+
+    def handle_starttag(self, tag: str, attrs: list[tuple[str, str | None]]) -> None:
+        self.elements.append((tag, dict(attrs)))
+
+    def handle_data(self, data: str) -> None:
+        self.words.append(data)
+
+    def all(self, tag: str) -> list[dict[str, str | None]]:
+        return [attributes for name, attributes in self.elements if name == tag]
+
+
+class Shift(unittest.TestCase):
+    """One desk, a screen of its own, two people and another program."""
+
+    desk: support.Desk
+    screen: support.Screen
+
+    @classmethod
+    def setUpClass(cls) -> None:
+        cls.desk = support.Desk(support.small(cls.__name__))
+        cls.addClassCleanup(cls.desk.kill)
+        cls.screen = support.Screen(cls.desk.book, desk=cls.desk)
+        cls.addClassCleanup(cls.screen.end)
+
+    def send(self, login: str, status: int = 200, **command: str) -> dict[str, Any]:
+        """Sends a command as somebody: what the page is told."""
+        self.screen.log_in(login)
+        found, shown = self.screen.post({**command, "ref": f"SCR-{login}-{time.time_ns()}"})
+        self.assertEqual(found, status, shown)
+        return cast(dict[str, Any], shown)
+
+    def switch(self, login: str, position: str, device: str = "LBS-1", ago: int = 5) -> dict[str, Any]:
+        second = str(int(time.time()) - ago)
+        return self.send(login, kind="switch", f1=device, f2=position, f3=second, f4="1", f5=login)
+
+    def get(self, route: str, **query: str) -> Any:
+        status, shown = self.screen.call(f"{route}?{urllib.parse.urlencode(query)}")
+        self.assertEqual(status, 200, shown)
+        return shown
+
+    def page(self, status: int = 200, **query: str) -> Page:
+        found, data = support.call(f"{self.screen.url}/shift?{urllib.parse.urlencode(query)}")
+        self.assertEqual(found, status)
+        return Page(data.decode())
+
+    def test_the_log_by_time_and_by_whom(self) -> None:
+        opened = self.switch("LOG-1", "open")
+        self.switch("LOG-2", "close")
+        self.send("LOG-2", 422, kind="switch", f1="LBS-1", f2="open", f3="1", f4="1", f5="LOG-2")
+        one, other = self.get("/api/log", name="log-1"), self.get("/api/log", name="log-2")
+        self.assertEqual([row["login"] for row in one], ["LOG-1"])
+        self.assertEqual([row["outcome"] for row in other], ["refused", "saved"])
+        self.assertIn("LBS-1 open at ", one[0]["words"])
+        self.assertEqual(one[0]["result"], f"saved: command {opened['reply']['no']}, entry {opened['entry']}")
+        self.assertTrue(other[0]["result"].startswith("refused: 5 "), other[0]["result"])
+        self.assertRegex(one[0]["at"], r"\+0[12]:00$")
+        later = one[0]["second"] + 1
+        self.assertEqual(self.get("/api/log", since=str(later), name="log-1"), [])
+        self.assertEqual(len(self.get("/api/log", until=str(later), name="log-1")), 1)
+        self.assertEqual(len(self.get("/api/log", since="today", until="today", name="log-1")), 1)
+        self.assertEqual(self.get("/api/log", since="yesterday", until="yesterday"), [])
+        self.assertEqual(self.get("/api/log", since="2001-01-01", until="2001-12-31 06:00"), [])
+        wrong = ("since=never", "since=2026-99-99", "since=0001-01-01", "until=1905", "since=today&until=yesterday")
+        for query in wrong:
+            self.assertEqual(self.screen.call(f"/api/log?{query}")[0], 422, query)
+
+    def test_what_changed_since_a_time(self) -> None:
+        """Entries that were made or changed, as they are now, with what was done and by whom: also by another program."""
+        since = str(int(time.time()))
+        mine = self.switch("NEW-1", "open")["entry"]
+        self.send(
+            "NEW-2", kind="correct", f1=str(mine), f2="1", f3="open", f4=str(int(time.time()) - 9), f5="2", f6="X"
+        )
+        fields = {"f1": "LBS-1", "f2": "close", "f3": str(int(time.time()) - 2), "f4": "1", "f5": "OMS"}
+        self.desk.post({"kind": "switch", "ref": "OMS-77", **fields})
+        number = self.screen.number() + 1
+        support.until(lambda: self.screen.number() == number, what="the command of the other program")
+        support.until(lambda: self.get("/api/log")[0]["kind"] == "elsewhere", what="its line of the log")
+        shown = self.get("/api/changes", since=since)
+        done = {row["no"]: [(each["what"], each["by"]) for each in row["done"]] for row in shown["entered"]}
+        self.assertEqual(done[mine], [("corrected", "NEW-2"), ("entered", "NEW-1")])
+        self.assertEqual(done[mine + 1], [("entered", "another program")])
+        changed = next(row for row in shown["entered"] if row["no"] == mine)
+        self.assertEqual((changed["revision"], changed["cause"], changed["crew"]), (2, 2, "X"))
+        self.assertEqual([row["no"] for row in self.get("/api/changes", since=since, name="NEW-2")["entered"]], [mine])
+        self.assertEqual(self.get("/api/changes", since="2001-01-01", until="2001-01-02")["entered"], [])
+
+    def test_open_outages_are_those_of_one_switching(self) -> None:
+        entry = self.switch("OUT-1", "open", "CB-1")["entry"]
+        found = [row for row in self.get("/api/changes")["open"] if row["entry"] == entry]
+        self.switch("OUT-1", "close", "CB-1", 0)
+        self.assertEqual(len(found), 1)
+        self.assertIn("QUAY", found[0]["sections"])
+        self.assertEqual(found[0]["device"], "CB-1")
+        self.assertEqual(found[0]["customers"], {1: 1, 2: 3}[len(found[0]["sections"])])
+
+    def test_the_page_to_be_printed(self) -> None:
+        entry = self.switch("PAGE-1", "open", "CB-1")["entry"]
+        page = self.page(name="page-1", since="today")
+        self.switch("PAGE-1", "close", "CB-1", 0)
+        for words in (
+            "Hand-over of book",
+            "Open outages: ",
+            "CB-1",
+            f"entry {entry}",
+            "entered at",
+            "by PAGE-1",
+            "Marked days",
+        ):
+            self.assertIn(words, page.text)
+        self.assertEqual(page.all("script"), [])
+        self.assertEqual(page.all("html"), [{"lang": "en"}])
+        self.assertEqual(len(page.all("h1")), 1)
+        self.assertEqual(len(page.all("caption")), len(page.all("table")))
+        self.assertTrue(all(each.get("scope") in ("col", "row") for each in page.all("th")))
+        labels = {each["for"] for each in page.all("label")}
+        inputs = {each["id"]: each["value"] for each in page.all("input")}
+        self.assertEqual((labels, inputs), ({*inputs}, {"since": "today", "until": "", "name": "page-1"}))
+        odd = self.page(422, since='<i>"', name="x")
+        self.assertIn("Not shown as asked", odd.text)
+        self.assertEqual(odd.all("i"), [])
+        self.assertEqual([each["value"] for each in odd.all("input")], ['<i>"', "", "x"])
+
+    def test_marked_days_and_who_marked_them(self) -> None:
+        first, second = self.screen.call("/api/book")[1]["days"][:2]
+        self.send("MARK-1", kind="mark", f1=first, f2="MARK-1")
+        self.desk.post({"kind": "mark", "ref": "OMS-MARK", "f1": second, "f2": "ENGINEER"})
+        rows = support.until(lambda: (rows := self.get("/api/marks")) and len(rows) == 2 and rows, what="both marks")
+        self.assertEqual(
+            [(row["day"], row["engineer"], row["login"]) for row in rows],
+            [(first, "MARK-1", "MARK-1"), (second, "ENGINEER", "")],
+        )
+        self.assertLess(abs(rows[0]["at"]["second"] - time.time()), 60)
+        self.assertIsNone(rows[1]["at"])
+        self.assertIn(f"{first} MARK-1", self.page().text)
+
+    def test_each_reply_has_a_way_back(self) -> None:
+        """A switching is withdrawn, a correction corrected back, a withdrawal entered again, a mark taken away."""
+        shown = self.switch("BACK", "open")
+        entry = shown["entry"]
+        before = self.screen.call(f"/api/entries/{entry}")[1]
+        second = str(before["second"]["second"] - 60)
+        corrected = self.send("BACK", kind="correct", f1=str(entry), f2="1", f3="open", f4=second, f5="2", f6="Y")
+        self.assertEqual(corrected["undo"]["command"]["f2"], "2")
+        self.send("BACK", **corrected["undo"]["command"])
+        after = self.screen.call(f"/api/entries/{entry}")[1]
+        for name in ("second", "cause", "crew", "action"):
+            self.assertEqual(after[name], before[name], name)
+        self.assertEqual(shown["undo"]["command"], {"kind": "withdraw", "f1": str(entry), "f2": "1"})
+        self.assertIn(f"withdraw entry {entry}", shown["undo"]["words"])
+        withdrawn = self.send("BACK", kind="withdraw", f1=str(entry), f2="3")
+        self.assertEqual(withdrawn["undo"]["command"]["kind"], "switch")
+        again = self.send("BACK", **withdrawn["undo"]["command"])
+        anew = self.screen.call(f"/api/entries/{again['entry']}")[1]
+        self.assertEqual(
+            [anew[name] for name in ("device", "second", "cause", "crew")],
+            [before[name] for name in ("device", "second", "cause", "crew")],
+        )
+        forecast = self.get("/api/forecast", **again["undo"]["command"])
+        self.assertEqual(self.send("BACK", **again["undo"]["command"])["reply"]["moved"], forecast["moved"])
+        day = self.screen.call("/api/book")[1]["days"][5]
+        marked = self.send("BACK", kind="mark", f1=day, f2="BACK")
+        self.assertEqual(self.send("BACK", **marked["undo"]["command"])["undo"]["command"]["kind"], "mark")
+        life = self.send("BACK", kind="life", f1="LBS-1", f2="0", f3=str(int(time.time()) + 9_000))
+        self.assertEqual(life["undo"]["command"], {"kind": "life", "f1": "LBS-1", "f2": "0", "f3": ""})
+        self.send("BACK", **life["undo"]["command"])
+        joined = self.send("BACK", kind="connect", f1=str(time.time_ns() % 10**9), f2="MILL", f3="0", f4="")
+        self.assertIsNone(joined["undo"])
+
+    def test_a_feeder_and_a_day_in_words(self) -> None:
+        entry = self.switch("DAY-1", "open")["entry"]
+        today = datetime.fromisoformat(ZONE.text_of(int(time.time()))).date()
+        found = self.get("/api/sheet", feeder="1", day="Today")
+        self.assertEqual((found["rows"][0]["no"], found["day"]), (entry, today.isoformat()))
+        self.assertEqual(self.get("/api/sheet", day="yesterday", crew="day-1")["found"], 0)
+        self.assertEqual(self.get("/api/sheet", day="yesterday")["day"], (today - timedelta(days=1)).isoformat())
+        for query, words in (
+            ("feeder=2", "home feeder 2"),
+            ("feeder=x", "home feeder x"),
+            ("crew=%C3%84", "crew Ä can't be read"),
+        ):
+            status, shown = self.screen.call(f"/api/sheet?{query}")
+            self.assertEqual(status, 422, query)
+            self.assertIn(words, shown["words"])
+
+
+class Pages(unittest.TestCase):
+    """The same on the pages, in a browser."""
+
+    page: browser.Browser
+    screen: support.Screen
+
+    @classmethod
+    def setUpClass(cls) -> None:
+        cls.screen = support.Screen(support.small(cls.__name__))
+        cls.addClassCleanup(cls.screen.end)
+        cls.page = browser.Browser()
+        cls.addClassCleanup(cls.page.end)
+        cls.screen.log_in("BERT")
+        second = str(int(time.time()) - 60)
+        for number, position in enumerate(("open", "close")):
+            command = {"kind": "switch", "f1": "LBS-1", "f2": position, "f3": second, "f4": "1", "f5": "BERT"}
+            cls.screen.post({**command, "ref": f"SCR-BERT-{number}"})
+
+    def test_a_search_is_kept_by_the_address(self) -> None:
+        """By loading the page again, by Back, and by a link to somebody else."""
+        page, url = self.page, self.screen.url
+        page.open(f"{url}/sheet?feeder=1&device=LBS&order=second")
+        page.says("main", "2 of 2 entries")
+        self.assertEqual(page.field("Device").get_attribute("value"), "LBS")
+        self.assertEqual(page.field("Feeder").get_attribute("value"), "1")
+        page.fill("Crew", "NOBODY")
+        page.says("main", "No entries for device LBS, crew NOBODY, feeder 1.")
+        self.assertIn("crew=NOBODY", page.driver.current_url)
+        page.driver.refresh()
+        page.ready()
+        page.says("main", "No entries for device LBS, crew NOBODY, feeder 1.")
+        page.driver.get(f"{url}/year")
+        page.ready()
+        page.driver.back()
+        page.ready()
+        page.says("main", "No entries for device LBS, crew NOBODY, feeder 1.")
+        page.click(".clear")
+        page.says("main", "2 of 2 entries")
+        self.assertEqual(page.driver.current_url, f"{url}/sheet?order=second")
+        page.open(f"{url}/sheet?day=yesterday")
+        page.says("main", "No entries for day yesterday.")
+        page.open(f"{url}/sheet?section=NOSUCH")
+        page.says("main", "no section has NOSUCH in its name")
+
+    def test_undo_on_the_reply(self) -> None:
+        page, url = self.page, self.screen.url
+        page.open(f"{url}/enter?device=LBS-1&at={int(time.time()) - 5}")
+        page.fill("Cause", "1")
+        page.says(".forecast", "LOSES supply")
+        page.click(".send")
+        page.says(".outcome", "Saved as")
+        page.click(".undo")
+        page.says(".outcome .forecast", "gets back supply")
+        page.click(".outcome .send")
+        page.says(".outcome .outcome", "Saved as")
+        entry = self.screen.call("/api/sheet")[1]["rows"][0]
+        self.assertEqual((entry["device"], entry["kept"]), ("LBS-1", False))
+        self.assertEqual(page.complaints(), [])
+
+    def test_the_log_and_the_hand_over(self) -> None:
+        page, url = self.page, self.screen.url
+        page.open(f"{url}/sheet")
+        page.click('section[aria-label="The screen\'s log"] summary')
+        page.says('section[aria-label="The screen\'s log"]', "LBS-1 close at ")
+        page.fill("By", "nobody")
+        page.says('section[aria-label="The screen\'s log"]', "Nothing was sent.")
+        self.assertIn("name=nobody", page.find("main a[href^='/shift']").get_attribute("href"))
+        for width in (1_280, 390):
+            page.resize(width, 900)
+            page.driver.get(f"{url}/shift?name=BERT")
+            page.says("h1", "Hand-over of book")
+            self.assertEqual(page.driver.execute_script("return document.documentElement.scrollWidth"), width)
+            page.says("main", "entered at")
+        page.resize(1_280, 900)
+        page.fill("Since", "never")
+        page.click("button.main")
+        page.says("main", "Not shown as asked")
+        self.assertEqual(page.field("Since").get_attribute("value"), "never")
+        self.assertEqual(page.complaints(), [])
+
+    def test_marked_days_on_the_year(self) -> None:
+        day = self.screen.call("/api/book")[1]["days"][3]
+        self.page.open(f"{self.screen.url}/year")
+        self.page.says("main", "No day is marked.")
+        self.screen.post({"kind": "mark", "ref": "SCR-BERT-MARK", "f1": day, "f2": "BERT"})
+        marked = self.page.says("section[aria-label='Marked days']", day)
+        self.assertIn("BERT", marked)
+
+
+class Stops(unittest.TestCase):
+    def test_what_came_while_the_screen_was_stopped(self) -> None:
+        """It is in the log, as of another program; a command of the screen's own that had no answer isn't said to be lost."""
+        desk = support.Desk(support.small("stopped"))
+        self.addCleanup(desk.kill)
+        screen = support.Screen(desk.book, desk=desk)
+        screen.log_in("ANNA")
+        command = {
+            "kind": "switch",
+            "f1": "LBS-1",
+            "f2": "open",
+            "f3": str(int(time.time()) - 50),
+            "f4": "1",
+            "f5": "ANNA",
+        }
+        self.assertEqual(screen.post({**command, "ref": "SCR-ANNA-1"})[0], 200)
+        screen.end()
+        closed = {**command, "ref": "OMS-1", "f2": "close", "f3": str(int(command["f3"]) + 45)}
+        self.assertEqual(desk.post(closed)[0], 200)
+        again = support.Screen(desk.book, desk=desk)
+        self.addCleanup(again.end)
+        rows = again.call("/api/log")[1]
+        self.assertEqual([row["kind"] for row in rows], ["elsewhere", "switch"])
+        last = support.LAST_OF_SMALL + 2
+        self.assertEqual((rows[0]["result"], rows[0]["by"]), (f"saved: command {last}", "another program"))
+        self.assertIn("LBS-1 close at ", rows[0]["words"])
+        shown = again.call("/api/changes")[1]
+        self.assertEqual([row["no"] for row in shown["entered"]], [2, 1])
+        ended = [(row["entry"], row["sections"], row["customers"]) for row in shown["ended"]]
+        self.assertEqual((shown["open"], ended), ([], [(1, ["MILL"], 2)]))
+
+    def test_a_period_that_is_over(self) -> None:
+        """Today is no day of it: that is said. Its hand-over shows supply at its last second."""
+        screen = support.Screen(support.fortnight("over"), "--no-desk")
+        self.addCleanup(screen.end)
+        status, shown = screen.call("/api/sheet?day=today")
+        self.assertEqual(status, 422)
+        self.assertRegex(shown["words"], r"today, \d{4}-\d\d-\d\d, is no day of the book's period")
+        self.assertEqual(screen.call("/api/changes")[1]["as_of"]["text"], "2025-04-06T23:59:59+02:00")
+        self.assertEqual(support.call(f"{screen.url}/shift")[0], 200)
+
+
+class Typed(unittest.TestCase):
+    def test_times_of_today_and_yesterday(self) -> None:
+        today = ZONE.text_of(int(time.time()))[:10]
+        for typed, words in (
+            ("06:10", f"{today}T06:10:00"),
+            ("6:10", f"{today}T06:10:00"),
+            ("today 23:59:58", f"{today}T23:59:58"),
+            ("Today", f"{today}T00:00:00"),
+        ):
+            self.assertEqual(moments.read_moment(ZONE, typed)[0].text[:19], words, typed)
+        yesterday = moments.read_moment(ZONE, "yesterday 22:00")[0].text
+        self.assertEqual(yesterday[:10], (datetime.fromisoformat(today) - timedelta(days=1)).date().isoformat())
+        for wrong, words in (
+            ("1905", "19:05, for today"),
+            ("905", "09:05, for today"),
+            ("25:10", "no date and time"),
+            ("yesterday22:00", "is typed as"),
+        ):
+            with self.assertRaisesRegex(Refused, re.escape(words)):
+                moments.read_moment(ZONE, wrong)
+
+
+if __name__ == "__main__":
+    unittest.main()
