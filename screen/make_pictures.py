@@ -23,7 +23,7 @@ QUALITY = 75
 
 def now(page: browser.Browser, url: str) -> None:
     page.open(f"{url}/")
-    page.fill("Another second", "2025-03-27 15:00:00")
+    page.fill("Go to time", "2025-03-27 15:00:00")
     page.says("main", "2025-03-27 14:22:10")
     page.wait(lambda: len(page.all(".diagram .node.by_tie")) == 3, "the sections on the tie")
 
@@ -31,14 +31,14 @@ def now(page: browser.Browser, url: str) -> None:
 def enter(page: browser.Browser, url: str) -> None:
     page.open(f"{url}/enter?device=LBS-21&at=2025-04-06T20:52:00%2B02:00")
     page.fill("Cause", "5")
-    page.says(".forecast", "W moves by")
+    page.says(".forecast", "Customer-minutes lost")
 
 
 def sent(page: browser.Browser, url: str) -> None:
     page.open(f"{url}/enter?device=LBS-22&at=2025-04-06T23:52:00%2B02:00", "CREW-3")
     page.wait(lambda: page.find(".send").is_enabled(), "the button")
     page.click(".send")
-    page.says(".outcome .equal", "equal")
+    page.says(".outcome .equal", "As forecast")
     page.driver.execute_script("document.querySelector('.said').remove()")
     page.driver.execute_script("document.querySelector('.outcome').scrollIntoView()")
 
@@ -58,7 +58,7 @@ SHOTS = {
 
 def main() -> int:
     PICTURES.mkdir(exist_ok=True)
-    screen = support.Screen(support.fortnight("pictures"))
+    screen = support.Screen(support.fortnight("pictures"), "--name", "Sample fortnight")
     try:
         for name, (shown, width, height, dark) in SHOTS.items():
             page = browser.Browser(width, height, dark)

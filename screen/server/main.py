@@ -47,6 +47,8 @@ def read_words() -> argparse.Namespace:
     words.add_argument("--read-only", action="store_true", help="nobody may send commands")
     words.add_argument("--proxy", metavar="ADDRESS", help="the address whose X-Remote-User is the login, as 127.0.0.1")
     words.add_argument("--senders", metavar="PREFIX", default="", help="only logins that begin so may send commands")
+    words.add_argument("--name", metavar="TEXT", help="the book's name on each page (that of its file)")
+    words.add_argument("--training", action="store_true", help="a book for training: pages have another colour")
     words.add_argument("--host", metavar="NAME", action="append", default=[], help="a name by which browsers call it")
     words.add_argument(
         "--log", metavar="FILE", type=Path, help="the screen's own log (the book's name and -screen.jsonl)"
@@ -118,6 +120,7 @@ async def serve(given: argparse.Namespace) -> None:
 
 async def listen(given: argparse.Namespace, office: Office, ended: asyncio.Event) -> None:
     settings = Settings(given.program, set(given.host), given.proxy, given.read_only, given.senders)
+    settings.name, settings.training = given.name or given.book.stem, given.training
     runner = web.AppRunner(application(office, settings), access_log=None, handle_signals=False)
     await runner.setup()
     loop = asyncio.get_running_loop()

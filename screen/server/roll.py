@@ -3,7 +3,7 @@
 from __future__ import annotations
 
 from bisect import bisect_right
-from collections import defaultdict
+from collections import Counter, defaultdict
 from collections.abc import Iterable
 
 
@@ -11,11 +11,12 @@ class Roll:
     """Customers by the seconds at which their number changes, with running sums: a question costs one search."""
 
     def __init__(self, services: Iterable[tuple[int, int | None]]):
+        self.services = Counter(services)  # customers by their service
         steps: dict[int, int] = defaultdict(int)
-        for since, until in services:
-            steps[since] += 1
+        for (since, until), customers in self.services.items():
+            steps[since] += customers
             if until is not None:
-                steps[until] -= 1
+                steps[until] -= customers
         self.seconds = sorted(steps)
         self.in_service: list[int] = []
         self.sums: list[int] = []

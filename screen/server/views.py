@@ -6,12 +6,14 @@ import re
 from collections.abc import Sequence
 from typing import Any
 
-from .commands import FIELDS, Plan, sections_of
+from .commands import FIELDS, Plan, day_of, sections_of
 from .diagram import Layout, layout_of, normal_ways
 from .moments import duration
 from .network import Supply
 from .reader import Command, Entry
+from .reasons import still_cut_off
 from .state import LATE_SECONDS, Run, State
+from .to_now import is_live, marks_view
 
 Json = dict[str, Any]
 FUTURE_SECONDS = 60  # clocks of browsers and servers differ
@@ -39,6 +41,7 @@ def book_view(state: State) -> Json:
         "last": moment(state, period.end - 1),
         "days": [day.isoformat() for day in period.days],
         "zone": period.zone.text,
+        "today": text(state, state.now())[:10],
         "causes": sorted(state.causes.items()),
         "nodes": [{"name": name, "kind": kind, "feeder": feeder} for name, kind, feeder in state.nodes],
         "devices": [device_view(state, number) for number in range(len(state.sheet.devices))],
@@ -227,6 +230,9 @@ def forecast_view(state: State, planned: Plan, kind: str, fields: Sequence[str])
         "moved": [list(move) for move in planned.moves],
         "total": sum(amount for dim, _, amount in planned.moves if dim == "cause"),
         "hints": [*planned.hints, *late_hints(kind, ahead)],
+        "reason": None if sections else still_cut_off(state, planned),
+        "is_live": is_live(state),
+        "unmarked": marks_view(state, kind, day_of(state, fields[0])) if kind in ("mark", "unmark") else None,
         "future": duration(ahead) if ahead > FUTURE_SECONDS else None,
         "words": command_words(state, kind, fields),
     }

@@ -28,6 +28,7 @@ from .names import NAME, folded, name_in
 from .office import Office
 from .reader import BookError
 from .state import Refused
+from .to_now import to_now_view
 
 STATIC = Path(__file__).resolve().parent.parent / "static"
 PAGES = {"/": "now", "/sheet": "sheet", "/enter": "enter", "/network": "network", "/year": "year"}
@@ -53,6 +54,8 @@ class Settings:
     proxy: str | None = None
     read_only: bool = False
     senders: str = ""  # logins that begin with this may send commands
+    name: str = ""  # the book's, as pages show it
+    training: bool = False
     own_hosts: set[str] = field(default_factory=set)  # of this machine: asked without TLS
     secret: bytes = field(default_factory=lambda: secrets.token_bytes(32))
 
@@ -247,6 +250,8 @@ async def me(request: web.Request) -> web.StreamResponse:
             "asks_name": settings.proxy is None,
             "may_send": may_send(request, login),
             "could_send": not settings.read_only and office.desk is not None,
+            "book": settings.name,
+            "training": settings.training,
             "token": token_of(settings, login),
             **office.desk_view(),
         },
@@ -383,7 +388,9 @@ async def shift_page(request: web.Request) -> web.StreamResponse:
         status, shown, why = 200, shift.shift_view(office_of(request), query), ""
     except Refused as refused:  # the page is shown with the fields as they were typed
         status, shown, why = 422, shift.shift_view(office_of(request), {}), str(refused)
-    data = handover.page(shown, query, name_of(request, login), why)
+    settings = settings_of(request)
+    shown["book"] = settings.name
+    data = handover.page(shown, query, name_of(request, login), why, settings.training)
     return web.Response(status=status, text=data, content_type="text/html", charset="utf-8")
 
 
@@ -413,7 +420,8 @@ async def table_text(request: web.Request) -> str:
 
 
 async def table(request: web.Request) -> web.StreamResponse:
-    return answer(200, year.table_view(await table_text(request)))
+    text = await table_text(request)
+    return answer(200, {**year.table_view(text), **to_now_view(office_of(request).state)})
 
 
 async def totals(request: web.Request) -> web.StreamResponse:

@@ -2,7 +2,7 @@
 import { duration, el, svg } from "./elements.js";
 import { get, known, post, Trouble } from "./requests.js";
 import { Stream } from "./stream.js";
-import { unanswered } from "./unanswered.js";
+import { senderOf, unanswered } from "./unanswered.js";
 
 export { duration, el, get, known, post, svg };
 
@@ -24,6 +24,19 @@ export function number(value) {
 
 export function signed(value) {
   return (value > 0 ? "+" : value < 0 ? "\u2212" : "") + number(Math.abs(value));
+}
+
+/** Customer-seconds as customer-minutes, to two decimals where they aren't whole. */
+export const inMinutes = (seconds) => Math.round((Number(seconds) / 60) * 100) / 100;
+
+/** What customer-minutes lost change by. */
+export const lostWords = (seconds) => `Customer-minutes lost: ${seconds ? signed(inMinutes(seconds)) : "no change"}`;
+
+/** The names of the book's zone, as CET/CEST. */
+export function zoneName() {
+  const name = "[A-Za-z]{3,}|<[^>]*>";
+  const [, standard, summer] = new RegExp(`^(${name})[-+0-9:]+(${name})?`).exec(known.book.zone) ?? [];
+  return [standard, summer].filter(Boolean).map((each) => each.replace(/[<>]/g, "")).join("/") || "the book's zone";
 }
 
 /** A moment as the server wrote it by the clock of the book's zone: date, time and offset. */
@@ -146,10 +159,10 @@ export function settled(work, milliseconds = 150) {
 
 const PAGES = [
   ["/", "Now"],
-  ["/sheet", "Sheet"],
-  ["/enter", "Enter"],
+  ["/sheet", "Switching log"],
+  ["/enter", "New switching"],
   ["/network", "Network"],
-  ["/year", "Year"],
+  ["/year", "Figures"],
 ];
 const state = el("span", { role: "status", class: "state" });
 const banner = el("div", { class: "alarm", role: "alert" });
@@ -162,7 +175,10 @@ function head() {
   const me = known.me;
   const rename = me.asks_name && me.could_send ? el("button", { type: "button", class: "small", click: () => askName(true) }, "Change name") : "";
   const who = el("span", {}, me.name ? `You are ${me.name}${me.may_send ? "" : ", looking only"}` : me.could_send ? "No name yet" : "Looking only");
+  title = `${document.querySelector("h1").textContent} - ${me.training ? "TRAINING - " : ""}${me.book} - outage book`;
+  document.body.classList.toggle("training", me.training);
   document.getElementById("head").replaceChildren(
+    el("b", { class: "book" }, `${me.training ? "TRAINING: " : ""}${me.book}`),
     el("nav", { "aria-label": "Pages" }, links),
     el("div", { class: "who" }, state, who, rename),
   );
@@ -176,7 +192,7 @@ function say(place, words) {
 }
 
 const alarms = new Map(); // why what is shown may be old or wrong, by what it comes from
-const title = document.title;
+let title = document.title;
 
 /** Shows or takes back an alarm: a banner that stays in sight however far the page is scrolled, and a sign in the tab. */
 function alarm(name, words) {
@@ -192,8 +208,8 @@ function alarm(name, words) {
 const time = () => new Date().toLocaleTimeString("en-GB");
 
 export function showDesk(shown) {
-  const words = { here: "Desk: here", away: "Desk: AWAY", none: "No desk: a copy" };
-  say(state, `${words[shown.desk]}, ${number(shown.number)} commands`);
+  const words = { here: "Connected", away: "Desk: AWAY", none: "No desk: a copy" };
+  say(state, words[shown.desk]);
   alarm("server", null);
   alarm("desk", shown.desk === "away" && `The desk is away: nothing can be saved now. What is shown is as of command ${shown.number}. The screen tries again each second. (${shown.why})`);
   alarm("differs", shown.differs && `The screen's own count differs from the desk: ${shown.differs}. Believe the desk.`);
@@ -274,8 +290,10 @@ window.addEventListener("unhandledrejection", (event) => {
 function tell(event) {
   const command = event.command;
   if (event.count === 1 && own.has(command.ref)) return;
-  const words = event.count > 1 ? `${event.count} commands, the last one ${command.no}` : `Command ${command.no}`;
-  showSaid(`${words}: ${command.kind} ${command.fields.slice(0, 2).join(" ")} (${command.ref}) moved W by ${signed(event.moved)}`);
+  const who = senderOf(command.ref) ?? "Another program";
+  const more = event.count > 1 ? `${event.count} changes; the last one: ` : "";
+  const at = command.second ? ` at ${momentWords(command.second)}` : "";
+  showSaid(`${more}${who}: ${command.kind} ${command.fields.slice(0, 2).join(" ")}${at}. ${lostWords(event.moved)}.`);
 }
 
 /** Who asks, and the book's names; asked for until the server answers. */
@@ -314,8 +332,14 @@ export function reloadBook() {
 }
 
 export const causes = () => known.book.causes.filter(([code]) => code > 0).map(([code, name]) => [String(code), `${code} ${name}`]);
-export const HERE = () => el("span", { class: "from" }, "computed here");
-export const PROGRAM = () => el("span", { class: "from" }, known.me.desk === "none" ? "from the book" : "from the desk");
+
+/** Whose figures are those of the program, as this page gets them. */
+export const source = () => (known.me.desk === "none" ? "from the book" : "from the desk");
+
+/** One line at a page's foot: where its figures come from. */
+export function foot(words) {
+  return el("p", { class: "note foot" }, `${words} Times are those of ${zoneName()}.`);
+}
 
 /** Why nothing can be sent, for a page with a form; nothing where something can. */
 export function lookOnly() {

@@ -1,5 +1,5 @@
 // A switching: what was switched, at the second at which it was.
-import { begin, causes, choice, el, field, get, known, list, lookOnly, onCommands, reloadBook, settled, spelled, text } from "./common.js";
+import { begin, causes, choice, el, field, foot, get, known, list, lookOnly, onCommands, reloadBook, settled, source, spelled, text, zoneName } from "./common.js";
 import { MomentField } from "./moments.js";
 import { Sender } from "./sender.js";
 
@@ -16,7 +16,7 @@ begin(async () => {
     const command = { kind: "switch", f1: device.value.trim().toUpperCase(), f2: position.value, f3: second.second, f4: cause.value, f5: crew.value.trim().toUpperCase() };
     return command.f1 && command.f3 && command.f4 && command.f5 ? command : null;
   };
-  const second = new MomentField("Second, by the clock of the book's zone", "", () => look(), { goes: true, touched: () => sender.age() });
+  const second = new MomentField(`Time (${zoneName()})`, "", () => look(), { goes: true, touched: () => sender.age() });
   const form = el("form", { class: "card" });
   const inputs = [device, position, cause, crew, second.input];
   const sender = new Sender({
@@ -31,7 +31,7 @@ begin(async () => {
     const name = device.value.trim().toUpperCase();
     const isKnown = known.book.devices.some((each) => each.name === name);
     if (!isKnown || !second.second) {
-      stands.replaceChildren(name && !isKnown ? "The book knows no such device." : "");
+      stands.replaceChildren(name && !isKnown ? "This is an unknown device." : "");
       return;
     }
     const found = await get("/api/position", { device: name, at: second.second }).catch(() => null);
@@ -53,13 +53,14 @@ begin(async () => {
     field("Device", device),
     stands,
     el("div", { class: "row" }, second.element, now),
-    field("From that second on it is", position, "The other position than its own is offered first."),
+    field("Switched to", position, "The other position than its own is offered first."),
     field("Cause", cause, "An outage counts under the cause of the opening that began it."),
     field("Crew, who switched", crew, spelled(crew, "crew")),
   );
   main.append(
     lookOnly(),
     el("div", { class: "two wide" }, form, el("div", { class: "card" }, sender.element)),
+    foot(`What it would do is computed here; the answer to a command is ${source()}.`),
   );
   onCommands(() => reloadBook());
   const at = wanted.get("at");

@@ -1,5 +1,5 @@
 // A field for a moment, typed by the clock of the book's zone. The server reads it: the browser's zone has no part in it.
-import { el, field, get, momentWords, settled, text } from "./common.js";
+import { el, field, get, known, momentWords, settled, text } from "./common.js";
 
 const SET_AGAIN_SECONDS = 20; // between two questions for the server's clock
 
@@ -16,7 +16,7 @@ export class MomentField {
     this.second = null;
     this.isNow = false;
     this.goes = goes;
-    this.input = text({ value, placeholder: "2025-04-05 06:10:00", });
+    this.input = text({ value, placeholder: `${known.book.today} 06:10:00` });
     this.told = el("div", { class: "note", role: "status" });
     this.changed = changed;
     this.may_be_empty = may_be_empty;

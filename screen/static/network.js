@@ -1,5 +1,5 @@
 // The network: nodes, devices with their lives, customers by section; and the commands that change them.
-import { begin, choice, el, field, get, HERE, known, list, lookOnly, number, onCommands, reloadBook, renew, scrolling, settled, spelled, table, text } from "./common.js";
+import { begin, choice, el, field, foot, get, known, list, lookOnly, number, onCommands, reloadBook, renew, scrolling, settled, spelled, table, text } from "./common.js";
 import { MomentField } from "./moments.js";
 import { Sender } from "./sender.js";
 
@@ -13,11 +13,11 @@ let searched = "";
 // The fields of each kind: name, and what it is.
 const KINDS = {
   device: ["A device joins: a tie, a line", ["name", "node", "node", "normal", "since", "until"], ["Name of the new device", "From node", "To node", "Normal position", "In the network from", "Until"]],
-  life: ["The life of a device is set anew", ["device", "since", "until"], ["Device", "In the network from", "Until before"]],
+  life: ["A device is in service from/to", ["device", "since", "until"], ["Device", "In the network from", "Until before"]],
   bus: ["A new bus", ["name"], ["Name of the bus"]],
   section: ["A new section", ["name", "number"], ["Name of the section", "Home feeder, 1 to 255"]],
   connect: ["A customer is connected", ["number", "section", "moment", "until"], ["Customer's number", "Section", "In service from", "Until before"]],
-  revise: ["A customer's service is set anew", ["number", "moment", "until"], ["Customer's number", "In service from", "Until before"]],
+  revise: ["A customer's service is changed", ["number", "moment", "until"], ["Customer's number", "In service from", "Until before"]],
 };
 
 function inputOf(type, label, changed, touched) {
@@ -74,7 +74,7 @@ function showNodes() {
     node.name, ["source", "bus", "section"][node.kind], node.feeder ? String(node.feeder) : "",
     node.kind === 2 ? el("button", { type: "button", class: "small", click: () => showCustomers(node.name) }, "Customers") : "",
   ]);
-  renew(nodes, el("h2", {}, `${number(seen.length)} nodes `, HERE()), scrolling("Nodes", table(["node", "kind", "#feeder", "~customers"], rows)));
+  renew(nodes, el("h2", {}, `${number(seen.length)} nodes`), scrolling("Nodes", table(["node", "kind", "#feeder", "~customers"], rows)));
 }
 
 function showDevices() {
@@ -83,16 +83,16 @@ function showDevices() {
   const name = (node) => known.book.nodes[node].name;
   const rows = seen.map((device) => [
     device.name, `${name(device.a)} \u2013 ${name(device.b)}`, device.normal, device.since || "always", device.until || "without end",
-    form ? el("button", { type: "button", class: "small", click: () => form.choose("life", device.name, device.since, device.until) }, "Set its life") : "",
+    form ? el("button", { type: "button", class: "small", click: () => form.choose("life", device.name, device.since, device.until) }, "In service from/to") : "",
   ]);
-  renew(devices, el("h2", {}, `${number(seen.length)} devices `, HERE()), scrolling("Devices", table(["device", "between", "normal", "in the network from", "until before", "~life"], rows)));
+  renew(devices, el("h2", {}, `${number(seen.length)} devices`), scrolling("Devices", table(["device", "between", "normal", "in the network from", "until before", "~in service"], rows)));
 }
 
 async function showCustomers(section) {
   const shown = await get("/api/customers", { section });
   const rows = shown.customers.map((row) => [String(row.no), row.since, row.until || "without end"]);
   const more = shown.found > shown.customers.length ? ` The first ${shown.customers.length} are shown.` : "";
-  customers.replaceChildren(el("div", { class: "card", tabindex: "-1" }, el("h2", {}, `${number(shown.found)} customers of ${section} `, HERE()), el("p", {}, more), scrolling("Customers", table(["#customer", "in service from", "until before"], rows))));
+  customers.replaceChildren(el("div", { class: "card", tabindex: "-1" }, el("h2", {}, `${number(shown.found)} customers of ${section}`), el("p", {}, more), scrolling("Customers", table(["#customer", "in service from", "until before"], rows))));
   customers.firstElementChild.focus();
 }
 
@@ -106,7 +106,7 @@ function show() {
 begin(async () => {
   const search = text({ input: settled(() => { searched = search.value.trim().toUpperCase(); show(); }) });
   form = known.me.may_send ? commandForm() : null;
-  main.append(words, lookOnly(), form ? form.element : "", el("div", { class: "card short no-print" }, field("Search nodes and devices", search)), customers, el("div", { class: "two" }, devices, nodes));
+  main.append(words, lookOnly(), form ? form.element : "", el("div", { class: "card short no-print" }, field("Search nodes and devices", search)), customers, el("div", { class: "two" }, devices, nodes), foot("Devices, nodes and customers are those of the book; what a change would do is computed here."));
   onCommands(async () => { await reloadBook(); show(); });
   show();
 });

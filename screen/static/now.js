@@ -1,81 +1,84 @@
 // Who is out at a second, and how the network stands.
-import { begin, breakable, el, get, HERE, known, moment, number, onCommands, painted, renew, settled, table, duration } from "./common.js";
+import { begin, el, foot, get, known, moment, number, onCommands, painted, settled } from "./common.js";
 import { MomentField } from "./moments.js";
 import { Diagram, legend } from "./diagram.js";
+import { keepInAddress, Outages } from "./outages.js";
+
+const AGAIN_SECONDS = 15; // after which a page that shows the time that is now is shown again
 
 const main = document.getElementById("main");
 const tiles = el("div", { class: "tiles" });
-const list = el("section", { "aria-label": "Sections without supply" });
 const picture = el("section", { "aria-label": "The network" });
 const trouble = el("div", {});
 const diagram = new Diagram();
-let early = get("/api/now").catch(() => null); // is asked for while the page's head is
-let at = "", field, slider, count = 0;
+let at = new URLSearchParams(location.search).get("at") ?? "";
+let early = at ? null : get("/api/now").catch(() => null); // is asked for while the page's head is
+let field, slider, outages, count = 0;
 
 const link = (device) => `/enter?${new URLSearchParams({ device: device.name, ...(at ? { at } : {}) })}`;
+const tile = (isOut, words, value, more = "") => el("div", { class: isOut ? "tile out" : "tile" }, words, el("b", {}, value), more);
 
-function outageTable(shown) {
-  if (!shown.outages.length) return el("p", { class: "good" }, "All sections are supplied.");
-  const rows = shown.outages.map((row) => [
-    row.section,
-    String(row.feeder),
-    number(row.customers),
-    moment(row.since),
-    duration(shown.at.second - row.since.second),
-    row.device || "no switching",
-    row.device ? `${row.cause} ${row.cause_name}` : "0 UNASSIGNED",
-    row.crew || "",
-    row.entry ? el("a", { href: `/sheet?entry=${row.entry}` }, breakable(row.reference || `entry ${row.entry}`)) : "",
-    row.until ? moment(row.until) : "not told yet",
-  ]);
-  return table(["section", "#feeder", "#customers", "since", "#for", "cut off by", "cause", "crew", "reference", "supplied again"], rows);
-}
-
-async function show() {
+async function show({ anew = false } = {}) {
   const mine = ++count;
   let shown = await early;
   early = null;
   try {
     shown ??= await get("/api/now", at ? { at } : {});
   } catch (error) {
-    trouble.replaceChildren(el("p", { class: "bad" }, error.message));
+    if (mine === count) trouble.replaceChildren(el("p", { class: "bad" }, error.message));
     return;
   }
   if (mine !== count) return; // a later question was asked meanwhile
   trouble.replaceChildren();
   if (!at) slider.value = shown.at.second;
+  outages.at = at;
+  const found = outages.show(shown, { anew });
   tiles.replaceChildren(
-    el("div", { class: shown.customers_out ? "tile out" : "tile" }, "Customers without supply", el("b", {}, number(shown.customers_out)), `of ${number(shown.customers_served)} in service`),
-    el("div", { class: shown.outages.length ? "tile out" : "tile" }, "Sections without supply", el("b", {}, number(shown.outages.length))),
-    el("div", { class: "tile" }, at ? "As of" : "As of now, or the period's end", el("b", { class: "when" }, moment(shown.at))),
+    tile(shown.customers_out, "Customers without supply", number(shown.customers_out), `of ${number(shown.customers_served)} in service`),
+    tile(found, "Outages", number(found)),
+    tile(shown.outages.length, "Sections without supply", number(shown.outages.length)),
+    el("div", { class: "tile" }, "As of", el("b", { class: "when" }, moment(shown.at))),
   );
-  renew(list, el("h2", {}, "Sections without supply ", HERE()), outageTable(shown));
   document.body.dataset.number = shown.number;
   await painted();
   if (mine === count) diagram.show(shown, link, main.clientWidth - 40);
 }
 
+function goTo(second) {
+  at = second;
+  keepInAddress({ at });
+  return show({ anew: true });
+}
+
 function controls() {
   const { first, last } = known.book;
   const moved = settled(() => {
-    if (field.second === null) return;
-    at = field.second;
-    slider.value = at;
-    show();
+    if (field.second === null || field.second === at) return;
+    if (field.second) slider.value = field.second;
+    goTo(field.second);
   }, 50);
-  field = new MomentField("Another second of the period", "", moved, { may_be_empty: true });
+  field = new MomentField("Go to time", "", moved, { may_be_empty: true });
   slider = el("input", {
     type: "range", min: first.second, max: last.second, step: 60, value: last.second, "aria-label": "Second of the period",
-    input: settled(() => { at = slider.value; field.set(at).then(show); }, 60),
+    input: settled(() => { const second = slider.value; field.set(second).then(() => goTo(second)); }, 60),
   });
-  const now = el("button", { type: "button", click: () => { at = ""; field.input.value = ""; field.told.replaceChildren(); show(); } }, "Now");
-  return el("div", { class: "card no-print" }, el("div", { class: "row" }, field.element, now), slider);
+  const now = el("button", { type: "button", click: () => { field.input.value = ""; field.second = ""; field.told.replaceChildren(); goTo(""); } }, "Now");
+  const row = el("div", { class: "row" }, outages.fields(), field.element, now);
+  const narrow = matchMedia("(max-width: 40rem)").matches;
+  const card = el("form", { class: "card short", submit: (event) => event.preventDefault(), "aria-label": "Filter and time" }, row, slider);
+  return el("details", { class: "search no-print", open: !narrow }, el("summary", {}, "Filter, order, time"), card);
 }
 
 begin(async () => {
-  picture.append(el("h2", {}, "The network ", HERE()), legend(), diagram.element);
-  main.append(tiles, trouble, controls(), list, picture);
+  outages = new Outages();
+  const shownControls = controls();
+  picture.append(el("h2", {}, "The network"), legend(), diagram.element);
+  main.append(tiles, trouble, shownControls, outages.element, picture, foot("Who is without supply is computed here, from the book's entries."));
   onCommands(() => show());
+  if (at) {
+    await field.set(at);
+    slider.value = field.second;
+  }
   await show();
-  setInterval(() => at || show(), 15000);
+  setInterval(() => at || show(), AGAIN_SECONDS * 1000);
 });

@@ -1,52 +1,13 @@
 // A command on its way: what it would do, computed here; then, under one reference, the desk's answer beside it.
-import { el, get, HERE, known, moment, momentWords, newReference, number, onCommands, own, post, PROGRAM, scrolling, settled, signed, table, duration } from "./common.js";
+import { el, get, known, momentWords, newReference, onCommands, own, post, settled } from "./common.js";
+import { forecastParts, replyParts, same } from "./forecast.js";
 import { offerUndo } from "./undo.js";
-import { adopt, forget, keep, look, onAnswered, release, senderOf, underWay } from "./unanswered.js";
+import { adopt, forget, keep, look, onAnswered, release, underWay } from "./unanswered.js";
 
 const FOLLOW_SECONDS = 20; // between two forecasts of a switching whose time is the one that is now
 
-export function sectionsTable(sections) {
-  const rows = sections.map((row) => [
-    row.section,
-    row.loses && row.gets_back ? "loses and gets back" : row.loses ? "LOSES supply" : "gets back supply",
-    String(row.customers),
-    el("span", {}, moment(row.since), " \u2013 ", moment(row.until)),
-    duration(row.loses || row.gets_back),
-    signed(row.customer_seconds),
-  ]);
-  return table(["section", "what", "#customers", "from \u2013 to", "#duration", "#customer-seconds"], rows);
-}
-
-const dayName = (key) => known.book.days[key] || key;
-const causeName = (key) => (known.book.causes.find(([code]) => code === key) || ["", ""])[1];
-const names = { cause: (key) => `cause ${key} ${causeName(key)}`, feeder: (key) => `feeder ${key}`, day: (key) => `day ${dayName(key)}` };
-
-export function movesTable(moved, beside = null) {
-  if (!moved.length && !beside?.length) return el("p", {}, "Nothing moves.");
-  if (!beside) return table(["of", "#customer-seconds"], moved.map(([dim, key, amount]) => [names[dim](key), signed(amount)]));
-  const other = new Map(beside.map(([dim, key, amount]) => [`${dim} ${key}`, amount]));
-  const all = [...moved];
-  for (const [dim, key] of beside) if (!moved.some((move) => move[0] === dim && move[1] === key)) all.push([dim, key, null]);
-  const rows = all.map(([dim, key, amount]) => {
-    const there = other.get(`${dim} ${key}`);
-    return [names[dim](key), amount === null ? "nothing" : signed(amount), there === undefined ? "nothing" : signed(there), amount === there ? "equal" : "DIFFERS"];
-  });
-  return table(["of", "#computed here", "#the desk's reply", "compared"], rows);
-}
-
-export const total = (moved) => moved.filter(([dim]) => dim === "cause").reduce((sum, move) => sum + move[2], 0);
-
 const SHOWN_FIRST = "Not sent: what it would do is shown first. Look at it, and send then.";
-const same = (one, other) => JSON.stringify(one) === JSON.stringify(other);
 const supplyOf = (found) => found.sections.map((row) => [row.section, row.loses > 0, row.gets_back > 0]);
-
-/** It did something else than what was shown, since the book had changed in between: what came first, and a way back. */
-function otherwise(intent, shown) {
-  const words = `You saw ${signed(total(intent.forecast.moved))} customer-seconds; it moved ${signed(total(shown.reply.moved))}, since the book had changed in between.`;
-  const first = shown.between.map((each) => el("li", {}, `${senderOf(each.ref) ?? `another program (${each.ref})`} had sent: ${each.words}${each.entry ? ` (entry ${each.entry})` : ""}`));
-  const back = intent.command.kind === "switch" && shown.entry ? el("p", {}, el("a", { class: "back", href: `/sheet?entry=${shown.entry}&withdraw=yes` }, "Withdraw mine")) : "";
-  return el("div", { class: "warn otherwise" }, el("p", {}, el("b", {}, words)), first.length ? el("ul", {}, first) : "", back);
-}
 
 /** `read` answers the command, or null where a field is missing. `form` sends it by the Enter key too. While the field `clock`
  * shows the time that is now, the command's second is the one at which it is sent. */
@@ -147,21 +108,9 @@ export class Sender {
     const told = JSON.stringify(found);
     if (told === this.drawn && this.forecast.querySelector("h2")) return;
     this.drawn = told;
-    this.forecast.replaceChildren(...this.forecastParts(found));
-  }
-
-  forecastParts(found) {
-    const parts = [el("h2", {}, "What it would do ", HERE())];
-    for (const hint of found.hints) parts.push(el("p", { class: "warn hint" }, hint));
-    if (found.future) parts.push(el("div", { class: "warn hint" }, el("p", {}, `This lies ${found.future} in the future.`), el("label", { class: "check" }, this.tick, " Yes, it is planned for then")));
-    if (!found.sections.length) parts.push(el("p", {}, "No section loses or gets back supply."));
-    else {
-      const customers = found.sections.reduce((sum, row) => sum + row.customers, 0);
-      parts.push(el("p", {}, `${found.sections.length} section${found.sections.length > 1 ? "s" : ""}, ${number(customers)} customers, until `, found.to ? "the device's next entry at " : "the end of the period.", found.to ? moment(found.to) : ""));
-      parts.push(sectionsTable(found.sections));
-    }
-    parts.push(el("h3", {}, `W moves by ${signed(found.total)} customer-seconds`), scrolling("What it would move", movesTable(found.moved)));
-    return parts;
+    const wasOpen = this.forecast.querySelector("details")?.open;
+    this.forecast.replaceChildren(...forecastParts(found, this.tick));
+    if (wasOpen) this.forecast.querySelector("details")?.setAttribute("open", "");
   }
 
   /** Sends the one intent, whose forecast is shown: the second click of a double one finds it on its way. */
@@ -249,18 +198,7 @@ export class Sender {
   done(shown) {
     const { intent } = this;
     this.end();
-    const { no, moved } = shown.reply;
-    const parts = [el("h2", {}, `Saved: command ${no}${shown.entry ? `, entry ${shown.entry}` : ""} `, PROGRAM())];
-    if (shown.again) parts.push(el("p", { class: "warn" }, "This is the stored reply: the command was saved already, and nothing was done twice."));
-    else if (shown.tries > 1) parts.push(el("p", { class: "warn" }, `It took ${shown.tries} tries under one reference; it acted once.`));
-    const isAsShown = same(moved, intent.forecast.moved);
-    const differs = shown.counted && !same(moved, shown.counted);
-    if (differs) parts.push(el("p", { class: "bad differs" }, "The forecast DIFFERS from the desk's reply: believe the desk."));
-    else if (isAsShown) parts.push(el("p", { class: "good equal" }, "The forecast is equal to the desk's reply."));
-    else parts.push(otherwise(intent, shown));
-    parts.push(el("p", {}, `W moved by ${signed(total(moved))} customer-seconds. Reference ${intent.command.ref}.`));
-    parts.push(scrolling("What it moved", movesTable(differs ? shown.counted : intent.forecast.moved, moved)), el("p", { class: "mono reply" }, shown.text));
-    this.outcome.replaceChildren(el("div", { class: "card" }, parts));
+    this.outcome.replaceChildren(el("div", { class: "card" }, replyParts(intent, shown)));
     this.forecast.replaceChildren();
     this.shown = null;
     this.told = null;

@@ -1,8 +1,9 @@
-// The switching sheet: entries, what each command moved, corrections and withdrawals; and the screen's own log.
+// The switching log: entries, what each command moved, corrections and withdrawals; and the screen's own log.
 import { fromAddress, toAddress } from "./address.js";
-import { begin, causes, choice, el, field, get, HERE, known, list, lookOnly, moment, momentWords, number, onCommands, PROGRAM, renew, scrolling, settled, spelled, table, text } from "./common.js";
+import { begin, causes, choice, el, field, foot, get, known, list, lookOnly, moment, momentWords, number, onCommands, renew, scrolling, settled, source, spelled, table, text, zoneName } from "./common.js";
 import { MomentField } from "./moments.js";
-import { entryWords, movesTable, Sender } from "./sender.js";
+import { movesTable } from "./forecast.js";
+import { entryWords, Sender } from "./sender.js";
 import { shiftLog, showLog } from "./shiftlog.js";
 
 const main = document.getElementById("main");
@@ -15,7 +16,7 @@ let opened = null;
 const tags = (entry) => ["late", "corrected"].filter((name) => entry[name]).concat(entry.kept ? [] : ["withdrawn"]).map((name) => el("span", { class: `tag ${name}` }, name));
 
 const NOT_READ = 422; // the status of a search that can't be read
-const SEARCHED = { device: "device", cause: "cause", crew: "crew", section: "section", feeder: "feeder", day: "day", marked: "mark" };
+const SEARCHED = { device: "device", cause: "cause", crew: "crew", section: "section", feeder: "feeder", day: "day", marked: "status" };
 const inputs = {};
 
 /** What is searched for changed: the first rows of it are shown. */
@@ -66,7 +67,7 @@ async function filters() {
       field("Feeder", make("feeder", choice([["", "any"], ...feeders()]))),
       field("Day", make("day", el("input", { type: "date", min: days[0], max: days[days.length - 1] }))),
       await dayButtons(),
-      field("Marked", make("marked", choice([["", "all"], ["late", "late"], ["corrected", "corrected"], ["withdrawn", "withdrawn"]]))),
+      field("Status", make("marked", choice([["", "all"], ["late", "late"], ["corrected", "corrected"], ["withdrawn", "withdrawn"]]))),
       field("Order", make("order", choice([["newest", "newest first"], ["second", "by second"]]))),
     ),
   );
@@ -110,8 +111,8 @@ async function show() {
   const empty = searchWords() ? [el("p", { class: "warn" }, `No entries for ${searchWords()}.`), clearing()] : [el("p", {}, "The book has no entries yet.")];
   renew(
     rows,
-    el("h2", {}, `${number(shown.found)} of ${number(shown.of)} entries `, HERE()),
-    ...(lines.length ? [table(["entry", "second", "device", "position", "cause", "crew", "#revision", "reference", "marks"], lines, null, classes)] : empty),
+    el("h2", {}, `${number(shown.found)} of ${number(shown.of)} entries`),
+    ...(lines.length ? [table(["entry", "time", "device", "position", "cause", "crew", "#revision", "reference", "status"], lines, null, classes)] : empty),
     shown.found > 100 ? turns(shown) : "",
   );
   document.body.dataset.number = shown.number;
@@ -140,7 +141,7 @@ async function open(no, { kind = "correct" } = {}) {
   for (const command of entry.history) {
     const reply = command.text ? JSON.parse(command.text) : null;
     const words = `Command ${command.no}, ${command.kind}, ${command.ref}${command.second ? `, ${momentWords(command.second)}` : ""}`;
-    parts.push(el("details", {}, el("summary", {}, words, " ", PROGRAM()), reply ? scrolling("What it moved", movesTable(reply.moved)) : "the desk gives no reply now"));
+    parts.push(el("details", {}, el("summary", {}, words), reply ? scrolling("What it changed", movesTable(reply.moved)) : "the desk gives no reply now"));
   }
   if (entry.kept && known.me.may_send) parts.push(work(entry, words, kind));
   parts.push(el("div", { class: "buttons" }, el("button", { type: "button", click: () => { opened = null; detail.replaceChildren(); rows.querySelector(`[data-entry="${no}"]`)?.focus(); } }, "Close")));
@@ -156,7 +157,7 @@ function work(entry, words, asked) {
   const cause = choice(causes(), String(entry.cause));
   const crew = text({ list: "crews", maxlength: 16, value: entry.crew });
   const changed = () => sender.update();
-  const second = new MomentField("Second", momentWords(entry.second.text), changed, { touched: () => sender.age() });
+  const second = new MomentField(`Time (${zoneName()})`, momentWords(entry.second.text), changed, { touched: () => sender.age() });
   const told = el("div", {}, second.element, field("Position", position), field("Cause", cause), field("Crew", crew, spelled(crew, "crew")));
   const read = () => {
     const seen = { f1: String(entry.no), f2: String(entry.revision) };
@@ -195,7 +196,7 @@ begin(async () => {
   Object.assign(wanted, fromAddress([...Object.keys(SEARCHED), "order"]));
   from = Number(fromAddress(["from"]).from ?? 0) || 0;
   const narrow = matchMedia("(max-width: 40rem)").matches;
-  main.append(lookOnly(), el("details", { class: "search no-print", open: !narrow }, el("summary", {}, "Search"), await filters()), detail, rows, shiftLog());
+  main.append(lookOnly(), el("details", { class: "search no-print", open: !narrow }, el("summary", {}, "Search"), await filters()), detail, rows, shiftLog(), foot(`What a command changed is ${source()}, in its own reply; status and search are computed here.`));
   onCommands(() => { show(); showLog(); lookAgain(); });
   await Promise.all([show(), showLog()]);
   const asked = new URLSearchParams(location.search);

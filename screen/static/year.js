@@ -1,5 +1,5 @@
-// The year as the desk answers it: indices, totals, days, causes, feeders; marks, imports, downloads.
-import { begin, choice, el, field, get, known, list, number, onCommands, post, PROGRAM, reloadBook, renew, scrolling, table, text } from "./common.js";
+// The figures: up to now where the period goes on, and of the whole period as the desk answers them; marks, imports, downloads.
+import { begin, choice, el, field, foot, get, inMinutes, known, list, moment, number, onCommands, post, reloadBook, renew, scrolling, source, table, text } from "./common.js";
 import { IMPORT_SECONDS } from "./requests.js";
 import { markedDays } from "./marks.js";
 import { Sender } from "./sender.js";
@@ -8,7 +8,25 @@ const main = document.getElementById("main");
 const figures = el("div", {});
 let early = get("/api/year").catch(() => null); // is asked for while the page's head is
 
-const indexText = (value) => (value ? value.join(" ") : "");
+/** A fraction in per cent, to three decimals, rounded half up. */
+function percent(fraction) {
+  const [part, whole] = fraction.split("/").map(BigInt);
+  const thousandths = (200000n * part + whole) / (2n * whole);
+  return `${thousandths / 1000n}.${String(thousandths % 1000n).padStart(3, "0")} %`;
+}
+
+/** An index for reading: its decimals, an availability in per cent. */
+function decimals(name, value) {
+  const [fraction, rounded] = value;
+  return rounded === undefined ? fraction : name === "ASAI" ? percent(fraction) : rounded;
+}
+
+/** An index with its exact fraction, small, behind it. */
+function indexCell(name, value) {
+  if (!value) return "";
+  const [fraction, rounded] = value;
+  return el("span", { class: "index" }, el("b", {}, decimals(name, value)), rounded === undefined ? "" : el("span", { class: "fraction" }, ` ${fraction}`));
+}
 
 /** The share of an amount in the whole, as a bar and in per cent. */
 function share(amount, whole) {
@@ -17,10 +35,61 @@ function share(amount, whole) {
   return el("span", { class: "share" }, el("meter", { min: 0, max: 100, value: part, "aria-hidden": "true" }), el("span", {}, words));
 }
 
-function amounts(rows, nameOf, heads) {
-  const amountOf = (row) => Number(row[row.length - 1]);
-  const whole = rows.reduce((sum, row) => sum + amountOf(row), 0);
-  return table(heads, rows.map((row) => [...nameOf(row), number(amountOf(row)), share(amountOf(row), whole)]));
+/** Amounts by name, each with its share; `later` has those to the period's end, where the first ones are up to now. */
+function amounts(rows, head, later = null) {
+  const whole = rows.reduce((sum, [, amount]) => sum + amount, 0);
+  const heads = [head, later ? "#customer-seconds up to now" : "#customer-seconds", "share", ...(later ? ["#to the period's end"] : [])];
+  return table(heads, rows.map(([name, amount], at) => [name, number(amount), share(amount, whole), ...(later ? [number(later[at])] : [])]));
+}
+
+const tile = (name, words, unit) => el("div", { class: "tile" }, name, el("b", {}, words), unit);
+const lost = (seconds) => tile("Customer-minutes lost", number(inMinutes(seconds)), `${number(seconds)} customer-seconds`);
+
+function indexTiles(indices) {
+  const units = { SAIDI: "minutes per customer", SAIFI: "interruptions per customer", CAIDI: "minutes per interruption", ASAI: "of the time supplied" };
+  return Object.entries(units).map(([name, unit]) => tile(name, decimals(name, indices[name].all), unit));
+}
+
+/** What is open counts to the period's end: that is said before any figure of the whole period. */
+function openBanner({ open }) {
+  if (!open) return "";
+  const end = known.book.days.at(-1);
+  const words = `${number(open)} outage${open > 1 ? "s are" : " is"} open and count${open > 1 ? "" : "s"} to the period's end, ${end}, in every figure of the whole period. What is lost up to now comes first.`;
+  return el("p", { class: "warn open-outages" }, words);
+}
+
+function toNowPart(toNow) {
+  return el("section", { class: "to-now", "aria-label": "Up to now" },
+    el("h2", {}, "Up to now, ", moment(toNow.at)),
+    el("div", { class: "tiles" }, indexTiles(toNow.indices), lost(toNow.W)));
+}
+
+function wholePart(shown) {
+  const { W, S, P } = shown.totals;
+  const title = shown.to_now ? `To the period's end${shown.open ? ", if nothing is closed before" : ""}` : "The period";
+  const service = tile("Customer time in service", number(inMinutes(S)), "customer-minutes");
+  return el("section", { class: "whole", "aria-label": title },
+    el("h2", {}, title), el("p", { class: "mono" }, shown.heading),
+    el("div", { class: "tiles" }, indexTiles(shown.indices), lost(W), service, tile("Length of the period", number(P), "seconds")));
+}
+
+/** Rows of name and amount: up to now where the period goes on, with the whole period's beside them. */
+function amountParts(shown) {
+  const whole = { causes: shown.causes.map((row) => [`${row[0]} ${row[1]}`, Number(row[2]), Number(row[0])]), feeders: shown.feeders.map((row) => [`feeder ${row[0]}`, Number(row[1]), Number(row[0])]) };
+  const part = (name, head) => {
+    if (!shown.to_now) return amounts(whole[name], head);
+    const now = new Map(shown.to_now[name]);
+    return amounts(whole[name].map(([words, , key]) => [words, now.get(key) ?? 0]), head, whole[name].map(([, amount]) => amount));
+  };
+  return el("section", {}, el("h2", {}, "Causes"), part("causes", "cause"), el("h2", {}, "Feeders"), part("feeders", "feeder"));
+}
+
+/** Days that have passed: what an open outage counts on days to come isn't shown by day. */
+function daysPart(shown) {
+  const name = (day, isMarked) => (isMarked ? `${day} marked` : day);
+  const rows = shown.to_now ? shown.to_now.days.map(([day, amount, isMarked]) => [name(day, isMarked), amount]) : shown.days.map((row) => [name(row[0], row.at(-1) === "marked"), Number(row[1])]);
+  const note = `Customer-seconds that fall on a day: not the standard's daily SAIDI. Days without any aren't listed${shown.to_now ? ", nor days to come" : ""}.`;
+  return el("section", {}, el("h2", {}, "Days"), el("p", { class: "note" }, note), scrolling("Days", amounts(rows, "day")));
 }
 
 async function show() {
@@ -32,25 +101,25 @@ async function show() {
     figures.replaceChildren(el("p", { class: "bad" }, trouble.message));
     return;
   }
-  const indices = Object.entries(shown.indices).map(([name, sets]) => [name, indexText(sets.all), indexText(sets.unmarked)]);
-  const days = shown.days.map((row) => (row[row.length - 1] === "marked" ? [`${row[0]} marked`, row[1]] : row));
-  const tile = (name, words, unit) => el("div", { class: "tile" }, name, el("b", {}, words), unit);
-  const decimal = (name) => shown.indices[name].all[1] || shown.indices[name].all[0];
+  const indices = Object.entries(shown.indices).map(([name, sets]) => [name, indexCell(name, sets.all), indexCell(name, sets.unmarked)]);
+  const note = "Decimals are rounded; the fraction behind them is the figure. SAIDI and CAIDI in minutes.";
   renew(
     figures,
-    el("p", { class: "mono" }, shown.heading),
-    el("div", { class: "tiles" }, tile("SAIDI", decimal("SAIDI"), "minutes, all"), tile("SAIFI", decimal("SAIFI"), "interruptions, all"), tile("CAIDI", decimal("CAIDI"), "minutes, all"), tile("W", number(shown.totals.W), "customer-seconds"), tile("S", number(shown.totals.S), "customer-seconds in service"), tile("P", number(shown.totals.P), "seconds of the period")),
+    openBanner(shown),
+    shown.to_now ? toNowPart(shown.to_now) : "",
+    wholePart(shown),
     el("div", { class: "two" },
-      el("section", {}, el("h2", {}, "Indices ", PROGRAM()), table(["index", "#all", "#unmarked"], indices), el("p", { class: "note" }, "The fraction is the figure; the three decimals behind it are rounded. SAIDI and CAIDI in minutes.")),
-      el("section", {}, el("h2", {}, "Causes ", PROGRAM()), amounts(shown.causes, (row) => [`${row[0]} ${row[1]}`], ["cause", "#customer-seconds", "share"]), el("h2", {}, "Feeders ", PROGRAM()), amounts(shown.feeders, (row) => [`feeder ${row[0]}`], ["feeder", "#customer-seconds", "share"])),
+      el("section", {}, el("h2", {}, shown.to_now ? "Indices, to the period's end" : "Indices"), table(["index", "#all", "#without major event days"], indices), el("p", { class: "note" }, note)),
+      amountParts(shown),
     ),
-    el("section", {}, el("h2", {}, "Days ", PROGRAM()), el("p", { class: "note" }, "Customer-seconds that fall on a day: not the standard's daily SAIDI. Days without any aren't listed."), scrolling("Days", amounts(days, (row) => [row[0]], ["day", "#customer-seconds", "share"]))),
+    daysPart(shown),
+    foot(`Figures of the whole period are ${source()}${shown.to_now ? "; those up to now are computed here" : ""}.`),
   );
 }
 
 function markForm() {
   const kind = choice([["mark", "Mark as a major event day"], ["unmark", "Take the mark away"]]);
-  const day = text({ list: "days", placeholder: known.book.days[0] });
+  const day = text({ list: "days", placeholder: known.book.today });
   const read = () => (/^\d{4}-\d\d-\d\d$/.test(day.value.trim()) ? { kind: kind.value, f1: day.value.trim(), f2: known.me.name } : null);
   const form = el("form", { class: "card" }, el("h2", {}, "Mark a day"), list("days", known.book.days), field("What", kind), field("Day", day, `Marked by ${known.me.name}.`));
   const sender = new Sender({ read, form, lock: (locked) => [kind, day].forEach((input) => (input.disabled = locked)) });
@@ -82,8 +151,8 @@ function importForm() {
 function reportOf(shown) {
   const { added, again, stopped } = shown.reply;
   const words = `Added ${added}, known before ${again}.`;
-  if (!stopped) return el("p", { class: "good imported" }, words, " ", PROGRAM());
-  return el("div", { class: "bad imported" }, el("p", {}, `${words} Stopped at row ${stopped.row}: refused ${stopped.refused} ${stopped.name} ${stopped.detail ?? ""}. The rows before it stand.`), el("p", { class: "mono" }, shown.text));
+  if (!stopped) return el("p", { class: "good imported" }, words);
+  return el("div", { class: "bad imported" }, el("p", {}, `${words} Stopped at row ${stopped.row}: refused ${stopped.refused} ${stopped.name} ${stopped.detail ?? ""}. The rows before it are saved.`), el("p", { class: "mono" }, shown.text));
 }
 
 begin(async () => {

@@ -31,6 +31,11 @@ else {
   setTimeout(() => done(found.isConnected && !found.disabled && place() === before ? found : null), 100);
 }
 """
+MIDDLE = """
+arguments[0].scrollIntoView({ block: "center" });
+const box = arguments[0].getBoundingClientRect();
+return { x: box.x + box.width / 2, y: box.y + box.height / 2 };
+"""
 HEARS = """
 window.isClicked = false;
 arguments[0].addEventListener("click", () => { window.isClicked = true; }, { once: true, capture: true });
@@ -152,6 +157,16 @@ class Browser:
                 return
         raise AssertionError(f"{selector} wasn't hit by a click")
 
+    def point_at(self, element: WebElement) -> None:
+        """Brings the mouse over an element."""
+        point = self.driver.execute_script(MIDDLE, element)
+        self.driver.execute_cdp_cmd("Input.dispatchMouseEvent", {"type": "mouseMoved", **point})
+
+    def unfold(self, selector: str) -> None:
+        """Unfolds all that is folded in an element."""
+        script = "document.querySelectorAll(`${arguments[0]} details`).forEach((each) => (each.open = true))"
+        self.driver.execute_script(script, selector)
+
     def resting(self, selector: str) -> WebElement | None:
         """An element in the window's middle, if it is enabled and stays where it is."""
         found: WebElement | None = self.driver.execute_async_script(RESTS, selector)
@@ -167,12 +182,7 @@ class Browser:
 
     def tap(self, element: WebElement) -> None:
         """Taps on an element as a finger does; by its own clock, so that it is no long press where the machine is busy."""
-        middle = (
-            "arguments[0].scrollIntoView({ block: 'center' });"
-            "const box = arguments[0].getBoundingClientRect();"
-            "return { x: box.x + box.width / 2, y: box.y + box.height / 2 };"
-        )
-        point, now = self.driver.execute_script(middle, element), time.time()
+        point, now = self.driver.execute_script(MIDDLE, element), time.time()
         for kind, points, moment in (("touchStart", [point], now), ("touchEnd", [], now + 0.05)):
             touch = {"type": kind, "touchPoints": points, "timestamp": moment}
             self.driver.execute_cdp_cmd("Input.dispatchTouchEvent", touch)

@@ -26,6 +26,7 @@ SHORT = {"SCREEN_KILLS": "5"}
 WHOLE = {"SCREEN_KILLS": "100", "SCREEN_COMMANDS": "200", "SCREEN_SECONDS": "60", "SCREEN_LONG": "yes"}
 IN_SHORT = (
     "test_forecasts",
+    "test_figures",
     "test_server",
     "test_shift",
     "test_proxy.BehindNginx.test_logins_and_who_may_send",
@@ -36,6 +37,8 @@ IN_SHORT = (
     "test_browser.Live.test_the_time_is_now_until_one_is_typed",
     "test_browser.Live.test_the_enter_key_sends",
     "test_browser.Live.test_what_was_shown_and_what_it_did",
+    "test_browser.Storm.test_a_row_is_an_outage_and_the_largest_comes_first",
+    "test_browser.Storm.test_rows_stay_while_somebody_reads_them",
     "test_browser.Operators.test_two_operators_and_a_double_click",
     "test_browser.Operators.test_the_keyboard_alone",
     "test_browser.Breaks.test_a_reply_that_was_lost",

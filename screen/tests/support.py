@@ -89,10 +89,35 @@ LAST_OF_SMALL = 9  # its last command
 
 def small(name: str, days_ago: int = 7) -> Path:
     """A book of two sections, whose fortnight began some days ago: its desk is quick to start."""
+    return live(name, "small", SMALL, days_ago)
+
+
+def storm_text() -> str:
+    """Three feeders, each with a section at its breaker and four behind switches; the section of feeder f behind its switch s
+    has f + s customers."""
+    rows = ["cause,N1,1,TREE,,,,", "cause,N2,2,STORM,,,,"]
+    customers: list[str] = []
+    for feeder in (1, 2, 3):
+        rows += [
+            f"section,S{feeder},QUAY-{feeder},{feeder},,,,",
+            f"device,D{feeder},CB-{feeder},GRID,QUAY-{feeder},closed,,",
+        ]
+        customers.append(f"QUAY-{feeder}")
+        for switch in (1, 2, 3, 4):
+            name = f"{feeder}{switch}"
+            rows += [f"section,S{name},MILL-{name},{feeder},,,,"]
+            rows += [f"device,D{name},LBS-{name},QUAY-{feeder},MILL-{name},closed,,"]
+            customers += [f"MILL-{name}"] * (feeder + switch)
+    rows += [f"connect,C{number},{number},{section},0,,," for number, section in enumerate(customers, 1)]
+    return "\n".join(["kind,ref,f1,f2,f3,f4,f5,f6", *rows]) + "\n"
+
+
+def live(name: str, what: str, text: str, days_ago: int = 7) -> Path:
+    """A book whose fortnight began some days ago."""
     first = (datetime.now(timezone.utc).date() - timedelta(days=days_ago)).isoformat()
-    text = folder() / "small.csv"
-    text.write_text(SMALL)
-    shutil.copytree(made(f"small-{first}", text, (first, *FORTNIGHT[1:])), folder() / name)
+    path = folder() / f"{what}.csv"
+    path.write_text(text)
+    shutil.copytree(made(f"{what}-{first}", path, (first, *FORTNIGHT[1:])), folder() / name)
     return folder() / name / "book.db"
 
 

@@ -103,24 +103,25 @@ class Operators(Case):
         self.other.record(".said")
         self.one.open(screen.url + LATE)
         self.one.says(".forecast", "gets back supply")
-        self.one.says(".forecast", "W moves by \u22121\u2009440")
+        self.one.says(".forecast", "Customer-minutes lost: \u221224")
         self.one.find(".send")
         begun = time.monotonic()
         self.one.driver.execute_script("const b = document.querySelector('.send'); b.click(); b.click(); b.click();")
         self.other.says("main", "All sections are supplied")
         self.assertLess(time.monotonic() - begun, support.limit(1.0))
-        self.one.says(".outcome", "Saved: command 103")
-        self.one.says(".outcome .equal", "equal to the desk's reply")
-        self.other.recorded("Command 103: switch LBS-22 close")
+        self.one.says(".outcome", "(command 103)")
+        self.one.says(".outcome .equal", "As forecast")
+        self.other.recorded("ANNA: switch LBS-22 close")
         self.assertEqual(self.one.text(".said"), "")  # it stands where it was sent
         self.assertEqual(screen.number(), 103)
+        self.one.unfold(".outcome")
         self.assertIn('"no":103', self.one.text(".reply"))
         self.assertEqual(self.one.complaints() + self.other.complaints(), [])
 
     def test_a_form_that_changed_since_its_forecast_is_not_sent(self) -> None:
         screen = self.screen()
         self.one.open(screen.url + LATE)
-        self.one.says(".forecast", "W moves by \u22121\u2009440")
+        self.one.says(".forecast", "Customer-minutes lost: \u221224")
         change = (
             "const position = [...document.querySelectorAll('select')].find((each) => each.value === 'close');"
             "position.value = 'open'; document.querySelector('.send').click();"
@@ -130,10 +131,10 @@ class Operators(Case):
         self.assertEqual(screen.number(), 102)
         self.one.says(".forecast", "is open at that second already")
         self.one.click(".send")
-        self.one.says(".outcome", "Saved: command 103")
+        self.one.says(".outcome", "(command 103)")
         self.one.find("input[list=crews]").send_keys(Keys.ENTER)  # once more, as a finger that stays on the key
         time.sleep(0.5)
-        self.assertIn("Saved: command 103", self.one.text(".outcome"))
+        self.assertIn("(command 103)", self.one.text(".outcome"))
         self.assertEqual(screen.number(), 103)
 
     def test_the_keyboard_alone(self) -> None:
@@ -147,7 +148,7 @@ class Operators(Case):
         screen = self.screen()
         page.open(f"{screen.url}/")
         keys = page.driver.switch_to
-        while keys.active_element.text != "Enter":
+        while keys.active_element.text != "New switching":
             keys.active_element.send_keys(Keys.TAB)
         self.assertNotEqual(keys.active_element.value_of_css_property("outline-style"), "none")
         keys.active_element.send_keys(Keys.ENTER)
@@ -156,7 +157,7 @@ class Operators(Case):
         page.wait(lambda: keys.active_element.get_attribute("list") == "devices", "the focus on the device")
         keys.active_element.send_keys("lbs-22")
         keys.active_element.send_keys(Keys.TAB)
-        self.assertEqual(keys.active_element.get_attribute("placeholder"), "2025-04-05 06:10:00")
+        self.assertEqual(keys.active_element.get_attribute("placeholder"), "2025-04-06 06:10:00")
         keys.active_element.send_keys(Keys.CONTROL, "a")
         keys.active_element.send_keys("2025-03-27 10:00:00")
         page.says(".moment", "+01:00 from UTC")
@@ -169,14 +170,14 @@ class Operators(Case):
         page.wait(lambda: page.find(".send").is_enabled(), "the button")
         self.tab_to(page, "Send to the desk")
         keys.active_element.send_keys(Keys.ENTER)
-        page.says(".outcome .equal", "equal")
+        page.says(".outcome .equal", "As forecast")
         for revision, (field, typed) in enumerate((("Position", "close"), ("What", "Withdraw")), 1):
             page.driver.execute_script("document.activeElement.blur()")  # from the page's top on
             page.driver.find_element("tag name", "body").send_keys(Keys.HOME)
-            self.tab_to(page, "Sheet" if revision == 1 else "36")
+            self.tab_to(page, "Switching log" if revision == 1 else "36")
             keys.active_element.send_keys(Keys.ENTER)
             if revision == 1:
-                page.wait(lambda: page.text("h1") == "Sheet" and page.all("[data-entry='36']"), "the sheet")
+                page.wait(lambda: page.text("h1") == "Switching log" and page.all("[data-entry='36']"), "the sheet")
                 page.ready()
                 self.tab_to(page, "36")
                 keys.active_element.send_keys(Keys.ENTER)
@@ -188,7 +189,7 @@ class Operators(Case):
             self.forecast_is_there(page)
             self.tab_to(page, "Send")
             keys.active_element.send_keys(Keys.ENTER)
-            page.says(".outcome .equal", "equal")
+            page.says(".outcome .equal", "As forecast")
         page.says("tr.gone", "36")
         self.assertEqual(screen.call("/api/year")[1]["totals"]["W"], "366070")
 
@@ -201,18 +202,18 @@ class Operators(Case):
         page.fill("Your name", "cleo")
         page.tap_on("This is my name")
         page.says("header", "You are CLEO")
-        page.tap_on("Enter")
-        page.wait(lambda: page.text("h1") == "Enter" and page.all(".sender"), "the form")
+        page.tap_on("New switching")
+        page.wait(lambda: page.text("h1") == "New switching" and page.all(".sender"), "the form")
         page.ready()
         page.fill("Device", "lbs-22")
-        page.fill("Second", "2025-03-27 10:00:00")
+        page.fill("Time (", "2025-03-27 10:00:00")
         page.says(".moment", "+01:00 from UTC")
         page.says("form", "LBS-22 is closed then")
         page.fill("Cause", "5")
         page.says(".forecast", "LOSES supply")
         page.tap_on("Send to the desk")
-        page.says(".outcome .equal", "equal")
-        page.tap_on("Sheet")
+        page.says(".outcome .equal", "As forecast")
+        page.tap_on("Switching log")
         page.wait(lambda: page.all("[data-entry='36']"), "the sheet")
         page.ready()
         for revision, (field, value) in enumerate((("Position", "close"), ("What", "Withdraw")), 1):
@@ -224,7 +225,7 @@ class Operators(Case):
             page.fill(field, value)
             self.forecast_is_there(page)
             page.tap_on("Send")
-            page.says(".outcome .equal", "equal")
+            page.says(".outcome .equal", "As forecast")
         page.says("tr.gone", "36")
         self.assertEqual(screen.call("/api/year")[1]["totals"]["W"], "366070")
         self.assertEqual(page.complaints(), [])
@@ -263,7 +264,7 @@ class Operators(Case):
         page = self.one
         page.open(f"{screen.url}/sheet?entry=29")
         page.says("#detail", "revision 1")
-        page.fill("Second", "2025-04-05 06:45:00")
+        page.fill("Time (", "2025-04-05 06:45:00")
         page.wait(lambda: page.find(".send").is_enabled(), "the button")
         button = page.find(".send")
         fields = {"f1": "29", "f2": "1", "f3": "close", "f4": "1743828450", "f5": "3", "f6": "CREW-3"}
@@ -274,24 +275,26 @@ class Operators(Case):
         page.click(".anew")
         page.says("#detail", "29, revision 2")
         page.wait(lambda: not page.all(".anew"), "the entry as it is now")
-        page.fill("Second", "2025-04-05 06:45:00")
-        page.wait(lambda: page.find(".send").is_enabled() and "W moves by" in page.text(".forecast"), "the button")
+        page.fill("Time (", "2025-04-05 06:45:00")
+        page.wait(
+            lambda: page.find(".send").is_enabled() and "Customer-minutes lost" in page.text(".forecast"), "the button"
+        )
         page.click(".send")
-        page.says(".outcome .equal", "equal")
+        page.says(".outcome .equal", "As forecast")
         self.assertEqual(screen.call("/api/entries/29")[1]["revision"], 3)
 
     def test_refusals_and_texts_as_text(self) -> None:
         screen = self.screen()
         page = self.one
         page.open(screen.url + LATE)
-        page.says(".forecast", "W moves by")
+        page.says(".forecast", "Customer-minutes lost")
         page.fill("Crew", "<b>x</b>\"'&")
         page.says(".spelling", "and not <, >, /, \", ', &")
         page.says(".forecast", "Not possible: the crew <B>X</B>")
         self.assertFalse(page.find(".send").is_enabled())
         self.assertEqual(page.all("main b b, .outcome b b"), [])
         page.fill("Device", "<img src=x onerror=alert(1)>" + "X" * 64)
-        page.says("form", "knows no such device")
+        page.says("form", "unknown device")
         self.assertEqual(page.all("main img"), [])
         self.assertEqual(screen.number(), 102)
         self.assertEqual(page.complaints(), [])
@@ -311,22 +314,22 @@ class Operators(Case):
         self.addCleanup(screen.end)
         page = self.one
         page.open(f"{screen.url}/enter?device=B1")
-        page.fill("Second", "2025-10-26 02:30:00")
+        page.fill("Time (", "2025-10-26 02:30:00")
         page.says(".moment", "shows this hour twice")
         self.assertFalse(page.find(".send").is_enabled())
         page.all(".moment input[type=radio]")[1].click()
         page.fill("Cause", "1")
         page.says(".forecast", "2025-10-26 02:30:00 +01:00")
-        page.fill("Second", "2025-03-30 02:30:00")
+        page.fill("Time (", "2025-03-30 02:30:00")
         page.says(".moment", "never shows")
         time.sleep(0.5)
-        self.assertNotIn("knows no such device", page.text("form"))
-        page.fill("Second", "2025-10-26 03:30:00")
+        self.assertNotIn("unknown device", page.text("form"))
+        page.fill("Time (", "2025-10-26 03:30:00")
         page.says(".moment", "+01:00 from UTC")
         page.says(".forecast", "2025-10-26 03:30:00 +01:00")
         page.wait(lambda: page.find(".send").is_enabled(), "the button")
         page.click(".send")
-        page.says(".outcome .equal", "equal")
+        page.says(".outcome .equal", "As forecast")
         self.assertIn("03:30:00+01:00", screen.call("/api/entries/1")[1]["second"]["text"])
 
 
@@ -398,10 +401,10 @@ class Live(Case):
         handles = self.windows(page, kind, [self.url + route for route in routes])
         page.driver.switch_to.window(handles[0])
         page.fill("Cause", "1")
-        page.wait(lambda: page.field("From that second").get_attribute("value") == position, "the position")
-        page.says(".forecast", "W moves by")
+        page.wait(lambda: page.field("Switched to").get_attribute("value") == position, "the position")
+        page.says(".forecast", "Customer-minutes lost")
         page.click(".send")
-        page.says(".outcome", "Saved:")
+        page.says(".outcome", "Saved as")
         page.driver.switch_to.window(handles[7])
         page.says("main", seen)
         page.driver.switch_to.window(handles[6])
@@ -439,7 +442,7 @@ class Live(Case):
             self.between.answer(0)
             page.wait(lambda: page.text(".alarm") == "", "the page without its alarm")
             page.says("main", ("cut off by", "All sections are supplied")[number % 2])
-            self.assertEqual(page.driver.title, "Now - outage book")
+            self.assertEqual(page.driver.title, "Now - book - outage book")
 
     def test_the_alarm_stays_in_sight(self) -> None:
         page = self.other
@@ -486,7 +489,7 @@ class Live(Case):
         page.ready()
         page.says(".unanswered", f"withdraw entry {entry}")
         page.fill("Cause", "2")
-        page.says(".forecast", "W moves by")
+        page.says(".forecast", "Customer-minutes lost")
         page.click(".send")
         page.says(".outcome", "On its way")
         page.driver.get(f"{self.url}/network")
@@ -507,21 +510,21 @@ class Live(Case):
         page.open(f"{self.url}/enter?device=LBS-1")
         page.says(".moment", "Now: this clock goes on")
         opened = int(time.time())
-        seen = page.field("Second").get_attribute("value")
-        page.wait(lambda: page.field("Second").get_attribute("value") != seen, "the clock's next second")
+        seen = page.field("Time (").get_attribute("value")
+        page.wait(lambda: page.field("Time (").get_attribute("value") != seen, "the clock's next second")
         page.fill("Cause", "1")
         page.says(".forecast", "LOSES supply")
         page.wait(lambda: time.time() > opened + 6, "a later time")
         page.click(".send")
-        page.says(".outcome", "Saved:")
+        page.says(".outcome", "Saved as")
         sent = self.live.call("/api/sheet")[1]["rows"][0]["second"]["second"]
         self.assertTrue(opened + 4 <= sent <= time.time(), (opened, sent))  # an answer's way takes its time
         page.says(".moment", "Now: this clock goes on")
-        page.fill("Second", str(sent - 7_200))
+        page.fill("Time (", str(sent - 7_200))
         page.says(".moment", "from UTC")
-        typed = page.field("Second").get_attribute("value")
+        typed = page.field("Time (").get_attribute("value")
         time.sleep(1.5)  # in which a clock would have gone on
-        self.assertEqual(page.field("Second").get_attribute("value"), typed)
+        self.assertEqual(page.field("Time (").get_attribute("value"), typed)
 
     def test_a_time_to_come_is_asked_about(self) -> None:
         page = self.one
@@ -531,7 +534,7 @@ class Live(Case):
         self.assertFalse(page.find(".send").is_enabled())
         page.click(".check input")
         page.click(".send")
-        page.says(".outcome", "Saved:")
+        page.says(".outcome", "Saved as")
         planned = self.live.call("/api/sheet")[1]["rows"][0]["no"]
         self.switch("close")
         self.assertFalse(self.live.call("/api/sheet")[1]["rows"][0]["late"])
@@ -547,14 +550,14 @@ class Live(Case):
         page.fill("Cause", "1")
         page.wait(lambda: page.find(".send").is_enabled(), "the button")
         page.field("Crew").send_keys(Keys.ENTER)
-        page.says(".outcome", "Saved:")
+        page.says(".outcome", "Saved as")
         entry = self.live.call("/api/sheet")[1]["rows"][0]["no"]
         page.open(f"{self.url}/sheet?entry={entry}")
         crew = page.find("#detail input[list=crews]")
         crew.send_keys("-2")
         page.wait(lambda: page.find(".send").is_enabled(), "the button")
         crew.send_keys(Keys.ENTER)
-        page.says(".outcome", "Saved:")
+        page.says(".outcome", "Saved as")
         self.assertEqual(self.live.call(f"/api/entries/{entry}")[1]["crew"], "ANNA-2")
 
     def test_a_search_says_what_it_found(self) -> None:
@@ -605,27 +608,229 @@ class Live(Case):
             "document.querySelector('.send').click();"
         )
         page.driver.execute_script(both, json.dumps({**other, "ref": f"SCR-ANNA-{time.time_ns()}"}), token)
-        told = page.says(".otherwise", "it moved 0")
+        told = page.says(".otherwise", "it changed them by 0")
         self.assertIn("ANNA had sent: LBS-1 open", told)
         self.assertIn("crew CLEO (entry ", told)
         self.assertEqual(page.all(".outcome .equal"), [])
         page.click(".back")
-        page.wait(lambda: page.text("h1") == "Sheet", "the sheet")
+        page.wait(lambda: page.text("h1") == "Switching log", "the sheet")
         page.ready()
         page.wait(lambda: page.all(".send") and page.find(".send").is_enabled(), "the button")
         page.click(".send")
-        page.says(".outcome .equal", "equal")
+        page.says(".outcome .equal", "As forecast")
         self.assertFalse(self.live.call("/api/sheet")[1]["rows"][0]["kept"])
+
+    def test_open_outages_are_said_where_they_count_to_the_periods_end(self) -> None:
+        page = self.one
+        self.switch("open")
+        page.open(f"{self.url}/year")
+        page.says(".open-outages", "1 outage is open and counts to the period's end")
+        shown = [each.get_attribute("class") for each in page.all("main section")]
+        self.assertEqual(shown[:2], ["to-now", "whole"])
+        up_to_now, whole = (page.text(f".{name} .tile:nth-child(5) b").replace("\u2009", "") for name in shown[:2])
+        self.assertLess(float(up_to_now), float(whole) / 100)
+        days = page.driver.execute_script(
+            "return [...document.querySelectorAll('.tall td')].map((each) => each.innerText)"
+        )
+        self.assertLessEqual(
+            max(day for day in days if day.startswith("20"))[:10],
+            time.strftime("%Y-%m-%d", time.gmtime(time.time() + 7_200)),
+        )
+        self.switch("close")
+        page.wait(lambda: not page.all(".open-outages"), "the page without it")
+        page.open(f"{self.url}/enter?device=LBS-1")
+        page.fill("Cause", "1")
+        page.says(".forecast .open-end", "Counted to the period's end")
+
+    def test_a_closing_under_an_open_device_says_why(self) -> None:
+        page = self.one
+        self.switch("open")
+        self.switch("open", "CB-1")
+        page.open(f"{self.url}/enter?device=LBS-1&at={self.second()}")
+        page.says("form", "LBS-1 is open then")
+        page.says(".forecast", "No section loses or gets back supply")
+        page.says(".forecast .reason", "Still cut off: above it CB-1 is open since 20")
+
+    def test_a_mark_says_what_it_moves(self) -> None:
+        page = self.one
+        page.open(f"{self.url}/year")
+        page.fill("Day", self.live.call("/api/book")[1]["today"])
+        page.says(".forecast .unmarked", "SAIDI without major event days: up to now")
+        self.assertNotIn("lost", page.text(".forecast"))
 
     def test_a_crew_that_the_book_cannot_hold(self) -> None:
         page = self.one
         page.open(f"{self.url}/enter?device=LBS-1")
         page.fill("Cause", "1")
-        page.says(".forecast", "W moves by")
+        page.says(".forecast", "Customer-minutes lost")
         page.fill("Crew", "TEAM ÄÖ 7")
         page.says(".spelling", "A crew has A-Z, 0-9, - and _ alone, and not a space, Ä, Ö.")
         page.says(".forecast", "Not possible: the crew TEAM ÄÖ 7 can't be read")
         self.assertFalse(page.find(".send").is_enabled())
+
+
+SAID = """
+const fields = [...document.querySelectorAll("[placeholder]")].map((each) => each.placeholder);
+return [document.title, document.body.textContent, ...fields].join("\\n");
+"""
+OLD_WORDS = [
+    "Desk: here",
+    " commands,",
+    "W moves",
+    "moved W",
+    "not told yet",
+    "told anew",
+    "stands",
+    "2025-04-05",
+    "Sheet",
+]
+OLD_WORDS += ["clock of the book's zone", "From that second on", "Another second", "Set its life", "unmarked"]
+STATE = """
+const rows = [...document.querySelectorAll("table.outages tbody tr")];
+return rows.map((row) => [row.cells[0].innerText, row.cells[1].innerText, row.className, Math.round(row.getBoundingClientRect().top)]);
+"""
+
+
+class Storm(Case):
+    """Three feeders with five sections each: outages as an operator of a storm has them."""
+
+    live: support.Screen
+
+    @classmethod
+    def setUpClass(cls) -> None:
+        super().setUpClass()
+        book = support.live(cls.__name__, "storm", support.storm_text())
+        cls.live = support.Screen(book, "--name", "North 2026", "--training")
+        cls.addClassCleanup(cls.live.end)
+        cls.live.log_in("BERT")
+        for device, cause in {"LBS-11": 1, "CB-2": 2, "LBS-31": 2, "LBS-34": 1, "LBS-21": 2}.items():
+            cls.switch("open", device, cause)
+
+    @classmethod
+    def switch(cls, position: str, device: str, cause: int = 1, seconds_back: int = 600) -> None:
+        fields = {
+            "f1": device,
+            "f2": position,
+            "f3": str(int(time.time()) - seconds_back),
+            "f4": str(cause),
+            "f5": "BERT",
+        }
+        status, shown = cls.live.post({"kind": "switch", "ref": f"SCR-BERT-{time.time_ns()}", **fields})
+        if status != 200:
+            raise AssertionError(shown)
+
+    def rows(self, page: browser.Browser) -> list[list[str]]:
+        found: list[list[str]] = page.driver.execute_script(STATE)
+        return found
+
+    def devices(self, page: browser.Browser) -> list[str]:
+        return [row[0] for row in self.rows(page)]
+
+    def test_a_row_is_an_outage_and_the_largest_comes_first(self) -> None:
+        """What a breaker cut off is one row; what lay without supply before it is that of its own switching."""
+        page = self.one
+        page.open(f"{self.live.url}/")
+        page.says("main h2", "4 outages")
+        self.assertEqual(
+            [row[:2] for row in self.rows(page)], [["CB-2", "19"], ["LBS-34", "7"], ["LBS-31", "4"], ["LBS-11", "2"]]
+        )
+        page.unfold("table.outages")
+        for name in ("QUAY-2", "MILL-21", "MILL-24"):
+            self.assertIn(name, page.text("[data-key=entry-2]"))
+        page.fill("Order", "newest first")
+        page.wait(lambda: self.devices(page)[0] == "LBS-34", "the newest one")
+        page.click("a.close")
+        page.wait(lambda: page.text("h1") == "New switching", "the form")
+        page.ready()
+        page.says("form", "LBS-34 is open then")
+        self.assertEqual(page.field("Switched to").get_attribute("value"), "close")
+        page.says(".forecast", "gets back supply")
+
+    def test_a_filter_stands_in_the_address(self) -> None:
+        page = self.one
+        page.open(f"{self.live.url}/")
+        page.fill("Feeder", "3")
+        page.wait(lambda: self.devices(page) == ["LBS-34", "LBS-31"], "feeder 3")
+        page.fill("Cause", "2")
+        page.wait(lambda: self.devices(page) == ["LBS-31"], "cause 2")
+        page.says("main h2", "1 of 4 outages")
+        page.driver.refresh()
+        page.ready()
+        page.wait(lambda: self.devices(page) == ["LBS-31"], "the same after a reload")
+        page.click(".clear")
+        page.wait(lambda: len(self.devices(page)) == 4, "all")
+        page.fill("Device, section", "mill-23")
+        page.wait(lambda: self.devices(page) == ["CB-2"], "the outage of a section")
+        self.assertIn("text=mill-23", page.driver.current_url)
+
+    def test_rows_stay_while_somebody_reads_them(self) -> None:
+        """A larger outage comes while a text is selected, or the pointer is on a row: no row moves until that ends."""
+        page = self.one
+        page.open(f"{self.live.url}/?order=newest")
+        page.wait(lambda: len(self.devices(page)) == 4, "the outages")
+        before = self.rows(page)
+        select = (
+            "const row = document.querySelector('[data-key=entry-1]'); row.mark = 'mine';"
+            "getSelection().selectAllChildren(row.cells[0]);"
+        )
+        page.driver.execute_script(select)
+        self.addCleanup(self.switch, "close", "CB-1", 1, 1)
+        self.switch("open", "CB-1", 1, 2)
+        page.wait(lambda: len(self.devices(page)) == 5, "the new one")
+        self.assertEqual(self.rows(page)[:4], before)
+        self.assertTrue(page.driver.execute_script("return String(getSelection()).trim() === 'LBS-11'"))
+        page.driver.execute_script("getSelection().removeAllRanges()")
+        page.wait(lambda: self.devices(page)[0] == "CB-1", "the new one at its place")
+        self.assertEqual(page.driver.execute_script("return document.querySelector('[data-key=entry-1]').mark"), "mine")
+        row = page.find("[data-key=entry-1]")
+        page.point_at(row)
+        before = self.rows(page)
+        self.switch("close", "CB-1", 1, 1)
+        page.says("[data-key] .no-print:last-child", "supplied again")
+        self.assertEqual([row[3] for row in self.rows(page)], [row[3] for row in before])
+        page.point_at(page.find("h1"))
+        page.wait(lambda: len(self.devices(page)) == 4, "the rows without it")
+
+    def test_the_books_name_is_in_every_head_and_title(self) -> None:
+        page = self.other
+        for route, words in {
+            "/": "Now",
+            "/sheet": "Switching log",
+            "/enter": "New switching",
+            "/network": "Network",
+            "/year": "Figures",
+        }.items():
+            page.open(self.live.url + route)
+            self.assertIn("TRAINING: North 2026", page.text("header"))
+            self.assertEqual(page.driver.title, f"{words} - TRAINING - North 2026 - outage book")
+            self.assertEqual(page.driver.execute_script(FAINT), [], route)
+
+    def test_words_that_nobody_has_to_look_up(self) -> None:
+        """What the pages say, in the fields too; where figures come from is one line at the foot."""
+        page = self.one
+        page.driver.delete_all_cookies()
+        for route in ("/", "/sheet?entry=1", "/enter?device=CB-3", "/network", "/year"):
+            page.open(self.live.url + route)
+            page.says("header", "Connected")
+            said = page.driver.execute_script(SAID)
+            for old in OLD_WORDS:
+                self.assertNotIn(old, said, route)
+            self.assertEqual(len(page.all(".foot")), 1)
+            self.assertEqual(said.count("computed here"), 1, route)
+
+    def test_a_forecast_is_a_few_lines(self) -> None:
+        """Sections stand in one list below what happens to them and when; amounts and the reply are folded."""
+        page = self.one
+        page.open(f"{self.live.url}/enter?device=CB-3&at={int(time.time()) - 60}")
+        page.fill("Cause", "2")
+        told = page.says(".forecast", "LOSES supply from")
+        self.assertEqual(len(page.all(".forecast .group")), 1)
+        self.assertEqual(len(page.all(".forecast .names li")), 3)
+        self.assertLess(len(told.splitlines()), 16, told)
+        self.assertNotIn("feeder 3", told)
+        page.unfold(".forecast")
+        page.says(".forecast .amounts", "feeder 3")
+        self.assertIn("days, ", page.text(".forecast .amounts"))
 
 
 class Breaks(Case):
@@ -640,7 +845,7 @@ class Breaks(Case):
         proxy.cuts = 2
         self.one.click(".send")
         self.one.says(".outcome", "It took 3 tries under one reference")
-        self.one.says(".outcome .equal", "equal")
+        self.one.says(".outcome .equal", "As forecast")
         self.assertEqual(desk.get("/commands/103")["no"], 103)
         self.assertEqual(support.call(f"{desk.url}/commands/104")[0], 404)
 
@@ -651,9 +856,9 @@ class Breaks(Case):
         page.wait(lambda: page.find(".send").is_enabled(), "the button")
         os.kill(screen.desk_process(), signal.SIGKILL)
         page.click(".send")
-        page.says(".outcome", "Saved: command 103")
-        page.says(".outcome .equal", "equal")
-        page.says(".state", "Desk: here")
+        page.says(".outcome", "(command 103)")
+        page.says(".outcome .equal", "As forecast")
+        page.says(".state", "Connected")
         self.assertEqual(screen.number(), 103)
 
     def test_the_screen_is_killed_while_a_command_is_in_work(self) -> None:
@@ -691,7 +896,7 @@ class Breaks(Case):
         self.one.says(".alarm", "The desk is away")
         again = support.Desk(desk.book, desk.port)
         self.addCleanup(again.kill)
-        self.one.says(".state", "Desk: here")
+        self.one.says(".state", "Connected")
         self.one.wait(lambda: "The desk is away" not in self.one.text("main"), "the page without it")
 
 
@@ -727,10 +932,10 @@ class Pages(Case):
     def test_pages_on_paper(self) -> None:
         """On A4 no column is cut off, forms aren't printed, and a dark page is printed dark on white."""
         wanted = {
-            "/": ("Customers without supply", "OUT-0406-1", "not told yet", "TIE-1", "LIGHTHOUSE"),
-            "/sheet": ("35 of 35 entries", "marks", "withdrawn", "OUT-0406-1", "OUT-0325-1"),
+            "/": ("Customers without supply", "OUT-0406-1", "open", "TIE-1", "LIGHTHOUSE"),
+            "/sheet": ("35 of 35 entries", "status", "withdrawn", "OUT-0406-1", "OUT-0325-1"),
             "/network": ("12 devices", "until before", "without end", "10 nodes", "LIGHTHOUSE"),
-            "/year": ("OUTAGE BOOK 2025-03-24", "unmarked", "147.195", "CEMI-10", "8 UNKNOWN", "2025-04-06"),
+            "/year": ("OUTAGE BOOK 2025-03-24", "without major", "147.195", "CEMI-10", "8 UNKNOWN", "2025-04-06"),
         }
         screen = self.screen()
         page = self.other
@@ -745,7 +950,7 @@ class Pages(Case):
             ).stdout
             for each in words:
                 self.assertIn(each, text, route)
-            for each in ("Search", "Another second", "Mark a day", "Set its life", "To the page"):
+            for each in ("Search", "Go to time", "Mark a day", "In service from", "To the page"):
                 self.assertNotIn(each, text, route)
             grey = subprocess.run(["pdftoppm", "-gray", "-r", "40", paper], check=True, capture_output=True).stdout
             shades = grey[len(grey) // 10 :]
@@ -800,12 +1005,12 @@ class Pages(Case):
     def test_now_at_another_second(self) -> None:
         screen = self.screen()
         self.one.open(f"{screen.url}/")
-        self.one.fill("Another second", "2025-03-27 14:50:00")
+        self.one.fill("Go to time", "2025-03-27 14:50:00")
         told = self.one.says("main", "2025-03-27 14:22:10 +01:00")
         for words in ("CHURCH-ROW", "CB-1", "2 TREE", "OUT-0327-1", "27 min 50 s"):
             self.assertIn(words, told)
         self.assertEqual(len(self.one.all(".diagram .node.out")), 4)
-        self.one.fill("Another second", "2025-03-27 15:00:00")
+        self.one.fill("Go to time", "2025-03-27 15:00:00")
         self.one.wait(lambda: len(self.one.all(".diagram .node.by_tie")) == 3, "the sections on the tie")
         link = self.one.driver.execute_script(
             "return document.querySelector('.diagram a[aria-label^=TIE-1]').href.baseVal || ''"
@@ -816,7 +1021,7 @@ class Pages(Case):
             "slider.value = 1743085200; slider.dispatchEvent(new Event('input'));"
         )
         shown = "2025-03-27 15:20:00 +01:00"
-        self.one.wait(lambda: self.one.field("Another second").get_attribute("value") == shown, "the slider's moment")
+        self.one.wait(lambda: self.one.field("Go to time").get_attribute("value") == shown, "the slider's moment")
 
     def test_a_tie_joins_and_a_day_is_marked(self) -> None:
         screen = self.screen()
@@ -829,13 +1034,13 @@ class Pages(Case):
         page.fill("In the network from", "2025-04-06 23:30:00")
         page.says(".forecast", "gets back supply")
         page.click(".send")
-        page.says(".outcome .equal", "equal")
+        page.says(".outcome .equal", "As forecast")
         page.says("main", "13 devices")
         page.open(f"{screen.url}/year")
         page.fill("Day", "2025-03-25")
         page.wait(lambda: page.find(".send").is_enabled(), "the button")
         page.click(".send")
-        page.says(".outcome .equal", "equal")
+        page.says(".outcome .equal", "As forecast")
         page.says("main", "2025-03-25 marked")
         page.field("File").send_keys(str(support.FORTNIGHT_FILES / "corrections.csv"))
         page.driver.execute_script(
@@ -860,6 +1065,10 @@ class Pages(Case):
         self.assertNotIn("from the desk", self.one.text("main"))
         self.assertNotIn("name", self.one.text("header").lower())
         self.shares_are_shares(self.one)
+        cells = "return [...document.querySelectorAll('.index')].map((each) => each.innerText.split(' '))"
+        shown = self.one.driver.execute_script(cells)
+        self.assertIn(["194.126", "4073935/20986"], shown)  # decimals first
+        self.assertIn(["99.034", "%", "1246999/1259160"], shown)
         self.one.open(copy.url + LATE, None)
         self.one.says("main", "This is a copy of a book")
 
@@ -1014,18 +1223,22 @@ class Crowd(Case):
         page.fill(
             "Device", chance.choice(["CB-1", "CB-2", "LBS-11", "LBS-12", "LBS-21", "LBS-22", "TIE-1", "TIE-2", "INC-1"])
         )
-        page.fill("Second", str(chance.randrange(1_742_770_800, 1_743_976_800)))
+        page.fill("Time (", str(chance.randrange(1_742_770_800, 1_743_976_800)))
         page.wait(lambda: "from UTC" in page.text(".moment"), "the moment")
         time.sleep(0.35)
-        page.fill("From that second", chance.choice(["open", "close"]))
-        before = page.text(".outcome .reply")
+        page.fill("Switched to", chance.choice(["open", "close"]))
+        before = page.text(".outcome h2")
 
         def is_answered() -> bool:
-            return page.text(".outcome .reply") not in ("", before)
+            return page.text(".outcome h2") not in ("", before)
 
         def answered() -> bool:
             """As an operator does: where the form changed as the button was pressed, the button is pressed again."""
-            if not is_answered() and page.find(".send").is_enabled() and "W moves by" in page.text(".forecast"):
+            if (
+                not is_answered()
+                and page.find(".send").is_enabled()
+                and "Customer-minutes lost" in page.text(".forecast")
+            ):
                 page.click(".send")
                 support.until(lambda: is_answered() or page.text(".outcome .note"), what="what became of a click")
             return is_answered()
@@ -1035,7 +1248,7 @@ class Crowd(Case):
         except AssertionError as error:
             raise AssertionError(f"no reply ({error}): {page.text('main')}") from None
         told = page.text(".outcome")
-        if "The forecast is equal" not in told and "the book had changed in between" not in told:
+        if "As forecast" not in told and "the book had changed in between" not in told:
             raise AssertionError(page.text(".outcome"))
 
 

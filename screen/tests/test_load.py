@@ -169,10 +169,14 @@ class Load(unittest.TestCase):
         page = browser.Browser()
         self.addCleanup(page.end)
         found = {}
-        for name, route in {
+        routes = {
             "Now": "/",
-            **{name: f"/{name.lower()}" for name in ("Sheet", "Enter", "Network", "Year")},
-        }.items():
+            "switching log": "/sheet",
+            "new switching": "/enter",
+            "Network": "/network",
+            "Figures": "/year",
+        }
+        for name, route in routes.items():
             page.open(screen.url + route)
             times = []
             for _ in range(TIMES):

@@ -152,7 +152,7 @@ class BehindNginx(unittest.TestCase):
         page.says(".outcome", "It isn't known whether this is saved")
         self.nginx.process = self.nginx.start()
         page.click(".again")
-        page.says(".outcome .equal", "equal")
+        page.says(".outcome .equal", "As forecast")
         self.assertEqual(self.screen.call("/health")[1]["number"], 103)
         self.assertEqual(page.complaints(), [])
 

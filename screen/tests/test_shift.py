@@ -261,11 +261,11 @@ class Pages(unittest.TestCase):
         page.fill("Cause", "1")
         page.says(".forecast", "LOSES supply")
         page.click(".send")
-        page.says(".outcome", "Saved:")
+        page.says(".outcome", "Saved as entry")
         page.click(".undo")
         page.says(".outcome .forecast", "gets back supply")
         page.click(".outcome .send")
-        page.says(".outcome .outcome", "Saved:")
+        page.says(".outcome .outcome", "Saved as entry")
         entry = self.screen.call("/api/sheet")[1]["rows"][0]
         self.assertEqual((entry["device"], entry["kept"]), ("LBS-1", False))
         self.assertEqual(page.complaints(), [])

@@ -1,0 +1,118 @@
+// What a command would do, and what it did: sections in a compact list, amounts unfolded when somebody asks.
+import { duration, el, known, lostWords, inMinutes, moment, number, scrolling, signed, table } from "./common.js";
+import { senderOf } from "./unanswered.js";
+
+const MANY_DAYS = 3; // with the same amount, that are shown as one row
+
+export const total = (moved) => moved.filter(([dim]) => dim === "cause").reduce((sum, move) => sum + move[2], 0);
+export const same = (one, other) => JSON.stringify(one) === JSON.stringify(other);
+
+const dayName = (key) => known.book.days[key] || key;
+const causeName = (key) => (known.book.causes.find(([code]) => code === key) || ["", ""])[1];
+const names = { cause: (key) => `cause ${key} ${causeName(key)}`, feeder: (key) => `feeder ${key}`, day: (key) => `day ${dayName(key)}` };
+
+/** Moves as rows of a name and an amount: whole days that follow each other with one amount are one row. */
+function amountRows(moved) {
+  const rows = [];
+  for (let at = 0; at < moved.length; at += 1) {
+    const [dim, key, amount] = moved[at];
+    let last = at;
+    while (dim === "day" && last + 1 < moved.length && moved[last + 1][1] === moved[last][1] + 1 && moved[last + 1][2] === amount) last += 1;
+    const days = last - at + 1;
+    if (days >= MANY_DAYS) {
+      rows.push([`${days} days, ${dayName(key)} to ${dayName(moved[last][1])}, each`, signed(amount)]);
+      at = last;
+    } else rows.push([names[dim](key), signed(amount)]);
+  }
+  return rows;
+}
+
+/** What moves; with the desk's reply beside it, where they differ. */
+export function movesTable(moved, beside = null) {
+  if (!moved.length && !beside?.length) return el("p", {}, "Nothing changes.");
+  if (!beside) return table(["of", "#customer-seconds"], amountRows(moved));
+  const other = new Map(beside.map(([dim, key, amount]) => [`${dim} ${key}`, amount]));
+  const all = [...moved];
+  for (const [dim, key] of beside) if (!moved.some((move) => move[0] === dim && move[1] === key)) all.push([dim, key, null]);
+  const rows = all.map(([dim, key, amount]) => {
+    const there = other.get(`${dim} ${key}`);
+    return [names[dim](key), amount === null ? "nothing" : signed(amount), there === undefined ? "nothing" : signed(there), amount === there ? "equal" : "DIFFERS"];
+  });
+  return table(["of", "#computed here", "#the desk's reply", "compared"], rows);
+}
+
+const isAtEnd = (until) => until.second > known.book.last.second;
+const kindOf = (row) => (row.loses && row.gets_back ? "loses and gets back supply" : row.loses ? "LOSES supply" : "gets back supply");
+
+/** The sections in groups of the same seconds: what happens to them and when stands once, above their names. */
+function sectionGroups(sections) {
+  const groups = new Map();
+  for (const row of sections) {
+    const key = [kindOf(row), row.since.second, row.until.second].join();
+    groups.set(key, [...(groups.get(key) ?? []), row]);
+  }
+  return [...groups.values()].map((rows) => {
+    const [{ since, until }] = rows;
+    const customers = rows.reduce((sum, row) => sum + row.customers, 0);
+    const ends = isAtEnd(until) ? [" on"] : [" to ", moment(until), ` (${duration(until.second - since.second)})`];
+    const what = el("p", {}, el("b", {}, kindOf(rows[0])), " from ", moment(since), ...ends, `: ${number(rows.length)} section${rows.length > 1 ? "s" : ""}, ${number(customers)} customers`);
+    const list = el("ul", { class: "names" }, rows.map((row) => el("li", {}, row.section, el("span", { class: "note" }, ` ${number(row.customers)}`))));
+    return el("div", { class: "group" }, what, list);
+  });
+}
+
+/** How a mark moves the SAIDI without major event days: up to now first. */
+function unmarkedParts(unmarked) {
+  if (!unmarked) return [];
+  const words = { to_now: "up to now", whole: unmarked.to_now ? "to the period's end" : "of the period" };
+  const line = (name) => `${words[name]} ${unmarked[name].join(" \u2192 ")} minutes`;
+  return [el("p", { class: "unmarked" }, "SAIDI without major event days: ", Object.keys(words).filter((name) => unmarked[name]).map(line).join("; "))];
+}
+
+function lostParts(found) {
+  const lost = el("p", { class: "lost" }, el("b", {}, lostWords(found.total)), found.total ? ` (${signed(found.total)} customer-seconds)` : "");
+  const isOpen = found.is_live && found.sections.some((row) => isAtEnd(row.until));
+  const open = isOpen ? el("p", { class: "note open-end" }, `Counted to the period's end (${known.book.days.at(-1)}), for as long as no other switching of the device is entered.`) : "";
+  return [lost, open];
+}
+
+/** The parts of a forecast; `tick` confirms a second in the future. */
+export function forecastParts(found, tick) {
+  const parts = [el("h2", {}, "What it would do")];
+  for (const hint of found.hints) parts.push(el("p", { class: "warn hint" }, hint));
+  if (found.future) parts.push(el("div", { class: "warn hint" }, el("p", {}, `This lies ${found.future} in the future.`), el("label", { class: "check" }, tick, " Yes, it is planned for then")));
+  if (found.sections.length) parts.push(...sectionGroups(found.sections));
+  else if (!found.unmarked) parts.push(el("p", {}, "No section loses or gets back supply."));
+  if (found.reason) parts.push(el("p", { class: "warn reason" }, found.reason));
+  parts.push(...unmarkedParts(found.unmarked));
+  if (!found.unmarked) parts.push(...lostParts(found));
+  if (found.moved.length) parts.push(el("details", { class: "amounts" }, el("summary", {}, "Amounts by cause, feeder and day"), scrolling("What it would change", movesTable(found.moved))));
+  return parts;
+}
+
+/** It did something else than what was shown, since the book had changed in between: what came first, and a way back. */
+function otherwise(intent, shown) {
+  const change = (moved) => signed(inMinutes(total(moved)));
+  const words = `You saw ${change(intent.forecast.moved)} customer-minutes lost; it changed them by ${change(shown.reply.moved)}, since the book had changed in between.`;
+  const first = shown.between.map((each) => el("li", {}, `${senderOf(each.ref) ?? `another program (${each.ref})`} had sent: ${each.words}${each.entry ? ` (entry ${each.entry})` : ""}`));
+  const back = intent.command.kind === "switch" && shown.entry ? el("p", {}, el("a", { class: "back", href: `/sheet?entry=${shown.entry}&withdraw=yes` }, "Withdraw mine")) : "";
+  return el("div", { class: "warn otherwise" }, el("p", {}, el("b", {}, words)), first.length ? el("ul", {}, first) : "", back);
+}
+
+/** The parts of the desk's answer: as what it is saved, whether that is what was forecast; the rest is folded. */
+export function replyParts(intent, shown) {
+  const { no, moved } = shown.reply;
+  const differs = Boolean(shown.counted && !same(moved, shown.counted));
+  const saved = shown.entry ? ["Saved as entry ", el("a", { href: `/sheet?entry=${shown.entry}` }, String(shown.entry)), ` (command ${no})`] : [`Saved as command ${no}`];
+  const parts = [el("h2", {}, saved)];
+  if (shown.again) parts.push(el("p", { class: "warn" }, "This is the stored reply: the command was saved already, and nothing was done twice."));
+  else if (shown.tries > 1) parts.push(el("p", { class: "warn" }, `It took ${shown.tries} tries under one reference; it acted once.`));
+  if (differs) parts.push(el("p", { class: "bad differs" }, "The desk's reply DIFFERS from what is computed here: believe the desk."));
+  else if (same(moved, intent.forecast.moved)) parts.push(el("p", { class: "good equal" }, "As forecast."));
+  else parts.push(otherwise(intent, shown));
+  parts.push(el("p", { class: "lost" }, lostWords(total(moved))));
+  const amounts = differs ? movesTable(shown.counted, moved) : movesTable(moved);
+  parts.push(el("details", { class: "amounts", open: differs }, el("summary", {}, "What it changed"), scrolling("What it changed", amounts)));
+  parts.push(el("details", {}, el("summary", {}, "The desk's reply as it came"), el("p", { class: "mono" }, intent.command.ref), el("p", { class: "mono reply" }, shown.text)));
+  return parts;
+}

@@ -1,0 +1,150 @@
+// Outages: what one switching cut off and is still without supply, largest first; filtered and sorted by the page's address.
+import { breakable, causes, choice, duration, el, field, known, moment, number, settled, text } from "./common.js";
+import { KeyedTable } from "./keyed.js";
+
+const HEADS = ["cut off by", "#customers", "sections", "#feeder", "since", "#for", "cause", "crew", "entry", "supplied again", "~close"];
+const ORDERS = { largest: "largest first", longest: "longest first", newest: "newest first", feeder: "by feeder" };
+const SECTIONS_SHOWN = 1; // by name; more are unfolded
+
+/** The outages of what is without supply, by the entry that cut it off: its sections, all that they have in common. */
+export function outagesOf(shown) {
+  const closed = new Map(shown.devices.map((device) => [device.name, device.closed]));
+  const found = new Map();
+  for (const row of shown.outages) {
+    const key = row.entry ? `entry-${row.entry}` : `none-${row.since.second}`;
+    if (!found.has(key)) found.set(key, { ...row, key, customers: 0, sections: [], feeders: [], isClosed: closed.get(row.device) ?? false });
+    const outage = found.get(key);
+    outage.customers += row.customers;
+    outage.sections.push(row);
+    if (!outage.feeders.includes(row.feeder)) outage.feeders.push(row.feeder);
+    if (row.since.second < outage.since.second) outage.since = row.since;
+    if (outage.until && (!row.until || row.until.second > outage.until.second)) outage.until = row.until;
+  }
+  for (const outage of found.values()) outage.feeders.sort((one, other) => one - other);
+  return [...found.values()];
+}
+
+const bySize = (one, other) => other.customers - one.customers || other.sections.length - one.sections.length || one.since.second - other.since.second || one.entry - other.entry;
+const SORTS = {
+  largest: bySize,
+  longest: (one, other) => one.since.second - other.since.second || bySize(one, other),
+  newest: (one, other) => other.since.second - one.since.second || bySize(one, other),
+  feeder: (one, other) => one.feeders[0] - other.feeders[0] || bySize(one, other),
+};
+
+/** All that is searched in an outage. */
+const wordsOf = (outage) => [outage.device, outage.crew, outage.reference, ...outage.sections.map((row) => row.section)].join(" ").toUpperCase();
+
+/** What the fields ask for, kept in the page's address: a link, a reload and the way back show the same. */
+export class Outages {
+  constructor() {
+    const asked = new URLSearchParams(location.search);
+    this.wanted = Object.fromEntries(["feeder", "cause", "text", "order"].map((name) => [name, asked.get(name) ?? ""]));
+    this.table = new KeyedTable(HEADS, "outages", "supplied again");
+    this.title = el("h2", {});
+    this.none = el("div", {});
+    this.element = el("section", { "aria-label": "Outages" }, this.title, this.none, this.table.element);
+    this.shown = null;
+  }
+
+  fields() {
+    const feeders = [...new Set(known.book.nodes.map((node) => node.feeder).filter(Boolean))].sort((one, other) => one - other);
+    this.inputs = {
+      feeder: choice([["", "all"], ...feeders.map((each) => [String(each), String(each)])], this.wanted.feeder),
+      cause: choice([["", "all"], ...causes()], this.wanted.cause),
+      text: text({ value: this.wanted.text }),
+      order: choice(Object.entries(ORDERS), this.wanted.order || "largest"),
+    };
+    const later = settled(() => this.change(), 100);
+    for (const input of Object.values(this.inputs)) input.addEventListener("input", later);
+    const labels = { feeder: "Feeder", cause: "Cause", text: "Device, section, crew", order: "Order" };
+    return Object.entries(labels).map(([name, label]) => field(label, this.inputs[name]));
+  }
+
+  change() {
+    for (const [name, input] of Object.entries(this.inputs)) this.wanted[name] = input.value.trim();
+    if (this.wanted.order === "largest") this.wanted.order = "";
+    keepInAddress(this.wanted);
+    if (this.shown) this.show(this.shown, { anew: true });
+  }
+
+  clear() {
+    for (const name of ["feeder", "cause", "text"]) this.inputs[name].value = "";
+    this.change();
+  }
+
+  isWanted(outage) {
+    const { feeder, cause, text: words } = this.wanted;
+    if (feeder && !outage.feeders.includes(Number(feeder))) return false;
+    if (cause && String(outage.cause ?? 0) !== cause) return false;
+    return words.toUpperCase().split(/\s+/).every((word) => wordsOf(outage).includes(word));
+  }
+
+  show(shown, { anew = false } = {}) {
+    this.shown = shown;
+    const all = outagesOf(shown);
+    const found = all.filter((outage) => this.isWanted(outage)).sort(SORTS[this.wanted.order] ?? SORTS.largest);
+    const isFiltered = found.length < all.length;
+    this.title.textContent = all.length ? `${isFiltered ? `${number(found.length)} of ` : ""}${number(all.length)} outage${all.length > 1 ? "s" : ""}` : "Outages";
+    this.say(all, isFiltered);
+    this.table.show(found.map((outage) => ({ key: outage.key, cells: this.cells(outage) })), { anew });
+    return all.length;
+  }
+
+  /** Nothing is out, or nothing of what is looked for; a filter that hides outages says so. */
+  say(all, isFiltered) {
+    const words = all.length ? isFiltered && "Not all outages are shown." : "All sections are supplied.";
+    if ((this.none.dataset.told ?? "") === (words || "")) return;
+    this.none.dataset.told = words || "";
+    const clearing = el("button", { type: "button", class: "clear", click: () => this.clear() }, "Show all");
+    this.none.replaceChildren(words ? el("p", { class: all.length ? "warn" : "good" }, words, " ", all.length ? clearing : "") : "");
+  }
+
+  cells(outage) {
+    const { at } = this.shown;
+    const names = outage.sections.map((row) => row.section).join(", ");
+    return [
+      outage.device || "no switching",
+      number(outage.customers),
+      outage.sections.length > SECTIONS_SHOWN ? { told: `${names} ${outage.customers}`, make: () => unfolded(outage, names) } : names,
+      outage.feeders.join(", "),
+      { told: outage.since.text, make: () => moment(outage.since) },
+      duration(at.second - outage.since.second),
+      outage.device ? `${outage.cause} ${outage.cause_name}` : "0 UNASSIGNED",
+      outage.crew || "",
+      outage.entry ? { told: `${outage.entry} ${outage.reference}`, make: () => entryLink(outage) } : "",
+      outage.until ? { told: outage.until.text, make: () => moment(outage.until) } : { told: "open", make: () => el("span", { class: "open" }, "open") },
+      this.closing(outage),
+    ];
+  }
+
+  /** The way to the form that closes the device; one that is closed lies under another that is open. */
+  closing(outage) {
+    if (!outage.device || !known.me.may_send) return "";
+    if (outage.isClosed) return "closed, still cut off";
+    const at = this.at ? { at: this.at } : {};
+    const href = `/enter?${new URLSearchParams({ device: outage.device, ...at })}`;
+    return { told: href, make: () => el("a", { class: "close", href, "aria-label": `Close ${outage.device}` }, "Close") };
+  }
+}
+
+function unfolded(outage, names) {
+  const rows = outage.sections.map((row) => el("li", {}, row.section, el("span", { class: "note" }, ` ${number(row.customers)}`)));
+  return [el("details", {}, el("summary", {}, `${rows.length} sections`), el("ul", { class: "names" }, rows)), el("span", { class: "print-only" }, names)];
+}
+
+/** An entry's number; a reference that isn't the screen's own is a number of the reader's. */
+function entryLink({ entry, reference }) {
+  const own = !reference || reference.startsWith("SCR-");
+  return [el("a", { href: `/sheet?entry=${entry}`, "aria-label": `Entry ${entry}` }, String(entry)), ...(own ? [] : [" ", ...breakable(reference)])];
+}
+
+/** Puts what is asked for into the page's address; what is empty isn't named there. */
+export function keepInAddress(wanted) {
+  const words = new URLSearchParams(location.search);
+  for (const [name, value] of Object.entries(wanted)) {
+    if (value) words.set(name, value);
+    else words.delete(name);
+  }
+  history.replaceState(null, "", `${location.pathname}${words.size ? `?${words}` : ""}`);
+}
