@@ -143,10 +143,10 @@ class Shift(unittest.TestCase):
         labels = {each["for"] for each in page.all("label")}
         inputs = {each["id"]: each["value"] for each in page.all("input")}
         self.assertEqual((labels, inputs), ({*inputs}, {"since": "today", "until": "", "name": "page-1"}))
-        odd = self.page(422, since='<b>"', name="x")
+        odd = self.page(422, since='<i>"', name="x")
         self.assertIn("Not shown as asked", odd.text)
-        self.assertEqual(odd.all("b"), [])
-        self.assertEqual([each["value"] for each in odd.all("input")], ['<b>"', "", "x"])
+        self.assertEqual(odd.all("i"), [])
+        self.assertEqual([each["value"] for each in odd.all("input")], ['<i>"', "", "x"])
 
     def test_marked_days_and_who_marked_them(self) -> None:
         first, second = self.screen.call("/api/book")[1]["days"][:2]
