@@ -15,12 +15,14 @@ FIELDS = (
     ("until", "Until", "the same; empty: now"),
     ("name", "Sent by", "a login or a name, or a part of it; empty: everybody"),
 )
+PATH = "/shift"
 PAGES = (
     ("/", "Now"),
     ("/sheet", "Switching log"),
     ("/enter", "New switching"),
     ("/network", "Network"),
     ("/year", "Figures"),
+    ("/shift", "Hand-over"),
 )
 
 
@@ -28,7 +30,8 @@ def page(shown: Json, query: dict[str, str], reader: str, why: str, is_training:
     """The whole page; `why` says what of the query can't be read. A book for training has a colour and a word of its own."""
     book = f"TRAINING: {shown['book']}" if is_training else str(shown["book"])
     title = f"Hand-over of {book}"
-    nav = element("nav", *(element("a", name, href=href) for href, name in PAGES), aria_label="Pages")
+    links = (element("a", name, href=href, aria_current="page" if href == PATH else "") for href, name in PAGES)
+    nav = element("nav", *links, aria_label="Pages")
     tables = Tables(shown)
     body = [
         element("h1", escape(title)),

@@ -5,13 +5,13 @@ from __future__ import annotations
 
 import re
 import time
-from bisect import bisect_left, bisect_right
 from collections.abc import Iterable
 from datetime import date, timedelta
+from itertools import islice
 
 from .commands import FIELDS
 from .journal import ELSEWHERE, IMPORT, Sending
-from .moments import DAYS_BACK, day_of_word, read_moment
+from .moments import DAYS_BACK, LAST, day_of_word, read_moment
 from .names import name_in
 from .office import Office
 from .state import Refused, Run, State
@@ -33,9 +33,12 @@ def bound_of(state: State, typed: str, is_end: bool) -> int:
     if typed.lower() in DAYS_BACK or DAY.fullmatch(typed):
         try:
             day = day_of_word(zone, typed) if typed.lower() in DAYS_BACK else date.fromisoformat(typed)
-            return zone.midnight(day + timedelta(days=int(is_end)))
+            found = zone.midnight(day + timedelta(days=int(is_end)))
         except (ValueError, OverflowError):
             raise Refused(f"{typed} is no day") from None
+        if not 0 <= found <= LAST:
+            raise Refused(f"{typed} lies outside of what a book can hold")
+        return found
     return read_moment(zone, typed)[-1 if is_end else 0].second
 
 
@@ -56,7 +59,7 @@ def log_view(office: Office, wanted: dict[str, str]) -> list[Json]:
     """What was sent, latest first."""
     since, until = bounds_of(office.state, wanted, 0)
     found = office.journal.between(since, until, wanted.get("name", "").strip().upper())
-    return [sending_view(office.state, each) for each, _ in zip(found, range(MOST_ROWS))]
+    return [sending_view(office.state, each) for each in islice(found, MOST_ROWS)]
 
 
 def sending_view(state: State, sending: Sending) -> Json:
@@ -128,7 +131,7 @@ def shift_view(office: Office, wanted: dict[str, str]) -> Json:
     state, part = office.state, wanted.get("name", "").strip().upper()
     since, until = bounds_of(state, wanted, int(time.time()) - SHIFT_SECONDS)
     sendings = list(office.journal.between(since, until, part))
-    entered = entered_view(state, sendings)
+    entered = entered_by(state, sendings)
     rest = [each for each in sendings if not is_entered(state, each)]
     return {
         "number": state.number,
@@ -140,7 +143,7 @@ def shift_view(office: Office, wanted: dict[str, str]) -> Json:
         "until": moment(state, min(until, int(time.time()))),
         "open": open_view(state),
         "ended": ended_view(state, since, until),
-        "entered": entered[:MOST_ROWS],
+        "entered": entered_view(state, dict(islice(entered.items(), MOST_ROWS))),
         "entered_found": len(entered),
         "rest": [sending_view(state, each) for each in rest[:MOST_ROWS]],
         "rest_found": len(rest),
@@ -162,9 +165,16 @@ def is_open(office: Office, sending: Sending) -> bool:
     return sending.outcome == "unanswered" and all(each.outcome == "unanswered" for each in others)
 
 
-def entered_view(state: State, sendings: Iterable[Sending]) -> list[Json]:
-    """The entries that were made or changed, latest first, each as it is now with what was done to it."""
-    late, found = state.late_entries(), dict[int, list[Json]]()
+def entered_view(state: State, found: dict[int, list[Json]]) -> list[Json]:
+    """Entries as they are now, each with what was done to it."""
+    late = state.late_entries()
+    shown = [(entry_view(state, state.sheet.entries[entry - 1], late), done) for entry, done in found.items()]
+    return [{**row, "withdrawn": not row["kept"], "done": done} for row, done in shown]
+
+
+def entered_by(state: State, sendings: Iterable[Sending]) -> dict[int, list[Json]]:
+    """What was done to each entry that was made or changed, latest first."""
+    found: dict[int, list[Json]] = {}
     for sending in sendings:
         for number in numbers_of(state, sending):
             entry = state.changed[number]
@@ -173,8 +183,7 @@ def entered_view(state: State, sendings: Iterable[Sending]) -> list[Json]:
             done = {"what": MADE[command.kind], "at": moment(state, sending.at), "by": by, "no": number}
             if all(each["no"] != number for each in found.setdefault(entry, [])):
                 found[entry].append({**done, "reference": command.ref})
-    rows = [{**entry_view(state, state.sheet.entries[entry - 1], late), "done": done} for entry, done in found.items()]
-    return [{**row, "withdrawn": not row["kept"]} for row in rows]
+    return found
 
 
 def numbers_of(state: State, sending: Sending) -> list[int]:
@@ -183,8 +192,9 @@ def numbers_of(state: State, sending: Sending) -> list[int]:
         return [sending.number] if sending.number in state.changed else []
     if sending.commands is None:
         return []
-    numbers = list(state.changed)
-    return numbers[bisect_left(numbers, sending.commands[0]) : bisect_right(numbers, sending.commands[1])][::-1]
+    span = range(sending.commands[0], sending.commands[1] + 1)
+    shorter = span if len(span) < len(state.changed) else state.changed
+    return sorted((number for number in shorter if number in span and number in state.changed), reverse=True)
 
 
 def outages_of(state: State, runs: Iterable[tuple[int, Run]], at: int) -> list[Json]:

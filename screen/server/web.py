@@ -149,7 +149,8 @@ def refusal_of(request: web.Request) -> web.Response | None:
         reply.headers["Allow"] = "GET, HEAD, POST"
         return reply
     site, is_visit = request.headers.get("Sec-Fetch-Site", "none"), request.headers.get("Sec-Fetch-Mode") == "navigate"
-    if site not in ("same-origin", "none") and not (is_visit and request.method == "GET" and request.path in PAGES):
+    is_visit = is_visit and request.method == "GET" and request.path in (*PAGES, "/shift")  # by a link from elsewhere
+    if site not in ("same-origin", "none") and not is_visit:
         return complaint(403, "origin", "asked by a page from elsewhere")
     if request.path == "/health":
         return None
@@ -464,8 +465,9 @@ async def events(request: web.Request) -> web.StreamResponse:
     office, login = office_of(request), login_of(request) or ""
     if len(office.hub.pages) >= MOST_PAGES:
         raise web.HTTPServiceUnavailable()
-    if office.hub.count(login) >= MOST_OF_A_LOGIN:
-        return complaint(429, "pages", f"this login has {MOST_OF_A_LOGIN} pages open: close some of them")
+    most = MOST_OF_A_LOGIN if login else MOST_PAGES - MOST_OF_A_LOGIN  # those without a login leave some for the others
+    if office.hub.count(login) >= most:
+        return complaint(429, "pages", f"this login has {most} pages open: close some of them")
     stream = web.StreamResponse(headers={"Content-Type": "text/event-stream", "X-Accel-Buffering": "no"})
     queue = office.hub.join(login)
     try:

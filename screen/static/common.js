@@ -163,6 +163,7 @@ const PAGES = [
   ["/enter", "New switching"],
   ["/network", "Network"],
   ["/year", "Figures"],
+  ["/shift", "Hand-over"],
 ];
 const state = el("span", { role: "status", class: "state" });
 const banner = el("div", { class: "alarm", role: "alert" });

@@ -88,7 +88,8 @@ class Shift(unittest.TestCase):
         self.assertEqual(len(self.get("/api/log", since="today", until="today", name="log-1")), 1)
         self.assertEqual(self.get("/api/log", since="yesterday", until="yesterday"), [])
         self.assertEqual(self.get("/api/log", since="2001-01-01", until="2001-12-31 06:00"), [])
-        for query in ("since=never", "since=2026-99-99", "until=1905", "since=today&until=yesterday"):
+        wrong = ("since=never", "since=2026-99-99", "since=0001-01-01", "until=1905", "since=today&until=yesterday")
+        for query in wrong:
             self.assertEqual(self.screen.call(f"/api/log?{query}")[0], 422, query)
 
     def test_what_changed_since_a_time(self) -> None:
