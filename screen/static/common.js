@@ -50,7 +50,7 @@ export function moment(value) {
   return el("time", { datetime: text }, parts.flat().slice(1));
 }
 
-const BRIEF = 12; // letters, that stay in one line
+export const BRIEF = 12; // letters, that stay in one line
 
 /** A text that may be broken within its long words. */
 export function breakable(words) {

@@ -1,4 +1,4 @@
-// Elements whose texts are set as text, and lengths of time.
+// Elements whose texts are set as text, lengths of time, and references.
 
 /** An element: attributes, listeners where a value is a function, and children, which are texts or elements. */
 export function el(tag, attributes = {}, ...children) {
@@ -31,3 +31,6 @@ export function duration(seconds) {
   ].filter(([count]) => count);
   return parts.map(([count, unit]) => `${count} ${unit}`).join(" ") || "0 s";
 }
+
+/** A reference that another program has given, as a ticket's number; the screen's own ones say nothing to a reader. */
+export const ticketOf = (reference) => (reference && !reference.startsWith("SCR-") ? reference : "");

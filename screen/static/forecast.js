@@ -44,18 +44,26 @@ export function movesTable(moved, beside = null) {
 const isAtEnd = (until) => until.second > known.book.last.second;
 const kindOf = (row) => (row.loses && row.gets_back ? "loses and gets back supply" : row.loses ? "LOSES supply" : "gets back supply");
 
+/** How long a section is without supply more, or less, than before; nothing where that is all up to the period's end. */
+function lengthWords(whole, loses, back, isOpen) {
+  if (loses && back) return ` (${duration(loses)} more, ${duration(back)} less)`;
+  const seconds = loses || back;
+  if (seconds < whole) return ` (${duration(seconds)} of it)`;
+  return isOpen ? "" : ` (${duration(seconds)})`;
+}
+
 /** The sections in groups of the same seconds: what happens to them and when stands once, above their names. */
 function sectionGroups(sections) {
   const groups = new Map();
   for (const row of sections) {
-    const key = [kindOf(row), row.since.second, row.until.second].join();
+    const key = [kindOf(row), row.since.second, row.until.second, row.loses, row.gets_back].join();
     groups.set(key, [...(groups.get(key) ?? []), row]);
   }
   return [...groups.values()].map((rows) => {
-    const [{ since, until }] = rows;
+    const [{ since, until, loses, gets_back: back }] = rows;
     const customers = rows.reduce((sum, row) => sum + row.customers, 0);
-    const ends = isAtEnd(until) ? [" on"] : [" to ", moment(until), ` (${duration(until.second - since.second)})`];
-    const what = el("p", {}, el("b", {}, kindOf(rows[0])), " from ", moment(since), ...ends, `: ${number(rows.length)} section${rows.length > 1 ? "s" : ""}, ${number(customers)} customers`);
+    const ends = isAtEnd(until) ? [" on"] : [" to ", moment(until)];
+    const what = el("p", {}, el("b", {}, kindOf(rows[0])), " from ", moment(since), ...ends, `${lengthWords(until.second - since.second, loses, back, isAtEnd(until))}: ${number(rows.length)} section${rows.length > 1 ? "s" : ""}, ${number(customers)} customers`);
     const list = el("ul", { class: "names" }, rows.map((row) => el("li", {}, row.section, el("span", { class: "note" }, ` ${number(row.customers)}`))));
     return el("div", { class: "group" }, what, list);
   });

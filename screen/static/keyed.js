@@ -1,9 +1,8 @@
 // A table whose rows are kept by key: what is the same stays as it is, so that a selected text, the focus and the row under the
 // pointer stay where they are.
-import { breakable } from "./common.js";
+import { breakable, BRIEF } from "./common.js";
 import { el } from "./elements.js";
 
-const BRIEF = 12; // letters, that stay in one line
 const HELD_SECONDS = 120; // after the last sign of a reader: a page that nobody touches shows its rows in their order
 const KINDS = { "#": "n", "~": "no-print" };
 

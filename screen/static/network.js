@@ -83,7 +83,7 @@ function showDevices() {
   const name = (node) => known.book.nodes[node].name;
   const rows = seen.map((device) => [
     device.name, `${name(device.a)} \u2013 ${name(device.b)}`, device.normal, device.since || "always", device.until || "without end",
-    form ? el("button", { type: "button", class: "small", click: () => form.choose("life", device.name, device.since, device.until) }, "In service from/to") : "",
+    form ? el("button", { type: "button", class: "small", "aria-label": `In service from/to: ${device.name}`, click: () => form.choose("life", device.name, device.since, device.until) }, "From/to") : "",
   ]);
   renew(devices, el("h2", {}, `${number(seen.length)} devices`), scrolling("Devices", table(["device", "between", "normal", "in the network from", "until before", "~in service"], rows)));
 }

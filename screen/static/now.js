@@ -1,8 +1,9 @@
 // Who is out at a second, and how the network stands.
+import { fromAddress, toAddress } from "./address.js";
 import { begin, el, foot, get, known, moment, number, onCommands, painted, settled } from "./common.js";
 import { MomentField } from "./moments.js";
 import { Diagram, legend } from "./diagram.js";
-import { keepInAddress, Outages } from "./outages.js";
+import { Outages } from "./outages.js";
 
 const AGAIN_SECONDS = 15; // after which a page that shows the time that is now is shown again
 
@@ -11,12 +12,12 @@ const tiles = el("div", { class: "tiles" });
 const picture = el("section", { "aria-label": "The network" });
 const trouble = el("div", {});
 const diagram = new Diagram();
-let at = new URLSearchParams(location.search).get("at") ?? "";
+let at = fromAddress(["at"]).at ?? "";
 let early = at ? null : get("/api/now").catch(() => null); // is asked for while the page's head is
 let field, slider, outages, count = 0;
 
 const link = (device) => `/enter?${new URLSearchParams({ device: device.name, ...(at ? { at } : {}) })}`;
-const tile = (isOut, words, value, more = "") => el("div", { class: isOut ? "tile out" : "tile" }, words, el("b", {}, value), more);
+const tile = (isOut, words, value, more = "") => el("div", { class: isOut ? "tile out" : "tile" }, `${words} `, el("b", {}, value), more && ` ${more}`);
 
 async function show({ anew = false } = {}) {
   const mine = ++count;
@@ -37,7 +38,7 @@ async function show({ anew = false } = {}) {
     tile(shown.customers_out, "Customers without supply", number(shown.customers_out), `of ${number(shown.customers_served)} in service`),
     tile(found, "Outages", number(found)),
     tile(shown.outages.length, "Sections without supply", number(shown.outages.length)),
-    el("div", { class: "tile" }, "As of", el("b", { class: "when" }, moment(shown.at))),
+    el("div", { class: "tile" }, "As of ", el("b", { class: "when" }, moment(shown.at))),
   );
   document.body.dataset.number = shown.number;
   await painted();
@@ -46,7 +47,7 @@ async function show({ anew = false } = {}) {
 
 function goTo(second) {
   at = second;
-  keepInAddress({ at });
+  toAddress({ at });
   return show({ anew: true });
 }
 

@@ -1,5 +1,7 @@
 // Outages: what one switching cut off and is still without supply, largest first; filtered and sorted by the page's address.
-import { breakable, causes, choice, duration, el, field, known, moment, number, settled, text } from "./common.js";
+import { fromAddress, toAddress } from "./address.js";
+import { breakable, BRIEF, causes, choice, duration, el, field, known, moment, number, settled, text } from "./common.js";
+import { ticketOf } from "./elements.js";
 import { KeyedTable } from "./keyed.js";
 
 const HEADS = ["cut off by", "#customers", "sections", "#feeder", "since", "#for", "cause", "crew", "entry", "supplied again", "~close"];
@@ -38,8 +40,7 @@ const wordsOf = (outage) => [outage.device, outage.crew, outage.reference, ...ou
 /** What the fields ask for, kept in the page's address: a link, a reload and the way back show the same. */
 export class Outages {
   constructor() {
-    const asked = new URLSearchParams(location.search);
-    this.wanted = Object.fromEntries(["feeder", "cause", "text", "order"].map((name) => [name, asked.get(name) ?? ""]));
+    this.wanted = { feeder: "", cause: "", text: "", order: "", ...fromAddress(["feeder", "cause", "text", "order"]) };
     this.table = new KeyedTable(HEADS, "outages", "supplied again");
     this.title = el("h2", {});
     this.none = el("div", {});
@@ -64,7 +65,7 @@ export class Outages {
   change() {
     for (const [name, input] of Object.entries(this.inputs)) this.wanted[name] = input.value.trim();
     if (this.wanted.order === "largest") this.wanted.order = "";
-    keepInAddress(this.wanted);
+    toAddress(this.wanted);
     if (this.shown) this.show(this.shown, { anew: true });
   }
 
@@ -133,18 +134,8 @@ function unfolded(outage, names) {
   return [el("details", {}, el("summary", {}, `${rows.length} sections`), el("ul", { class: "names" }, rows)), el("span", { class: "print-only" }, names)];
 }
 
-/** An entry's number; a reference that isn't the screen's own is a number of the reader's. */
+/** An entry's number, and its ticket's. */
 function entryLink({ entry, reference }) {
-  const own = !reference || reference.startsWith("SCR-");
-  return [el("a", { href: `/sheet?entry=${entry}`, "aria-label": `Entry ${entry}` }, String(entry)), ...(own ? [] : [" ", ...breakable(reference)])];
-}
-
-/** Puts what is asked for into the page's address; what is empty isn't named there. */
-export function keepInAddress(wanted) {
-  const words = new URLSearchParams(location.search);
-  for (const [name, value] of Object.entries(wanted)) {
-    if (value) words.set(name, value);
-    else words.delete(name);
-  }
-  history.replaceState(null, "", `${location.pathname}${words.size ? `?${words}` : ""}`);
+  const ticket = ticketOf(reference);
+  return [el("a", { href: `/sheet?entry=${entry}`, "aria-label": `Entry ${entry}` }, String(entry)), ...(ticket ? [" ", ticket.length > BRIEF ? breakable(ticket) : el("span", { class: "nowrap" }, ticket)] : [])].flat();
 }

@@ -1,6 +1,7 @@
 // The switching log: entries, what each command moved, corrections and withdrawals; and the screen's own log.
 import { fromAddress, toAddress } from "./address.js";
 import { begin, causes, choice, el, field, foot, get, known, list, lookOnly, moment, momentWords, number, onCommands, renew, scrolling, settled, source, spelled, table, text, zoneName } from "./common.js";
+import { ticketOf } from "./elements.js";
 import { MomentField } from "./moments.js";
 import { movesTable } from "./forecast.js";
 import { entryWords, Sender } from "./sender.js";
@@ -103,8 +104,7 @@ async function show() {
     entry.action,
     `${entry.cause} ${entry.cause_name}`,
     entry.crew,
-    String(entry.revision),
-    entry.commands[0]?.ref || "",
+    ticketOf(entry.commands[0]?.ref),
     tags(entry).length ? el("span", {}, tags(entry)) : "",
   ]);
   const classes = shown.rows.map((entry) => (entry.kept ? "" : "gone"));
@@ -112,7 +112,7 @@ async function show() {
   renew(
     rows,
     el("h2", {}, `${number(shown.found)} of ${number(shown.of)} entries`),
-    ...(lines.length ? [table(["entry", "time", "device", "position", "cause", "crew", "#revision", "reference", "status"], lines, null, classes)] : empty),
+    ...(lines.length ? [table(["entry", "time", "device", "position", "cause", "crew", "reference", "status"], lines, null, classes)] : empty),
     shown.found > 100 ? turns(shown) : "",
   );
   document.body.dataset.number = shown.number;

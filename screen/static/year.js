@@ -42,7 +42,7 @@ function amounts(rows, head, later = null) {
   return table(heads, rows.map(([name, amount], at) => [name, number(amount), share(amount, whole), ...(later ? [number(later[at])] : [])]));
 }
 
-const tile = (name, words, unit) => el("div", { class: "tile" }, name, el("b", {}, words), unit);
+const tile = (name, words, unit) => el("div", { class: "tile" }, `${name} `, el("b", {}, words), ` ${unit}`);
 const lost = (seconds) => tile("Customer-minutes lost", number(inMinutes(seconds)), `${number(seconds)} customer-seconds`);
 
 function indexTiles(indices) {

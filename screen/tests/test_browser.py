@@ -950,7 +950,7 @@ class Pages(Case):
             ).stdout
             for each in words:
                 self.assertIn(each, text, route)
-            for each in ("Search", "Go to time", "Mark a day", "In service from", "To the page"):
+            for each in ("Search", "Go to time", "Mark a day", "From/to", "To the page"):
                 self.assertNotIn(each, text, route)
             grey = subprocess.run(["pdftoppm", "-gray", "-r", "40", paper], check=True, capture_output=True).stdout
             shades = grey[len(grey) // 10 :]
