@@ -278,7 +278,7 @@ class Pages(unittest.TestCase):
         page.says('section[aria-label="The screen\'s log"]', "LBS-1 close at ")
         page.fill("By", "nobody")
         page.says('section[aria-label="The screen\'s log"]', "Nothing was sent.")
-        self.assertIn("name=nobody", page.find("a[href^='/shift']").get_attribute("href"))
+        self.assertIn("name=nobody", page.find("main a[href^='/shift']").get_attribute("href"))
         for width in (1_280, 390):
             page.resize(width, 900)
             page.driver.get(f"{url}/shift?name=BERT")
