@@ -59,7 +59,8 @@ def read_moment(zone: Zone, text: str) -> list[Moment]:
         return [moment_of(zone, int(text))]
     match = TYPED.fullmatch(text)
     if match is None:
-        raise Refused("a moment is typed as 2025-04-05 06:10:00, or 06:10 for today, by the clock of the book's zone")
+        example = f"{day_of_word(zone, 'today')} 06:10:00"
+        raise Refused(f"a moment is typed as {example}, or 06:10 for today, by the clock of the book's zone")
     day, minute, second, offset = match.groups()
     try:
         shown = datetime.fromisoformat(f"{day}T{minute}{second or ':00'}{offset or ''}")
