@@ -856,7 +856,14 @@ class Breaks(Case):
         page.wait(lambda: page.find(".send").is_enabled(), "the button")
         os.kill(screen.desk_process(), signal.SIGKILL)
         page.click(".send")
-        page.says(".outcome", "(command 103)")
+
+        def is_saved() -> bool:
+            """As an operator does: where the next desk took more than 25 seconds to begin, it is sent again."""
+            if page.all(".outcome .again"):
+                page.click(".outcome .again")
+            return "(command 103)" in page.text(".outcome")
+
+        page.wait(is_saved, "the reply")
         page.says(".outcome .equal", "As forecast")
         page.says(".state", "Connected")
         self.assertEqual(screen.number(), 103)
