@@ -26,9 +26,10 @@ PAGES = (
 )
 
 
-def page(shown: Json, query: dict[str, str], reader: str, why: str) -> str:
-    """The whole page; `why` says what of the query can't be read."""
-    title = f"Hand-over of {shown['book']}"
+def page(shown: Json, query: dict[str, str], reader: str, why: str, is_training: bool) -> str:
+    """The whole page; `why` says what of the query can't be read. A book for training has a colour and a word of its own."""
+    book = f"TRAINING: {shown['book']}" if is_training else str(shown["book"])
+    title = f"Hand-over of {book}"
     links = (element("a", name, href=href, aria_current="page" if href == PATH else "") for href, name in PAGES)
     nav = element("nav", *links, aria_label="Pages")
     tables = Tables(shown)
@@ -42,10 +43,10 @@ def page(shown: Json, query: dict[str, str], reader: str, why: str) -> str:
     return (
         '<!DOCTYPE html>\n<html lang="en">\n<head>\n<meta charset="utf-8">\n'
         '<meta name="viewport" content="width=device-width, initial-scale=1">\n'
-        f'<title>{escape(title)}</title>\n<link rel="icon" href="/static/icon.svg" type="image/svg+xml">\n'
-        '<link rel="stylesheet" href="/static/screen.css">\n</head>\n<body>\n'
+        f'<title>{escape(title)} - outage book</title>\n<link rel="icon" href="/static/icon.svg" type="image/svg+xml">\n'
+        f'<link rel="stylesheet" href="/static/screen.css">\n</head>\n<body{" class=training" if is_training else ""}>\n'
         '<a class="skip" href="#main">To the page</a>\n'
-        f'{element("header", nav)}\n{element("main", *body, id="main", tabindex="-1")}\n</body>\n</html>\n'
+        f'{element("header", element("b", escape(book), class_="book"), nav)}\n{element("main", *body, id="main", tabindex="-1")}\n</body>\n</html>\n'
     )
 
 
@@ -181,7 +182,7 @@ class Tables:
             ]
             for row in self.shown["entered"]
         ]
-        heads = ["entry", "second", "device", "position", "cause", "crew", "what was done", "status"]
+        heads = ["entry", "time", "device", "position", "cause", "crew", "what was done", "status"]
         caption = f"Entered or changed: {self.counted('entered')}, each as it is now"
         return table(caption, heads, rows, "No switching was entered or changed in this time.")
 

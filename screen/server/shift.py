@@ -134,7 +134,6 @@ def shift_view(office: Office, wanted: dict[str, str]) -> Json:
     entered = entered_by(state, sendings)
     rest = [each for each in sendings if not is_entered(state, each)]
     return {
-        "book": office.book.stem,
         "number": state.number,
         "first": moment(state, state.period.first),
         "last": moment(state, state.period.end - 1),

@@ -389,7 +389,9 @@ async def shift_page(request: web.Request) -> web.StreamResponse:
         status, shown, why = 200, shift.shift_view(office_of(request), query), ""
     except Refused as refused:  # the page is shown with the fields as they were typed
         status, shown, why = 422, shift.shift_view(office_of(request), {}), str(refused)
-    data = handover.page(shown, query, name_of(request, login), why)
+    settings = settings_of(request)
+    shown["book"] = settings.name
+    data = handover.page(shown, query, name_of(request, login), why, settings.training)
     return web.Response(status=status, text=data, content_type="text/html", charset="utf-8")
 
 

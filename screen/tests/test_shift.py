@@ -334,13 +334,16 @@ class Stops(unittest.TestCase):
 
     def test_a_period_that_is_over(self) -> None:
         """Today is no day of it: that is said. Its hand-over shows supply at its last second."""
-        screen = support.Screen(support.fortnight("over"), "--no-desk")
+        screen = support.Screen(support.fortnight("over"), "--no-desk", "--name", "North <1>", "--training")
         self.addCleanup(screen.end)
         status, shown = screen.call("/api/sheet?day=today")
         self.assertEqual(status, 422)
         self.assertRegex(shown["words"], r"today, \d{4}-\d\d-\d\d, is no day of the book's period")
         self.assertEqual(screen.call("/api/changes")[1]["as_of"]["text"], "2025-04-06T23:59:59+02:00")
-        self.assertEqual(support.call(f"{screen.url}/shift")[0], 200)
+        status, data = support.call(f"{screen.url}/shift")
+        page = Page(data.decode())
+        self.assertEqual((status, page.all("body")), (200, [{"class": "training"}]))
+        self.assertIn("Hand-over of TRAINING: North <1>", page.text)
 
 
 class Typed(unittest.TestCase):
