@@ -30,7 +30,7 @@ const bySize = (one, other) => other.customers - one.customers || other.sections
 const SORTS = {
   largest: bySize,
   longest: (one, other) => one.since.second - other.since.second || bySize(one, other),
-  newest: (one, other) => other.since.second - one.since.second || bySize(one, other),
+  newest: (one, other) => other.since.second - one.since.second || (other.entry ?? 0) - (one.entry ?? 0) || bySize(one, other),
   feeder: (one, other) => one.feeders[0] - other.feeders[0] || bySize(one, other),
 };
 
