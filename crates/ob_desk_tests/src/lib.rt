@@ -8,6 +8,8 @@
 #![tactic(auto)]
 
 #[cfg(test)]
+mod answers;
+#[cfg(test)]
 mod commands;
 #[cfg(test)]
 mod desk;
@@ -31,6 +33,8 @@ mod requests;
 mod retries;
 #[cfg(test)]
 mod script;
+#[cfg(test)]
+mod stories;
 #[cfg(test)]
 mod streams;
 #[cfg(test)]

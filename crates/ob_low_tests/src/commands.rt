@@ -96,6 +96,18 @@ fn has_body(rt: &impl Abort, alloc: Global, command: &Command, body: &[u8]) -> R
     Ok(())
 }
 
+// A row without quotes, and the reference and the body expected from it.
+type RowRow<'t> = (&'t str, &'t [u8], &'t [u8]);
+
+fn says(rt: &impl Abort, alloc: Global, rows: &[RowRow<'_>]) -> Result<(), Fail> {
+    for (row, reference, body) in rows {
+        let (found, command) = read_row(&row_of(row))?;
+        assert!(rt; found.bytes() == *reference);
+        has_body(rt, alloc, &command, body)?;
+    }
+    Ok(())
+}
+
 // Checks the leftmost bad column of each row.
 fn are_bad(rt: &impl Abort, rows: &[(&str, u8)]) {
     for (row, column) in rows {
@@ -113,37 +125,77 @@ fn bodies_and_back(rt: HostRuntime) -> Result<(), Fail> {
     Ok(())
 }
 
-// Rows without quotes, with the reference and the body expected from each. The last four are of
-// moments 5,000 and 6,000 seconds after 2024 began.
-const ROWS: &'static str = "\
-cause,R1,03,STORM,,,, => R1 cause 3 STORM
-section,R2,S1,007,,,, => R2 section S1 7
-device,R3,B1,GRID,S1,closed,, => R3 device B1 GRID S1 closed 0 -
-life,R4,T1,,,,, => R4 life T1 0 -
-life,R4,T1,,01704073200,,, => R4 life T1 0 1704073200
-life,R4,T1,007,7,,, => R4 life T1 7 7
-connect,R4,0011,S3,2024-01-01T01:30:00Z,,, => R4 connect 11 S3 1704072600 -
-revise,R4,11,0,00,,, => R4 revise 11 0 0
-switch,R5,B1,open,2024-01-01T02:00:00+01:00,3,K1, => R5 switch B1 open 1704070800 3 K1
-correct,R6,4,1,close,01704073800,3,K1 => R6 correct 4 1 close 1704073800 3 K1
-unmark,R7,2024-02-29,K1,,,, => R7 unmark 2024-02-29 K1
-device,R1,X1,BUS-A,S1,closed,2024-01-01T01:23:20Z, => R1 device X1 BUS-A S1 closed 1704072200 -
-device,R2,X1,BUS-A,S1,open,,2024-01-01T02:40:00+01:00 => R2 device X1 BUS-A S1 open 0 1704073200
-life,R3,T1,2024-01-01T01:23:20Z,1704073200,,, => R3 life T1 1704072200 1704073200
-life,R4,T1,,2024-01-01T01:40:00Z,,, => R4 life T1 0 1704073200
-";
-
 #[test]
 fn rows(rt: HostRuntime) -> Result<(), Fail> {
     rows_law();
-    for line in ROWS.lines() {
-        let (row, wanted) = line.split_once(" => ").ok_or("a line")?;
-        let (reference, body) = wanted.split_once(" ").ok_or("a body")?;
-        let (found, command) = read_row(&row_of(row))?;
-        assert!(rt; found.bytes() == reference.as_bytes());
-        has_body(&rt, rt.alloc(), &command, body.as_bytes())?;
-    }
-    Ok(())
+    says(
+        &rt,
+        rt.alloc(),
+        &[
+            ("cause,R1,03,STORM,,,,", b"R1", b"cause 3 STORM"),
+            ("section,R2,S1,007,,,,", b"R2", b"section S1 7"),
+            (
+                "device,R3,B1,GRID,S1,closed,,",
+                b"R3",
+                b"device B1 GRID S1 closed 0 -",
+            ),
+            ("life,R4,T1,,,,,", b"R4", b"life T1 0 -"),
+            ("life,R4,T1,,01704073200,,,", b"R4", b"life T1 0 1704073200"),
+            ("life,R4,T1,007,7,,,", b"R4", b"life T1 7 7"),
+            (
+                "connect,R4,0011,S3,2024-01-01T01:30:00Z,,,",
+                b"R4",
+                b"connect 11 S3 1704072600 -",
+            ),
+            ("revise,R4,11,0,00,,,", b"R4", b"revise 11 0 0"),
+            (
+                "switch,R5,B1,open,2024-01-01T02:00:00+01:00,3,K1,",
+                b"R5",
+                b"switch B1 open 1704070800 3 K1",
+            ),
+            (
+                "correct,R6,4,1,close,01704073800,3,K1",
+                b"R6",
+                b"correct 4 1 close 1704073800 3 K1",
+            ),
+            (
+                "unmark,R7,2024-02-29,K1,,,,",
+                b"R7",
+                b"unmark 2024-02-29 K1",
+            ),
+        ],
+    )
+}
+
+// 5,000 and 6,000 seconds after the year began.
+#[test]
+fn rows_of_lives_by_civil_moments(rt: HostRuntime) -> Result<(), Fail> {
+    says(
+        &rt,
+        rt.alloc(),
+        &[
+            (
+                "device,R1,X1,BUS-A,S1,closed,2024-01-01T01:23:20Z,",
+                b"R1",
+                b"device X1 BUS-A S1 closed 1704072200 -",
+            ),
+            (
+                "device,R2,X1,BUS-A,S1,open,,2024-01-01T02:40:00+01:00",
+                b"R2",
+                b"device X1 BUS-A S1 open 0 1704073200",
+            ),
+            (
+                "life,R3,T1,2024-01-01T01:23:20Z,1704073200,,,",
+                b"R3",
+                b"life T1 1704072200 1704073200",
+            ),
+            (
+                "life,R4,T1,,2024-01-01T01:40:00Z,,,",
+                b"R4",
+                b"life T1 0 1704073200",
+            ),
+        ],
+    )
 }
 
 #[test]

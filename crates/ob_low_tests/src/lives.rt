@@ -197,6 +197,32 @@ fn a_bad_life_behind_names(rt: HostRuntime) -> Result<(), Fail> {
     )
 }
 
+// Adds the devices D1 to D2048.
+fn fill(rt: &impl Abort, alloc: Global, net: &mut Net) -> Result<(), Fail> {
+    for number in 1..2049 {
+        let device = format!(in alloc; "D{number}")?;
+        let ends: Ends<'_> = [device.as_bytes(), b"GRID", b"BUS-A"];
+        assert!(rt; add(net, &ends, life(1, None))? == None);
+    }
+    Ok(())
+}
+
+#[test]
+fn a_bad_life_before_the_limit(rt: HostRuntime) -> Result<(), Fail> {
+    let mut net = with_a_bus(rt.alloc())?;
+    fill(&rt, rt.alloc(), &mut net)?;
+    let full = Some(Refusal::Full(2048));
+    let bad = Some(Refusal::BadLife);
+    answers(
+        &rt,
+        &mut net,
+        &[
+            ([b"D9999", b"GRID", b"BUS-A"], life(5, Some(5)), bad),
+            ([b"D9999", b"GRID", b"BUS-A"], life(5, Some(6)), full),
+        ],
+    )
+}
+
 // A device, its new life, the expected answer, and the lives of all three devices after it.
 type LifeRow = (u16, Life, Result<(), Refusal>, [Life; 3]);
 

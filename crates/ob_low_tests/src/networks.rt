@@ -211,44 +211,91 @@ fn parts_that_are_not_refused(rt: HostRuntime) -> Result<(), Fail> {
     Ok(())
 }
 
-// Positions of the devices CB-A, CB-B, D1, D2, D3 and TIE, closed or open, and which of the nodes
-// GRID, BUS-A, BUS-B, S1, S2 and S3 are then supplied.
-const SUPPLY: &'static str = "\
-ccccco ++++++ all devices in their normal positions
-cccccc ++++++ a loop over the tie
-ccocco +++--+ a feeder without supply: its breaker is open
-ccoccc ++++++ the same feeder supplied over the tie
-cccoco ++++-+ only the last section of the feeder supplied over the tie
-occcco +-+--+ a bus without supply
-occccc ++++++ the same bus supplied through its own feeder, over the tie
-occcoc +-+--- an island of both feeders
-oocccc +----- both buses without supply
-oooooo +----- every device open
-";
+// The number of network searches, the devices' positions, and whether each node is supplied.
+type SupplyRow<'r> = (u128, &'r [Pos], &'r [bool]);
 
-// Searches the network once with these positions.
-fn supplies(rt: &impl Abort, alloc: Global, net: &mut Net, line: &str) -> Result<(), Fail> {
-    let mut positions = Vec::new(alloc);
-    let mut wanted = Vec::new(alloc);
-    for byte in line.bytes().take(6) {
-        positions.push(if byte == b'c' { Closed } else { Opened })?;
+fn supplies(rt: &impl Abort, net: &mut Net, rows: &[SupplyRow<'_>]) -> Result<(), Fail> {
+    for (searches, positions, wanted) in rows {
+        assert!(rt; net.searches() == *searches);
+        assert!(rt; positions.len() == usize::from(net.devices()));
+        let supplied = net.supplied(positions)?;
+        assert!(rt; supplied.as_slice() == *wanted);
     }
-    for byte in line.bytes().skip(7).take(6) {
-        wanted.push(byte == b'+')?;
-    }
-    assert!(rt; positions.len() == usize::from(net.devices()));
-    let supplied = net.supplied(&positions)?;
-    assert!(rt; supplied == wanted, "{line}");
     Ok(())
 }
 
+// The devices by number: CB-A, CB-B, D1, D2, D3, TIE. The nodes by number: GRID, BUS-A, BUS-B, S1,
+// S2, S3.
 #[test]
 fn supply(rt: HostRuntime) -> Result<(), Fail> {
     walk_law();
     let mut net = meshed(&rt, rt.alloc())?;
-    for line in SUPPLY.lines() {
-        supplies(&rt, rt.alloc(), &mut net, line)?;
-    }
+    supplies(
+        &rt,
+        &mut net,
+        &[
+            // all devices in their normal positions
+            (
+                0,
+                &[Closed, Closed, Closed, Closed, Closed, Opened],
+                &[true, true, true, true, true, true],
+            ),
+            // a loop over the tie
+            (
+                1,
+                &[Closed, Closed, Closed, Closed, Closed, Closed],
+                &[true, true, true, true, true, true],
+            ),
+            // a feeder without supply: its breaker is open
+            (
+                2,
+                &[Closed, Closed, Opened, Closed, Closed, Opened],
+                &[true, true, true, false, false, true],
+            ),
+            // the same feeder supplied over the tie
+            (
+                3,
+                &[Closed, Closed, Opened, Closed, Closed, Closed],
+                &[true, true, true, true, true, true],
+            ),
+            // only the last section of the feeder supplied over the tie
+            (
+                4,
+                &[Closed, Closed, Closed, Opened, Closed, Opened],
+                &[true, true, true, true, false, true],
+            ),
+            // a bus without supply
+            (
+                5,
+                &[Opened, Closed, Closed, Closed, Closed, Opened],
+                &[true, false, true, false, false, true],
+            ),
+            // the same bus supplied through its own feeder, over the tie
+            (
+                6,
+                &[Opened, Closed, Closed, Closed, Closed, Closed],
+                &[true, true, true, true, true, true],
+            ),
+            // an island of both feeders
+            (
+                7,
+                &[Opened, Closed, Closed, Closed, Opened, Closed],
+                &[true, false, true, false, false, false],
+            ),
+            // both buses without supply
+            (
+                8,
+                &[Opened, Opened, Closed, Closed, Closed, Closed],
+                &[true, false, false, false, false, false],
+            ),
+            // every device open
+            (
+                9,
+                &[Opened, Opened, Opened, Opened, Opened, Opened],
+                &[true, false, false, false, false, false],
+            ),
+        ],
+    )?;
     counts(&rt, &net, 6, 6, 10);
     Ok(())
 }
@@ -326,7 +373,6 @@ fn most_nodes_and_devices(rt: HostRuntime) -> Result<(), Fail> {
                 "device ONE-MORE GRID N1 closed 0 -",
                 Some(Refusal::Full(2048)),
             ),
-            ("device ONE-MORE GRID N1 closed 5 5", Some(Refusal::BadLife)),
             ("device D2047 GRID N1 closed 0 -", Some(Refusal::NameTaken)),
             (
                 "device D2047 GRID N1024 closed 0 -",
