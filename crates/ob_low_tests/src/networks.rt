@@ -4,7 +4,7 @@ ghost use Rattle.std.specs.Prelude.{◌≡◌, ◌≤◌, []};
 
 use ob_command::{Command, NewDevice, read_body};
 use ob_net::Pos::{Closed, Opened};
-use ob_net::{Name, Net, Node, Pos, Refusal, Stop, grid};
+use ob_net::{Name, Net, Node, Pos, Refusal, Stop, grid, walk_law};
 use std::alloc::Global;
 use std::process::Abort;
 use std::test::Fail;
@@ -228,6 +228,7 @@ fn supplies(rt: &impl Abort, net: &mut Net, rows: &[SupplyRow<'_>]) -> Result<()
 // S2, S3.
 #[test]
 fn supply(rt: HostRuntime) -> Result<(), Fail> {
+    walk_law();
     let mut net = meshed(&rt, rt.alloc())?;
     supplies(
         &rt,

@@ -12,7 +12,7 @@ ghost use Rattle.ob_sheet.specs.Sheet.{AreNumbered};
 use crate::Entry;
 use crate::sheet::is_after;
 use ob_base::{Pos, Second, Stop};
-use ob_net::Net;
+use ob_net::{MOST_DEVICES, Net};
 use std::alloc::Global;
 
 /// A bound in the list by device: the entries of lower devices, and those of `device` up to and
@@ -52,6 +52,25 @@ pub(crate) fn place_by_device(
         step *= 2;
     }
     place_between(entries, by_device, low, by_device.len(), until)
+}
+
+/// The same, where the answer is thought to be `gap` more than `from`. It is found at once if it is.
+fn place_near(entries: &[Entry], by_device: &[u32], from: usize, gap: usize, until: Until) -> usize
+    requires numbered { AreNumbered entries.now }
+    requires by_device { IsByDevice entries.now by_device.now }
+    requires from { from ≤ prefix_len (is_until_by_device entries.now until.device until.second
+        until.«no») by_device.now }
+    ensures place { result ≡ prefix_len (is_until_by_device entries.now until.device until.second
+        until.«no») by_device.now }
+{
+    if gap == 0 || by_device.len() - from < gap {
+        return place_by_device(entries, by_device, from, until);
+    }
+    let last = from + gap - 1;
+    if is_number_until(entries, by_device[last], until) {
+        return place_by_device(entries, by_device, last + 1, until);
+    }
+    place_between(entries, by_device, from, last, until)
 }
 
 /// How many numbers of the list by device are within the bound, at least `from` and at most `to`.
@@ -136,11 +155,13 @@ pub(crate) fn first_from(
     (entries[number as usize - 1].device == device).then_some(number)
 }
 
-/// The positions of the devices after the entries in order, up to a second and a number.
+/// The positions of the devices after the entries in order, up to a second and a number. Any `gaps`
+/// will do: those that `gaps_at` gave for a moment nearby make it fast.
 pub(crate) fn positions_until(
     alloc: Global,
     entries: &[Entry],
     by_device: &[u32],
+    gaps: &[usize],
     second: Second,
     no: u32,
     net: &Net,
@@ -154,19 +175,46 @@ pub(crate) fn positions_until(
     ensures err { IfErr result (λ stop. stop ≡ out_of_memory) }
 {
     let mut positions = Vec::with_capacity(alloc, usize::from(net.devices()))?;
-    let mut first = 0;
+    let mut place = 0;
     for device in 0..net.devices() {
         let until = Until { device, second, no };
-        let place = place_by_device(entries, by_device, first, until);
+        place = place_near(entries, by_device, place, gap_of(gaps, device), until);
         positions.push(position_until(entries, by_device, place, until, net))?;
-        let next = Until {
-            device: device + 1,
-            second: 0,
-            no: 0,
-        };
-        first = place_by_device(entries, by_device, place, next);
     }
     Ok(positions)
+}
+
+/// How far each device's place in the list by device lies behind that of the device before it: the
+/// places up to a second and a number. Earlier gaps make it fast.
+pub(crate) fn gaps_at(
+    alloc: Global,
+    entries: &[Entry],
+    by_device: &[u32],
+    gaps: &[usize],
+    second: Second,
+    no: u32,
+) -> Result<Vec<usize>, Stop>
+    requires numbered { AreNumbered entries.now }
+    requires by_device { IsByDevice entries.now by_device.now }
+    ensures err { IfErr result (λ stop. stop ≡ out_of_memory) }
+{
+    let mut found = Vec::with_capacity(alloc, MOST_DEVICES)?;
+    let mut from = 0;
+    for device in 0..MOST_DEVICES as u16 {
+        let until = Until { device, second, no };
+        let place = place_near(entries, by_device, from, gap_of(gaps, device), until);
+        found.push(place - from)?;
+        from = place;
+    }
+    Ok(found)
+}
+
+/// The gap noted for a device; 0 if there is none.
+fn gap_of(gaps: &[usize], device: u16) -> usize {
+    match gaps.get(usize::from(device)) {
+        Some(gap) => *gap,
+        None => 0,
+    }
 }
 
 /// The position of a device after the entries in order up to a second and a number, found by their

@@ -8,9 +8,8 @@ use Rattle.ob_sheet.specs.declared.Entry.{Entry}
 use Rattle.ob_sweep.specs.Changed.{changed, net_before, of_sheet, IsAfter, IsLastNode}
 use Rattle.ob_sweep.specs.Deltas.{IsDeltaTo}
 use Rattle.ob_sweep.specs.Lives.{never}
-use Rattle.ob_sweep.specs.Searches.{windowed_searches}
+use Rattle.ob_sweep.specs.Searches.{sheet_searches, windowed_searches}
 use Rattle.ob_sweep.specs.Timeline.{AreRuns}
-use Rattle.ob_sweep.specs.Windows.{window_searches}
 use Rattle.ob_sweep.specs.declared.Run.{Run}
 use Rattle.ob_sweep.specs.declared.change.Change.{Change}
 use Rattle.ob_sweep.specs.declared.change.Change.TheVariants.{Entered, Corrected, Withdrawn, Bus, Section, Joined, Lived}
@@ -56,10 +55,10 @@ same_plan net entries after first end a b lists result is from to plan =
 
 -- a change of the sheet costs what its window does
 pub window_count : (net : Network) (entries : List Entry) (first end : ℕ) (change : Change) (of_it : SheetChange) → of_sheet change ≡ Some of_it
-    → windowed_searches net entries change first end ≡ window_searches net of_it entries (end - 1)
-window_count net entries first end (Entered e) of_it is = ap (λ c. window_searches net c entries (end - 1)) (same_Some (Entry-entered e) of_it is)
-window_count net entries first end (Corrected old new) of_it is = ap (λ c. window_searches net c entries (end - 1)) (same_Some (Entry-corrected old new) of_it is)
-window_count net entries first end (Withdrawn e) of_it is = ap (λ c. window_searches net c entries (end - 1)) (same_Some (Entry-withdrawn e) of_it is)
+    → windowed_searches net entries change first end ≡ sheet_searches net of_it entries (end - 1)
+window_count net entries first end (Entered e) of_it is = ap (λ c. sheet_searches net c entries (end - 1)) (same_Some (Entry-entered e) of_it is)
+window_count net entries first end (Corrected old new) of_it is = ap (λ c. sheet_searches net c entries (end - 1)) (same_Some (Entry-corrected old new) of_it is)
+window_count net entries first end (Withdrawn e) of_it is = ap (λ c. sheet_searches net c entries (end - 1)) (same_Some (Entry-withdrawn e) of_it is)
 window_count net entries first end Bus of_it is = absurd (none-some of_it is)
 window_count net entries first end (Section feeder) of_it is = absurd (none-some of_it is)
 window_count net entries first end (Joined device life) of_it is = absurd (none-some of_it is)

@@ -2,9 +2,12 @@
 use Rattle.std.proofs.Common.{◌≡◌, ℕ, suc, ◌+◌, ◌-◌, ◌<◌, ◌≤◌, List, [], ◌∷◌, ◌++◌, Some, None, set, true, refl, sym, ◌∙◌, ap, arith, subst, length, map, get_or, IsTrue}
 use Rattle.std.specs.List.{All, AllPairs, list_any}
 use Rattle.std.proofs.lemmas.List.Elements.{All-cons, All-head, All-push, All-tail}
-use Rattle.std.proofs.lemmas.List.{get_or-append-add, get_or_default, length-append}
+use Rattle.std.proofs.lemmas.List.{get_or-append-add, get_or_default, length-append, set-get_or}
 use Rattle.ob_base.specs.Life.{turns_at}
+use denote.Enum.Bare.{sameb}
+use Rattle.ob_base.specs.contracts.Pos.{the_type}
 use Rattle.ob_base.specs.declared.Pos.{Pos}
+use Rattle.ob_base.specs.declared.Pos.TheVariants.{Opened, Closed}
 use Rattle.ob_net.specs.Network.{Network, as_of}
 use Rattle.ob_net.specs.declared.net.Device.{Device}
 use Rattle.ob_sheet.specs.declared.Entry.{Entry}
@@ -70,6 +73,16 @@ stepped net ps step lo hi before kept come l k is =
     ∙ ap (λ q. push_all 0 (supplied_nodes net (as_of net.devices step.second (entered net before))) (supplied_nodes net (as_of net.devices step.second q)) step.second hi (Some step.no)
     (all_runs_until net before step.second lo hi)) (sym (entered_more before step (kept_before step before come) net))
     ∙ all_runs_more net before step lo hi kept (kept_before step before come) l k
+
+same_position : (p q : Pos) → sameb the_type p q ≡ true → p ≡ q
+same_position Opened Opened h = refl
+same_position Opened Closed h = cc
+same_position Closed Opened h = cc
+same_position Closed Closed h = refl
+
+-- a device that is in a position already stays where it is
+pub unmoved : (ps : List Pos) (k device : ℕ) (p d : Pos) → k ≡ device → sameb the_type (get_or ps k d) p ≡ true → set ps device p ≡ ps
+unmoved ps k device p d is same = ap (λ q. set ps device q) (sym (same_position (get_or ps k d) p same) ∙ ap (λ i. get_or ps i d) is) ∙ set-get_or ps device d
 
 -- entries that are all earlier than a second are kept up to it
 pub until_earlier : (t : ℕ) (set : List Entry) → AllEarlier t set → AreKeptUntil t set

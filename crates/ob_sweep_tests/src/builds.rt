@@ -72,7 +72,7 @@ const BUILT: &'static [Built] = &[
         days: DAY,
         lives: "",
         script: "switch B1 close 4000 3 K1\nswitch B1 open 4000 3 K1",
-        searches: 3,
+        searches: 2,
         runs: "S1 4000 86400 2\nS2 4000 86400 2\nS4 0 86400 -\n",
     },
     Built {

@@ -25,6 +25,13 @@ switch B1 close 5000 3 K1
 switch B2 close 5000 3 K1
 ";
 
+// From 8000 on the breaker of S1 is closed a second time.
+const CLOSED_TWICE: &'static str = "\
+switch B1 open 3600 3 K1
+switch B1 close 7200 3 K1
+switch B1 close 8000 3 K1
+";
+
 const OF_2024: &'static str = "\
 switch B1 open 1704070800 3 K1
 switch B1 close 1704074400 3 K1
@@ -47,7 +54,7 @@ const CHANGES: &'static [Case] = &[
         lives: "",
         script: TAKEN_OVER,
         ask: "switch W1 open 3000 4 K2",
-        searches: (6, 5),
+        searches: (5, 4),
         touched: "S2 ",
         runs: "S1 3600 7200 1\nS2 3000 4200 5\nS4 0 86400 -\n",
     },
@@ -87,7 +94,7 @@ const CHANGES: &'static [Case] = &[
         lives: "",
         script: TAKEN_OVER,
         ask: "correct 1 1 close 3600 3 K2",
-        searches: (5, 5),
+        searches: (3, 3),
         touched: "S1 S2 ",
         runs: "S4 0 86400 -\n",
     },
@@ -97,7 +104,7 @@ const CHANGES: &'static [Case] = &[
         lives: "",
         script: TAKEN_OVER,
         ask: "withdraw 1 1",
-        searches: (4, 4),
+        searches: (3, 3),
         touched: "S1 S2 ",
         runs: "S4 0 86400 -\n",
     },
@@ -117,7 +124,7 @@ const CHANGES: &'static [Case] = &[
         lives: "",
         script: "switch B2 open 3600 3 K1\nswitch B2 close 4200 3 K1",
         ask: "correct 1 1 open 5000 3 K2",
-        searches: (3, 3),
+        searches: (2, 2),
         touched: "S3 ",
         runs: "S3 5000 86400 1\nS4 0 86400 -\n",
     },
@@ -141,6 +148,56 @@ const CHANGES: &'static [Case] = &[
         searches: (6, 6),
         touched: "S1 S2 S3 ",
         runs: "S1 4000 86400 1\nS2 4000 86400 1\nS3 4000 86400 2\nS4 0 86400 -\n",
+    },
+    Case {
+        title: "a closing of a closed breaker",
+        days: DAY,
+        lives: "",
+        script: TAKEN_OVER,
+        ask: "switch B1 close 3000 4 K2",
+        searches: (5, 0),
+        touched: "",
+        runs: "S1 3600 7200 1\nS2 3600 4200 1\nS4 0 86400 -\n",
+    },
+    Case {
+        title: "the second of two closings is withdrawn",
+        days: DAY,
+        lives: "",
+        script: CLOSED_TWICE,
+        ask: "withdraw 3 1",
+        searches: (3, 0),
+        touched: "",
+        runs: "S1 3600 7200 1\nS2 3600 7200 1\nS4 0 86400 -\n",
+    },
+    Case {
+        title: "the second of two closings is corrected to a later second",
+        days: DAY,
+        lives: "",
+        script: CLOSED_TWICE,
+        ask: "correct 3 1 close 9000 3 K2",
+        searches: (3, 0),
+        touched: "",
+        runs: "S1 3600 7200 1\nS2 3600 7200 1\nS4 0 86400 -\n",
+    },
+    Case {
+        title: "the second of two closings is corrected before the first",
+        days: DAY,
+        lives: "",
+        script: CLOSED_TWICE,
+        ask: "correct 3 1 close 5000 3 K2",
+        searches: (3, 2),
+        touched: "S1 S2 ",
+        runs: "S1 3600 5000 1\nS2 3600 5000 1\nS4 0 86400 -\n",
+    },
+    Case {
+        title: "the second of two closings is corrected to an opening",
+        days: DAY,
+        lives: "",
+        script: CLOSED_TWICE,
+        ask: "correct 3 1 open 8000 3 K2",
+        searches: (4, 2),
+        touched: "S1 S2 ",
+        runs: "S1 3600 7200 1\nS1 8000 86400 3\nS2 3600 7200 1\nS2 8000 86400 3\nS4 0 86400 -\n",
     },
     Case {
         title: "a change in a day of 2024",

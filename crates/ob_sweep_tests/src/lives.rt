@@ -86,7 +86,7 @@ const CHANGES: &'static [Case] = &[
         lives: "life B2 0 3600",
         script: "switch B2 open 3600 4 K1",
         ask: "switch B2 open 3599 4 K1",
-        searches: (4, 4),
+        searches: (3, 3),
         touched: "S3 ",
         runs: "S3 3599 86400 2\nS4 0 86400 -\n",
     },

@@ -14,7 +14,7 @@ use ob_command::{Command, Ends, Moment, NewDevice, Service, read_body};
 use ob_net::Pos::{Closed, Opened};
 use ob_net::{Name, Net, Second};
 use ob_sheet::Sheet;
-use ob_sweep::{Run, Scratch, Timeline, Windowed};
+use ob_sweep::{Run, Scratch, Timeline, Windowed, scratch_law};
 use ob_time::CivilDays;
 use std::alloc::Global;
 use std::process::Abort;
@@ -282,6 +282,7 @@ fn lists<T: Timeline>(rt: &impl Abort, alloc: Global) -> Result<(), Fail> {
 
 #[test]
 fn runs_from_scratch_are_those_of_the_plain_count(rt: HostRuntime) -> Result<(), Fail> {
+    scratch_law();
     lists::<Scratch>(&rt, rt.alloc())
 }
 

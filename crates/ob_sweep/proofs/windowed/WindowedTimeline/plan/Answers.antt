@@ -1,7 +1,7 @@
 use Rattle.std.proofs.Common.{◌≡◌, ◌+◌, ◌-◌, Some, sym, ◌∙◌, ap, arith}
 use Rattle.ob_time.specs.Calendar.{end_second_of, first_second_of}
 use Rattle.ob_sweep.specs.Changed.{changed, of_sheet}
-use Rattle.ob_sweep.specs.Windows.{window_searches}
+use Rattle.ob_sweep.specs.Searches.{sheet_searches}
 use Rattle.ob_sweep.proofs.PartMore.{bus_plan, joined_runs, same_plan, section_plan, window_count}
 use Rattle.ob_sweep.proofs.windowed.WindowedTimeline.plan.Goals.{in-Entered, in-Corrected, in-Withdrawn}
 use Rattle.ob_sweep.proofs.windowed.WindowedTimeline.plan.Goals as goal
@@ -59,4 +59,4 @@ returns-clause-searches c =
       | in-Withdrawn w ↦ ap of_sheet w.in-Withdrawn.is ∙ ap Some (sym w.change-is)
     ] in
     let count = window_count net entries (first_second_of period) (end_second_of period) c.args.change.now c.match-change.change of_it in
-    omega (arith, c.plan_between.ensures.searches, ap (window_searches net c.match-change.change entries) last, count)
+    omega (arith, c.plan_between.ensures.searches, ap (sheet_searches net c.match-change.change entries) last, count)

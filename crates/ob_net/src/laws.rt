@@ -1,0 +1,16 @@
+//! The law of the supply test, for proofs that call it. It does nothing when it runs.
+ghost use Rattle.std.specs.Prelude.{◌↔◌, ℕ, List, IsTrue};
+ghost use Rattle.ob_base.specs.declared.Pos.{Pos as APos};
+ghost use Rattle.ob_net.specs.declared.net.Device.{Device as ADevice};
+ghost use Rattle.ob_net.specs.Network.{Network};
+ghost use Rattle.ob_net.specs.Walk.{is_connected, is_supplied, IsSupplied, LeadsTo};
+
+/// States what the supply test of the contracts tests, for each network and all positions: that
+/// some walk of closed devices, in either direction and of any length, leads from the node to GRID.
+/// The test under it says of two nodes whether some walk over the listed devices joins them.
+pub fn walk_law()
+    ensures supplied { (net : Network) (positions : List APos) (v : ℕ)
+        → IsTrue (is_supplied net positions v) ↔ IsSupplied net positions v }
+    ensures connected { (closed : List ADevice) (v w : ℕ)
+        → IsTrue (is_connected closed v w) ↔ ((walk : List ℕ) × LeadsTo closed v walk w) }
+{}
