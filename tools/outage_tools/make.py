@@ -145,7 +145,7 @@ def check_exports(args: argparse.Namespace) -> None:
 def write_exports(args: argparse.Namespace, path: Path) -> int:
     """Writes the rows of the exports: how many there are."""
     run = Run(args, conversion_of(args, Known()), format_of(args))
-    with path.open("w", encoding="utf-8", newline="") as file:
+    with writing(path), path.open("w", encoding="utf-8", newline="") as file:
         write_rows(run.commands(), file)
     run.refuse()
     return run.told().written
@@ -194,7 +194,9 @@ def agreement_of(found: Checked, args: argparse.Namespace) -> agree.Agreement | 
 def compared(program: Program, folder: Path, args: argparse.Namespace, count: int) -> str:
     """Compares the book with the program's table, shows what the two say together, and answers the page of the period."""
     table = folder / "table.txt"
-    table.write_text(program.run("table"), encoding="ascii")
+    text = program.run("table")
+    with writing(table):
+        table.write_text(text, encoding="ascii")
     with open_book(str(program.book), str(table), program.path) as found:
         commands = found.database.execute("SELECT count(*) FROM cmd").fetchone()[0]
         if commands != count:

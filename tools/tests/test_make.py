@@ -295,6 +295,17 @@ class ByTheProgram(Making):
         self.assertEqual(exports.program("audit", "--book", maker.book).stdout, "audit ok\n")
         self.assertEqual(commands_of(maker.book), commands_of(maker.folder / "book.db"))
 
+    def test_files_that_can_be_no_longer(self) -> None:
+        """As on a full disk: the rows, the database when it is made and while it grows, and the copy that gets the name."""
+        self.maker = Maker(self.folder / "program", support.PROGRAM)
+        self.assertEqual(self.maker.run().returncode, 0)
+        whole, command = self.maker.book.stat().st_size, self.maker.command
+        for most in [1_000, 20_000, whole // 2, whole - 1]:
+            self.maker.clear()
+            limit = ["prlimit", f"--fsize={most}"]
+            with self.subTest(most=most), mock.patch.object(self.maker, "command", lambda *it: [*limit, *command(*it)]):
+                self.assertIn("error: ", self.refused())
+
 
 if __name__ == "__main__":
     unittest.main()
