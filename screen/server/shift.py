@@ -39,7 +39,7 @@ def bound_of(state: State, typed: str, is_end: bool) -> int:
         if not 0 <= found <= LAST:
             raise Refused(f"{typed} lies outside of what a book can hold")
         return found
-    return read_moment(zone, typed)[-1 if is_end else 0].second
+    return read_moment(zone, typed, may_come=is_end)[-1 if is_end else 0].second
 
 
 def bounds_of(state: State, wanted: dict[str, str], since: int) -> tuple[int, int]:
