@@ -72,6 +72,7 @@ def sending_view(state: State, sending: Sending) -> Json:
         "reference": sending.reference,
         "kind": sending.kind,
         "words": words_of(state, sending),
+        "remark": sending.remark,
         "outcome": sending.outcome,
         "result": result_of(sending, entry),
         "no": sending.number,
@@ -181,6 +182,7 @@ def entered_by(state: State, sendings: Iterable[Sending]) -> dict[int, list[Json
             command = next(each for each in state.histories[entry] if each.number == number)
             by = sending.login or name_in(command.ref) or OTHER
             done = {"what": MADE[command.kind], "at": moment(state, sending.at), "by": by, "no": number}
+            done["remark"] = sending.remark
             if all(each["no"] != number for each in found.setdefault(entry, [])):
                 found[entry].append({**done, "reference": command.ref})
     return found
