@@ -1,0 +1,294 @@
+"""A whole outage by one form: keys counted, steps that break off and are resumed, a form that is filled in."""
+
+import os
+import signal
+import time
+import unittest
+from typing import Any
+
+import browser
+import support
+from selenium.webdriver.common.keys import Keys
+from server import names
+from test_browser import Case
+from test_shift import ZONE
+
+TIED = support.storm_text() + "device,T12,TIE-12,MILL-14,MILL-24,open,,\n"
+# An opening, the faulty section cut out, three restorations: minutes ago, and what is typed of the device.
+STEPS = {
+    ("cb-1", 50): "open",
+    ("lbs-11", 40): "open",
+    ("tie-12", 30): "close",
+    ("lbs-11", 20): "close",
+    ("cb-1", 10): "close",
+}
+SENT = [
+    "LBS-11 close",
+    "CB-1 close",
+    "CB-1 open",
+    "LBS-11 open",
+    "TIE-12 close",
+]  # returns to the normal position first
+# The page is left, or a step is spoilt, as the third command is about to go.
+THIRD = """
+const real = window.fetch;
+let count = 0;
+window.fetch = async (route, options) => {
+  if (!String(route).startsWith("/api/command") || (count += 1) !== 3) return real(route, options);
+  %s
+};
+"""
+LEFT = 'location.href = "/network"; return new Promise(() => {});'
+SPOILT = 'return real(route, { ...options, body: options.body.replace("CB-1", "CB-9") });'
+
+
+class Outages(Case):
+    """A book whose period goes on, behind a proxy that can answer 502."""
+
+    def setUp(self) -> None:
+        self.between = support.Between()
+        self.addCleanup(self.between.end)
+        book = support.live(self._testMethodName, "tied", TIED)
+        self.live = support.Screen(book, "--host", f"127.0.0.1:{self.between.port}")
+        self.addCleanup(self.live.end)
+        self.between.screen = self.live.port
+        self.url = f"http://127.0.0.1:{self.between.port}"
+        self.keys = 0
+
+    def press(self, page: browser.Browser, *words: str) -> None:
+        """Presses keys one by one, and counts them."""
+        for key in "".join(words):
+            page.driver.switch_to.active_element.send_keys(key)
+            self.keys += 1
+
+    def clock(self, minutes_ago: int) -> str:
+        """A time as an operator types it."""
+        return ZONE.text_of(int(time.time()) - 60 * minutes_ago)[11:16].replace(":", "")
+
+    def enter(self, page: browser.Browser) -> None:
+        """Types the steps and the cause: all but the sending."""
+        for device, minutes_ago in STEPS:
+            self.press(page, device, Keys.TAB, self.clock(minutes_ago), Keys.TAB, Keys.TAB)
+        self.press(page, Keys.TAB, "2")
+        page.says(".forecast .lost", "Customer-minutes lost: +")
+        page.wait(
+            lambda: len(page.all(".forecast .steps li")) == len(STEPS) and page.find(".send").is_enabled(),
+            "the forecast",
+        )
+
+    def saved(self) -> list[dict[str, Any]]:
+        """The entries, in the order in which they came."""
+        rows: list[dict[str, Any]] = self.live.call("/api/sheet")[1]["rows"]
+        return sorted(rows, key=lambda row: int(row["no"]))
+
+    def words(self) -> list[str]:
+        return [f"{row['device']} {row['action']}" for row in self.saved()]
+
+    def test_three_restorations_by_seventy_keys_and_one_send(self) -> None:
+        page = self.one
+        page.open(f"{self.url}/")
+        self.press(page, "n")
+        page.find(".sender")
+        page.ready()
+        self.enter(page)
+        steps = page.text(".forecast .steps").splitlines()
+        self.assertEqual(
+            [line.split(" at ")[0] for line in steps], [f"{name.upper()} {STEPS[name, at]}" for name, at in STEPS]
+        )
+        for line, told in zip(
+            steps,
+            (
+                "5 sections, 15 customers lose",
+                "no section",
+                "4 sections, 13 customers get back",
+                "1 section, 2 customers get back",
+                "no section",
+            ),
+        ):
+            self.assertIn(told, line)
+        self.assertIn("+320 (+19", page.text(".forecast .lost").replace("\u2009", ""))
+        self.press(page, Keys.TAB, Keys.ENTER)
+        page.says(".outcome .equal", "As forecast")
+        self.assertLessEqual(self.keys, 70)
+        self.assertEqual(self.words(), SENT)
+        self.assertEqual(page.text(".saved-steps li").count("entry"), len(STEPS))
+        page.click(".undo")
+        page.wait(lambda: page.all(".outcome .send") and page.find(".outcome .send").is_enabled(), "the way back")
+        page.click(".outcome .send")
+        page.says(".outcome .outcome .equal", "As forecast")
+        self.assertFalse(any(row["kept"] for row in self.saved()))
+
+    def test_an_outage_that_is_over_is_never_shown_as_going_on(self) -> None:
+        """Both ends are known: one send, and the end goes first. On a phone, by a finger."""
+        page = self.other
+        self.one.open(f"{self.url}/", "BERT")
+        self.one.says("main", "All sections are supplied")
+        self.one.record("main")
+        page.open(f"{self.url}/enter?device=CB-2")
+        page.fill("Time (", self.clock(300))
+        rows = "return [...document.querySelectorAll('.step')]"
+        page.wait(lambda: len(page.driver.execute_script(rows)) == 2, "a second row")
+        device, second = page.driver.execute_script(f"{rows}[1].querySelectorAll('input')")
+        device.send_keys("cb-2")
+        second.send_keys(Keys.CONTROL, "a")
+        second.send_keys(self.clock(240))
+        page.fill("Cause", "2")
+        page.fill("Ticket number", "2026-17")
+        page.fill("Remark", "A tree on the line.")
+        page.says(".ends-first", "sent first")
+        page.wait(lambda: page.find(".send").is_enabled(), "the button")
+        page.tap_on("Send to the desk")
+        page.says(".outcome .equal", "As forecast")
+        self.assertEqual(self.words(), ["CB-2 close", "CB-2 open"])
+        self.assertRegex(self.saved()[0]["commands"][0]["ref"], r"SCR-ANNA-2026_17_[A-Z2-9]{8}")
+        self.one.driver.get(f"{self.url}/sheet?entry=2")
+        self.one.ready()
+        self.one.says("main table", "2026_17")
+        self.one.says("#detail .remark", "A tree on the line.")
+        self.one.unfold("main")
+        self.one.says("main", "(A tree on the line.)")
+        self.assertIn("(A tree on the line.)", support.call(f"{self.live.url}/shift")[1].decode())
+        shown, room = page.driver.execute_script("return [document.documentElement.scrollWidth, window.innerWidth]")
+        self.assertLessEqual(shown, room)
+
+    def test_nobody_sees_it_between_its_steps(self) -> None:
+        page = self.one
+        self.other.open(f"{self.url}/", "BERT")
+        self.other.says("main", "All sections are supplied")
+        self.other.record("main")
+        page.open(f"{self.url}/enter")
+        self.enter(page)
+        page.click(".send")
+        page.says(".outcome .equal", "As forecast")
+        self.other.wait(
+            lambda: self.other.driver.execute_script("return document.body.dataset.number") == str(self.live.number()),
+            "the last step",
+        )
+        self.assertNotIn("cut off by", self.other.driver.execute_script("return window.recorded.join()"))
+
+    def test_killed_between_steps_and_resumed(self) -> None:
+        """The page is left after two steps; then the screen's proxy answers 502, and the desk hangs while the page is left again:
+        no step is lost, none comes twice, and their order stays."""
+        page = self.one
+        page.open(f"{self.url}/enter")
+        self.enter(page)
+        page.driver.execute_script(THIRD % LEFT)
+        page.click(".send")
+        page.wait(lambda: page.text("h1") == "Network", "another page")
+        page.ready()
+        page.says(".unanswered", "3 commands without an answer")
+        page.says(".unanswered", "2 of 5 steps are saved")
+        self.assertEqual(self.words(), SENT[:2])
+        self.between.answer(502)
+        page.click(".again-above")
+        page.says(".unanswered", "Still not known")
+        self.between.answer(0)
+        desk = self.live.desk_process()
+        os.kill(desk, signal.SIGSTOP)
+        self.addCleanup(os.kill, desk, signal.SIGCONT)
+        page.click(".again-above")
+        page.says(".unanswered", "On its way")
+        page.driver.get(f"{self.url}/")
+        page.ready()
+        page.says(".unanswered", "2 of 5 steps are saved")
+        os.kill(desk, signal.SIGCONT)
+        page.click(".again-above")
+        page.says(".unanswered", "Saved as commands")
+        self.assertEqual(self.words(), SENT)
+        references = [row["commands"][0]["ref"] for row in self.saved()]
+        self.assertEqual(len(set(references)), len(SENT))
+        self.assertEqual(len({names.outage_in(each) for each in references}), 1)
+        self.assertTrue(all(len(row["commands"]) == 1 for row in self.saved()))
+        page.driver.refresh()
+        page.ready()
+        self.assertEqual(page.text(".unanswered"), "")
+
+    def test_a_step_that_is_refused(self) -> None:
+        """Those before it are saved; it stays in the form with those after it, and they are sent once they are right."""
+        page = self.one
+        page.open(f"{self.url}/enter")
+        self.enter(page)
+        page.driver.execute_script(THIRD % SPOILT)
+        page.click(".send")
+        page.says(".refusal", "Refused: 2")
+        page.says(".refusal .saved-before", "entries 1, 2; the other 3 of 5 steps aren't")
+        self.assertEqual(self.words(), SENT[:2])
+        page.wait(
+            lambda: len(page.all(".forecast .steps li")) == 3 and page.find(".send").is_enabled(), "the other three"
+        )
+        page.click(".send")
+        page.says(".outcome .equal", "As forecast")
+        self.assertEqual(self.words(), SENT)
+        page.wait(lambda: page.text(".saved-steps li").count("entry") == len(SENT), "all steps")
+
+    def test_a_row_leads_to_the_form_filled_in(self) -> None:
+        page = self.one
+        page.open(f"{self.url}/enter?device=CB-3")
+        page.fill("Cause", "1")
+        page.fill("Crew", "NORTH")
+        page.fill("Ticket number", "T-9")
+        page.wait(lambda: page.find(".send").is_enabled(), "the button")
+        page.click(".send")
+        page.says(".outcome .equal", "As forecast")
+        page.open(f"{self.url}/", "BERT")
+        page.says("table.outages", "T_9")
+        page.click("a.outage")
+        page.find(".sender")
+        page.ready()
+        page.says(".saved-steps", "CB-3 open at")
+        self.assertEqual(
+            [page.field(each).get_attribute("value") for each in ("Device", "Cause", "Crew", "Ticket")],
+            ["", "1", "NORTH", "T_9"],
+        )
+        page.driver.back()
+        page.ready()
+        page.click("a.close")
+        page.find(".sender")
+        page.ready()
+        page.says(".forecast", "gets back supply")
+        self.assertEqual(
+            [page.field(each).get_attribute("value") for each in ("Device", "Switched")], ["CB-3", "close"]
+        )
+        page.click(".send")
+        page.says(".outcome .equal", "As forecast")
+        page.says(".saved-steps", "CB-3 close at")
+        found = self.live.call("/api/outages/2")[1]
+        self.assertEqual((found["outage"], [row["no"] for row in found["entries"]]), ("T_9", [1, 2]))
+
+    def test_keys_for_the_whole_page(self) -> None:
+        """N and / act where nobody types, and can be put off."""
+        page = self.one
+        page.open(f"{self.url}/")
+        self.press(page, "/", "n", "/")
+        self.assertEqual(page.field("Device, section").get_attribute("value"), "n/")
+        page.open(f"{self.url}/year")
+        self.press(page, "/")
+        page.wait(lambda: page.text("h1") == "Switching log", "the log's search")
+        page.ready()
+        page.wait(lambda: page.driver.switch_to.active_element == page.field("Device"), "the focus")
+        page.driver.execute_script("document.activeElement.blur()")
+        page.click(".keys input")
+        page.driver.execute_script("document.activeElement.blur()")
+        self.press(page, "n")
+        time.sleep(0.3)
+        self.assertEqual(page.text("h1"), "Switching log")
+        page.click(".keys input")
+        page.driver.execute_script("document.activeElement.blur()")
+        self.press(page, "N")
+        page.wait(lambda: page.text("h1") == "New switching", "the form")
+
+
+class References(unittest.TestCase):
+    def test_the_outage_in_a_reference(self) -> None:
+        for reference, name in {
+            "SCR-ANNA-2026_17_ABCDEFGH": "2026_17",
+            "SCR-ANNA-B-_K7M2PQ_ABCDEFGH": "_K7M2PQ",
+            "SCR-ANNA-ABCDEFGHJKLM": None,
+            "OUT-0327-1": "OUT_0327_1",
+            "": None,
+        }.items():
+            self.assertEqual(names.outage_in(reference), name, reference)
+
+
+if __name__ == "__main__":
+    unittest.main()
