@@ -12,7 +12,8 @@ from .reader import Entry
 from .state import Change, Refused, State
 from .views import Json, entry_view, forecast_view, late_hints, reference_of
 
-MOST_STEPS = 50
+MOST_STEPS = 30
+SHOWN = ("words", "sections", "reason", "total", "future")  # of the forecast of each step
 KINDS = ("switch", "correct", "withdraw")
 Step = Sequence[str]  # a command's kind and its fields
 Order = Sequence[int]  # places of steps
@@ -44,14 +45,12 @@ def forecast(state: State, steps: Sequence[Step]) -> Json:
     order = order_to_send(state, steps, in_time)
     sent = plans if order == in_time else walk(state, steps, order)[1]
     rows: list[Json] = [
-        {**forecast_view(before, planned, *steps[place]), "hints": list(planned.hints), "place": place}
-        for place, (before, planned) in zip(in_time, plans)
+        step_view(before, planned, steps[place]) | {"place": place} for place, (before, planned) in zip(in_time, plans)
     ]
     whole = together(state, last, [planned for _, planned in plans])
-    kind, *fields = steps[in_time[0]]
     ahead = [planned.second - state.now() for _, planned in plans if planned.second is not None]
     return {
-        **forecast_view(state, whole, kind, *fields),
+        **forecast_view(state, whole, *steps[in_time[0]]),
         "hints": late_hints("switch", min(ahead, default=0)),
         "future": next((row["future"] for row in reversed(rows) if row["future"]), None),
         "words": "; ".join(row["words"] for row in rows),
@@ -59,6 +58,11 @@ def forecast(state: State, steps: Sequence[Step]) -> Json:
         "order": list(order),
         "sent": [[list(move) for move in planned.moves] for _, planned in sent],
     }
+
+
+def step_view(state: State, planned: Plan, step: Step) -> Json:
+    shown = forecast_view(state, planned, *step)
+    return {**{name: shown[name] for name in SHOWN}, "hints": list(planned.hints)}
 
 
 def walk(state: State, steps: Sequence[Step], order: Order) -> tuple[State, list[tuple[State, Plan]]]:

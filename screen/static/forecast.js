@@ -96,13 +96,14 @@ function stepWords({ sections, reason }) {
   return sides.join("; ") || reason || "no section loses or gets back supply";
 }
 
-/** The steps of an outage by time; what they do together stands below them. */
-function stepParts({ steps, order }) {
+/** The steps of an outage by time; what they do together comes below them. */
+function stepParts(found) {
+  const { steps, order } = found;
   const hints = (step) => step.hints.map((hint) => el("p", { class: "warn hint" }, hint));
   const rows = steps.map((step) => el("li", {}, el("b", {}, step.words.split(", cause")[0]), `: ${stepWords(step)}`, hints(step)));
   const isEndsFirst = !same(order, steps.map((step) => step.place));
   const words = "The outage is over: its returns to the normal position are sent first, so that no page shows it as going on while the rest is on its way.";
-  return [el("ol", { class: "steps" }, rows), isEndsFirst ? el("p", { class: "note ends-first" }, words) : "", el("h3", {}, "All together")];
+  return [el("ol", { class: "steps" }, rows), isEndsFirst ? el("p", { class: "note ends-first" }, words) : "", el("h3", {}, `All together: ${stepWords(found)}`)];
 }
 
 /** The parts of a forecast; `tick` confirms a second in the future. */
@@ -112,7 +113,7 @@ export function forecastParts(found, tick) {
   if (found.future) parts.push(el("div", { class: "warn hint" }, el("p", {}, `This lies ${found.future} in the future.`), el("label", { class: "check" }, tick, " Yes, it is planned for then")));
   if (found.steps) parts.push(...stepParts(found));
   if (found.sections.length) parts.push(...sectionGroups(found.sections));
-  else if (!found.unmarked) parts.push(el("p", {}, "No section loses or gets back supply."));
+  else if (!found.unmarked && !found.steps) parts.push(el("p", {}, "No section loses or gets back supply."));
   if (found.reason) parts.push(el("p", { class: "warn reason" }, found.reason));
   parts.push(...unmarkedParts(found.unmarked));
   if (!found.unmarked) parts.push(...lostParts(found));

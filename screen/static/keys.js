@@ -1,4 +1,4 @@
-// Keys for the whole page: N for a new switching, / for the search. They do nothing while somebody types, and can be put off.
+// Keys for the whole page: N for a new switching, / for the search. They do nothing while somebody types, and can be turned off.
 import { el } from "./elements.js";
 import { store } from "./unanswered.js";
 
@@ -27,7 +27,7 @@ document.addEventListener("keydown", (event) => {
   work();
 });
 
-/** Says which keys there are, and puts them off for this browser: who speaks to a computer may press them without meaning to. */
+/** Says which keys there are, and turns them off for this browser: who speaks to a computer may press them without meaning to. */
 export function keysNote() {
   const change = () => (box.checked ? store?.removeItem(OFF) : store?.setItem(OFF, "yes"));
   const box = el("input", { type: "checkbox", checked: !store?.getItem(OFF), change });

@@ -105,7 +105,7 @@ export class Outages {
     const { at } = this.shown;
     const names = outage.sections.map((row) => row.section).join(", ");
     return [
-      outage.device ? { told: `${outage.device} ${outage.entry}`, make: () => el("a", { class: "nowrap outage", href: this.form(outage) }, outage.device) } : "no switching",
+      outage.device ? this.linked(outage) : "no switching",
       number(outage.customers),
       outage.sections.length > SECTIONS_SHOWN ? { told: `${names} ${outage.customers}`, make: () => unfolded(outage, names) } : names,
       outage.feeders.join(", "),
@@ -117,6 +117,11 @@ export class Outages {
       outage.until ? { told: outage.until.text, make: () => moment(outage.until) } : { told: "open", make: () => el("span", { class: "open" }, "open") },
       this.closing(outage),
     ];
+  }
+
+  linked(outage) {
+    const href = this.form(outage);
+    return { told: href, make: () => el("a", { class: "outage nowrap", href }, outage.device) };
   }
 
   /** The form of an outage, filled in. */

@@ -137,7 +137,10 @@ export class Sender {
     if (this.intent || this.rests || this.isBusy) return;
     const { length } = this.read();
     this.age();
-    if (!length || !this.shown || this.button.disabled || !(await this.isOfNow())) {
+    this.isBusy = true; // the second click of a double one comes before an answer of the server
+    const isReady = length && this.shown && !this.button.disabled && (await this.isOfNow());
+    this.isBusy = false;
+    if (!isReady) {
       const why = !length ? this.missing : this.shown?.future && !this.tick.checked ? "Not sent: it lies in the future. Tick that it is planned, and send then." : SHOWN_FIRST;
       this.outcome.replaceChildren(el("p", { class: "note" }, why));
       if (!this.shown) this.update();
@@ -154,10 +157,8 @@ export class Sender {
   async isOfNow() {
     if (!this.clock?.isNow) return true;
     const before = supplyOf(this.shown);
-    this.isBusy = true;
     this.clock.tick({ isSent: true });
     await this.look();
-    this.isBusy = false;
     return Boolean(this.shown) && same(before, supplyOf(this.shown));
   }
 

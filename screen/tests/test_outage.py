@@ -22,6 +22,13 @@ STEPS = {
     ("lbs-11", 20): "close",
     ("cb-1", 10): "close",
 }
+EFFECTS = (
+    "5 sections, 15 customers lose supply",
+    "no section loses or gets back supply",
+    "4 sections, 13 customers get back supply",
+    "1 section, 2 customers get back supply",
+    "no section loses or gets back supply",
+)
 SENT = [
     "LBS-11 close",
     "CB-1 close",
@@ -38,6 +45,7 @@ window.fetch = async (route, options) => {
   %s
 };
 """
+CLICKS = "const button = document.querySelector('.send'); button.click(); button.click();"
 LEFT = 'location.href = "/network"; return new Promise(() => {});'
 SPOILT = 'return real(route, { ...options, body: options.body.replace("CB-1", "CB-9") });'
 
@@ -70,60 +78,53 @@ class Outages(Case):
         for device, minutes_ago in STEPS:
             self.press(page, device, Keys.TAB, self.clock(minutes_ago), Keys.TAB, Keys.TAB)
         self.press(page, Keys.TAB, "2")
-        page.says(".forecast .lost", "Customer-minutes lost: +")
-        page.wait(
-            lambda: len(page.all(".forecast .steps li")) == len(STEPS) and page.find(".send").is_enabled(),
-            "the forecast",
-        )
+        self.forecast(page, len(STEPS))
+
+    def forecast(self, page: browser.Browser, steps: int) -> None:
+        """Waits for the forecast of so many steps."""
+        page.wait(lambda: len(page.all(".forecast .steps li")) == steps and page.find(".send").is_enabled(), "it")
+
+    def words(self) -> list[str]:
+        return [f"{row['device']} {row['action']}" for row in self.saved()]
 
     def saved(self) -> list[dict[str, Any]]:
         """The entries, in the order in which they came."""
         rows: list[dict[str, Any]] = self.live.call("/api/sheet")[1]["rows"]
         return sorted(rows, key=lambda row: int(row["no"]))
 
-    def words(self) -> list[str]:
-        return [f"{row['device']} {row['action']}" for row in self.saved()]
-
     def test_three_restorations_by_seventy_keys_and_one_send(self) -> None:
+        """Meanwhile nobody is shown that it goes on; then it is undone at once."""
         page = self.one
+        self.other.open(f"{self.url}/", "BERT")
+        self.other.says("main", "All sections are supplied")
+        self.other.record("main")
         page.open(f"{self.url}/")
         self.press(page, "n")
         page.find(".sender")
         page.ready()
         self.enter(page)
-        steps = page.text(".forecast .steps").splitlines()
-        self.assertEqual(
-            [line.split(" at ")[0] for line in steps], [f"{name.upper()} {STEPS[name, at]}" for name, at in STEPS]
-        )
-        for line, told in zip(
-            steps,
-            (
-                "5 sections, 15 customers lose",
-                "no section",
-                "4 sections, 13 customers get back",
-                "1 section, 2 customers get back",
-                "no section",
-            ),
-        ):
-            self.assertIn(told, line)
-        self.assertIn("+320 (+19", page.text(".forecast .lost").replace("\u2009", ""))
+        for line, step, effect in zip(page.text(".forecast .steps").splitlines(), STEPS, EFFECTS):
+            self.assertTrue(line.startswith(f"{step[0].upper()} {STEPS[step]} at "), line)
+            self.assertIn(effect, line)
+        self.assertIn("All together: 5 sections, 15 customers lose supply", page.text(".forecast h3"))
+        self.assertIn("+320 (+19200 customer-seconds)", page.text(".forecast .lost").replace("\u2009", ""))
         self.press(page, Keys.TAB, Keys.ENTER)
         page.says(".outcome .equal", "As forecast")
         self.assertLessEqual(self.keys, 70)
         self.assertEqual(self.words(), SENT)
-        self.assertEqual(page.text(".saved-steps li").count("entry"), len(STEPS))
+        page.wait(lambda: page.text(".saved-steps li").count("entry") == len(STEPS), "the saved steps")
+        last = str(self.live.number())
+        number = "return document.body.dataset.number"
+        self.other.wait(lambda: self.other.driver.execute_script(number) == last, "the last step")
+        self.assertNotIn("cut off by", self.other.driver.execute_script("return window.recorded.join()"))
         page.click(".undo")
-        page.wait(lambda: page.all(".outcome .send") and page.find(".outcome .send").is_enabled(), "the way back")
         page.click(".outcome .send")
         page.says(".outcome .outcome .equal", "As forecast")
         self.assertFalse(any(row["kept"] for row in self.saved()))
 
-    def test_an_outage_that_is_over_is_never_shown_as_going_on(self) -> None:
-        """Both ends are known: one send, and the end goes first. On a phone, by a finger."""
+    def test_an_outage_that_is_over_by_a_finger_on_a_phone(self) -> None:
+        """Both ends are known: one send, and the end goes first. The remark is in the log, at the entry and in the hand-over."""
         page = self.other
-        self.one.open(f"{self.url}/", "BERT")
-        self.one.says("main", "All sections are supplied")
-        self.one.record("main")
         page.open(f"{self.url}/enter?device=CB-2")
         page.fill("Time (", self.clock(300))
         rows = "return [...document.querySelectorAll('.step')]"
@@ -135,36 +136,20 @@ class Outages(Case):
         page.fill("Cause", "2")
         page.fill("Ticket number", "2026-17")
         page.fill("Remark", "A tree on the line.")
+        self.forecast(page, 2)
         page.says(".ends-first", "sent first")
-        page.wait(lambda: page.find(".send").is_enabled(), "the button")
         page.tap_on("Send to the desk")
         page.says(".outcome .equal", "As forecast")
+        wide, room = page.driver.execute_script("return [document.documentElement.scrollWidth, window.innerWidth]")
+        self.assertLessEqual(wide, room)
         self.assertEqual(self.words(), ["CB-2 close", "CB-2 open"])
         self.assertRegex(self.saved()[0]["commands"][0]["ref"], r"SCR-ANNA-2026_17_[A-Z2-9]{8}")
-        self.one.driver.get(f"{self.url}/sheet?entry=2")
-        self.one.ready()
-        self.one.says("main table", "2026_17")
-        self.one.says("#detail .remark", "A tree on the line.")
-        self.one.unfold("main")
-        self.one.says("main", "(A tree on the line.)")
+        page.open(f"{self.url}/sheet?entry=2")
+        page.says("main table", "2026_17")
+        page.says("#detail .remark", "A tree on the line.")
+        page.unfold("main")
+        page.says("main", "(A tree on the line.)")
         self.assertIn("(A tree on the line.)", support.call(f"{self.live.url}/shift")[1].decode())
-        shown, room = page.driver.execute_script("return [document.documentElement.scrollWidth, window.innerWidth]")
-        self.assertLessEqual(shown, room)
-
-    def test_nobody_sees_it_between_its_steps(self) -> None:
-        page = self.one
-        self.other.open(f"{self.url}/", "BERT")
-        self.other.says("main", "All sections are supplied")
-        self.other.record("main")
-        page.open(f"{self.url}/enter")
-        self.enter(page)
-        page.click(".send")
-        page.says(".outcome .equal", "As forecast")
-        self.other.wait(
-            lambda: self.other.driver.execute_script("return document.body.dataset.number") == str(self.live.number()),
-            "the last step",
-        )
-        self.assertNotIn("cut off by", self.other.driver.execute_script("return window.recorded.join()"))
 
     def test_killed_between_steps_and_resumed(self) -> None:
         """The page is left after two steps; then the screen's proxy answers 502, and the desk hangs while the page is left again:
@@ -172,8 +157,7 @@ class Outages(Case):
         page = self.one
         page.open(f"{self.url}/enter")
         self.enter(page)
-        page.driver.execute_script(THIRD % LEFT)
-        page.click(".send")
+        page.driver.execute_script(THIRD % LEFT + CLICKS)
         page.wait(lambda: page.text("h1") == "Network", "another page")
         page.ready()
         page.says(".unanswered", "3 commands without an answer")
@@ -195,10 +179,8 @@ class Outages(Case):
         page.click(".again-above")
         page.says(".unanswered", "Saved as commands")
         self.assertEqual(self.words(), SENT)
-        references = [row["commands"][0]["ref"] for row in self.saved()]
-        self.assertEqual(len(set(references)), len(SENT))
-        self.assertEqual(len({names.outage_in(each) for each in references}), 1)
-        self.assertTrue(all(len(row["commands"]) == 1 for row in self.saved()))
+        references = {row["commands"][0]["ref"] for row in self.saved()}
+        self.assertEqual((len(references), len({names.outage_in(each) for each in references})), (len(SENT), 1))
         page.driver.refresh()
         page.ready()
         self.assertEqual(page.text(".unanswered"), "")
@@ -208,56 +190,43 @@ class Outages(Case):
         page = self.one
         page.open(f"{self.url}/enter")
         self.enter(page)
-        page.driver.execute_script(THIRD % SPOILT)
-        page.click(".send")
+        page.driver.execute_script(THIRD % SPOILT + CLICKS)
         page.says(".refusal", "Refused: 2")
         page.says(".refusal .saved-before", "entries 1, 2; the other 3 of 5 steps aren't")
         self.assertEqual(self.words(), SENT[:2])
-        page.wait(
-            lambda: len(page.all(".forecast .steps li")) == 3 and page.find(".send").is_enabled(), "the other three"
-        )
-        page.click(".send")
-        page.says(".outcome .equal", "As forecast")
+        self.forecast(page, 3)
+        page.send()
         self.assertEqual(self.words(), SENT)
         page.wait(lambda: page.text(".saved-steps li").count("entry") == len(SENT), "all steps")
 
     def test_a_row_leads_to_the_form_filled_in(self) -> None:
         page = self.one
+
+        def follow(link: str, saved: str, **wanted: str) -> None:
+            page.open(f"{self.url}/", "BERT")
+            page.says("table.outages", "T_9")
+            page.click(link)
+            page.says(".saved-steps", saved)
+            page.ready()
+            self.assertEqual({name: page.field(name).get_attribute("value") for name in wanted}, wanted)
+
         page.open(f"{self.url}/enter?device=CB-3")
         page.fill("Cause", "1")
         page.fill("Crew", "NORTH")
-        page.fill("Ticket number", "T-9")
-        page.wait(lambda: page.find(".send").is_enabled(), "the button")
-        page.click(".send")
-        page.says(".outcome .equal", "As forecast")
-        page.open(f"{self.url}/", "BERT")
-        page.says("table.outages", "T_9")
-        page.click("a.outage")
-        page.find(".sender")
-        page.ready()
-        page.says(".saved-steps", "CB-3 open at")
-        self.assertEqual(
-            [page.field(each).get_attribute("value") for each in ("Device", "Cause", "Crew", "Ticket")],
-            ["", "1", "NORTH", "T_9"],
-        )
-        page.driver.back()
-        page.ready()
-        page.click("a.close")
-        page.find(".sender")
-        page.ready()
+        page.fill("Ticket", "t-9")
+        page.send()
+        follow("a.outage", "CB-3 open at", Device="", Cause="1", Crew="NORTH", Ticket="T_9")
+        follow("a.close", "CB-3 open at", Device="CB-3", Cause="1", Crew="NORTH", Ticket="T_9")
         page.says(".forecast", "gets back supply")
-        self.assertEqual(
-            [page.field(each).get_attribute("value") for each in ("Device", "Switched")], ["CB-3", "close"]
-        )
-        page.click(".send")
-        page.says(".outcome .equal", "As forecast")
+        page.send()
         page.says(".saved-steps", "CB-3 close at")
         found = self.live.call("/api/outages/2")[1]
         self.assertEqual((found["outage"], [row["no"] for row in found["entries"]]), ("T_9", [1, 2]))
 
     def test_keys_for_the_whole_page(self) -> None:
-        """N and / act where nobody types, and can be put off."""
+        """N and / act where nobody types, and can be turned off."""
         page = self.one
+        nowhere = "document.activeElement.blur()"
         page.open(f"{self.url}/")
         self.press(page, "/", "n", "/")
         self.assertEqual(page.field("Device, section").get_attribute("value"), "n/")
@@ -266,16 +235,12 @@ class Outages(Case):
         page.wait(lambda: page.text("h1") == "Switching log", "the log's search")
         page.ready()
         page.wait(lambda: page.driver.switch_to.active_element == page.field("Device"), "the focus")
-        page.driver.execute_script("document.activeElement.blur()")
-        page.click(".keys input")
-        page.driver.execute_script("document.activeElement.blur()")
-        self.press(page, "n")
-        time.sleep(0.3)
-        self.assertEqual(page.text("h1"), "Switching log")
-        page.click(".keys input")
-        page.driver.execute_script("document.activeElement.blur()")
-        self.press(page, "N")
-        page.wait(lambda: page.text("h1") == "New switching", "the form")
+        for key, title in {"n": "Switching log", "N": "New switching"}.items():
+            page.click(".keys input")
+            page.driver.execute_script(nowhere)
+            self.press(page, key)
+            time.sleep(0.3)  # in which a page would be left
+            page.wait(lambda: page.text("h1") == title, title)
 
 
 class References(unittest.TestCase):
