@@ -110,7 +110,7 @@ begin(async () => {
   const outage = new Outage();
   main.append(
     lookOnly(),
-    el("div", { class: "two" }, outage.form, el("div", { class: "card" }, outage.sender.element)),
+    el("div", { class: "two" }, outage.form, el("div", { class: "card stays" }, outage.sender.element)),
     foot(`What it would do is computed here; the answer to a command is ${source()}.`),
   );
   onCommands(() => { outage.steps.forgetBook(); reloadBook(); });

@@ -3,6 +3,7 @@ step is the one that is read anew."""
 
 import random
 import unittest
+import unittest.mock
 from collections.abc import Callable
 from pathlib import Path
 
@@ -156,6 +157,21 @@ class Forecasts(unittest.TestCase):
         office = Office(self, desk, 4)
         self.assertGreater(sum(office.act_on_steps(number) for number in range(40)), 100)
         self.assertEqual(sorted_amounts(office.known), sorted_amounts(read(desk.book)))
+
+    def test_the_order_in_which_steps_are_sent(self) -> None:
+        """Returns first where all is over, unless two steps have one second; else by time."""
+        known = read(support.fortnight("order"))
+        steps = (("TIE-1", "open"), ("CB-1", "open"), ("TIE-1", "close"), ("CB-1", "close"))
+        for now, seconds, order in (
+            (END, (40, 10, 20, 30), [3, 0, 1, 2]),
+            (END, (40, 10, 20, 20), [1, 2, 3, 0]),
+            (FIRST + 35, (40, 10, 20, 30), [1, 2, 3, 0]),
+        ):
+            sent = [["switch", *step, str(FIRST + second), "5", "CREW-3"] for step, second in zip(steps, seconds)]
+            with unittest.mock.patch("time.time", return_value=float(now)):
+                shown = outage.forecast(known, sent)
+            self.assertEqual(shown["order"], order)
+            self.assertEqual([step["place"] for step in shown["steps"]], [1, 2, 3, 0])
 
     def test_what_is_no_list_of_steps(self) -> None:
         for wrong in (
