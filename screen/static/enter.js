@@ -82,24 +82,29 @@ class Outage {
     await this.show(replies[0].entry);
   }
 
-  /** Shows the entries that an outage has; `isFirst` where the form is filled in from them. */
-  async show(number, { isFirst = false } = {}) {
-    const { outage, entries } = await get(`/api/outages/${number}`);
+  /** Shows the entries that an outage has: all of them, and its name. */
+  async show(number) {
+    const found = await get(`/api/outages/${number}`);
     const another = el("a", { class: "another", href: "/enter" }, "A new outage");
-    this.saved.replaceChildren(...savedSteps(entries), el("div", { class: "buttons" }, another));
-    if (!isFirst) return;
-    const { cause, crew } = entries.find((entry) => entry.no === Number(number));
+    this.saved.replaceChildren(...savedSteps(found.entries), el("div", { class: "buttons" }, another));
+    return found;
+  }
+
+  /** Fills the form in from an entry of an outage: its device. */
+  async fillFrom(number) {
+    const { outage, entries } = await this.show(number);
+    const { cause, crew, device } = entries.find((entry) => entry.no === Number(number));
     this.cause.value = String(cause);
     this.crew.value = crew;
     if (outage?.startsWith("_")) this.own = outage;
     else if (outage && outage.length <= ticketLetters()) this.ticket.value = outage;
+    return device;
   }
 
   async fill({ device = "", at, entry, close }) {
     const first = this.steps.rows[0];
-    if (entry) await this.show(entry, { isFirst: true });
-    const entered = entry && close ? await get(`/api/entries/${entry}`) : null;
-    first.device.value = entered?.device ?? device;
+    const cutter = entry ? await this.fillFrom(entry) : device;
+    if (close || !entry) first.device.value = cutter;
     await (at ? first.second.set(at) : first.second.now());
     this.steps.tidy();
     this.steps.look();

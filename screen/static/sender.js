@@ -214,8 +214,7 @@ export class Sender {
   /** What of a list is saved, where that isn't all of it. */
   savedBefore() {
     const { replies, commands } = this.intent;
-    const rest = `; the other ${commands.length - replies.length} of ${commands.length} steps aren't.`;
-    return replies.length ? el("p", { class: "saved-before" }, "Saved before it: ", entryLinks(replies), rest) : "";
+    return replies.length ? el("p", { class: "saved-before" }, "Saved so far: ", entryLinks(replies), ` (${replies.length} of ${commands.length} steps).`) : "";
   }
 
   answeredElsewhere() {

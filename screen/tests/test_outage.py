@@ -47,6 +47,7 @@ window.fetch = async (route, options) => {
 """
 CLICKS = "const button = document.querySelector('.send'); button.click(); button.click();"
 LEFT = 'location.href = "/network"; return new Promise(() => {});'
+LOST = 'return new Response("no", { status: 502 });'
 SPOILT = 'return real(route, { ...options, body: options.body.replace("CB-1", "CB-9") });'
 
 
@@ -83,6 +84,12 @@ class Outages(Case):
     def forecast(self, page: browser.Browser, steps: int) -> None:
         """Waits for the forecast of so many steps."""
         page.wait(lambda: len(page.all(".forecast .steps li")) == steps and page.find(".send").is_enabled(), "it")
+
+    def break_off(self, page: browser.Browser, how: str) -> None:
+        """Types all of it and sends it by a double click; something happens to the third command."""
+        page.open(f"{self.url}/enter")
+        self.enter(page)
+        page.driver.execute_script(THIRD % how + CLICKS)
 
     def words(self) -> list[str]:
         return [f"{row['device']} {row['action']}" for row in self.saved()]
@@ -155,9 +162,7 @@ class Outages(Case):
         """The page is left after two steps; then the screen's proxy answers 502, and the desk hangs while the page is left again:
         no step is lost, none comes twice, and their order stays."""
         page = self.one
-        page.open(f"{self.url}/enter")
-        self.enter(page)
-        page.driver.execute_script(THIRD % LEFT + CLICKS)
+        self.break_off(page, LEFT)
         page.wait(lambda: page.text("h1") == "Network", "another page")
         page.ready()
         page.says(".unanswered", "3 commands without an answer")
@@ -185,14 +190,20 @@ class Outages(Case):
         page.ready()
         self.assertEqual(page.text(".unanswered"), "")
 
+    def test_a_step_without_an_answer(self) -> None:
+        page = self.one
+        self.break_off(page, LOST)
+        page.says(".outcome .saved-before", "entries 1, 2 (2 of 5 steps)")
+        page.click(".outcome .again")
+        page.says(".outcome .equal", "As forecast")
+        self.assertEqual(self.words(), SENT)
+
     def test_a_step_that_is_refused(self) -> None:
         """Those before it are saved; it stays in the form with those after it, and they are sent once they are right."""
         page = self.one
-        page.open(f"{self.url}/enter")
-        self.enter(page)
-        page.driver.execute_script(THIRD % SPOILT + CLICKS)
+        self.break_off(page, SPOILT)
         page.says(".refusal", "Refused: 2")
-        page.says(".refusal .saved-before", "entries 1, 2; the other 3 of 5 steps aren't")
+        page.says(".refusal .saved-before", "entries 1, 2 (2 of 5 steps)")
         self.assertEqual(self.words(), SENT[:2])
         self.forecast(page, 3)
         page.send()
