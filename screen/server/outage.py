@@ -13,7 +13,7 @@ from .state import Change, Refused, State
 from .views import Json, entry_view, forecast_view, late_hints, reference_of
 
 MOST_STEPS = 30
-SHOWN = ("words", "sections", "reason", "total", "future")  # of the forecast of each step
+SHOWN = ("words", "reason", "total", "future")  # of the forecast of each step
 KINDS = ("switch", "correct", "withdraw")
 Step = Sequence[str]  # a command's kind and its fields
 Order = Sequence[int]  # places of steps
@@ -61,8 +61,10 @@ def forecast(state: State, steps: Sequence[Step]) -> Json:
 
 
 def step_view(state: State, planned: Plan, step: Step) -> Json:
+    """What a step would do; of the sections those whose supply changes at its second, and not only later on."""
     shown = forecast_view(state, planned, *step)
-    return {**{name: shown[name] for name in SHOWN}, "hints": list(planned.hints)}
+    sections = [row for row in shown["sections"] if planned.second in (None, row["since"]["second"])]
+    return {**{name: shown[name] for name in SHOWN}, "sections": sections, "hints": list(planned.hints)}
 
 
 def walk(state: State, steps: Sequence[Step], order: Order) -> tuple[State, list[tuple[State, Plan]]]:

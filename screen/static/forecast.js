@@ -90,7 +90,7 @@ function sideWords(rows, verb) {
   return rows.length ? [`${number(rows.length)} section${rows.length > 1 ? "s" : ""}, ${number(customers)} customers ${verb}`] : [];
 }
 
-/** What one step of an outage does, on what those before it leave. */
+/** What a step does at its second, on what those before it leave; or all of them together. */
 function stepWords({ sections, reason }) {
   const sides = [...sideWords(sections.filter((row) => row.loses), "lose supply"), ...sideWords(sections.filter((row) => row.gets_back && !row.loses), "get back supply")];
   return sides.join("; ") || reason || "no section loses or gets back supply";
