@@ -386,18 +386,13 @@ async def rows(request: web.Request) -> web.StreamResponse:
     return answer(*await asyncio.shield(office_of(request).import_rows(login, data)))
 
 
-async def customers(request: web.Request) -> web.StreamResponse:
-    return answer(200, views.customers_view(office_of(request).state, request.query.get("section", "")))
+def shows(view: Callable[[Office, dict[str, str]], Any]) -> Handler:
+    """A route that shows what is known, by what is asked for."""
 
+    async def show(request: web.Request) -> web.StreamResponse:
+        return answer(200, view(office_of(request), dict(request.query)))
 
-async def journal(request: web.Request) -> web.StreamResponse:
-    """The screen's log by time of sending, latest first; `since`, `until` and `name` ask for a part of it."""
-    return answer(200, shift.log_view(office_of(request), dict(request.query)))
-
-
-async def changes(request: web.Request) -> web.StreamResponse:
-    """What a shift hands over: open outages, what was entered since a time and by whom, the marked days."""
-    return answer(200, shift.shift_view(office_of(request), dict(request.query)))
+    return show
 
 
 async def shift_page(request: web.Request) -> web.StreamResponse:
@@ -411,10 +406,6 @@ async def shift_page(request: web.Request) -> web.StreamResponse:
     shown["book"] = settings.name
     data = handover.page(shown, query, name_of(request, login), why, settings.training)
     return web.Response(status=status, text=data, content_type="text/html", charset="utf-8")
-
-
-async def marks(request: web.Request) -> web.StreamResponse:
-    return answer(200, shift.marks_view(office_of(request)))
 
 
 # The year.
@@ -525,10 +516,10 @@ GETS: dict[str, Handler] = {
     "/api/moment": moment,
     "/api/position": position,
     "/api/forecast": forecast,
-    "/api/customers": customers,
-    "/api/log": journal,
-    "/api/changes": changes,
-    "/api/marks": marks,
+    "/api/customers": shows(lambda office, query: views.customers_view(office.state, query.get("section", ""))),
+    "/api/log": shows(shift.log_view),
+    "/api/changes": shows(shift.shift_view),
+    "/api/marks": shows(lambda office, _: shift.marks_view(office)),
     "/shift": shift_page,
     "/api/year": table,
     "/api/totals": totals,
