@@ -215,7 +215,7 @@ def history_view(state: State, command: Command) -> Json:
 # Forecasts.
 
 
-def forecast_view(state: State, planned: Plan, kind: str, fields: Sequence[str]) -> Json:
+def forecast_view(state: State, planned: Plan, kind: str, *fields: str) -> Json:
     """What a command would do as the book stands: computed here."""
     ahead = 0 if planned.second is None else planned.second - state.now()
     sections = sections_of(state, planned)

@@ -104,7 +104,7 @@ function show() {
 }
 
 begin(async () => {
-  const search = text({ input: settled(() => { searched = search.value.trim().toUpperCase(); show(); }) });
+  const search = text({ "data-search": "yes", input: settled(() => { searched = search.value.trim().toUpperCase(); show(); }) });
   form = known.me.may_send ? commandForm() : null;
   main.append(words, lookOnly(), form ? form.element : "", el("div", { class: "card short no-print" }, field("Search nodes and devices", search)), customers, el("div", { class: "two" }, devices, nodes), foot("Devices, nodes and customers are those of the book; what a change would do is computed here."));
   onCommands(async () => { await reloadBook(); show(); });
