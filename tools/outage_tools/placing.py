@@ -57,14 +57,16 @@ def new_file(path: Path) -> Iterator[BinaryIO]:
     """A new file, which gets its name once the block has ended well and its bytes are on the disk."""
     with writing(path):
         handle, hidden = open_without_name(path)
+    file = open(handle, "wb")
     try:
-        with open(handle, "wb") as file:
-            yield file
-            with writing(path):
-                file.flush()
-                os.fsync(file.fileno())
-                name_file(file, hidden, path)
+        yield file
+        with writing(path):
+            file.flush()
+            os.fsync(file.fileno())
+            name_file(file, hidden, path)
     finally:
+        with suppress(OSError):  # of a file that couldn't be written: its error has been raised
+            file.close()
         if hidden is not None:
             hidden.unlink(missing_ok=True)
 
