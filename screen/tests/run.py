@@ -23,7 +23,13 @@ from pathlib import Path
 HERE = Path(__file__).resolve().parent
 DEBIAN_PYTHON = Path("/usr/bin/python3")  # sees Debian's packages
 SHORT = {"SCREEN_KILLS": "5"}
-WHOLE = {"SCREEN_KILLS": "100", "SCREEN_COMMANDS": "200", "SCREEN_SECONDS": "60", "SCREEN_LONG": "yes"}
+WHOLE = {
+    "SCREEN_KILLS": "100",
+    "SCREEN_COMMANDS": "200",
+    "SCREEN_SECONDS": "60",
+    "SCREEN_LONG": "yes",
+    "SCREEN_AWAY": "60",
+}
 IN_SHORT = (
     "test_forecasts",
     "test_figures",
@@ -31,7 +37,7 @@ IN_SHORT = (
     "test_shift",
     "test_proxy.BehindNginx.test_logins_and_who_may_send",
     "test_proxy.BehindNginx.test_one_connection_for_all_pages",
-    "test_browser.Live.test_eight_tabs_or_windows_of_one_browser",
+    "test_browser.Live.test_ten_tabs_or_windows_of_one_browser",
     "test_browser.Live.test_after_any_answer_a_page_hears_again",
     "test_browser.Live.test_commands_without_an_answer_stay_in_the_head_of_every_page",
     "test_browser.Live.test_the_time_is_now_until_one_is_typed",
