@@ -12,7 +12,7 @@ from .moments import duration
 from .network import Supply
 from .reader import Command, Entry
 from .reasons import still_cut_off
-from .state import LATE_SECONDS, Run, State
+from .state import LATE_SECONDS, Run, State, run_at
 from .to_now import is_live, marks_view
 
 Json = dict[str, Any]
@@ -89,6 +89,33 @@ def outage_view(state: State, node: int, run: Run, at: int) -> Json:
     return shown
 
 
+def news_view(state: State, commands: Sequence[Command]) -> list[Json]:
+    """The outages that go on and were begun by switchings among some commands, the largest first."""
+    now, begun = state.now(), {state.changed[each.number]: each for each in commands if each.kind == "switch"}
+    found: dict[int, list[int]] = {}
+    for node, runs in state.runs.items():
+        if state.is_section(node) and (run := run_at(runs, now)) is not None and run.cutter in begun:
+            found.setdefault(run.cutter, []).append(node)
+    shown = [outage_news(state, begun[entry], entry, nodes, now) for entry, nodes in found.items()]
+    return sorted(shown, key=lambda row: (-row["customers"], row["no"]))
+
+
+def outage_news(state: State, command: Command, number: int, nodes: Sequence[int], now: int) -> Json:
+    """A new outage: which device, who entered it, where, and how many customers it cut off."""
+    entry = state.sheet.entries[number - 1]
+    return {
+        "no": command.number,
+        "ref": command.ref,
+        "entry": number,
+        "device": state.sheet.devices[entry.device].name,
+        "crew": entry.crew,
+        "since": moment(state, entry.second),
+        "feeders": sorted({state.nodes[node][2] for node in nodes}),
+        "sections": [state.nodes[node][0] for node in nodes],
+        "customers": sum(state.roll(node).at(now) for node in nodes),
+    }
+
+
 def now_view(state: State, at: int) -> Json:
     """Who is without supply at a second, and how all devices stand then."""
     closed = state.sheet.closed_at(at)
@@ -110,9 +137,11 @@ def now_view(state: State, at: int) -> Json:
 
 
 def diagram_view(state: State, at: int, closed: Sequence[bool]) -> Json:
+    """The one-line diagram: parts without supply first, the others by feeder."""
     devices, nodes = state.sheet.devices, len(state.nodes)
-    layout: Layout = layout_of(nodes, devices)
     supplied = Supply(nodes, devices, closed).supplied
+    order = [(int(supplied[number]), feeder, number) for number, (_, _, feeder) in enumerate(state.nodes)]
+    layout: Layout = layout_of(nodes, devices, order)
     normal = normal_ways(nodes, devices, layout, closed)
     tree = set(layout.above.values())
     return {

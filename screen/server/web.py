@@ -300,6 +300,11 @@ async def now(request: web.Request) -> web.StreamResponse:
     return answer(200, views.now_view(office_of(request).state, at))
 
 
+async def news(request: web.Request) -> web.StreamResponse:
+    """The outages that began last, as far as this server has seen it, latest first."""
+    return answer(200, list(office_of(request).news))
+
+
 async def sheet(request: web.Request) -> web.StreamResponse:
     return answer(200, search.sheet_view(office_of(request).state, dict(request.query)))
 
@@ -501,6 +506,7 @@ GETS: dict[str, Handler] = {
     "/api/book": book,
     "/api/second": second,
     "/api/now": now,
+    "/api/news": news,
     "/api/sheet": sheet,
     r"/api/entries/{no:\d{1,6}}": entry,
     "/api/moment": moment,

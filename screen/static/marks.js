@@ -5,7 +5,7 @@ export function markedDays() {
   const place = el("div", {});
   const show = async () => {
     const rows = (await get("/api/marks")).map((row) => [row.day, row.engineer, row.at ? moment(row.at) : "", row.login]);
-    place.replaceChildren(rows.length ? table(["day", "marked by", "sent", "login"], rows) : el("p", {}, "No day is marked."));
+    place.replaceChildren(rows.length ? table(["day", "marked by", "sent", "login"], rows, "Marked days") : el("p", {}, "No day is marked."));
   };
   onCommands(show);
   show();

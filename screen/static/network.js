@@ -74,7 +74,7 @@ function showNodes() {
     node.name, ["source", "bus", "section"][node.kind], node.feeder ? String(node.feeder) : "",
     node.kind === 2 ? el("button", { type: "button", class: "small", click: () => showCustomers(node.name) }, "Customers") : "",
   ]);
-  renew(nodes, el("h2", {}, `${number(seen.length)} nodes`), scrolling("Nodes", table(["node", "kind", "#feeder", "~customers"], rows)));
+  renew(nodes, el("h2", {}, `${number(seen.length)} nodes`), scrolling("Nodes", table(["node", "kind", "#feeder", "~customers"], rows, "Nodes")));
 }
 
 function showDevices() {
@@ -85,14 +85,14 @@ function showDevices() {
     device.name, `${name(device.a)} \u2013 ${name(device.b)}`, device.normal, device.since || "always", device.until || "without end",
     form ? el("button", { type: "button", class: "small", "aria-label": `In service from/to: ${device.name}`, click: () => form.choose("life", device.name, device.since, device.until) }, "From/to") : "",
   ]);
-  renew(devices, el("h2", {}, `${number(seen.length)} devices`), scrolling("Devices", table(["device", "between", "normal", "in the network from", "until before", "~in service"], rows)));
+  renew(devices, el("h2", {}, `${number(seen.length)} devices`), scrolling("Devices", table(["device", "between", "normal", "in the network from", "until before", "~in service"], rows, "Devices")));
 }
 
 async function showCustomers(section) {
   const shown = await get("/api/customers", { section });
   const rows = shown.customers.map((row) => [String(row.no), row.since, row.until || "without end"]);
   const more = shown.found > shown.customers.length ? ` The first ${shown.customers.length} are shown.` : "";
-  customers.replaceChildren(el("div", { class: "card", tabindex: "-1" }, el("h2", {}, `${number(shown.found)} customers of ${section}`), el("p", {}, more), scrolling("Customers", table(["#customer", "in service from", "until before"], rows))));
+  customers.replaceChildren(el("div", { class: "card", tabindex: "-1" }, el("h2", {}, `${number(shown.found)} customers of ${section}`), el("p", {}, more), scrolling("Customers", table(["#customer", "in service from", "until before"], rows, `Customers of ${section}`))));
   customers.firstElementChild.focus();
 }
 
@@ -106,7 +106,7 @@ function show() {
 begin(async () => {
   const search = text({ input: settled(() => { searched = search.value.trim().toUpperCase(); show(); }) });
   form = known.me.may_send ? commandForm() : null;
-  main.append(words, lookOnly(), form ? form.element : "", el("div", { class: "card short no-print" }, field("Search nodes and devices", search)), customers, el("div", { class: "two" }, devices, nodes), foot("Devices, nodes and customers are those of the book; what a change would do is computed here."));
+  main.append(words, el("div", { class: "card short no-print" }, field("Search nodes and devices", search)), customers, el("div", { class: "two" }, devices, nodes), lookOnly(), form ? form.element : "", foot("Devices, nodes and customers are those of the book; what a change would do is computed here."));
   onCommands(async () => { await reloadBook(); show(); });
   show();
 });

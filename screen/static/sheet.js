@@ -112,7 +112,7 @@ async function show() {
   renew(
     rows,
     el("h2", {}, `${number(shown.found)} of ${number(shown.of)} entries`),
-    ...(lines.length ? [table(["entry", "time", "device", "position", "cause", "crew", "reference", "status"], lines, null, classes)] : empty),
+    ...(lines.length ? [table(["entry", "time", "device", "position", "cause", "crew", "reference", "status"], lines, "Entries", classes)] : empty),
     shown.found > 100 ? turns(shown) : "",
   );
   document.body.dataset.number = shown.number;
@@ -158,7 +158,7 @@ function work(entry, words, asked) {
   const crew = text({ list: "crews", maxlength: 16, value: entry.crew });
   const changed = () => sender.update();
   const second = new MomentField(`Time (${zoneName()})`, momentWords(entry.second.text), changed, { touched: () => sender.age() });
-  const told = el("div", {}, second.element, field("Position", position), field("Cause", cause), field("Crew", crew, spelled(crew, "crew")));
+  const told = el("div", {}, second.element, field("Position", position), field("Cause of the entry", cause), field("Crew of the entry", crew, spelled(crew, "crew")));
   const read = () => {
     const seen = { f1: String(entry.no), f2: String(entry.revision) };
     if (kind.value === "withdraw") return { kind: "withdraw", ...seen };

@@ -33,5 +33,5 @@ export async function showLog() {
 export function shiftLog() {
   for (const input of [since, name]) input.addEventListener("input", settled(showLog));
   const search = el("div", { class: "row no-print" }, el("label", {}, "Since ", since), el("label", {}, "By ", name), link);
-  return el("section", { "aria-label": "The screen's log" }, el("details", {}, el("summary", {}, "The screen's own log: who sent what, when"), search, rows));
+  return el("section", { "aria-label": "The screen's log" }, el("details", {}, el("summary", {}, "The screen's own log: who sent what, when; latest first"), search, rows));
 }

@@ -5,7 +5,7 @@ import { known, post, Trouble } from "./requests.js";
 
 const PREFIX = "outagebook-unanswered ";
 const LOOK_SECONDS = 5; // between two looks whether a page that sent a command is still there
-const store = storage();
+export const store = storage();
 const here = new Map(); // what this page itself sends, by reference: its form shows it, and goes on with it
 const place = el("div", { class: "unanswered no-print" });
 const shown = new Map(); // rows by reference
