@@ -8,7 +8,7 @@ from typing import Any
 
 from .commands import FIELDS, Plan, day_of, sections_of
 from .diagram import Layout, layout_of, normal_ways
-from .moments import duration
+from .moments import double_hours, duration
 from .network import Supply
 from .reader import Command, Entry
 from .reasons import still_cut_off
@@ -41,6 +41,7 @@ def book_view(state: State) -> Json:
         "last": moment(state, period.end - 1),
         "days": [day.isoformat() for day in period.days],
         "zone": period.zone.text,
+        "doubles": double_hours(period.zone, period.bounds),
         "today": text(state, state.now())[:10],
         "causes": sorted(state.causes.items()),
         "nodes": [{"name": name, "kind": kind, "feeder": feeder} for name, kind, feeder in state.nodes],

@@ -85,7 +85,7 @@ function wayShape(device, a, b) {
   return svg("path", { class: kinds.filter(Boolean).join(" "), d: wayOf(device, a, b).d });
 }
 
-function signShape(device, a, b) {
+function signShape(device, a, b, href) {
   const way = wayOf(device, a, b);
   const odd = device.alive && device.closed !== device.normal;
   const words = [device.closed && "closed", odd && "odd", !device.alive && "gone"].filter(Boolean);
@@ -95,7 +95,7 @@ function signShape(device, a, b) {
   const mark = odd ? [svg("path", { class: "ring", d: `M${way.x} ${way.y - 13}l13 13l-13 13l-13 -13z` })] : [];
   return svg(
     "a",
-    { class: words.join(" "), "aria-label": `${device.name}: ${state}. Enter a switching.` },
+    { class: words.join(" "), href, "aria-label": `${device.name}: ${state}. Enter a switching.` },
     svg("rect", { class: "hit", x: way.x - HIT / 2, y: way.y - HIT / 2, width: HIT, height: HIT }),
     ...mark,
     svg("rect", { class: "box", x: way.x - 6, y: way.y - 6, width: 12, height: 12 }),
@@ -112,18 +112,20 @@ class Shape {
     this.hadFocus = false;
   }
 
+  /** Whether it was drawn anew. */
   show(layer, ...from) {
     const told = JSON.stringify(from);
-    if (told === this.told) return;
+    if (told === this.told) return false;
     const old = this.element;
     this.element = this.draw(...from);
     this.told = told;
     if (!old) {
       layer.append(this.element);
-      return;
+      return true;
     }
     this.hadFocus = old === document.activeElement;
     old.replaceWith(this.element);
+    return true;
   }
 
   /** A link that was drawn anew takes the focus again: it needs its address for that. */
@@ -259,8 +261,7 @@ export class Diagram {
     }
     const device = devices[at], a = nodes[device.a], b = nodes[device.b];
     way.show(this.layers.way, device, a, b);
-    sign.show(this.layers.sign, device, a, b);
-    sign.element.setAttribute("href", this.link(device));
+    if (!sign.show(this.layers.sign, device, a, b, this.link(device))) return;
     sign.element.setAttribute("tabindex", at === this.here ? "0" : "-1");
     sign.element.dataset.at = at;
     sign.giveFocus();

@@ -1,4 +1,5 @@
 // Elements whose texts are set as text; numbers, moments, lengths of time, and references as they are shown.
+import { known } from "./requests.js";
 
 /** An element: attributes, listeners where a value is a function, and children, which are texts or elements. */
 export function el(tag, attributes = {}, ...children) {
@@ -39,6 +40,15 @@ const timeOf = (text, parts) => el("time", { datetime: text }, parts.map((part) 
 export function moment(value) {
   const text = typeof value === "string" ? value : value.text;
   return text ? timeOf(text, clock(text)) : "";
+}
+
+/** A moment in a list: its offset only in an hour that the clock shows twice. */
+export function listed(value) {
+  const text = typeof value === "string" ? value : value.text;
+  if (!text) return "";
+  const [day, time, offset] = clock(text), local = text.slice(0, 19);
+  const isTwice = known.book.doubles.some(([from, until]) => from <= local && local < until);
+  return timeOf(text, isTwice ? [day, time, offset] : [day, time]);
 }
 
 /** A moment as seen from another one: its day where that is another one, its offset where the clock was set in between. */

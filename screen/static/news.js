@@ -1,6 +1,6 @@
 // Outages that others have just entered: the last one in the line of the page's heading, all in a list, and their number in
 // the tab. The line has one height, so that nothing moves on the page and nothing is covered.
-import { el, moment, number } from "./elements.js";
+import { el, listed, number } from "./elements.js";
 import { get, known } from "./requests.js";
 import { senderOf, store } from "./unanswered.js";
 
@@ -78,7 +78,7 @@ export class News {
   }
 
   draw() {
-    const rows = this.outages.map((outage) => el("li", {}, this.link(outage, outage.device), ` ${customersOf(outage)}, ${feederOf(outage)}, ${sectionsOf(outage)}, by ${whoOf(outage)}, `, moment(outage.since)));
+    const rows = this.outages.map((outage) => el("li", {}, this.link(outage, outage.device), ` ${customersOf(outage)}, ${feederOf(outage)}, ${sectionsOf(outage)}, by ${whoOf(outage)}, `, listed(outage.since)));
     this.rows.replaceChildren(...(rows.length ? rows : [el("li", {}, "None since the screen was started.")]));
   }
 

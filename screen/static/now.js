@@ -16,7 +16,7 @@ let at = fromAddress(["at"]).at ?? "";
 let early = at ? null : get("/api/now").catch(() => null); // is asked for while the page's head is
 let field, slider, outages, count = 0;
 
-const link = (device) => `/enter?${new URLSearchParams({ device: device.name, ...(at ? { at } : {}) })}`;
+const link = (device) => `/enter?device=${encodeURIComponent(device.name)}${at && `&at=${encodeURIComponent(at)}`}`;
 const tile = (isOut, words, value, more = "") => el("div", { class: isOut ? "tile out" : "tile" }, `${words} `, el("b", {}, value), more && ` ${more}`);
 
 async function show({ anew = false } = {}) {

@@ -332,6 +332,11 @@ class Operators(Case):
         page.click(".send")
         page.says(".outcome .equal", "As forecast")
         self.assertIn("03:30:00+01:00", screen.call("/api/entries/1")[1]["second"]["text"])
+        screen.log_in("BERT")
+        screen.switch("close", "B1", second=1_761_440_400)
+        page.open(f"{screen.url}/sheet")
+        self.assertIn("2025-10-26 02:00:00 +01:00", page.says("main table", "03:30:00"))  # an hour that comes twice
+        self.assertNotIn("03:30:00 +01:00", page.text("main table"))
 
 
 # Locks of the browser's pages as on a busy machine.
