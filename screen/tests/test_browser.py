@@ -8,11 +8,13 @@ import subprocess
 import threading
 import time
 import unittest
+from collections import Counter
 from http.server import BaseHTTPRequestHandler, ThreadingHTTPServer
 
 import browser
 import support
 from selenium.webdriver.common.keys import Keys
+from server.reader import read_rows
 from test_server import LIGHTHOUSE, Cutter
 
 COMMANDS = int(os.environ.get("SCREEN_COMMANDS", "24"))
@@ -118,6 +120,29 @@ class Operators(Case):
         self.one.unfold(".outcome")
         self.assertIn('"no":103', self.one.text(".reply"))
         self.assertEqual(self.one.complaints() + self.other.complaints(), [])
+
+    def test_two_operators_on_one_device(self) -> None:
+        """Both see what the closing gives back, and send at once: the book has it once, and each is told what their own did."""
+        screen = self.screen()
+        pages = {"ANNA": self.one, "BERT": self.other}
+        for name, page in pages.items():
+            page.open(screen.url + LATE, name)
+            page.says(".forecast", "Customer-minutes lost: \u221224")
+            page.wait(lambda: page.find(".send").is_enabled(), "the button")
+        for page in pages.values():
+            page.driver.execute_script("setTimeout(() => document.querySelector('.send').click())")
+        for page in pages.values():
+            page.wait(lambda: page.all(".outcome .equal, .outcome .otherwise, .outcome .note"), "what became of it")
+        acted = [
+            json.loads(screen.call(f"/api/entries/{row['no']}")[1]["history"][0]["text"])["moved"]
+            for row in screen.call("/api/sheet")[1]["rows"]
+            if row["device"] == "LBS-22" and row["no"] > 35
+        ]
+        closed = [["cause", 5, -1440], ["feeder", 2, -1440], ["day", 13, -1440]]
+        self.assertEqual([moved for moved in acted if moved], [closed])
+        for page in pages.values():
+            said = page.text(".outcome")
+            self.assertTrue(any(each in said for each in ("As forecast", "it changed them by 0", "Not sent")), said)
 
     def test_a_form_that_changed_since_its_forecast_is_not_sent(self) -> None:
         screen = self.screen()
@@ -1205,6 +1230,9 @@ class Crowd(Case):
         desk = self.desk()
         screen = support.Screen(desk.book, desk=desk)
         self.addCleanup(screen.end)
+        third = browser.Browser()
+        self.addCleanup(third.end)
+        third.open(f"{screen.url}/", "CLEO")
         failures: list[str] = []
 
         def enter(page: browser.Browser, name: str, seed: int) -> None:
@@ -1243,9 +1271,14 @@ class Crowd(Case):
         last = 102 + COMMANDS // 2 * 2 + COMMANDS // 4 + 3
         support.until(lambda: screen.number() == last, what="all commands")
         self.assertIsNone(screen.call("/health")[1]["differs"])
+        shown = "return [document.body.dataset.number, document.querySelector('.alarm').textContent]"
+        third.wait(lambda: third.driver.execute_script(shown) == [str(last), ""], "the last command where nobody sends")
+        senders = Counter(command.ref.rpartition("-")[0] for command in read_rows(desk.book).commands[102:])
+        sent = {
+            name: senders[name] for name in ("SCR-ANNA", "SCR-BERT", "CURL")
+        }  # none is lost, and none is there twice
+        self.assertEqual(sent, {"SCR-ANNA": COMMANDS // 2, "SCR-BERT": COMMANDS // 2, "CURL": COMMANDS // 4})
         totals = desk.get("/totals")
-        third = browser.Browser()
-        self.addCleanup(third.end)
         for page, name in ((self.one, "ANNA"), (self.other, "BERT"), (third, "CLEO")):
             page.open(f"{screen.url}/year", name)
             shown = page.text("main").replace("\u2009", "")
