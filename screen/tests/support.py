@@ -13,6 +13,7 @@ import sys
 import tempfile
 import threading
 import time
+import unittest
 import urllib.error
 import urllib.request
 from collections.abc import Callable
@@ -254,6 +255,21 @@ class Screen:
         """The process of the desk that this screen started."""
         children = Path(f"/proc/{self.process.pid}/task/{self.process.pid}/children").read_text().split()
         return int(children[0])
+
+
+class Case(unittest.TestCase):
+    """A test whose desks, screens and proxies end with it; where no book is named they are over the sample's."""
+
+    def desk(self, book: Path | None = None, port: int = 0) -> Desk:
+        found = Desk(book or fortnight(f"{self.id()}-{time.time_ns()}"), port)
+        self.addCleanup(found.kill)
+        return found
+
+    def screen(self, *words: str, desk: Desk | None = None, book: Path | None = None, **how: Path) -> Screen:
+        book = book or (desk.book if desk else fortnight(f"{self.id()}-{time.time_ns()}"))
+        found = Screen(book, *words, desk=desk, **how)
+        self.addCleanup(found.end)
+        return found
 
 
 class Between:

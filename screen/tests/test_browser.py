@@ -72,7 +72,7 @@ A4 = 702  # pixels between its margins
 LATE = "/enter?device=LBS-22&at=2025-04-06T23:52:00%2B02:00"
 
 
-class Case(unittest.TestCase):
+class Case(support.Case):
     browsers: list[browser.Browser] = []
 
     @classmethod
@@ -81,18 +81,6 @@ class Case(unittest.TestCase):
         for each in cls.browsers:
             cls.addClassCleanup(each.end)
         cls.one, cls.other = cls.browsers
-
-    def screen(self, *words: str, desk: support.Desk | None = None, book: str = "") -> support.Screen:
-        found = support.Screen(
-            desk.book if desk else support.fortnight(book or self._testMethodName), *words, desk=desk
-        )
-        self.addCleanup(found.end)
-        return found
-
-    def desk(self) -> support.Desk:
-        found = support.Desk(support.fortnight(self._testMethodName))
-        self.addCleanup(found.kill)
-        return found
 
     one: browser.Browser
     other: browser.Browser
@@ -336,8 +324,7 @@ class Operators(Case):
             text = support.folder() / "row.csv"
             text.write_text(f"kind,ref,f1,f2,f3,f4,f5,f6\n{row}\n")
             support.run("import", "--book", book, text)
-        screen = support.Screen(book)
-        self.addCleanup(screen.end)
+        screen = self.screen(book=book)
         page = self.one
         page.open(f"{screen.url}/enter?device=B1")
         page.fill("Time (", "2025-10-26 02:30:00")
@@ -893,8 +880,7 @@ class Breaks(Case):
         desk = self.desk()
         proxy = Cutter(desk.port)
         self.addCleanup(proxy.end)
-        screen = support.Screen(desk.book, "--desk", f"http://127.0.0.1:{proxy.port}")
-        self.addCleanup(screen.end)
+        screen = self.screen("--desk", f"http://127.0.0.1:{proxy.port}", book=desk.book)
         self.one.open(screen.url + LATE)
         self.one.wait(lambda: self.one.find(".send").is_enabled(), "the button")
         proxy.cuts = 2
@@ -939,8 +925,7 @@ class Breaks(Case):
         page.says(".outcome", "Send again")
         first.end()
         proxy.cuts = 0
-        second = support.Screen(desk.book, *words, "--port", str(first.port))
-        self.addCleanup(second.end)
+        second = self.screen(*words, "--port", str(first.port), book=desk.book)
         page.driver.refresh()
         page.ready()
         page.says(".unanswered", "1 command without an answer")
@@ -951,13 +936,11 @@ class Breaks(Case):
 
     def test_a_desk_away_is_told(self) -> None:
         desk = self.desk()
-        screen = support.Screen(desk.book, desk=desk)
-        self.addCleanup(screen.end)
+        screen = self.screen(desk=desk)
         self.one.open(f"{screen.url}/")
         desk.kill()
         self.one.says(".alarm", "The desk is away")
-        again = support.Desk(desk.book, desk.port)
-        self.addCleanup(again.kill)
+        again = self.desk(desk.book, desk.port)
         self.one.says(".state", "Connected")
         self.one.wait(lambda: "The desk is away" not in self.one.text("main"), "the page without it")
 
@@ -1038,8 +1021,7 @@ class Pages(Case):
         rows += [f"switch,{'R' * 39}4,{word}-D1,open,2025-03-25T10:00:00+01:00,1,{'M' * 16},"]
         text = support.folder() / "long.csv"
         text.write_text("kind,ref,f1,f2,f3,f4,f5,f6\n" + "\n".join(rows) + "\n")
-        screen = support.Screen(support.new_book("long-names", text))
-        self.addCleanup(screen.end)
+        screen = self.screen(book=support.new_book("long-names", text))
         self.addCleanup(self.one.media, "")
         self.addCleanup(self.one.resize, 1280, 900)
         for page in self.browsers:
@@ -1117,8 +1099,7 @@ class Pages(Case):
             self.assertFalse([each for each in self.one.all("button.send, button.main") if each.is_enabled()], route)
         self.one.open(screen.url + LATE)
         self.one.says("main", "This screen is for looking")
-        copy = support.Screen(support.fortnight("a-copy"), "--no-desk")
-        self.addCleanup(copy.end)
+        copy = self.screen("--no-desk")
         self.one.driver.delete_all_cookies()
         self.one.open(f"{copy.url}/year", None)
         self.one.says("main", "194.126")
@@ -1228,8 +1209,7 @@ class Origins(Case):
 class Crowd(Case):
     def test_random_commands_by_two_browsers_and_a_third_client(self) -> None:
         desk = self.desk()
-        screen = support.Screen(desk.book, desk=desk)
-        self.addCleanup(screen.end)
+        screen = self.screen(desk=desk)
         third = browser.Browser()
         self.addCleanup(third.end)
         third.open(f"{screen.url}/", "CLEO")

@@ -42,8 +42,7 @@ class Pages(test_browser.Case):
 
     def setUp(self) -> None:
         book = support.live(self.id(), "storm", support.storm_text())
-        self.live = support.Screen(book)
-        self.addCleanup(self.live.end)
+        self.live = self.screen(book=book)
         self.live.log_in("BERT")
         self.live.switch("open", "LBS-22", second=int(time.time()) - 600)
 
@@ -195,8 +194,7 @@ class Pages(test_browser.Case):
 class LargeStorm(test_browser.Case):
     def test_sixty_outages_on_a_thousand_sections(self) -> None:
         """The ten largest are on the first screen of each size, no page is busy for long, and what a click hits stays where it is."""
-        live = support.Screen(support.live(self.id(), "large-storm", support.storm_text(20, 7, 7)))
-        self.addCleanup(live.end)
+        live = self.screen(book=support.live(self.id(), "large-storm", support.storm_text(20, 7, 7)))
         live.log_in("BERT")
         live.switch("open", "LBS-11-2", second=int(time.time()) - 600)
         pages = [browser.Browser(*size) for size in SIZES]
