@@ -279,13 +279,15 @@ def late_hints(kind: str, ahead: int) -> list[str]:
 # Customers.
 
 
-def customers_view(state: State, section: str) -> Json:
-    node = state.node_numbers.get(section)
+def customers_view(state: State, section: str, number: str = "") -> Json:
+    """The customers of a section, or the one of a number with its section."""
+    only = int(number) if number.isdecimal() and len(number) < 11 else None
+    node = state.customers[only][0] if only in state.customers else state.node_numbers.get(section)
     if node is None or not state.is_section(node):
         return {"section": section, "customers": [], "found": 0}
-    numbers = sorted(state.members[node])
+    section, numbers = state.nodes[node][0], sorted(state.members[node]) if only is None else [only]
     rows = []
-    for number in numbers[:500]:
-        _, since, until = state.customers[number]
-        rows.append({"no": number, "since": text(state, since), "until": "" if until is None else text(state, until)})
+    for each in numbers[:500]:
+        _, since, until = state.customers[each]
+        rows.append({"no": each, "since": text(state, since), "until": "" if until is None else text(state, until)})
     return {"section": section, "customers": rows, "found": len(numbers)}

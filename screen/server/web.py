@@ -374,7 +374,8 @@ async def rows(request: web.Request) -> web.StreamResponse:
 
 
 async def customers(request: web.Request) -> web.StreamResponse:
-    return answer(200, views.customers_view(office_of(request).state, request.query.get("section", "")))
+    asked = (request.query.get(name, "") for name in ("section", "number"))
+    return answer(200, views.customers_view(office_of(request).state, *asked))
 
 
 async def journal(request: web.Request) -> web.StreamResponse:

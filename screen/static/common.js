@@ -148,6 +148,8 @@ const PAGES = [
   ["/shift", "Hand-over"],
 ];
 const state = el("span", { role: "status", class: "state" });
+const printed = el("span", { class: "print-only" });
+window.addEventListener("beforeprint", () => { printed.textContent = `Printed ${new Date().toLocaleDateString("sv-SE")} ${time()} by this computer's clock`; });
 const banner = el("div", { class: "alarm", role: "alert" });
 const news = new News(() => showTitle());
 
@@ -164,7 +166,7 @@ function head() {
   document.getElementById("head").replaceChildren(
     el("b", { class: "book" }, `${me.training ? "TRAINING: " : ""}${me.book}`),
     el("nav", { "aria-label": "Pages" }, links),
-    el("div", { class: "who" }, state, who, rename),
+    el("div", { class: "who" }, state, who, rename, printed),
   );
   const line = el("div", { class: "line" }, news.element);
   heading.replaceWith(el("div", { class: "top" }, banner, line), unanswered());

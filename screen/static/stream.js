@@ -1,6 +1,7 @@
 // The server's events, by one stream for all pages of a browser. A browser opens six connections to a server at most (by
-// HTTP/1.1), so a stream for each page would leave none for questions. The pages that are looked at queue for a lock: the one
-// that has it holds the stream and passes each event on to the others. A page that is hidden gives the lock back.
+// HTTP/1.1), so a stream for each page would leave none for questions. The pages queue for a lock: the one that has it holds the
+// stream and passes each event on to the others. A page that is looked at takes the lock, since timers of hidden pages are slow;
+// while none is looked at a hidden one keeps it, so that the tab can say what is new.
 import { duration } from "./elements.js";
 import { get } from "./requests.js";
 
@@ -25,20 +26,29 @@ export class Stream {
     this.round = 0; // counts joins and leavings: what belongs to an older one is dropped
     this.looked = Date.now();
     setInterval(() => this.look(), 1000);
-    document.addEventListener("visibilitychange", () => { this.looked = Date.now(); return document.hidden ? this.leave() : this.join(); });
-    if (!document.hidden) this.join();
+    document.addEventListener("visibilitychange", () => this.turn());
+    if (this.channel || !document.hidden) this.join();
+  }
+
+  /** The page is looked at, or isn't any more. Without locks a hidden page has no stream. */
+  turn() {
+    this.looked = Date.now();
+    if (!document.hidden) {
+      if (!this.leads) this.join({ steal: true });
+    } else if (!this.channel) this.leave();
+    else if (!this.leads) clearTimeout(this.silence);
   }
 
   /** Queues for the stream, and asks the page that has it what it heard last. */
-  join() {
+  join(options = null) {
     this.leave();
     const round = this.round;
-    this.expect(FIRST_NEWS);
+    if (!document.hidden) this.expect(FIRST_NEWS);
     if (!this.channel) {
       this.lead(round);
       return;
     }
-    this.queue({ signal: this.waits.signal }, round);
+    this.queue(options ?? { signal: this.waits.signal }, round);
     this.channel.postMessage({ ask: true });
   }
 
@@ -120,7 +130,7 @@ export class Stream {
       if (this.leads && this.latest) this.channel.postMessage(this.latest.event ? { event: { ...this.latest.event, what: "beat" } } : this.latest);
       return;
     }
-    if (!document.hidden) this.expect(SILENCE);
+    if (this.leads || !document.hidden) this.expect(SILENCE);
     if (news.event) this.heard(news.event);
     else this.lost(news.lost);
   }

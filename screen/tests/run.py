@@ -29,6 +29,7 @@ WHOLE = {
     "SCREEN_SECONDS": "60",
     "SCREEN_LONG": "yes",
     "SCREEN_AWAY": "60",
+    "SCREEN_STORM": "600",
 }
 IN_SHORT = (
     "test_forecasts",
@@ -45,6 +46,8 @@ IN_SHORT = (
     "test_browser.Live.test_what_was_shown_and_what_it_did",
     "test_browser.Storm.test_a_row_is_an_outage_and_the_largest_comes_first",
     "test_browser.Storm.test_rows_stay_while_somebody_reads_them",
+    "test_storm.Pages.test_a_new_outage_is_said",
+    "test_storm.Pages.test_the_diagram_by_the_keyboard",
     "test_browser.Operators.test_two_operators_and_a_double_click",
     "test_browser.Operators.test_the_keyboard_alone",
     "test_browser.Breaks.test_a_reply_that_was_lost",

@@ -1117,7 +1117,7 @@ class Pages(Case):
 
     def shares_are_shares(self, page: browser.Browser) -> None:
         """Bars and figures of causes are parts of the whole, and add up to it."""
-        bars = "return [...document.querySelectorAll('table')].find((each) => each.textContent.startsWith('cause'))"
+        bars = "return [...document.querySelectorAll('table')].find((each) => each.caption.textContent.endsWith('by cause'))"
         found = page.driver.execute_script(
             f"{bars}.querySelectorAll('.share').values().map((each) => [each.firstChild.value, each.textContent]).toArray()"
         )

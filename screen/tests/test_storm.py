@@ -80,6 +80,21 @@ class Pages(test_browser.Case):
         self.assertEqual(other.driver.switch_to.active_element.get_attribute("data-key"), "entry-2")
         self.assertEqual(page.complaints() + other.complaints(), [])
 
+    def test_a_tab_that_nobody_looks_at(self) -> None:
+        """Its title counts what is new; looked at again, it shows that."""
+        page = self.one
+        page.open(f"{self.live.url}/")
+        turn = (
+            "Object.defineProperty(document, 'hidden', { get: () => arguments[0], configurable: true });"
+            "document.dispatchEvent(new Event('visibilitychange'));"
+        )
+        page.driver.execute_script(turn, True)
+        self.live.switch("open", "CB-3")
+        page.wait(lambda: page.driver.title.startswith("(1) "), "the number in the title")
+        self.assertNotIn("CB-3", page.text("main table"))
+        page.driver.execute_script(turn, False)
+        page.says("main table", "CB-3")
+
     def test_quiet_and_a_sentence_at_a_time(self) -> None:
         """In a storm a reader of the screen hears what is new in one sentence for some seconds, and nothing where that is chosen."""
         page = self.one
@@ -179,6 +194,17 @@ class Pages(test_browser.Case):
         slider.send_keys(Keys.PAGE_DOWN)
         page.wait(lambda: slider.get_attribute("aria-valuetext")[:10] < said[:10], "the day before")
 
+    def test_a_customer_is_found_by_its_number(self) -> None:
+        page = self.one
+        page.open(f"{self.live.url}/network")
+        for number, words in (("7", "Customer 7: section MILL-13"), ("999", "No customer has the number 999")):
+            page.fill("Customer's number", number)
+            page.field("Customer's number").send_keys(Keys.ENTER)
+            page.says("section[aria-label=Customers]", words)
+        tops = [page.driver.execute_script(PLACE, page.find(f"[aria-label={each}]"))[1] for each in ("Search", "Nodes")]
+        self.assertLess(tops[0], tops[1])
+        self.assertLess(tops[1], page.driver.execute_script(PLACE, page.find(".sender"))[1])  # the form is last
+
     def test_heads_of_tables_stay_in_sight(self) -> None:
         page = self.one
         for number in range(30):
@@ -205,12 +231,12 @@ class LargeStorm(test_browser.Case):
             page.driver.execute_script(WATCHES)
         reader = pages[1]
         link = reader.find("[data-key=entry-1] .close")
-        reader.point_at(link)
         place = reader.driver.execute_script(PLACE, link)
         devices = [f"LBS-{feeder}{branch}-{2 + feeder % 5}" for branch in (1, 3, 5) for feeder in range(1, 21)]
         begun, slowest = time.monotonic(), 0.0
         for number, device in enumerate(devices[1:] + ["CB-7"], 1):
             time.sleep(max(0.0, begun + number * STORM_SECONDS / OUTAGES - time.monotonic()))
+            reader.point_at(reader.find(f"[data-key=entry-1] td:nth-child({1 + number % 2})"))  # as a hand does
             sent = time.monotonic()
             last = str(live.switch("open", device))
             for page in pages:
