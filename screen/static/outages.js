@@ -121,7 +121,7 @@ export class Outages {
 
   linked(outage) {
     const href = this.form(outage);
-    return { told: href, make: () => el("a", { class: "outage nowrap", href }, outage.device) };
+    return { told: href, make: () => el("a", { class: outage.device.length > BRIEF ? "outage" : "outage nowrap", href }, breakable(outage.device)) };
   }
 
   /** The form of an outage, filled in. */
