@@ -16,6 +16,7 @@ sys.path.insert(0, str(Path(__file__).resolve().parent / "tests"))
 
 import browser  # noqa: E402
 import support  # noqa: E402
+from selenium.webdriver.common.keys import Keys  # noqa: E402
 
 PICTURES = support.ROOT / "docs/pictures"
 QUALITY = 75
@@ -29,16 +30,18 @@ def now(page: browser.Browser, url: str) -> None:
 
 
 def enter(page: browser.Browser, url: str) -> None:
-    page.open(f"{url}/enter?device=LBS-21&at=2025-04-06T20:52:00%2B02:00")
-    page.fill("Cause", "5")
-    page.says(".forecast", "Customer-minutes lost")
+    page.open(f"{url}/enter")
+    for device, clock in (("LBS-21", "0805"), ("TIE-1", "0830"), ("LBS-21", "1040"), ("TIE-1", "1044")):
+        page.driver.switch_to.active_element.send_keys(device, Keys.TAB, f"31.3.2025 {clock}", Keys.TAB, Keys.TAB)
+    page.fill("Cause", "2")
+    page.fill("Ticket", "4711")
+    page.wait(lambda: len(page.all(".forecast .steps li")) == 4, "the forecast")
+    page.driver.execute_script("window.scrollTo(0, 0)")
 
 
 def sent(page: browser.Browser, url: str) -> None:
     page.open(f"{url}/enter?device=LBS-22&at=2025-04-06T23:52:00%2B02:00", "CREW-3")
-    page.wait(lambda: page.find(".send").is_enabled(), "the button")
-    page.click(".send")
-    page.says(".outcome .equal", "As forecast")
+    page.send()
     page.driver.execute_script("document.querySelector('.outcome').scrollIntoView()")
 
 
@@ -49,7 +52,7 @@ def year(page: browser.Browser, url: str) -> None:
 
 SHOTS = {
     "screen-now": (now, 1280, 860, False),
-    "screen-enter": (enter, 1280, 840, False),
+    "screen-enter": (enter, 1280, 920, False),
     "screen-year": (year, 1280, 900, True),
     "screen-sent-phone": (sent, 390, 780, False),
 }

@@ -101,6 +101,10 @@ def entry_link(entry: Any) -> Cell:
     return (f"entry {entry}", f"/sheet?entry={entry}") if entry else ""
 
 
+def with_remark(words: str, sent: Json) -> str:
+    return f"{words} ({sent['remark']})" if sent["remark"] else words
+
+
 def sections_words(row: Json) -> str:
     return f"{len(row['sections'])}: {', '.join(sorted(row['sections']))}"
 
@@ -177,7 +181,7 @@ class Tables:
                 row["action"],
                 f"{row['cause']} {row['cause_name']}",
                 row["crew"],
-                "; ".join(f"{each['what']} at {self.clock(each['at'])} by {each['by']}" for each in row["done"][::-1]),
+                "; ".join(self.done(each) for each in row["done"][::-1]),
                 ", ".join(name for name in ("late", "corrected", "withdrawn") if row[name]),
             ]
             for row in self.shown["entered"]
@@ -186,8 +190,14 @@ class Tables:
         caption = f"Entered or changed: {self.counted('entered')}, each as it is now"
         return table(caption, heads, rows, "No switching was entered or changed in this time.")
 
+    def done(self, each: Json) -> str:
+        return with_remark(f"{each['what']} at {self.clock(each['at'])} by {each['by']}", each)
+
     def rest(self) -> str:
-        rows = [[self.clock({"text": row["at"]}), row["by"], row["words"], row["result"]] for row in self.shown["rest"]]
+        rows = [
+            [self.clock({"text": row["at"]}), row["by"], with_remark(row["words"], row), row["result"]]
+            for row in self.shown["rest"]
+        ]
         caption = f"Other commands, and those that aren't saved: {self.counted('rest')}"
         return table(caption, ["sent", "by", "command", "result"], rows, "Nothing else was sent in this time.")
 

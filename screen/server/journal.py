@@ -28,6 +28,7 @@ class Sending:
     outcome: str = "unanswered"  # or saved, refused
     number: int | None = None  # of the command, once it is saved
     moved: int = 0  # customer-seconds
+    remark: str = ""
     refusal: str = ""
     commands: tuple[int, int] | None = None  # the first and the last number of those that came at once
 
@@ -62,7 +63,7 @@ class Journal:
         sent, commands = row.get("sent"), numbers_of(row.get("commands"))
         if isinstance(sent, dict):
             fields = tuple(str(sent.get(f"f{place}", "")) for place in range(1, MOST_FIELDS + 1))
-            sending = Sending(at, login, reference, str(sent.get("kind")), fields)
+            sending = Sending(at, login, reference, str(sent.get("kind")), fields, remark=str(row.get("remark", "")))
             self.sendings.append(sending)
             self.open[login, reference] = sending
             if reference:
@@ -102,6 +103,10 @@ class Journal:
         for sending in reversed(self.sendings):
             if since <= sending.at < until and sending.is_by(part):
                 yield sending
+
+    def remark_of(self, reference: str) -> str:
+        """The remark that was sent with a command, if there is one."""
+        return next((each.remark for each in self.sendings if each.remark and each.reference == reference), "")
 
     def last_number(self) -> int | None:
         """The last command that the log knows of; None where it knows of none."""

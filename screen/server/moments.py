@@ -12,12 +12,15 @@ from datetime import date, datetime, timedelta
 from .reader import Zone
 from .state import Refused
 
-TYPED = re.compile(r"(\d{4}-\d\d-\d\d)[ T](\d\d:\d\d)(:\d\d)? ?(Z|[+-]\d\d:\d\d)?")
-UNIX = re.compile(r"\d{1,11}", re.ASCII)
-OF_A_DAY = re.compile(r"(?:(today|yesterday)(?: |$))?(\d{1,2}:\d\d(?::\d\d)?)?", re.ASCII | re.IGNORECASE)
-NO_COLON = re.compile(r"\d{3,4}", re.ASCII)
+UNIX = re.compile(r"\d{7,11}", re.ASCII)
+TYPED = re.compile(
+    r"(?:(\d{4}-\d\d-\d\d|\d{1,2}\.\d{1,2}\.\d{4}|today|yesterday)[ T])?"
+    r"(\d{1,2}):?(\d\d)(?::?(\d\d))? ?(Z|[+-]\d\d:\d\d)?",
+    re.ASCII | re.IGNORECASE,
+)
 DAYS_BACK = {"today": 0, "yesterday": 1}
 LAST = 99_999_999_999
+AHEAD_SECONDS = 60  # that a clock may go before the server's
 
 
 @dataclass(frozen=True)
@@ -57,34 +60,42 @@ def day_of_word(zone: Zone, word: str) -> date:
     return today - timedelta(days=DAYS_BACK[word.lower()])
 
 
-def spelled_out(zone: Zone, text: str) -> str:
-    """A moment of today or yesterday with its date: `yesterday 22:00`, `6:05`; `today` alone is its first second."""
-    match = OF_A_DAY.fullmatch(text)
-    if not text or match is None:
-        return text
-    word, clock = match.groups()
-    return f"{day_of_word(zone, word or 'today')} {(clock or '00:00').zfill(5 if (clock or '').count(':') < 2 else 8)}"
+def date_of(zone: Zone, typed: str) -> date:
+    """A date as it is typed: `2026-11-28`, `28.11.2026`, or a word."""
+    if typed.lower() in DAYS_BACK:
+        return day_of_word(zone, typed)
+    day, _, rest = typed.partition(".")
+    month, _, year = rest.partition(".")
+    return date(int(year), int(month), int(day)) if rest else date.fromisoformat(typed)
 
 
-def read_moment(zone: Zone, text: str) -> list[Moment]:
-    """The seconds that a typed moment may mean: one, or two where the clock shows it twice."""
-    text = spelled_out(zone, text.strip())
-    if NO_COLON.fullmatch(text):
-        raise Refused(f"{text} can't be read: a time is typed as {text[:-2].zfill(2)}:{text[-2:]}, for today")
+def read_moment(zone: Zone, text: str, may_come: bool = False) -> list[Moment]:
+    """The seconds that a typed moment may mean: one, or two where the clock shows it twice. Without a date it is the latest
+    one that has come; where it `may_come`, that of today."""
+    text = text.strip()
     if UNIX.fullmatch(text):
         return [moment_of(zone, int(text))]
+    text = f"{text} 00:00" if text.lower() in DAYS_BACK else text
     match = TYPED.fullmatch(text)
     if match is None:
         example = f"{day_of_word(zone, 'today')} 06:10:00"
         raise Refused(f"a moment is typed as {example}, or 06:10 for today, by the clock of the book's zone")
-    day, minute, second, offset = match.groups()
+    day, *clock = match.groups()
     try:
-        shown = datetime.fromisoformat(f"{day}T{minute}{second or ':00'}{offset or ''}")
-        seconds = [int(shown.timestamp())] if offset else zone.instants(shown)
+        found = seconds_of(zone, date_of(zone, day or "today"), *clock)
+        if not day and not may_come:
+            come = [each for each in found if each <= time.time() + AHEAD_SECONDS]
+            found = come or seconds_of(zone, day_of_word(zone, "yesterday"), *clock) if found else []
     except (ValueError, OverflowError):
         raise Refused(f"{text} is no date and time") from None
-    if not seconds:
+    if not found:
         raise Refused(f"the clock of the book's zone never shows {text}: it is set forward over that hour")
-    if not all(0 <= each <= LAST for each in seconds):
+    if not all(0 <= each <= LAST for each in found):
         raise Refused(f"{text} lies outside of what a book can hold")
-    return [moment_of(zone, each) for each in seconds]
+    return [moment_of(zone, each) for each in found]
+
+
+def seconds_of(zone: Zone, day: date, hour: str, minute: str, second: str | None, offset: str | None) -> list[int]:
+    """The seconds at which the clock shows a time of a day: none, one or two."""
+    shown = datetime.fromisoformat(f"{day}T{hour:0>2}:{minute}:{second or '00'}{(offset or '').upper()}")
+    return [int(shown.timestamp())] if offset else zone.instants(shown)

@@ -21,6 +21,14 @@ def name_in(reference: str) -> str | None:
     return found[1] if found else None
 
 
+def outage_in(reference: str) -> str | None:
+    """What the references of an outage's steps have in common: before the letters that make each unique, a ticket's number, or
+    one that begins with `_` where no ticket was given. A reference of another program counts as a ticket."""
+    if name_in(reference) is None:
+        return reference.replace("-", "_") or None
+    return reference.rpartition("-")[2].rpartition("_")[0] or None
+
+
 class Names:
     """The names of logins that send: the first login that folds to a name has it, a later one gets a number behind it."""
 

@@ -222,7 +222,7 @@ class Office:
         return answer.status, {"reply": answer.json(), "text": answer.body.decode()}
 
     def forecast(self, kind: str, fields: list[str]) -> dict[str, Any]:
-        return views.forecast_view(self.state, plan(self.state, kind, fields), kind, fields)
+        return views.forecast_view(self.state, plan(self.state, kind, fields), kind, *fields)
 
     # What the desk shows, word for word.
 

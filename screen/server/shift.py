@@ -39,7 +39,7 @@ def bound_of(state: State, typed: str, is_end: bool) -> int:
         if not 0 <= found <= LAST:
             raise Refused(f"{typed} lies outside of what a book can hold")
         return found
-    return read_moment(zone, typed)[-1 if is_end else 0].second
+    return read_moment(zone, typed, may_come=is_end)[-1 if is_end else 0].second
 
 
 def bounds_of(state: State, wanted: dict[str, str], since: int) -> tuple[int, int]:
@@ -72,6 +72,7 @@ def sending_view(state: State, sending: Sending) -> Json:
         "reference": sending.reference,
         "kind": sending.kind,
         "words": words_of(state, sending),
+        "remark": sending.remark,
         "outcome": sending.outcome,
         "result": result_of(sending, entry),
         "no": sending.number,
@@ -181,6 +182,7 @@ def entered_by(state: State, sendings: Iterable[Sending]) -> dict[int, list[Json
             command = next(each for each in state.histories[entry] if each.number == number)
             by = sending.login or name_in(command.ref) or OTHER
             done = {"what": MADE[command.kind], "at": moment(state, sending.at), "by": by, "no": number}
+            done["remark"] = sending.remark
             if all(each["no"] != number for each in found.setdefault(entry, [])):
                 found[entry].append({**done, "reference": command.ref})
     return found

@@ -245,7 +245,7 @@ def history_view(state: State, command: Command) -> Json:
 # Forecasts.
 
 
-def forecast_view(state: State, planned: Plan, kind: str, fields: Sequence[str]) -> Json:
+def forecast_view(state: State, planned: Plan, kind: str, *fields: str) -> Json:
     """What a command would do as the book stands: computed here."""
     ahead = 0 if planned.second is None else planned.second - state.now()
     sections = sections_of(state, planned)
@@ -279,8 +279,9 @@ def late_hints(kind: str, ahead: int) -> list[str]:
 # Customers.
 
 
-def customers_view(state: State, section: str, number: str = "") -> Json:
+def customers_view(state: State, query: dict[str, str]) -> Json:
     """The customers of a section, or the one of a number with its section."""
+    section, number = query.get("section", ""), query.get("number", "")
     only = int(number) if number.isdecimal() and len(number) < 11 else None
     node = state.customers[only][0] if only in state.customers else state.node_numbers.get(section)
     if node is None or not state.is_section(node):

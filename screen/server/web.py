@@ -19,7 +19,7 @@ from urllib.parse import urlsplit
 
 from aiohttp import web
 
-from . import handover, moments, search, shift, views, year
+from . import handover, moments, outage, search, shift, views, year
 from .apart import Kept
 from .commands import FIELDS
 from .desk import Away
@@ -33,6 +33,7 @@ from .to_now import to_now_view
 STATIC = Path(__file__).resolve().parent.parent / "static"
 PAGES = {"/": "now", "/sheet": "sheet", "/enter": "enter", "/network": "network", "/year": "year"}
 COMMAND_BYTES = 16_384
+REMARK_LETTERS = 400
 MOST_PAGES = 500
 MOST_OF_A_LOGIN = 50
 HEARTBEAT_SECONDS = 10.0
@@ -309,11 +310,21 @@ async def sheet(request: web.Request) -> web.StreamResponse:
     return answer(200, search.sheet_view(office_of(request).state, dict(request.query)))
 
 
+def entry_number(request: web.Request) -> int:
+    number = int(request.match_info["no"])
+    if not 1 <= number <= len(office_of(request).state.sheet.entries):
+        raise web.HTTPNotFound()
+    return number
+
+
+async def outage_of(request: web.Request) -> web.StreamResponse:
+    """The entries of the outage that an entry belongs to."""
+    return answer(200, outage.outage_view(office_of(request).state, entry_number(request)))
+
+
 async def entry(request: web.Request) -> web.StreamResponse:
     """An entry with its commands and the moves of each, in the desk's own words."""
-    office, number = office_of(request), int(request.match_info["no"])
-    if not 1 <= number <= len(office.state.sheet.entries):
-        raise web.HTTPNotFound()
+    office, number = office_of(request), entry_number(request)
     shown = views.entry_view(office.state, office.state.sheet.entries[number - 1])
     shown["history"] = []
     is_away = False
@@ -324,7 +335,8 @@ async def entry(request: web.Request) -> web.StreamResponse:
             text = body if status == 200 else None
         except Away:
             is_away = True  # the entry is shown all the same, and the desk isn't waited for again
-        shown["history"].append({**views.history_view(office.state, command), "text": text})
+        remark = office.journal.remark_of(command.ref)
+        shown["history"].append({**views.history_view(office.state, command), "text": text, "remark": remark})
     return answer(200, shown)
 
 
@@ -346,6 +358,9 @@ async def position(request: web.Request) -> web.StreamResponse:
 
 
 async def forecast(request: web.Request) -> web.StreamResponse:
+    """What a command would do, or the steps of an outage."""
+    if steps := request.query.get("steps"):
+        return answer(200, outage.forecast(office_of(request).state, outage.steps_in(steps)))
     kind = request.query.get("kind", "")
     names = FIELDS.get(kind, ())
     fields = [request.query.get(f"f{place}", "") for place in range(1, len(names) + 1)]
@@ -355,7 +370,9 @@ async def forecast(request: web.Request) -> web.StreamResponse:
 async def command(request: web.Request) -> web.StreamResponse:
     """Sends a command under the page's reference, which has to be the login's own."""
     login, body = login_of(request) or "", await json_body(request)
-    name = name_of(request, login)
+    name, told = name_of(request, login), {}
+    if remark := body.pop("remark", "").strip():
+        told["remark"] = remark[:REMARK_LETTERS]
     names = {"kind", "ref", *(f"f{place}" for place in range(1, 7))}
     if not {"kind", "ref"} <= body.keys() <= names or body["kind"] not in FIELDS:
         raise Refused("a command has kind, ref and f1 to f6")
@@ -364,7 +381,8 @@ async def command(request: web.Request) -> web.StreamResponse:
     if body["kind"] in ("mark", "unmark") and body.get("f2") != name:
         raise Refused("a day is marked by the login's own name")
     seen = int(number) if (number := request.query.get("seen", "")).isdecimal() and len(number) < 12 else None
-    told = {"name": name} if is_named(request, login) else {}
+    if is_named(request, login):
+        told["name"] = name
     return answer(*await asyncio.shield(office_of(request).send(login, body, seen, **told)))
 
 
@@ -373,19 +391,13 @@ async def rows(request: web.Request) -> web.StreamResponse:
     return answer(*await asyncio.shield(office_of(request).import_rows(login, data)))
 
 
-async def customers(request: web.Request) -> web.StreamResponse:
-    asked = (request.query.get(name, "") for name in ("section", "number"))
-    return answer(200, views.customers_view(office_of(request).state, *asked))
+def shows(view: Callable[[Office, dict[str, str]], Any]) -> Handler:
+    """A route that shows what is known, by what is asked for."""
 
+    async def show(request: web.Request) -> web.StreamResponse:
+        return answer(200, view(office_of(request), dict(request.query)))
 
-async def journal(request: web.Request) -> web.StreamResponse:
-    """The screen's log by time of sending, latest first; `since`, `until` and `name` ask for a part of it."""
-    return answer(200, shift.log_view(office_of(request), dict(request.query)))
-
-
-async def changes(request: web.Request) -> web.StreamResponse:
-    """What a shift hands over: open outages, what was entered since a time and by whom, the marked days."""
-    return answer(200, shift.shift_view(office_of(request), dict(request.query)))
+    return show
 
 
 async def shift_page(request: web.Request) -> web.StreamResponse:
@@ -399,10 +411,6 @@ async def shift_page(request: web.Request) -> web.StreamResponse:
     shown["book"] = settings.name
     data = handover.page(shown, query, name_of(request, login), why, settings.training)
     return web.Response(status=status, text=data, content_type="text/html", charset="utf-8")
-
-
-async def marks(request: web.Request) -> web.StreamResponse:
-    return answer(200, shift.marks_view(office_of(request)))
 
 
 # The year.
@@ -510,13 +518,14 @@ GETS: dict[str, Handler] = {
     "/api/news": news,
     "/api/sheet": sheet,
     r"/api/entries/{no:\d{1,6}}": entry,
+    r"/api/outages/{no:\d{1,6}}": outage_of,
     "/api/moment": moment,
     "/api/position": position,
     "/api/forecast": forecast,
-    "/api/customers": customers,
-    "/api/log": journal,
-    "/api/changes": changes,
-    "/api/marks": marks,
+    "/api/customers": shows(lambda office, query: views.customers_view(office.state, query)),
+    "/api/log": shows(shift.log_view),
+    "/api/changes": shows(shift.shift_view),
+    "/api/marks": shows(lambda office, _: shift.marks_view(office)),
     "/shift": shift_page,
     "/api/year": table,
     "/api/totals": totals,

@@ -1,5 +1,6 @@
 // What all pages share: the head, the events, tables and fields.
 import { duration, el, moment, momentWords, number, signed, svg } from "./elements.js";
+import { keysNote } from "./keys.js";
 import { News } from "./news.js";
 import { get, known, post, Trouble } from "./requests.js";
 import { Stream } from "./stream.js";
@@ -12,12 +13,21 @@ const AGAIN_SECONDS = 2; // between two questions of a page that can't begin
 export const own = new Set(); // references of this page: their answers are shown where they were sent
 const listeners = [];
 
-/** A reference for one intent, made before its first try. */
-export function newReference() {
+const REFERENCE = 40; // letters at most
+const UNIQUE = 8; // letters at a reference's end, where it has the outage's name before them
+
+/** So many letters by chance. */
+export function randomLetters(count) {
   const letters = "ABCDEFGHJKLMNPQRSTUVWXYZ23456789";
-  const random = crypto.getRandomValues(new Uint8Array(12));
-  return `SCR-${known.me.name}-${Array.from(random, (byte) => letters[byte % 32]).join("")}`;
+  return Array.from(crypto.getRandomValues(new Uint8Array(count)), (byte) => letters[byte % 32]).join("");
 }
+
+/** A reference for one command, made before its first try. Those of an outage have its name in common: its ticket's number, or
+ * one that begins with `_`. */
+export const newReference = (outage = "") => `SCR-${known.me.name}-${outage ? `${outage}_${randomLetters(UNIQUE)}` : randomLetters(12)}`;
+
+/** How many letters of a ticket's number a reference has room for. */
+export const ticketLetters = () => REFERENCE - UNIQUE - `SCR-${known.me.name}-_`.length;
 
 /** Customer-seconds as customer-minutes, to two decimals where they aren't whole. */
 export const inMinutes = (seconds) => Math.round((Number(seconds) / 60) * 100) / 100;
@@ -327,7 +337,7 @@ export const source = () => (known.me.desk === "none" ? "from the book" : "from 
 
 /** One line at a page's foot: where its figures come from. */
 export function foot(words) {
-  return el("p", { class: "note foot" }, `${words} Times are those of ${zoneName()}.`);
+  return el("div", { class: "note foot" }, `${words} Times are those of ${zoneName()}.`, keysNote());
 }
 
 /** Why nothing can be sent, for a page with a form; nothing where something can. */
@@ -342,8 +352,7 @@ export function lookOnly() {
 const LETTERS = { crew: 16, name: 24 };
 
 /** A field for a name: what the book can't hold is said beside it. Answers the note to show there. */
-export function spelled(input, kind) {
-  const most = LETTERS[kind];
+export function spelled(input, kind, most = LETTERS[kind]) {
   const note = el("div", { class: "note spelling", role: "status" });
   input.pattern = `[A-Za-z0-9_\\-]{1,${most}}`;
   const check = () => {

@@ -67,5 +67,9 @@ export function duration(seconds) {
   return parts.map(([count, unit]) => `${count} ${unit}`).join(" ") || "0 s";
 }
 
-/** A reference that another program has given, as a ticket's number; the screen's own ones say nothing to a reader. */
-export const ticketOf = (reference) => (reference && !reference.startsWith("SCR-") ? reference : "");
+/** The ticket's number in a reference: one that another program has given is shown whole, of the screen's own ones the part
+ * that somebody typed. */
+export function ticketOf(reference) {
+  if (!reference?.startsWith("SCR-")) return reference ?? "";
+  return /^SCR-.+-([A-Z0-9][A-Z0-9_]*)_[A-Z0-9]{8}$/.exec(reference)?.[1] ?? "";
+}

@@ -1,69 +1,126 @@
-// A switching: what was switched, at the second at which it was.
-import { begin, causes, choice, el, field, foot, get, known, list, lookOnly, onCommands, reloadBook, settled, source, spelled, text, zoneName } from "./common.js";
-import { MomentField } from "./moments.js";
+// A switching, or a whole outage: its opening, what restored supply, and its closing, in one form that is sent once.
+import { fromAddress } from "./address.js";
+import { begin, causes, choice, el, field, foot, get, known, list, lookOnly, onCommands, randomLetters, reloadBook, settled, source, spelled, text, ticketLetters } from "./common.js";
+import { shortcuts } from "./keys.js";
 import { Sender } from "./sender.js";
+import { savedSteps, Steps } from "./steps.js";
+
+const REMARK_LETTERS = 400;
+const OWN_LETTERS = 6; // of an outage without a ticket
 
 const main = document.getElementById("main");
-const wanted = new URLSearchParams(location.search);
+
+class Outage {
+  constructor() {
+    this.cause = choice([["", "choose a cause"], ...causes()]);
+    this.crew = text({ list: "crews", maxlength: 16, value: known.me.name });
+    this.ticket = text({ maxlength: ticketLetters() });
+    this.remark = text({ maxlength: REMARK_LETTERS });
+    this.own = `_${randomLetters(OWN_LETTERS)}`;
+    this.saved = el("div", { class: "saved-steps" });
+    this.steps = new Steps({
+      touched: () => this.sender.age(),
+      changed: () => this.sender.update(),
+      offered: (cause) => (this.cause.value ||= String(cause)),
+    });
+    this.form = this.fields();
+    this.sender = new Sender({
+      read: () => this.read(),
+      form: this.form,
+      clock: this.steps,
+      label: "Send to the desk",
+      outage: () => ({ name: this.name, remark: this.remark.value.trim() }),
+      after: (_, __, intent) => this.after(intent),
+      left: () => this.steps.take(),
+      lock: (locked) => this.lock(locked),
+    });
+  }
+
+  fields() {
+    const changed = settled(() => this.sender.update(), 0);
+    for (const input of [this.cause, this.crew, this.ticket]) input.addEventListener("input", changed);
+    return el(
+      "form",
+      { class: "card" },
+      list("devices", known.book.devices.map((each) => each.name)),
+      list("crews", known.book.crews),
+      this.saved,
+      this.steps.element,
+      el(
+        "div",
+        { class: "row top" },
+        field("Cause", this.cause, "An outage counts under the cause of the opening that began it."),
+        field("Crew, who switched", this.crew, spelled(this.crew, "crew")),
+        field("Ticket number", this.ticket, spelled(this.ticket, "ticket", ticketLetters())),
+        field("Remark", this.remark, "For the screen's own log."),
+      ),
+    );
+  }
+
+  /** The outage's name in references: the ticket's number, or one of its own. */
+  get name() {
+    return this.ticket.value.trim().toUpperCase().replace(/^[-_]+/, "").replaceAll("-", "_") || this.own;
+  }
+
+  read() {
+    const crew = this.crew.value.trim().toUpperCase();
+    if (!this.cause.value || !crew || this.ticket.getAttribute("aria-invalid") === "true") return [];
+    return this.steps.read().map((command) => ({ ...command, f4: this.cause.value, f5: crew }));
+  }
+
+  lock(locked) {
+    this.steps.lock(locked);
+    for (const input of [this.cause, this.crew, this.ticket, this.remark]) input.disabled = locked;
+  }
+
+  /** What is saved goes to the list above; where a step was refused, the others stay in the form. */
+  async after({ replies, places }) {
+    const { filled } = this.steps;
+    this.steps.take(places.slice(0, replies.length).map((place) => filled[place]));
+    if (!replies.length) return;
+    this.remark.value = "";
+    await this.show(replies[0].entry);
+  }
+
+  /** Shows the entries that an outage has: all of them, and its name. */
+  async show(number) {
+    const found = await get(`/api/outages/${number}`);
+    const another = el("a", { class: "another", href: "/enter" }, "A new outage");
+    this.saved.replaceChildren(...savedSteps(found.entries), el("div", { class: "buttons" }, another));
+    return found;
+  }
+
+  /** Fills the form in from an entry of an outage: its device. */
+  async fillFrom(number) {
+    const { outage, entries } = await this.show(number);
+    const { cause, crew, device } = entries.find((entry) => entry.no === Number(number));
+    this.cause.value = String(cause);
+    this.crew.value = crew;
+    if (outage?.startsWith("_")) this.own = outage;
+    else if (outage && outage.length <= ticketLetters()) this.ticket.value = outage;
+    return device;
+  }
+
+  async fill({ device = "", at, entry, close }) {
+    const first = this.steps.rows[0];
+    const cutter = entry ? await this.fillFrom(entry) : device;
+    if (close || !entry) first.device.value = cutter;
+    await (at ? first.second.set(at) : first.second.now());
+    this.steps.tidy();
+    this.steps.look();
+  }
+}
 
 begin(async () => {
-  const device = text({ list: "devices", maxlength: 24, required: true, value: wanted.get("device") || "" });
-  const position = choice([["open", "open"], ["close", "close"]]);
-  const cause = choice([["", "choose a cause"], ...causes()]);
-  const crew = text({ list: "crews", maxlength: 16, value: known.me.name });
-  const stands = el("div", { class: "note", role: "status" });
-  const read = () => {
-    const command = { kind: "switch", f1: device.value.trim().toUpperCase(), f2: position.value, f3: second.second, f4: cause.value, f5: crew.value.trim().toUpperCase() };
-    return command.f1 && command.f3 && command.f4 && command.f5 ? command : null;
-  };
-  const second = new MomentField(`Time (${zoneName()})`, "", () => look(), { goes: true, touched: () => sender.age() });
-  const form = el("form", { class: "card" });
-  const inputs = [device, position, cause, crew, second.input];
-  const sender = new Sender({
-    read,
-    form,
-    clock: second,
-    label: "Send to the desk",
-    after: (shown) => shown && second.now({ quiet: true }),
-    lock: (locked) => inputs.forEach((input) => (input.disabled = locked)),
-  });
-  const offerOther = async () => {
-    const name = device.value.trim().toUpperCase();
-    const isKnown = known.book.devices.some((each) => each.name === name);
-    if (!isKnown || !second.second) {
-      stands.replaceChildren(name && !isKnown ? "This is an unknown device." : "");
-      return;
-    }
-    const found = await get("/api/position", { device: name, at: second.second }).catch(() => null);
-    if (!found) return;
-    stands.replaceChildren(`${name} is ${found.closed ? "closed" : "open"} then${found.alive ? "" : ", and not in the network"}.`);
-    position.value = found.closed ? "open" : "close";
-    if (!found.closed && found.cause && !cause.value) cause.value = String(found.cause);
-  };
-  const look = settled(async () => {
-    if (!sender.intent) await offerOther();
-    sender.update();
-  }, 60);
-  device.addEventListener("input", () => { sender.age(); look(); });
-  for (const input of [position, cause, crew]) input.addEventListener("input", sender.update);
-  const now = el("button", { type: "button", click: () => second.now() }, "Now");
-  form.append(
-    list("devices", known.book.devices.map((each) => each.name)),
-    list("crews", known.book.crews),
-    field("Device", device),
-    stands,
-    el("div", { class: "row" }, second.element, now),
-    field("Switched to", position, "The other position than its own is offered first."),
-    field("Cause", cause, "An outage counts under the cause of the opening that began it."),
-    field("Crew, who switched", crew, spelled(crew, "crew")),
-  );
+  const outage = new Outage();
   main.append(
     lookOnly(),
-    el("div", { class: "two wide" }, form, el("div", { class: "card" }, sender.element)),
+    el("div", { class: "two" }, outage.form, el("div", { class: "card stays" }, outage.sender.element)),
     foot(`What it would do is computed here; the answer to a command is ${source()}.`),
   );
-  onCommands(() => reloadBook());
-  const at = wanted.get("at");
-  await (at ? second.set(at) : second.now());
-  device.focus();
+  onCommands(() => { outage.steps.forgetBook(); reloadBook(); });
+  await outage.fill(fromAddress(["device", "at", "entry", "close"]));
+  const focus = () => outage.steps.rows.at(-1).device.focus();
+  shortcuts.n = () => (outage.steps.filled.length ? focus() : location.assign("/enter"));
+  outage.steps.rows[0].device.focus();
 });

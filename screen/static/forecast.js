@@ -84,13 +84,36 @@ function lostParts(found) {
   return [lost, open];
 }
 
+/** Customers and sections of one side, as `2 sections, 200 customers lose supply`. */
+function sideWords(rows, verb) {
+  const customers = rows.reduce((sum, row) => sum + row.customers, 0);
+  return rows.length ? [`${number(rows.length)} section${rows.length > 1 ? "s" : ""}, ${number(customers)} customers ${verb}`] : [];
+}
+
+/** What a step does at its second, on what those before it leave; or all of them together. */
+function stepWords({ sections, reason }) {
+  const sides = [...sideWords(sections.filter((row) => row.loses), "lose supply"), ...sideWords(sections.filter((row) => row.gets_back && !row.loses), "get back supply")];
+  return sides.join("; ") || reason || "no section loses or gets back supply";
+}
+
+/** The steps of an outage by time; what they do together comes below them. */
+function stepParts(found) {
+  const { steps, order } = found;
+  const hints = (step) => step.hints.map((hint) => el("p", { class: "warn hint" }, hint));
+  const rows = steps.map((step) => el("li", {}, el("b", {}, step.words.split(", cause")[0]), `: ${stepWords(step)}`, hints(step)));
+  const isEndsFirst = !same(order, steps.map((step) => step.place));
+  const words = "The outage is over: its returns to the normal position are sent first, so that no page shows it as going on while the rest is on its way.";
+  return [el("ol", { class: "steps" }, rows), isEndsFirst ? el("p", { class: "note ends-first" }, words) : "", el("h3", {}, `All together: ${stepWords(found)}`)];
+}
+
 /** The parts of a forecast; `tick` confirms a second in the future. */
 export function forecastParts(found, tick) {
   const parts = [el("h2", {}, "What it would do")];
   for (const hint of found.hints) parts.push(el("p", { class: "warn hint" }, hint));
   if (found.future) parts.push(el("div", { class: "warn hint" }, el("p", {}, `This lies ${found.future} in the future.`), el("label", { class: "check" }, tick, " Yes, it is planned for then")));
+  if (found.steps) parts.push(...stepParts(found));
   if (found.sections.length) parts.push(...sectionGroups(found.sections));
-  else if (!found.unmarked) parts.push(el("p", {}, "No section loses or gets back supply."));
+  else if (!found.unmarked && !found.steps) parts.push(el("p", {}, "No section loses or gets back supply."));
   if (found.reason) parts.push(el("p", { class: "warn reason" }, found.reason));
   parts.push(...unmarkedParts(found.unmarked));
   if (!found.unmarked) parts.push(...lostParts(found));
@@ -99,28 +122,61 @@ export function forecastParts(found, tick) {
 }
 
 /** It did something else than what was shown, since the book had changed in between: what came first, and a way back. */
-function otherwise(intent, shown) {
-  const change = (moved) => signed(inMinutes(total(moved)));
-  const words = `You saw ${change(intent.forecast.moved)} customer-minutes lost; it changed them by ${change(shown.reply.moved)}, since the book had changed in between.`;
-  const first = shown.between.map((each) => el("li", {}, `${senderOf(each.ref) ?? `another program (${each.ref})`} had sent: ${each.words}${each.entry ? ` (entry ${each.entry})` : ""}`));
-  const back = intent.command.kind === "switch" && shown.entry ? el("p", {}, el("a", { class: "back", href: `/sheet?entry=${shown.entry}&withdraw=yes` }, "Withdraw mine")) : "";
+function otherwise({ commands, replies, forecast }, moved) {
+  const change = (moves) => signed(inMinutes(total(moves)));
+  const words = `You saw ${change(forecast.moved)} customer-minutes lost; it changed them by ${change(moved)}, since the book had changed in between.`;
+  const mine = new Set(commands.map((command) => command.ref));
+  const first = (replies.at(-1).between ?? []).filter((each) => !mine.has(each.ref)).map((each) => el("li", {}, `${senderOf(each.ref) ?? `another program (${each.ref})`} had sent: ${each.words}${each.entry ? ` (entry ${each.entry})` : ""}`));
+  const isOne = commands.length === 1 && commands[0].kind === "switch" && replies[0].entry;
+  const back = isOne ? el("p", {}, el("a", { class: "back", href: `/sheet?entry=${replies[0].entry}&withdraw=yes` }, "Withdraw mine")) : "";
   return el("div", { class: "warn otherwise" }, el("p", {}, el("b", {}, words)), first.length ? el("ul", {}, first) : "", back);
 }
 
-/** The parts of the desk's answer: as what it is saved, whether that is what was forecast; the rest is folded. */
-export function replyParts(intent, shown) {
-  const { no, moved } = shown.reply;
-  const differs = Boolean(shown.counted && !same(moved, shown.counted));
-  const saved = shown.entry ? ["Saved as entry ", el("a", { href: `/sheet?entry=${shown.entry}` }, String(shown.entry)), ` (command ${no})`] : [`Saved as command ${no}`];
-  const parts = [el("h2", {}, saved)];
-  if (shown.again) parts.push(el("p", { class: "warn" }, "This is the stored reply: the command was saved already, and nothing was done twice."));
-  else if (shown.tries > 1) parts.push(el("p", { class: "warn" }, `It took ${shown.tries} tries under one reference; it acted once.`));
+/** Moves of several commands, added up. */
+function summed(lists) {
+  const sums = new Map();
+  for (const [dim, key, amount] of lists.flat()) sums.set(`${dim} ${key}`, [dim, key, (sums.get(`${dim} ${key}`)?.[2] ?? 0) + amount]);
+  const places = Object.keys(names);
+  return [...sums.values()].filter((move) => move[2]).sort((one, other) => places.indexOf(one[0]) - places.indexOf(other[0]) || one[1] - other[1]);
+}
+
+const several = (words, ends, list) => `${words}${list.length > 1 ? ends[1] : ends[0]}`;
+
+/** Links to the entries that commands made or changed; nothing where they made none. */
+export function entryLinks(replies) {
+  const entries = replies.map((shown) => shown.entry).filter(Boolean);
+  const links = entries.flatMap((entry) => [", ", el("a", { href: `/sheet?entry=${entry}` }, String(entry))]).slice(1);
+  return entries.length ? [several("entr", ["y ", "ies "], entries), ...links] : [];
+}
+
+function savedWords(replies) {
+  const numbers = several("command", [" ", "s "], replies) + replies.map((shown) => shown.reply.no).join(", ");
+  const links = entryLinks(replies);
+  return links.length ? ["Saved as ", ...links, ` (${numbers})`] : [`Saved as ${numbers}`];
+}
+
+function triesWords(replies) {
+  const isOne = replies.length === 1;
+  if (replies.some((shown) => shown.again)) return isOne ? "This is the stored reply: the command was saved already, and nothing was done twice." : "Some of it was saved already, and has its stored reply: nothing was done twice.";
+  const most = Math.max(...replies.map((shown) => shown.tries));
+  return most > 1 ? `It took ${most} tries under one reference; it acted once.` : "";
+}
+
+/** The parts of the desk's answers: as what they are saved, whether that is what was forecast; the rest is folded. */
+export function replyParts(intent) {
+  const { commands, replies, forecast } = intent;
+  const moved = summed(replies.map((shown) => shown.reply.moved));
+  const differs = replies.some((shown) => shown.counted && !same(shown.reply.moved, shown.counted));
+  const parts = [el("h2", {}, savedWords(replies))];
+  const tries = triesWords(replies);
+  if (tries) parts.push(el("p", { class: "warn" }, tries));
   if (differs) parts.push(el("p", { class: "bad differs" }, "The desk's reply DIFFERS from what is computed here: believe the desk."));
-  else if (same(moved, intent.forecast.moved)) parts.push(el("p", { class: "good equal" }, "As forecast."));
-  else parts.push(otherwise(intent, shown));
+  else if (replies.every((shown, at) => same(shown.reply.moved, forecast.sent[at]))) parts.push(el("p", { class: "good equal" }, "As forecast."));
+  else parts.push(otherwise(intent, moved));
   parts.push(el("p", { class: "lost" }, lostWords(total(moved))));
-  const amounts = differs ? movesTable(shown.counted, moved) : movesTable(moved);
+  const amounts = differs ? movesTable(summed(replies.map((shown) => shown.counted ?? [])), moved) : movesTable(moved);
   parts.push(el("details", { class: "amounts", open: differs }, el("summary", {}, "What it changed"), scrolling("What it changed", amounts)));
-  parts.push(el("details", {}, el("summary", {}, "The desk's reply as it came"), el("p", { class: "mono" }, intent.command.ref), el("p", { class: "mono reply" }, shown.text)));
+  const raw = replies.flatMap((shown, at) => [el("p", { class: "mono" }, commands[at].ref), el("p", { class: "mono reply" }, shown.text)]);
+  parts.push(el("details", {}, el("summary", {}, several("The desk's repl", ["y as it came", "ies as they came"], replies)), raw));
   return parts;
 }

@@ -2,6 +2,19 @@
 import { el, field, get, known, momentWords, settled, text } from "./common.js";
 
 const SET_AGAIN_SECONDS = 20; // between two questions for the server's clock
+const SHARED_SECONDS = 5; // for which an answer is that of all fields
+let clock = { asked: -Infinity, answer: null };
+
+/** The time by the server's clock, with when this computer's clock was at it. */
+function serverTime() {
+  const asked = Date.now();
+  if (asked - clock.asked > SHARED_SECONDS * 1000) {
+    const answer = get("/api/second").then((found) => ({ ...found, at: (asked + Date.now()) / 2 })); // it looked at its clock in between
+    clock = { asked, answer };
+    answer.catch(() => (clock.asked = -Infinity));
+  }
+  return clock.answer;
+}
 
 /** A moment's text some seconds later, by the same offset. */
 function later(words, seconds) {
@@ -26,6 +39,7 @@ export class MomentField {
     this.input.addEventListener("input", () => {
       this.isNow = false;
       this.second = null;
+      this.count += 1; // an answer that is on its way comes too late
       touched();
       read();
     });
@@ -39,10 +53,8 @@ export class MomentField {
 
   /** The time by the server's clock, from which the field's own goes on. */
   async ask() {
-    const asked = Date.now();
-    const found = await get("/api/second");
-    this.base = { ...found, at: (asked + Date.now()) / 2 }; // the server looked at its clock in between
-    return found;
+    this.base = await serverTime();
+    return this.base;
   }
 
   /** Back to the time that is now; a book whose period is over, or hasn't begun, has its nearest second. */
@@ -51,8 +63,8 @@ export class MomentField {
     const found = await this.ask();
     if (count !== this.count) return;
     this.isNow = found.goes;
-    this.input.value = momentWords(found.text);
-    this.second = String(found.second);
+    if (found.goes) this.tick({ isSent: true });
+    else [this.input.value, this.second] = [momentWords(found.text), String(found.second)];
     this.told.replaceChildren(found.goes ? "Now: this clock goes on until you type a time." : "The book's period doesn't hold today: this is its nearest second.");
     if (!quiet) this.changed();
   }

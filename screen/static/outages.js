@@ -52,7 +52,7 @@ export class Outages {
     this.inputs = {
       feeder: choice([["", "all"], ...feeders.map((each) => [String(each), String(each)])], this.wanted.feeder),
       cause: choice([["", "all"], ...causes()], this.wanted.cause),
-      text: text({ value: this.wanted.text }),
+      text: text({ value: this.wanted.text, "data-search": "yes" }),
       order: choice(Object.entries(ORDERS), this.wanted.order || "largest"),
     };
     const later = settled(() => this.change(), 100);
@@ -114,7 +114,7 @@ export class Outages {
     const { at } = this.shown;
     const names = outage.sections.map((row) => row.section).join(", ");
     return [
-      outage.device || "no switching",
+      outage.device ? this.linked(outage) : "no switching",
       number(outage.customers),
       { told: `${names} ${outage.customers}`, make: () => unfolded(outage, names) },
       outage.feeders.join(", "),
@@ -128,12 +128,21 @@ export class Outages {
     ];
   }
 
+  linked(outage) {
+    const href = this.form(outage);
+    return { told: href, make: () => el("a", { class: outage.device.length > BRIEF ? "outage" : "outage nowrap", href }, breakable(outage.device)) };
+  }
+
+  /** The form of an outage, filled in. */
+  form(outage, more = {}) {
+    return `/enter?${new URLSearchParams({ entry: outage.entry, ...more, ...(this.at ? { at: this.at } : {}) })}`;
+  }
+
   /** The way to the form that closes the device; one that is closed lies under another that is open. */
   closing(outage) {
     if (!outage.device || !known.me.may_send) return "";
     if (outage.isClosed) return "closed, still cut off";
-    const at = this.at ? { at: this.at } : {};
-    const href = `/enter?${new URLSearchParams({ device: outage.device, ...at })}`;
+    const href = this.form(outage, { close: "yes" });
     return { told: href, make: () => el("a", { class: "close", href, "aria-label": `Close ${outage.device}` }, "Close") };
   }
 }

@@ -1,19 +1,38 @@
-// A command on its way: what it would do, computed here; then, under one reference, the desk's answer beside it.
-import { el, get, known, momentWords, newReference, onCommands, own, post, settled } from "./common.js";
-import { forecastParts, replyParts, same } from "./forecast.js";
+// Commands on their way: what they would do, computed here; then, each under a reference of its own, the desk's answers. One
+// command, or the steps of an outage, which go as one list.
+import { el, get, known, momentWords, newReference, onCommands, own, settled } from "./common.js";
+import { entryLinks, forecastParts, replyParts, same } from "./forecast.js";
 import { offerUndo } from "./undo.js";
-import { adopt, forget, keep, look, onAnswered, release, underWay } from "./unanswered.js";
+import { adopt, forget, keep, look, onAnswered, refOf, release, sendRest } from "./unanswered.js";
 
 const FOLLOW_SECONDS = 20; // between two forecasts of a switching whose time is the one that is now
 
 const SHOWN_FIRST = "Not sent: what it would do is shown first. Look at it, and send then.";
 const supplyOf = (found) => found.sections.map((row) => [row.section, row.loses > 0, row.gets_back > 0]);
 
-/** `read` answers the command, or null where a field is missing. `form` sends it by the Enter key too. While the field `clock`
- * shows the time that is now, the command's second is the one at which it is sent. */
+/** What the server forecasts: one command, or the steps of an outage. */
+function forecastOf(commands) {
+  const stepOf = ({ kind, ...fields }) => [kind, ...Object.values(fields)];
+  return get("/api/forecast", commands.length > 1 ? { steps: JSON.stringify(commands.map(stepOf)) } : commands[0]);
+}
+
+/** What is sent: the commands in the order in which they go, each under its reference before the first one is sent. A remark
+ * goes with the step that is the first in time. */
+function intentOf(commands, shown, { name = "", remark = "" }) {
+  const { number, moved, words, order = [0], sent = [moved], steps } = shown;
+  const ordered = order.map((place) => ({ ...commands[place], ref: newReference(name) }));
+  if (remark) ordered[order.indexOf(steps ? steps[0].place : 0)].remark = remark;
+  return { commands: ordered, places: order, replies: [], forecast: { number, moved, sent }, words, sent: Date.now() };
+}
+
+/** `read` answers the command or a list of them, or null where a field is missing. `form` sends by the Enter key too. While
+ * `clock` shows the time that is now, a command's second is the one at which it is sent. `outage` answers the name and the remark
+ * of an outage. `after` hears the replies, or null and the refusal, and what was sent; `left`, that the form is free for others. */
 export class Sender {
-  constructor({ read, lock, form, clock = null, after = () => {}, label = "Send", missing = "Fill in the fields: what it would do is shown here before it is sent." }) {
-    this.read = read;
+  constructor({ read, lock, form, clock = null, outage = () => ({}), after = () => {}, left = () => {}, label = "Send", missing = "Fill in the fields: what it would do is shown here before it is sent." }) {
+    this.read = () => [read() ?? []].flat();
+    this.outage = outage;
+    this.left = left;
     this.missing = missing;
     this.lock = lock || (() => {});
     this.clock = clock;
@@ -21,8 +40,8 @@ export class Sender {
     this.intent = null;
     this.isBusy = false;
     this.count = 0;
-    this.shown = null; // the forecast, and the command that it is of
-    this.command = null;
+    this.shown = null; // the forecast, and the commands that it is of
+    this.commands = null;
     this.forecast = el("div", { class: "forecast", "aria-live": "polite" });
     this.outcome = el("div", { class: "outcome", role: "status", tabindex: "-1" });
     this.tick = el("input", { type: "checkbox", input: () => this.enable() });
@@ -36,7 +55,7 @@ export class Sender {
       later();
     };
     onCommands(() => this.intent || this.rests || later());
-    onAnswered((ref) => ref === this.intent?.command.ref && !this.isBusy && this.answeredElsewhere());
+    onAnswered((ref) => this.intent && ref === refOf(this.intent) && !this.isBusy && this.answeredElsewhere());
     if (form) this.attach(form);
     if (clock) setInterval(() => clock.isNow && this.shown && !this.rests && !this.isBusy && this.follow(), FOLLOW_SECONDS * 1000);
   }
@@ -56,8 +75,8 @@ export class Sender {
   }
 
   /** What the form says, for comparing: the time that is now counts as one. */
-  told_by(command) {
-    return JSON.stringify(command && this.clock?.isNow ? { ...command, f3: "now" } : command);
+  told_by(commands) {
+    return JSON.stringify(this.clock?.isNow ? this.clock.masked(commands) : commands);
   }
 
   /** A forecast of what the form said before counts no more, at once; it stays where the book alone has changed. */
@@ -82,18 +101,18 @@ export class Sender {
   async look() {
     if (this.intent) return;
     const count = ++this.count;
-    const command = this.read();
+    const commands = this.read();
     this.age();
-    this.told = this.told_by(command);
-    if (!command) {
+    this.told = this.told_by(commands);
+    if (!commands.length) {
       this.forecast.replaceChildren(el("p", { class: "note" }, this.missing));
       return;
     }
     try {
-      const found = await get("/api/forecast", command);
+      const found = await forecastOf(commands);
       if (count !== this.count) return;
       this.shown = found;
-      this.command = command;
+      this.commands = commands;
       this.draw(found);
     } catch (trouble) {
       if (count !== this.count) return;
@@ -116,18 +135,20 @@ export class Sender {
   /** Sends the one intent, whose forecast is shown: the second click of a double one finds it on its way. */
   async send() {
     if (this.intent || this.rests || this.isBusy) return;
-    const command = this.read();
+    const { length } = this.read();
     this.age();
-    if (!command || !this.shown || this.button.disabled || !(await this.isOfNow())) {
-      const why = !command ? this.missing : this.shown?.future && !this.tick.checked ? "Not sent: it lies in the future. Tick that it is planned, and send then." : SHOWN_FIRST;
+    this.isBusy = true; // the second click of a double one comes before an answer of the server
+    const isReady = length && this.shown && !this.button.disabled && (await this.isOfNow());
+    this.isBusy = false;
+    if (!isReady) {
+      const why = !length ? this.missing : this.shown?.future && !this.tick.checked ? "Not sent: it lies in the future. Tick that it is planned, and send then." : SHOWN_FIRST;
       this.outcome.replaceChildren(el("p", { class: "note" }, why));
       if (!this.shown) this.update();
       return;
     }
-    const ref = newReference();
-    own.add(ref);
-    this.intent = { command: { ...this.command, ref }, forecast: this.shown, words: this.shown.words, sent: Date.now() };
-    adopt(ref, () => this.tryIt());
+    this.intent = intentOf(this.commands, this.shown, this.outage());
+    this.intent.commands.forEach((command) => own.add(command.ref));
+    adopt(refOf(this.intent), () => this.tryIt());
     await this.tryIt();
   }
 
@@ -136,10 +157,8 @@ export class Sender {
   async isOfNow() {
     if (!this.clock?.isNow) return true;
     const before = supplyOf(this.shown);
-    this.isBusy = true;
     this.clock.tick({ isSent: true });
     await this.look();
-    this.isBusy = false;
     return Boolean(this.shown) && same(before, supplyOf(this.shown));
   }
 
@@ -148,15 +167,17 @@ export class Sender {
     this.isBusy = true;
     this.lock(true);
     this.enable();
-    const { command, forecast } = this.intent;
+    const { intent } = this;
+    const { commands, replies } = intent;
+    const onItsWay = (command) => {
+      keep(intent); // first: what is said to be on its way is known after the page is left, too
+      const step = commands.length > 1 ? `, step ${replies.length + 1} of ${commands.length}` : "";
+      this.outcome.replaceChildren(el("p", { class: "ask" }, `On its way to the desk as ${command.ref}${step}.`));
+    };
     try {
-      const shown = await underWay(command.ref, () => {
-        keep(this.intent); // first: what is said to be on its way is known after the page is left, too
-        this.outcome.replaceChildren(el("p", { class: "ask" }, `On its way to the desk as ${command.ref}.`));
-        return post(`/api/command?seen=${forecast.number}`, JSON.stringify(command));
-      });
+      await sendRest(intent, onItsWay);
       this.isBusy = false;
-      this.done(shown);
+      this.done();
     } catch (trouble) {
       this.isBusy = false;
       if (trouble.status === undefined) throw trouble;
@@ -175,18 +196,25 @@ export class Sender {
     const leave = el("button", { type: "button", class: "leave", click: () => this.leave() }, "Leave it in the list above, and enter another");
     const words = "It isn't known whether this is saved. Send it again: it goes under the same reference, and acts once.";
     const why = trouble.shown.error === "away" ? trouble.message : `${words} (${trouble.message})`;
-    this.outcome.replaceChildren(el("div", { class: "bad" }, el("p", {}, why), el("p", {}, `${intent.words} (${intent.command.ref})`), el("div", { class: "buttons" }, again, leave)));
+    this.outcome.replaceChildren(el("div", { class: "bad" }, el("p", {}, why), this.savedBefore(), el("p", {}, `${intent.words} (${refOf(intent)})`), el("div", { class: "buttons" }, again, leave)));
     look();
   }
 
   /** The form is free for another command; this one stays in the list of those without an answer. */
   leave() {
-    const { ref } = this.intent.command;
+    const ref = refOf(this.intent);
     this.intent = null;
     this.lock(false);
     this.outcome.replaceChildren();
     release(ref);
+    this.left();
     this.update();
+  }
+
+  /** What of a list is saved, where that isn't all of it. */
+  savedBefore() {
+    const { replies, commands } = this.intent;
+    return replies.length ? el("p", { class: "saved-before" }, "Saved so far: ", entryLinks(replies), ` (${replies.length} of ${commands.length} steps).`) : "";
   }
 
   answeredElsewhere() {
@@ -195,38 +223,46 @@ export class Sender {
     this.update();
   }
 
-  done(shown) {
+  done() {
     const { intent } = this;
     this.end();
-    this.outcome.replaceChildren(el("div", { class: "card" }, replyParts(intent, shown)));
+    this.outcome.replaceChildren(el("div", { class: "card" }, replyParts(intent)));
     this.forecast.replaceChildren();
     this.shown = null;
     this.told = null;
     this.count += 1;
     this.rests = true;
     this.enable();
-    this.after(shown);
-    offerUndo(this.outcome, shown.undo);
+    this.after(intent.replies, null, intent);
+    offerUndo(this.outcome, undoOf(intent.replies));
   }
 
   refused(trouble) {
+    const { intent } = this;
+    const before = this.savedBefore();
     this.end();
     const reply = trouble.shown.reply;
     const number = reply ? `Refused: ${reply.refused} ${reply.name}${reply.detail === undefined ? "" : ` ${reply.detail}`}. ` : "Not sent: ";
-    const parts = [el("p", {}, el("b", {}, number), trouble.message)];
+    const parts = [el("p", {}, el("b", {}, number), trouble.message), before];
     if (trouble.shown.entry) parts.push(el("p", { class: "stale" }, `The entry is now: ${entryWords(trouble.shown.entry)}`));
     this.outcome.replaceChildren(el("div", { class: "bad refusal" }, parts));
-    this.after(null, trouble.shown);
+    this.after(null, trouble.shown, intent);
     this.update();
   }
 
   end() {
-    const { ref } = this.intent.command;
+    const ref = refOf(this.intent);
     this.intent = null;
     forget(ref);
     release(ref);
     this.lock(false);
   }
+}
+
+/** What takes answered commands back: the last one first. */
+function undoOf(replies) {
+  const undone = replies.map((shown) => shown.undo).reverse();
+  return undone.every(Boolean) && { commands: undone.map((each) => each.command), words: undone.map((each) => each.words).join(", ") };
 }
 
 export function entryWords(entry) {

@@ -4,6 +4,7 @@ import { begin, causes, choice, el, field, foot, get, known, list, lookOnly, mom
 import { listed, ticketOf } from "./elements.js";
 import { MomentField } from "./moments.js";
 import { movesTable } from "./forecast.js";
+import { search as goToSearch } from "./keys.js";
 import { entryWords, Sender } from "./sender.js";
 import { shiftLog, showLog } from "./shiftlog.js";
 
@@ -61,7 +62,7 @@ async function filters() {
     el(
       "div",
       { class: "row" },
-      field("Device", make("device", text({ list: "devices" }))),
+      field("Device", make("device", text({ list: "devices", "data-search": "yes" }))),
       field("Cause", make("cause", choice([["", "any"], ...causes()]))),
       field("Crew", make("crew", text({ list: "crews" }))),
       field("Section", make("section", text({ list: "sections" }))),
@@ -140,6 +141,7 @@ async function open(no, { kind = "correct" } = {}) {
   for (const command of entry.history) {
     const reply = command.text ? JSON.parse(command.text) : null;
     const words = `Command ${command.no}, ${command.kind}, ${command.ref}${command.second ? `, ${momentWords(command.second)}` : ""}`;
+    if (command.remark) parts.push(el("p", { class: "remark" }, `Remark: ${command.remark}`));
     parts.push(el("details", {}, el("summary", {}, words), reply ? scrolling("What it changed", movesTable(reply.moved)) : "the desk gives no reply now"));
   }
   if (entry.kept && known.me.may_send) parts.push(work(entry, words, kind));
@@ -199,5 +201,6 @@ begin(async () => {
   onCommands(() => { show(); showLog(); lookAgain(); });
   await Promise.all([show(), showLog()]);
   const asked = new URLSearchParams(location.search);
+  if (location.hash === "#search") goToSearch();
   if (asked.get("entry")) open(asked.get("entry"), { kind: asked.has("withdraw") ? "withdraw" : "correct" });
 });

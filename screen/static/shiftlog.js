@@ -23,7 +23,7 @@ export async function showLog() {
   const lines = shown.slice(0, MOST).map((row) => [
     listed(row.at),
     row.by,
-    row.words,
+    row.remark ? `${row.words} (${row.remark})` : row.words,
     row.entry ? el("a", { href: `/sheet?entry=${row.entry}` }, row.result) : row.result,
     row.reference,
   ]);

@@ -1,5 +1,6 @@
 // Commands that were sent and have no answer yet, by their reference, for all pages of this browser. They outlive a page that is
-// loaded again or closed, and stand in the head of every page until the desk has answered them.
+// loaded again or closed, and stand in the head of every page until the desk has answered them. The steps of an outage are kept
+// as one, by the reference of the first, with the answers that there are.
 import { duration, el } from "./elements.js";
 import { known, post, Trouble } from "./requests.js";
 
@@ -20,8 +21,10 @@ function storage() {
   }
 }
 
+export const refOf = (intent) => intent.commands[0].ref;
+
 export function keep(intent) {
-  store?.setItem(PREFIX + intent.command.ref, JSON.stringify(intent));
+  store?.setItem(PREFIX + refOf(intent), JSON.stringify(intent));
 }
 
 export function forget(ref) {
@@ -45,14 +48,30 @@ export function onAnswered(work) {
   answered.push(work);
 }
 
+/** An older page kept a single command. */
+const asList = (intent) => (intent.commands ? intent : { ...intent, commands: [intent.command], replies: [] });
+
 function kept() {
-  const found = Object.keys(store ?? {}).filter((key) => key.startsWith(PREFIX)).map((key) => JSON.parse(store.getItem(key)));
+  const found = Object.keys(store ?? {}).filter((key) => key.startsWith(PREFIX)).map((key) => asList(JSON.parse(store.getItem(key))));
   return found.sort((one, other) => one.sent - other.sent);
 }
 
 /** Does some work while other pages can see that it is being done. */
-export function underWay(ref, work) {
+function underWay(ref, work) {
   return navigator.locks ? navigator.locks.request(PREFIX + ref, work) : work();
+}
+
+/** Sends what has no answer yet, in its order, each command once the one before it is answered; `next` hears of each before it
+ * goes. */
+export function sendRest(intent, next) {
+  const { commands, replies, forecast } = intent;
+  return underWay(refOf(intent), async () => {
+    while (replies.length < commands.length) {
+      const command = commands[replies.length];
+      next(command);
+      replies.push(await post(`/api/command?seen=${forecast.number}`, JSON.stringify(command)));
+    }
+  });
 }
 
 /** Whether no page is sending a command now: its page was closed, or has given up. */
@@ -61,43 +80,55 @@ function isLeft(ref) {
 }
 
 /** The name in a reference of the screen's; nothing where another program made it. */
-export const senderOf = (ref) => /^SCR-(.+)-[A-Z0-9]+$/.exec(ref)?.[1];
+export const senderOf = (ref) => /^SCR-(.+)-[A-Z0-9_]+$/.exec(ref)?.[1];
 const ageOf = (intent) => `sent ${duration(Math.max(1, Math.floor((Date.now() - intent.sent) / 1000)))} ago`;
 
+/** How much of a list is saved. */
+const savedOf = ({ commands, replies }) => (commands.length > 1 ? `${replies.length} of ${commands.length} steps are saved: ` : "");
+
 function rowOf(intent) {
-  const { ref } = intent.command;
+  const ref = refOf(intent);
   const outcome = el("div", { role: "status" });
   const isMine = senderOf(ref) === known.me.name;
   const again = el("button", { type: "button", class: "again-above", disabled: !isMine || !known.me.may_send, click: () => resend(intent, outcome, again) }, "Send again");
   const whose = isMine ? "" : el("p", {}, `It was sent under another name: ${senderOf(ref)} can send it again.`);
   const remove = el("button", { type: "button", class: "small", click: () => askRemoval(ref, remove) }, "Remove from this list");
-  const words = el("p", {}, `${intent.words}, `, el("span", { class: "age" }, ageOf(intent)), ` as ${ref}.`);
-  return el("li", {}, words, whose, el("div", { class: "buttons" }, again, remove), outcome);
+  const words = el("p", {}, el("b", { class: "saved" }, savedOf(intent)), `${intent.words}, `, el("span", { class: "age" }, ageOf(intent)), ` as ${ref}.`);
+  return el("li", { "data-open": intent.commands.length - intent.replies.length }, words, whose, el("div", { class: "buttons" }, again, remove), outcome);
 }
 
 function askRemoval(ref, button) {
   button.replaceWith(el("button", { type: "button", class: "small", click: () => { forget(ref); answered.forEach((work) => work(ref)); } }, "It isn't known whether it is saved. Remove it all the same"));
 }
 
-/** Sends a command once more: what was saved already is answered by its stored reply, so it acts once. */
+/** Sends commands once more: what was saved already is answered by its stored reply, so each acts once. */
 async function resend(intent, outcome, button) {
-  const { ref } = intent.command;
+  const ref = refOf(intent);
   if (here.has(ref)) {
     here.get(ref)();
     return;
   }
+  const { replies, commands, words } = intent;
   button.disabled = true;
   outcome.replaceChildren(el("p", {}, "On its way to the desk."));
+  const next = () => store.getItem(PREFIX + ref) && keep(intent);
   try {
-    const found = await underWay(ref, () => post(`/api/command?seen=${intent.forecast.number}`, JSON.stringify(intent.command)));
-    settle(ref, el("p", { class: "good" }, `Saved as command ${found.reply.no}${found.again ? ": it was saved already, and nothing was done twice" : ""}. ${intent.words}.`));
+    await sendRest(intent, next);
+    settle(ref, el("p", { class: "good" }, `Saved as command${replies.length > 1 ? "s" : ""} ${replies.map((shown) => shown.reply.no).join(", ")}${againWords(replies)}. ${words}.`));
   } catch (trouble) {
     if (!(trouble instanceof Trouble)) throw trouble;
     const reply = trouble.shown.reply;
-    if (reply) settle(ref, el("p", { class: "bad" }, `Refused: ${reply.refused} ${reply.name}. ${trouble.message} ${intent.words}.`));
+    const step = commands.length > 1 ? `Step ${replies.length + 1} of ${commands.length}, in the order in which they are sent, is refused, those before it are saved, those after it aren't. ` : "";
+    next();
+    if (reply) settle(ref, el("p", { class: "bad" }, `${step}Refused: ${reply.refused} ${reply.name}. ${trouble.message} ${words}.`));
     else outcome.replaceChildren(el("p", { class: "bad" }, `Still not known: ${trouble.message}.`));
     button.disabled = false;
   }
+}
+
+function againWords(replies) {
+  if (!replies.some((shown) => shown.again)) return "";
+  return `: ${replies.length > 1 ? "some of it" : "it"} was saved already, and nothing was done twice`;
 }
 
 /** The answer takes the place of the command, until the reader has read it. */
@@ -113,23 +144,29 @@ const title = el("h2", {});
 const rows = el("ul", {});
 
 function count() {
-  const open = shown.size;
+  const open = [...shown.values()].reduce((sum, row) => sum + Number(row.dataset.open), 0);
   const words = open > 1 ? `${open} commands without an answer: it isn't known whether they are saved` : "1 command without an answer: it isn't known whether it is saved";
   title.textContent = open ? words : rows.children.length ? "Answered" : "";
   place.hidden = !rows.children.length;
+}
+
+function showProgress(row, intent) {
+  row.querySelector(".age").textContent = ageOf(intent);
+  row.querySelector(".saved").textContent = savedOf(intent);
+  row.dataset.open = intent.commands.length - intent.replies.length;
 }
 
 /** Shows what is kept and isn't on its way. */
 export async function look() {
   const intents = kept();
   for (const ref of [...shown.keys()]) {
-    if (intents.some((each) => each.command.ref === ref)) continue;
+    if (intents.some((each) => refOf(each) === ref)) continue;
     shown.get(ref).remove();
     shown.delete(ref);
   }
   for (const intent of intents) {
-    const { ref } = intent.command;
-    if (shown.has(ref)) shown.get(ref).querySelector(".age").textContent = ageOf(intent);
+    const ref = refOf(intent);
+    if (shown.has(ref)) showProgress(shown.get(ref), intent);
     if (shown.has(ref) || !(await isLeft(ref)) || shown.has(ref) || !store.getItem(PREFIX + ref)) continue;
     shown.set(ref, rowOf(intent));
     rows.append(shown.get(ref));

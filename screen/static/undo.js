@@ -1,10 +1,10 @@
-// A way back for what was just saved: the command that takes it back, forecast and sent as any other.
+// A way back for what was just saved: the commands that take it back, forecast and sent as any others.
 import { el } from "./common.js";
 import { Sender } from "./sender.js";
 
 let made = 0;
 
-/** Offers it below a reply; nothing where there is no such command. */
+/** Offers it below a reply; nothing where there are no such commands. */
 export function offerUndo(place, undo) {
   if (!undo) return;
   const button = el("button", { type: "button", class: "undo", click: () => ask() }, "Undo");
@@ -12,7 +12,7 @@ export function offerUndo(place, undo) {
   place.append(part);
   const ask = () => {
     const form = el("form", { id: `undo-${(made += 1)}`, class: "card", tabindex: "-1", "aria-label": "Undo" });
-    const read = () => (form.isConnected ? undo.command : null);
+    const read = () => (form.isConnected ? undo.commands : null);
     const sender = new Sender({ read, form, label: "Send the undo", missing: "This undo isn't offered any more." });
     form.append(el("h2", {}, `Undo: ${undo.words}`), sender.element);
     part.replaceWith(form);

@@ -157,6 +157,11 @@ class Browser:
                 return
         raise AssertionError(f"{selector} wasn't hit by a click")
 
+    def send(self) -> None:
+        """Sends what the form says, once it can be sent, and sees that it did what was forecast."""
+        self.click(".send")
+        self.says(".outcome .equal", "As forecast")
+
     def point_at(self, element: WebElement) -> None:
         """Brings the mouse over an element."""
         point = self.driver.execute_script(MIDDLE, element)

@@ -293,8 +293,7 @@ class Operators(Case):
         page.wait(
             lambda: page.find(".send").is_enabled() and "Customer-minutes lost" in page.text(".forecast"), "the button"
         )
-        page.click(".send")
-        page.says(".outcome .equal", "As forecast")
+        page.send()
         self.assertEqual(screen.call("/api/entries/29")[1]["revision"], 3)
 
     def test_refusals_and_texts_as_text(self) -> None:
@@ -340,9 +339,7 @@ class Operators(Case):
         page.fill("Time (", "2025-10-26 03:30:00")
         page.says(".moment", "+01:00 from UTC")
         page.says(".forecast", "2025-10-26 03:30:00 +01:00")
-        page.wait(lambda: page.find(".send").is_enabled(), "the button")
-        page.click(".send")
-        page.says(".outcome .equal", "As forecast")
+        page.send()
         self.assertIn("03:30:00+01:00", screen.call("/api/entries/1")[1]["second"]["text"])
         screen.log_in("BERT")
         screen.switch("close", "B1", second=1_761_440_400)
@@ -667,8 +664,7 @@ class Live(Case):
         page.wait(lambda: page.text("h1") == "Switching log", "the sheet")
         page.ready()
         page.wait(lambda: page.all(".send") and page.find(".send").is_enabled(), "the button")
-        page.click(".send")
-        page.says(".outcome .equal", "As forecast")
+        page.send()
         self.assertFalse(self.live.call("/api/sheet")[1]["rows"][0]["kept"])
 
     def test_open_outages_are_said_where_they_count_to_the_periods_end(self) -> None:
@@ -1077,14 +1073,11 @@ class Pages(Case):
         page.fill("Normal position", "closed")
         page.fill("In the network from", "2025-04-06 23:30:00")
         page.says(".forecast", "gets back supply")
-        page.click(".send")
-        page.says(".outcome .equal", "As forecast")
+        page.send()
         page.says("main", "13 devices")
         page.open(f"{screen.url}/year")
         page.fill("Day", "2025-03-25")
-        page.wait(lambda: page.find(".send").is_enabled(), "the button")
-        page.click(".send")
-        page.says(".outcome .equal", "As forecast")
+        page.send()
         page.says("main", "2025-03-25 marked")
         page.field("File").send_keys(str(support.FORTNIGHT_FILES / "corrections.csv"))
         page.driver.execute_script(

@@ -3,11 +3,12 @@ step is the one that is read anew."""
 
 import random
 import unittest
+import unittest.mock
 from collections.abc import Callable
 from pathlib import Path
 
 import support
-from server import commands, reader, state
+from server import commands, outage, reader, state
 
 COMMANDS = 300
 FIRST, END = 1_742_770_800, 1_743_976_800
@@ -91,6 +92,43 @@ class Office:
         self.moved += bool(planned.moves)
         commands.accept(self.known, reader.Command(reply["no"], f"TRY-{number}", kind, tuple(fields)))
 
+    def act_on_steps(self, number: int) -> int:
+        """Some switchings as one list, sent in the order that the forecast tells: how many there were."""
+        devices = [each.name for each in self.known.sheet.devices[:5]]
+        steps = [
+            [
+                "switch",
+                self.random.choice(devices),
+                self.random.choice(["open", "close"]),
+                str(self.moment()),
+                "5",
+                "CREW-3",
+            ]
+            for _ in range(self.random.randint(2, 6))
+        ]
+        shown = outage.forecast(self.known, steps)
+        self.case.assertEqual(sorted(shown["order"]), list(range(len(steps))))
+        before = self.known.amounts()
+        for place, (at, moved) in enumerate(zip(shown["order"], shown["sent"])):
+            kind, *fields = steps[at]
+            body = {
+                "kind": kind,
+                "ref": f"STEP-{number}-{place}",
+                **{f"f{each}": text for each, text in enumerate(fields, 1)},
+            }
+            status, reply = self.desk.post(body)
+            self.case.assertEqual((status, reply.get("moved")), (200, moved), (steps, shown["order"]))
+            commands.accept(self.known, reader.Command(reply["no"], body["ref"], kind, tuple(fields)))
+        after = self.known.amounts()
+        moved = {key: after.get(key, 0) - before.get(key, 0) for key in {*before, *after}}
+        self.case.assertEqual(
+            {(dim, key): amount for dim, key, amount in shown["moved"]},
+            {key: amount for key, amount in moved.items() if amount},
+        )
+        self.case.assertEqual(sum(step["total"] for step in shown["steps"]), shown["total"])
+        self.case.assertEqual(sum(row["customer_seconds"] for row in shown["sections"]), shown["total"])
+        return len(steps)
+
 
 class Forecasts(support.Case):
     def test_random_commands_with_lives(self) -> None:
@@ -110,6 +148,42 @@ class Forecasts(support.Case):
             for dim in ("cause", "feeder", "day"):
                 found = [[key, amount] for (of, key), amount in sorted(sorted_amounts(anew).items()) if of == dim]
                 self.assertEqual(found, totals[dim])
+
+    def test_steps_of_outages(self) -> None:
+        """Lists of switchings: each step moves what was forecast, all together what the forecast says of the whole."""
+        desk = support.Desk(support.fortnight("steps"))
+        self.addCleanup(desk.kill)
+        office = Office(self, desk, 4)
+        self.assertGreater(sum(office.act_on_steps(number) for number in range(40)), 100)
+        self.assertEqual(sorted_amounts(office.known), sorted_amounts(read(desk.book)))
+
+    def test_the_order_in_which_steps_are_sent(self) -> None:
+        """Returns first where all is over, unless two steps have one second; else by time."""
+        known = read(support.fortnight("order"))
+        steps = (("TIE-1", "open"), ("CB-1", "open"), ("TIE-1", "close"), ("CB-1", "close"))
+        for now, seconds, order in (
+            (END, (40, 10, 20, 30), [3, 0, 1, 2]),
+            (END, (40, 10, 20, 20), [1, 2, 3, 0]),
+            (FIRST + 35, (40, 10, 20, 30), [1, 2, 3, 0]),
+        ):
+            sent = [["switch", *step, str(FIRST + second), "5", "CREW-3"] for step, second in zip(steps, seconds)]
+            with unittest.mock.patch("time.time", return_value=float(now)):
+                shown = outage.forecast(known, sent)
+            self.assertEqual(shown["order"], order)
+            self.assertEqual([step["place"] for step in shown["steps"]], [1, 2, 3, 0])
+
+    def test_what_is_no_list_of_steps(self) -> None:
+        for wrong in (
+            "x",
+            "[]",
+            "{}",
+            '[["switch","CB-1"]]',
+            '[["bus","A"]]',
+            '[["switch","CB-1","open","now","5","A"]]',
+            f"[{'[' * 9000}",
+        ):
+            with self.assertRaises(state.Refused, msg=wrong[:40]):
+                outage.steps_in(wrong)
 
     def test_sample_fortnight_from_nothing(self) -> None:
         """Each command of the sample fortnight in its turn moves what the file says that it moved."""

@@ -4,6 +4,7 @@ import json
 import re
 import time
 import unittest
+import unittest.mock
 import urllib.parse
 from datetime import datetime, timedelta
 from html.parser import HTMLParser
@@ -88,7 +89,7 @@ class Shift(unittest.TestCase):
         self.assertEqual(len(self.get("/api/log", since="today", until="today", name="log-1")), 1)
         self.assertEqual(self.get("/api/log", since="yesterday", until="yesterday"), [])
         self.assertEqual(self.get("/api/log", since="2001-01-01", until="2001-12-31 06:00"), [])
-        wrong = ("since=never", "since=2026-99-99", "since=0001-01-01", "until=1905", "since=today&until=yesterday")
+        wrong = ("since=never", "since=2026-99-99", "since=0001-01-01", "until=2560", "since=today&until=yesterday")
         for query in wrong:
             self.assertEqual(self.screen.call(f"/api/log?{query}")[0], 422, query)
 
@@ -344,25 +345,54 @@ class Stops(support.Case):
 
 
 class Typed(unittest.TestCase):
-    def test_times_of_today_and_yesterday(self) -> None:
-        today = ZONE.text_of(int(time.time()))[:10]
-        for typed, words in (
-            ("06:10", f"{today}T06:10:00"),
-            ("6:10", f"{today}T06:10:00"),
-            ("today 23:59:58", f"{today}T23:59:58"),
-            ("Today", f"{today}T00:00:00"),
-        ):
-            self.assertEqual(moments.read_moment(ZONE, typed)[0].text[:19], words, typed)
-        yesterday = moments.read_moment(ZONE, "yesterday 22:00")[0].text
-        self.assertEqual(yesterday[:10], (datetime.fromisoformat(today) - timedelta(days=1)).date().isoformat())
-        for wrong, words in (
-            ("1905", "19:05, for today"),
-            ("905", "09:05, for today"),
-            ("25:10", "no date and time"),
-            ("yesterday22:00", "is typed as"),
-        ):
-            with self.assertRaisesRegex(Refused, re.escape(words)):
-                moments.read_moment(ZONE, wrong)
+    def test_times_as_operators_type_them(self) -> None:
+        """By a clock that shows 2026-11-28 14:30: a time without a date is the latest one that has come."""
+        for typed, words in {
+            "14:05": "2026-11-28 14:05:00",
+            "1405": "2026-11-28 14:05:00",
+            "14:31": "2026-11-28 14:31:00",  # one minute ahead: clocks differ
+            "14:05:09": "2026-11-28 14:05:09",
+            "140509": "2026-11-28 14:05:09",
+            "6:10": "2026-11-28 06:10:00",
+            "905": "2026-11-28 09:05:00",
+            "90530": "2026-11-28 09:05:30",
+            "19:05": "2026-11-27 19:05:00",
+            "1905": "2026-11-27 19:05:00",
+            "235959": "2026-11-27 23:59:59",
+            "14:05 +02:00": "2026-11-28 13:05:00",
+            "28.11.2026 19:05": "2026-11-28 19:05:00",
+            "5.4.2026 0610": "2026-04-05 06:10:00",
+            "2026-11-27 1905": "2026-11-27 19:05:00",
+            "2026-11-27T19:05:30z": "2026-11-27 20:05:30",
+            "today 19:05": "2026-11-28 19:05:00",
+            "Yesterday 2200": "2026-11-27 22:00:00",
+            "Today": "2026-11-28 00:00:00",
+            " 1795872600 ": "2026-11-28 14:30:00",
+        }.items():
+            self.assertEqual([each.text[:19].replace("T", " ") for each in self.read(typed)], [words], typed)
+        self.assertEqual(self.read("1905", may_come=True)[0].text[:16], "2026-11-28T19:05")
+        for wrong, words in {
+            "25:10": "25:10 is no date and time",
+            "1960": "1960 is no date and time",
+            "31.11.2026 10:00": "no date and time",
+            "yesterday22:00": "is typed as 2026-11-28 06:10:00, or 06:10 for today",
+            "28.11.2026": "is typed as",
+            "19": "is typed as",
+            "28.11.99999 10:00": "is typed as",
+            "1.1.1900 10:00": "lies outside of what a book can hold",
+        }.items():
+            with self.assertRaisesRegex(Refused, re.escape(words), msg=wrong):
+                self.read(wrong)
+
+    def test_times_of_a_night_whose_clock_goes_back(self) -> None:
+        """02:30 comes twice; while the second one is to come, the first one is meant."""
+        first, second = 1_792_888_200, 1_792_891_800
+        for now, meant in ((first - 61, [first - 86_400]), (first, [first]), (second, [first, second])):
+            self.assertEqual([each.second for each in self.read("0230", now)], meant, now)
+
+    def read(self, typed: str, now: int = 1_795_872_600, may_come: bool = False) -> list[moments.Moment]:
+        with unittest.mock.patch("time.time", return_value=float(now)):
+            return moments.read_moment(ZONE, typed, may_come)
 
 
 if __name__ == "__main__":

@@ -1,0 +1,270 @@
+"""A whole outage by one form: keys counted, steps that break off and are resumed, a form that is filled in."""
+
+import os
+import signal
+import time
+import unittest
+from typing import Any
+
+import browser
+import support
+from selenium.webdriver.common.keys import Keys
+from server import names
+from test_browser import Case
+from test_shift import ZONE
+
+TIED = support.storm_text() + "device,T12,TIE-12,MILL-14,MILL-24,open,,\n"
+# An opening, the faulty section cut out, three restorations: minutes ago, and what is typed of the device.
+STEPS = {
+    ("cb-1", 50): "open",
+    ("lbs-11", 40): "open",
+    ("tie-12", 30): "close",
+    ("lbs-11", 20): "close",
+    ("cb-1", 10): "close",
+}
+EFFECTS = (
+    "5 sections, 15 customers lose supply",
+    "no section loses or gets back supply",
+    "4 sections, 13 customers get back supply",
+    "1 section, 2 customers get back supply",
+    "no section loses or gets back supply",
+)
+SENT = [
+    "LBS-11 close",
+    "CB-1 close",
+    "CB-1 open",
+    "LBS-11 open",
+    "TIE-12 close",
+]  # returns to the normal position first
+# The page is left, or a step is spoilt, as the third command is about to go.
+THIRD = """
+const real = window.fetch;
+let count = 0;
+window.fetch = async (route, options) => {
+  if (!String(route).startsWith("/api/command") || (count += 1) !== 3) return real(route, options);
+  %s
+};
+"""
+CLICKS = "const button = document.querySelector('.send'); button.click(); button.click();"
+LEFT = 'location.href = "/network"; return new Promise(() => {});'
+LOST = 'return new Response("no", { status: 502 });'
+SPOILT = 'return real(route, { ...options, body: options.body.replace("CB-1", "CB-9") });'
+
+
+class Outages(Case):
+    """A book whose period goes on, behind a proxy that can answer 502."""
+
+    def setUp(self) -> None:
+        self.between = support.Between()
+        self.addCleanup(self.between.end)
+        book = support.live(self._testMethodName, "tied", TIED)
+        self.live = support.Screen(book, "--host", f"127.0.0.1:{self.between.port}")
+        self.addCleanup(self.live.end)
+        self.between.screen = self.live.port
+        self.url = f"http://127.0.0.1:{self.between.port}"
+        self.keys, self.begun = 0, int(time.time())
+
+    def press(self, page: browser.Browser, *words: str) -> None:
+        """Presses keys one by one, and counts them."""
+        for key in "".join(words):
+            page.driver.switch_to.active_element.send_keys(key)
+            self.keys += 1
+
+    def clock(self, minutes_ago: int) -> str:
+        """A time before the test began, as an operator types it."""
+        return ZONE.text_of(self.begun - 60 * minutes_ago)[11:16].replace(":", "")
+
+    def enter(self, page: browser.Browser) -> None:
+        """Types the steps and the cause: all but the sending."""
+        for device, minutes_ago in STEPS:
+            self.press(page, device, Keys.TAB, self.clock(minutes_ago), Keys.TAB, Keys.TAB)
+        self.press(page, Keys.TAB, "2")
+        self.forecast(page, len(STEPS))
+
+    def forecast(self, page: browser.Browser, steps: int) -> None:
+        """Waits for the forecast of so many steps."""
+        page.wait(lambda: len(page.all(".forecast .steps li")) == steps and page.find(".send").is_enabled(), "it")
+
+    def break_off(self, page: browser.Browser, how: str) -> None:
+        """Types all of it and sends it by a double click; something happens to the third command."""
+        page.open(f"{self.url}/enter")
+        self.enter(page)
+        page.driver.execute_script(THIRD % how + CLICKS)
+
+    def words(self) -> list[str]:
+        return [f"{row['device']} {row['action']}" for row in self.saved()]
+
+    def saved(self) -> list[dict[str, Any]]:
+        """The entries, in the order in which they came."""
+        rows: list[dict[str, Any]] = self.live.call("/api/sheet")[1]["rows"]
+        return sorted(rows, key=lambda row: int(row["no"]))
+
+    def test_three_restorations_by_seventy_keys_and_one_send(self) -> None:
+        """Meanwhile nobody is shown that it goes on; then it is undone at once."""
+        page = self.one
+        self.other.open(f"{self.url}/", "BERT")
+        self.other.says("main", "All sections are supplied")
+        self.other.record("main")
+        page.open(f"{self.url}/")
+        self.press(page, "n")
+        page.find(".sender")
+        page.ready()
+        self.enter(page)
+        for line, step, effect in zip(page.text(".forecast .steps").splitlines(), STEPS, EFFECTS):
+            self.assertTrue(line.startswith(f"{step[0].upper()} {STEPS[step]} at "), line)
+            self.assertIn(effect, line)
+        self.assertIn("All together: 5 sections, 15 customers lose supply", page.text(".forecast h3"))
+        self.assertIn("+320 (+19200 customer-seconds)", page.text(".forecast .lost").replace("\u2009", ""))
+        self.press(page, Keys.TAB, Keys.ENTER)
+        page.says(".outcome .equal", "As forecast")
+        self.assertLessEqual(self.keys, 70)
+        self.assertEqual(self.words(), SENT)
+        page.wait(lambda: page.text(".saved-steps li").count("entry") == len(STEPS), "the saved steps")
+        last = str(self.live.number())
+        number = "return document.body.dataset.number"
+        self.other.wait(lambda: self.other.driver.execute_script(number) == last, "the last step")
+        self.assertNotIn("cut off by", self.other.driver.execute_script("return window.recorded.join()"))
+        page.click(".undo")
+        page.click(".outcome .send")
+        page.says(".outcome .outcome .equal", "As forecast")
+        self.assertFalse(any(row["kept"] for row in self.saved()))
+
+    def test_an_outage_that_is_over_by_a_finger_on_a_phone(self) -> None:
+        """Both ends are known: one send, and the end goes first. The remark is in the log, at the entry and in the hand-over."""
+        page = self.other
+        page.open(f"{self.url}/enter?device=CB-2")
+        page.fill("Time (", self.clock(300))
+        rows = "return [...document.querySelectorAll('.step')]"
+        page.wait(lambda: len(page.driver.execute_script(rows)) == 2, "a second row")
+        device, second = page.driver.execute_script(f"{rows}[1].querySelectorAll('input')")
+        device.send_keys("cb-2")
+        second.send_keys(Keys.CONTROL, "a")
+        second.send_keys(self.clock(240))
+        page.fill("Cause", "2")
+        page.fill("Ticket number", "2026-17")
+        page.fill("Remark", "A tree on the line.")
+        self.forecast(page, 2)
+        page.says(".ends-first", "sent first")
+        page.tap_on("Send to the desk")
+        page.says(".outcome .equal", "As forecast")
+        wide, room = page.driver.execute_script("return [document.documentElement.scrollWidth, window.innerWidth]")
+        self.assertLessEqual(wide, room)
+        self.assertEqual(self.words(), ["CB-2 close", "CB-2 open"])
+        self.assertRegex(self.saved()[0]["commands"][0]["ref"], r"SCR-ANNA-2026_17_[A-Z2-9]{8}")
+        page.open(f"{self.url}/sheet?entry=2")
+        page.says("main table", "2026_17")
+        page.says("#detail .remark", "A tree on the line.")
+        page.unfold("main")
+        page.says("main", "(A tree on the line.)")
+        self.assertIn("(A tree on the line.)", support.call(f"{self.live.url}/shift")[1].decode())
+
+    def test_killed_between_steps_and_resumed(self) -> None:
+        """The page is left after two steps; then the screen's proxy answers 502, and the desk hangs while the page is left again:
+        no step is lost, none comes twice, and their order stays."""
+        page = self.one
+        self.break_off(page, LEFT)
+        page.wait(lambda: page.text("h1") == "Network", "another page")
+        page.ready()
+        page.says(".unanswered", "3 commands without an answer")
+        page.says(".unanswered", "2 of 5 steps are saved")
+        self.assertEqual(self.words(), SENT[:2])
+        self.between.answer(502)
+        page.click(".again-above")
+        page.says(".unanswered", "Still not known")
+        self.between.answer(0)
+        desk = self.live.desk_process()
+        os.kill(desk, signal.SIGSTOP)
+        self.addCleanup(os.kill, desk, signal.SIGCONT)
+        page.click(".again-above")
+        page.says(".unanswered", "On its way")
+        page.driver.get(f"{self.url}/")
+        page.ready()
+        page.says(".unanswered", "2 of 5 steps are saved")
+        os.kill(desk, signal.SIGCONT)
+        page.click(".again-above")
+        page.says(".unanswered", "Saved as commands")
+        self.assertEqual(self.words(), SENT)
+        references = {row["commands"][0]["ref"] for row in self.saved()}
+        self.assertEqual((len(references), len({names.outage_in(each) for each in references})), (len(SENT), 1))
+        page.driver.refresh()
+        page.ready()
+        self.assertEqual(page.text(".unanswered"), "")
+
+    def test_a_step_without_an_answer(self) -> None:
+        page = self.one
+        self.break_off(page, LOST)
+        page.says(".outcome .saved-before", "entries 1, 2 (2 of 5 steps)")
+        page.click(".outcome .again")
+        page.says(".outcome .equal", "As forecast")
+        self.assertEqual(self.words(), SENT)
+
+    def test_a_step_that_is_refused(self) -> None:
+        """Those before it are saved; it stays in the form with those after it, and they are sent once they are right."""
+        page = self.one
+        self.break_off(page, SPOILT)
+        page.says(".refusal", "Refused: 2")
+        page.says(".refusal .saved-before", "entries 1, 2 (2 of 5 steps)")
+        self.assertEqual(self.words(), SENT[:2])
+        self.forecast(page, 3)
+        page.send()
+        self.assertEqual(self.words(), SENT)
+        page.wait(lambda: page.text(".saved-steps li").count("entry") == len(SENT), "all steps")
+
+    def test_a_row_leads_to_the_form_filled_in(self) -> None:
+        page = self.one
+
+        def follow(link: str, saved: str, **wanted: str) -> None:
+            page.open(f"{self.url}/", "BERT")
+            page.says("table.outages", "T_9")
+            page.click(link)
+            page.says(".saved-steps", saved)
+            page.ready()
+            self.assertEqual({name: page.field(name).get_attribute("value") for name in wanted}, wanted)
+
+        page.open(f"{self.url}/enter?device=CB-3")
+        page.fill("Cause", "1")
+        page.fill("Crew", "NORTH")
+        page.fill("Ticket", "t-9")
+        page.send()
+        follow("a.outage", "CB-3 open at", Device="", Cause="1", Crew="NORTH", Ticket="T_9")
+        follow("a.close", "CB-3 open at", Device="CB-3", Cause="1", Crew="NORTH", Ticket="T_9")
+        page.says(".forecast", "gets back supply")
+        page.send()
+        page.says(".saved-steps", "CB-3 close at")
+        found = self.live.call("/api/outages/2")[1]
+        self.assertEqual((found["outage"], [row["no"] for row in found["entries"]]), ("T_9", [1, 2]))
+
+    def test_keys_for_the_whole_page(self) -> None:
+        """N and / act where nobody types, and can be turned off."""
+        page = self.one
+        nowhere = "document.activeElement.blur()"
+        page.open(f"{self.url}/")
+        self.press(page, "/", "n", "/")
+        self.assertEqual(page.field("Device, section").get_attribute("value"), "n/")
+        page.open(f"{self.url}/year")
+        self.press(page, "/")
+        page.wait(lambda: page.text("h1") == "Switching log", "the log's search")
+        page.ready()
+        page.wait(lambda: page.driver.switch_to.active_element == page.field("Device"), "the focus")
+        for key, title in {"n": "Switching log", "N": "New switching"}.items():
+            page.click(".keys input")
+            page.driver.execute_script(nowhere)
+            self.press(page, key)
+            time.sleep(0.3)  # in which a page would be left
+            page.wait(lambda: page.text("h1") == title, title)
+
+
+class References(unittest.TestCase):
+    def test_the_outage_in_a_reference(self) -> None:
+        for reference, name in {
+            "SCR-ANNA-2026_17_ABCDEFGH": "2026_17",
+            "SCR-ANNA-B-_K7M2PQ_ABCDEFGH": "_K7M2PQ",
+            "SCR-ANNA-ABCDEFGHJKLM": None,
+            "OUT-0327-1": "OUT_0327_1",
+            "": None,
+        }.items():
+            self.assertEqual(names.outage_in(reference), name, reference)
+
+
+if __name__ == "__main__":
+    unittest.main()
