@@ -50,7 +50,8 @@ class Desk:
             try:
                 answer = await self._once(method, self.url + route, body, seconds)
             except (aiohttp.ClientError, asyncio.TimeoutError, OSError) as error:
-                self.why_away = f"{type(error).__name__}: {error}"[:SHOWN_ERROR]
+                late = isinstance(error, asyncio.TimeoutError) and f"no answer within {seconds:.0f} seconds"
+                self.why_away = late or f"{type(error).__name__}: {error}"[:SHOWN_ERROR]
                 raise Away(self.why_away) from None
             if answer.status == 503:
                 self.why_away = "the desk had a fault (503)"

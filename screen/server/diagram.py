@@ -19,8 +19,9 @@ class Layout:
     above: dict[int, int]
 
 
-def layout_of(nodes: int, devices: Sequence[Device]) -> Layout:
-    """A tidy tree: each node left of those that hang on it, in the middle of their rows; leaves one row each."""
+def layout_of(nodes: int, devices: Sequence[Device], order: Sequence[tuple[int, ...]] = ()) -> Layout:
+    """A tidy tree: each node left of those that hang on it, in the middle of their rows; leaves one row each. A part of the
+    tree comes as early as the node in it that is first by an order, where there is one."""
     beside: list[list[tuple[int, int]]] = [[] for _ in range(nodes)]
     for device in devices:
         if device.is_closed:
@@ -37,12 +38,22 @@ def layout_of(nodes: int, devices: Sequence[Device]) -> Layout:
                 above[other] = device_number
                 below[node].append(other)
                 found.append(other)
+    if order:
+        sort_parts(below, found, order)
     rows = place_rows(below, row)
     for node in range(nodes):
         if layer[node] < 0:  # normally no way leads here
             layer[node], row[node] = 1, rows
             rows += 1
     return Layout(layer, row, above)
+
+
+def sort_parts(below: list[list[int]], found: Sequence[int], order: Sequence[tuple[int, ...]]) -> None:
+    """Brings what hangs on each node into the order of the first node of each part."""
+    first = list(order)
+    for node in reversed(found):  # what hangs on a node was found after it
+        below[node].sort(key=first.__getitem__)
+        first[node] = min(first[node], first[below[node][0]]) if below[node] else first[node]
 
 
 def place_rows(below: list[list[int]], row: list[float]) -> float:

@@ -4,6 +4,8 @@ from __future__ import annotations
 
 import re
 import time
+from bisect import bisect_left
+from collections.abc import Sequence
 from dataclasses import dataclass
 from datetime import date, datetime, timedelta
 
@@ -36,6 +38,20 @@ def duration(seconds: int) -> str:
     parts = ((seconds // 86_400, "d"), (seconds // 3_600 % 24, "h"), (seconds // 60 % 60, "min"), (seconds % 60, "s"))
     first = next((place for place, (count, _) in enumerate(parts) if count), len(parts) - 1)
     return " ".join(f"{count} {unit}" for count, unit in parts[first : first + 2] if count) or "0 s"
+
+
+def double_hours(zone: Zone, bounds: Sequence[int]) -> list[tuple[str, str]]:
+    """The times of some days that the clock shows twice: of each span the first one, and the one at which it ends."""
+    found = []
+    for since, until in zip(bounds, bounds[1:]):
+        back = zone.offset_at(since) - zone.offset_at(until)
+        if back > 0:
+            turn = since + bisect_left(
+                range(since, until), True, key=lambda at: zone.offset_at(at) < zone.offset_at(since)
+            )
+            begin = datetime.fromisoformat(zone.text_of(turn)[:19])
+            found.append((begin.isoformat(), (begin + timedelta(seconds=back)).isoformat()))
+    return found
 
 
 def day_of_word(zone: Zone, word: str) -> date:

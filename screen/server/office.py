@@ -5,7 +5,7 @@ from __future__ import annotations
 import asyncio
 import json
 import re
-from collections import OrderedDict
+from collections import OrderedDict, deque
 from dataclasses import dataclass
 from pathlib import Path
 from typing import Any
@@ -20,6 +20,7 @@ from .state import Refused, State
 
 WATCH_SECONDS = 1.0
 KEPT_COUNTS = 2_000
+KEPT_NEWS = 50
 WAITING_EVENTS = 64
 PLAIN = re.compile(r"0|[1-9][0-9]*|-")
 
@@ -68,6 +69,7 @@ class Office:
         self.rows, self.tables, self.reports = Apart("rows"), Apart("tables"), Apart("reports")
         self.kept: dict[str, Kept] = {}  # what is made of the whole book, by name
         self.counted: OrderedDict[int, Counted] = OrderedDict()
+        self.news: deque[dict[str, Any]] = deque(maxlen=KEPT_NEWS)  # the outages that began last, latest first
         self.is_importing = False
         self.differs: str | None = None
         self.told_away: str | None = None
@@ -125,7 +127,7 @@ class Office:
             self.state = await self.rows.run(new_state, self.book)
             self.state.sent = self.journal.sent
         if later:
-            self.tell_commands(later[-1][0], later[-1][1], len(later))
+            self.tell_commands([command for command, _ in later], later[-1][1])
         if not self.is_importing and any(command.ref not in self.journal.sent for command, _ in later):
             self.journal.write("", "", commands=[known + 1, known + len(later)])
 
@@ -139,10 +141,12 @@ class Office:
         if here != moves and self.differs is None:
             self.differs = f"command {command.number}: the desk moved {moves}, counted here {here}"
 
-    def tell_commands(self, command: Command, moves: Moves, count: int) -> None:
+    def tell_commands(self, commands: list[Command], moves: Moves) -> None:
+        """Tells all pages of new commands: the last one, with what it moved, and the outages that they began."""
         moved = sum(amount for dim, _, amount in moves if dim == "cause")
-        shown = views.history_view(self.state, command)
-        event = {"what": "commands", "count": count, "command": shown, "moved": moved}
+        shown, news = views.history_view(self.state, commands[-1]), views.news_view(self.state, commands)[:KEPT_NEWS]
+        self.news.extendleft(reversed(news))
+        event = {"what": "commands", "count": len(commands), "command": shown, "moved": moved, "outages": news}
         self.hub.tell({**event, **self.desk_view()})
 
     async def learn(self, number: int, command: Command, moves: Moves) -> None:
@@ -152,7 +156,7 @@ class Office:
                 await self.catch_up()
             if number == self.state.number + 1 and is_canonical(command):
                 self.take(command, moves)
-                self.tell_commands(command, moves, 1)
+                self.tell_commands([command], moves)
             elif number > self.state.number:
                 await self.catch_up()
 

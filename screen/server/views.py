@@ -8,11 +8,11 @@ from typing import Any
 
 from .commands import FIELDS, Plan, day_of, sections_of
 from .diagram import Layout, layout_of, normal_ways
-from .moments import duration
+from .moments import double_hours, duration
 from .network import Supply
 from .reader import Command, Entry
 from .reasons import still_cut_off
-from .state import LATE_SECONDS, Run, State
+from .state import LATE_SECONDS, Run, State, run_at
 from .to_now import is_live, marks_view
 
 Json = dict[str, Any]
@@ -41,6 +41,7 @@ def book_view(state: State) -> Json:
         "last": moment(state, period.end - 1),
         "days": [day.isoformat() for day in period.days],
         "zone": period.zone.text,
+        "doubles": double_hours(period.zone, period.bounds),
         "today": text(state, state.now())[:10],
         "causes": sorted(state.causes.items()),
         "nodes": [{"name": name, "kind": kind, "feeder": feeder} for name, kind, feeder in state.nodes],
@@ -89,6 +90,33 @@ def outage_view(state: State, node: int, run: Run, at: int) -> Json:
     return shown
 
 
+def news_view(state: State, commands: Sequence[Command]) -> list[Json]:
+    """The outages that go on and were begun by switchings among some commands, the largest first."""
+    now, begun = state.now(), {state.changed[each.number]: each for each in commands if each.kind == "switch"}
+    found: dict[int, list[int]] = {}
+    for node, runs in state.runs.items():
+        if state.is_section(node) and (run := run_at(runs, now)) is not None and run.cutter in begun:
+            found.setdefault(run.cutter, []).append(node)
+    shown = [outage_news(state, begun[entry], entry, nodes, now) for entry, nodes in found.items()]
+    return sorted(shown, key=lambda row: (-row["customers"], row["no"]))
+
+
+def outage_news(state: State, command: Command, number: int, nodes: Sequence[int], now: int) -> Json:
+    """A new outage: which device, who entered it, where, and how many customers it cut off."""
+    entry = state.sheet.entries[number - 1]
+    return {
+        "no": command.number,
+        "ref": command.ref,
+        "entry": number,
+        "device": state.sheet.devices[entry.device].name,
+        "crew": entry.crew,
+        "since": moment(state, entry.second),
+        "feeders": sorted({state.nodes[node][2] for node in nodes}),
+        "sections": [state.nodes[node][0] for node in nodes],
+        "customers": sum(state.roll(node).at(now) for node in nodes),
+    }
+
+
 def now_view(state: State, at: int) -> Json:
     """Who is without supply at a second, and how all devices stand then."""
     closed = state.sheet.closed_at(at)
@@ -110,9 +138,11 @@ def now_view(state: State, at: int) -> Json:
 
 
 def diagram_view(state: State, at: int, closed: Sequence[bool]) -> Json:
+    """The one-line diagram: parts without supply first, the others by feeder."""
     devices, nodes = state.sheet.devices, len(state.nodes)
-    layout: Layout = layout_of(nodes, devices)
     supplied = Supply(nodes, devices, closed).supplied
+    order = [(int(supplied[number]), feeder, number) for number, (_, _, feeder) in enumerate(state.nodes)]
+    layout: Layout = layout_of(nodes, devices, order)
     normal = normal_ways(nodes, devices, layout, closed)
     tree = set(layout.above.values())
     return {
@@ -249,13 +279,16 @@ def late_hints(kind: str, ahead: int) -> list[str]:
 # Customers.
 
 
-def customers_view(state: State, section: str) -> Json:
-    node = state.node_numbers.get(section)
+def customers_view(state: State, query: dict[str, str]) -> Json:
+    """The customers of a section, or the one of a number with its section."""
+    section, number = query.get("section", ""), query.get("number", "")
+    only = int(number) if number.isdecimal() and len(number) < 11 else None
+    node = state.customers[only][0] if only in state.customers else state.node_numbers.get(section)
     if node is None or not state.is_section(node):
         return {"section": section, "customers": [], "found": 0}
-    numbers = sorted(state.members[node])
+    section, numbers = state.nodes[node][0], sorted(state.members[node]) if only is None else [only]
     rows = []
-    for number in numbers[:500]:
-        _, since, until = state.customers[number]
-        rows.append({"no": number, "since": text(state, since), "until": "" if until is None else text(state, until)})
+    for each in numbers[:500]:
+        _, since, until = state.customers[each]
+        rows.append({"no": each, "since": text(state, since), "until": "" if until is None else text(state, until)})
     return {"section": section, "customers": rows, "found": len(numbers)}

@@ -301,6 +301,11 @@ async def now(request: web.Request) -> web.StreamResponse:
     return answer(200, views.now_view(office_of(request).state, at))
 
 
+async def news(request: web.Request) -> web.StreamResponse:
+    """The outages that began last, as far as this server has seen it, latest first."""
+    return answer(200, list(office_of(request).news))
+
+
 async def sheet(request: web.Request) -> web.StreamResponse:
     return answer(200, search.sheet_view(office_of(request).state, dict(request.query)))
 
@@ -510,13 +515,14 @@ GETS: dict[str, Handler] = {
     "/api/book": book,
     "/api/second": second,
     "/api/now": now,
+    "/api/news": news,
     "/api/sheet": sheet,
     r"/api/entries/{no:\d{1,6}}": entry,
     r"/api/outages/{no:\d{1,6}}": outage_of,
     "/api/moment": moment,
     "/api/position": position,
     "/api/forecast": forecast,
-    "/api/customers": shows(lambda office, query: views.customers_view(office.state, query.get("section", ""))),
+    "/api/customers": shows(lambda office, query: views.customers_view(office.state, query)),
     "/api/log": shows(shift.log_view),
     "/api/changes": shows(shift.shift_view),
     "/api/marks": shows(lambda office, _: shift.marks_view(office)),

@@ -1,11 +1,12 @@
 // What all pages share: the head, the events, tables and fields.
-import { duration, el, svg } from "./elements.js";
+import { duration, el, moment, momentWords, number, signed, svg } from "./elements.js";
 import { keysNote } from "./keys.js";
+import { News } from "./news.js";
 import { get, known, post, Trouble } from "./requests.js";
 import { Stream } from "./stream.js";
 import { senderOf, unanswered } from "./unanswered.js";
 
-export { duration, el, get, known, post, svg };
+export { duration, el, get, known, moment, momentWords, number, post, signed, svg };
 
 const AGAIN_SECONDS = 2; // between two questions of a page that can't begin
 
@@ -28,14 +29,6 @@ export const newReference = (outage = "") => `SCR-${known.me.name}-${outage ? `$
 /** How many letters of a ticket's number a reference has room for. */
 export const ticketLetters = () => REFERENCE - UNIQUE - `SCR-${known.me.name}-_`.length;
 
-export function number(value) {
-  return Number(value).toLocaleString("en-US").replaceAll(",", "\u2009");
-}
-
-export function signed(value) {
-  return (value > 0 ? "+" : value < 0 ? "\u2212" : "") + number(Math.abs(value));
-}
-
 /** Customer-seconds as customer-minutes, to two decimals where they aren't whole. */
 export const inMinutes = (seconds) => Math.round((Number(seconds) / 60) * 100) / 100;
 
@@ -47,17 +40,6 @@ export function zoneName() {
   const name = "[A-Za-z]{3,}|<[^>]*>";
   const [, standard, summer] = new RegExp(`^(${name})[-+0-9:]+(${name})?`).exec(known.book.zone) ?? [];
   return [standard, summer].filter(Boolean).map((each) => each.replace(/[<>]/g, "")).join("/") || "the book's zone";
-}
-
-/** A moment as the server wrote it by the clock of the book's zone: date, time and offset. */
-const clock = (text) => [text.slice(0, 10), text.slice(11, 19), text.slice(19)];
-export const momentWords = (text) => clock(text).join(" ");
-
-export function moment(value) {
-  const text = typeof value === "string" ? value : value.text;
-  if (!text) return "";
-  const parts = clock(text).map((part) => [" ", el("span", { class: "nowrap" }, part)]);
-  return el("time", { datetime: text }, parts.flat().slice(1));
 }
 
 export const BRIEF = 12; // letters, that stay in one line
@@ -84,7 +66,7 @@ function drawRows(body, rows, draw) {
 
 /** A table of rows of cells; heads that begin with # are of numbers, with ~ of what can be done. On a narrow page each row
  * is a card. */
-export function table(heads, rows, caption = null, rowClasses = []) {
+export function table(heads, rows, caption, rowClasses = []) {
   const names = heads.map((head) => head.replace(/^[#~]/, ""));
   const kinds = heads.map((head) => COLUMNS[head[0]]);
   const brief = (cell) => ((cell.textContent ?? cell).length > BRIEF ? null : "brief");
@@ -98,7 +80,7 @@ export function table(heads, rows, caption = null, rowClasses = []) {
     el(
       "table",
       { class: heads.length > 3 ? "cards" : null },
-      caption ? el("caption", {}, caption) : "",
+      el("caption", { class: "hidden" }, caption),
       el("thead", {}, el("tr", {}, head)),
       body,
     ),
@@ -176,25 +158,30 @@ const PAGES = [
   ["/shift", "Hand-over"],
 ];
 const state = el("span", { role: "status", class: "state" });
+const printed = el("span", { class: "print-only" });
+window.addEventListener("beforeprint", () => { printed.textContent = `Printed ${new Date().toLocaleDateString("sv-SE")} ${time()} by this computer's clock`; });
 const banner = el("div", { class: "alarm", role: "alert" });
-export const said = el("div", { class: "said", role: "status" });
+const news = new News(() => showTitle());
 
 function head() {
   const links = PAGES.map(([href, name]) =>
     el("a", { href, "aria-current": location.pathname === href ? "page" : null }, name),
   );
   const me = known.me;
-  const rename = me.asks_name && me.could_send ? el("button", { type: "button", class: "small", click: () => askName(true) }, "Change name") : "";
+  const rename = me.asks_name && me.could_send ? el("button", { type: "button", class: "small", "aria-label": "Change name", click: () => askName(true) }, "Change") : "";
   const who = el("span", {}, me.name ? `You are ${me.name}${me.may_send ? "" : ", looking only"}` : me.could_send ? "No name yet" : "Looking only");
-  title = `${document.querySelector("h1").textContent} - ${me.training ? "TRAINING - " : ""}${me.book} - outage book`;
+  const heading = document.querySelector("main h1");
+  title = `${heading.textContent} - ${me.training ? "TRAINING - " : ""}${me.book} - outage book`;
   document.body.classList.toggle("training", me.training);
   document.getElementById("head").replaceChildren(
     el("b", { class: "book" }, `${me.training ? "TRAINING: " : ""}${me.book}`),
     el("nav", { "aria-label": "Pages" }, links),
-    el("div", { class: "who" }, state, who, rename),
+    el("div", { class: "who" }, state, who, rename, printed),
   );
-  document.querySelector("main h1").before(banner, unanswered());
-  document.body.append(said);
+  const line = el("div", { class: "line" }, news.element);
+  heading.replaceWith(el("div", { class: "top" }, banner, line), unanswered());
+  line.prepend(heading);
+  showTitle();
 }
 
 /** Sets a text where it is another one: what is set again would be read out again. */
@@ -205,12 +192,18 @@ function say(place, words) {
 const alarms = new Map(); // why what is shown may be old or wrong, by what it comes from
 let title = document.title;
 
+/** The tab's title: an alarm, or how many outages are new, comes first. */
+function showTitle() {
+  const sign = alarms.size ? "(!) " : news.unseen.length ? `(${news.unseen.length}) ` : "";
+  document.title = sign + title;
+}
+
 /** Shows or takes back an alarm: a banner that stays in sight however far the page is scrolled, and a sign in the tab. */
 function alarm(name, words) {
   if (words) alarms.set(name, words);
   else alarms.delete(name);
   const told = [...alarms.values()].join("\n");
-  document.title = alarms.size ? `(!) ${title}` : title;
+  showTitle();
   if (told === banner.dataset.told) return;
   banner.dataset.told = told;
   banner.replaceChildren(...[...alarms.values()].map((each) => el("p", {}, each)));
@@ -247,7 +240,7 @@ function askName(again = false) {
     trouble,
     el("div", { class: "buttons" }, el("button", { class: "main" }, "This is my name")),
   );
-  document.querySelector("main h1").after(form);
+  document.querySelector("main .top").after(form);
   if (again) given.focus();
 }
 
@@ -268,6 +261,7 @@ function listen() {
     heardAt = time();
     showDesk(event);
     if (event.what === "commands") tell(event);
+    else if (isLater) news.load();
     if (event.what === "commands" || isLater) renewAll(event);
   };
   const lost = (words) => {
@@ -283,28 +277,21 @@ function renewAll(event) {
   if (!isDue) listeners.forEach((work) => work(event));
 }
 
-let hush = null;
-
-function showSaid(words, kind = null) {
-  said.replaceChildren(kind ? el("span", { class: kind }, words) : words);
-  clearTimeout(hush);
-  hush = setTimeout(() => said.replaceChildren(), 12000);
-}
-
 // What no part of a page has dealt with is told all the same.
 window.addEventListener("unhandledrejection", (event) => {
   if (!(event.reason instanceof Trouble)) return;
   event.preventDefault();
-  showSaid(event.reason.message, "bad");
+  news.say(event.reason.message, "bad");
 });
 
 function tell(event) {
   const command = event.command;
-  if (event.count === 1 && own.has(command.ref)) return;
+  news.add(event.outages);
+  if (event.outages.length || (event.count === 1 && own.has(command.ref))) return;
   const who = senderOf(command.ref) ?? "Another program";
   const more = event.count > 1 ? `${event.count} changes; the last one: ` : "";
   const at = command.second ? ` at ${momentWords(command.second)}` : "";
-  showSaid(`${more}${who}: ${command.kind} ${command.fields.slice(0, 2).join(" ")}${at}. ${lostWords(event.moved)}.`);
+  news.say(`${more}${who}: ${command.kind} ${command.fields.slice(0, 2).join(" ")}${at}. ${lostWords(event.moved)}.`);
 }
 
 /** Who asks, and the book's names; asked for until the server answers. */
@@ -327,6 +314,7 @@ export async function begin(work) {
   head();
   showDesk(known.me);
   seen = known.me.number;
+  news.load();
   if (known.me.asks_name && !known.me.name && known.me.could_send) askName();
   listen();
   try {

@@ -1,5 +1,7 @@
-// The one-line diagram: GRID at the left, each layer of normally closed devices a column further, ties as arcs.
-import { el, idle, svg } from "./common.js";
+// The one-line diagram: GRID at the left, each layer of normally closed devices a column further, ties as arcs. What is without
+// supply comes first, the rest by feeder.
+import { choice, el, field, idle, svg } from "./common.js";
+import { store } from "./unanswered.js";
 
 const GAP = 102, ROW = 62, WIDTH = 122, HEIGHT = 36, EDGE = 14, HIT = 44, MARGIN = 246;
 const ARC = 92; // from a box to the name at an arc
@@ -7,14 +9,23 @@ const LONG = 14; // letters: a longer name at an arc has room in the gap between
 const NAME_FONT = "bold 13px", SIGN_FONT = "bold 11px"; // as in the style: the widest in which a name is shown
 const WIDEST_ON_PAPER = 1500; // of a picture that can still be read there
 const SLICE = 150; // nodes and devices that are drawn in one go
+const ZOOMS = [0.35, 0.5, 0.7, 1, 1.4, 2], KEPT = "outagebook-zoom";
 
 /** How wide boxes, the gaps between columns and the right margin are: as the longest names of a network need. */
 let sizes = { box: WIDTH, gap: GAP, margin: MARGIN };
 const pen = document.createElement("canvas").getContext("2d");
 
+const widths = new Map(); // by font and words
+let family = null;
+
 function widthOf(font, words) {
-  pen.font = `${font} ${getComputedStyle(document.body).fontFamily}`;
-  return Math.ceil(pen.measureText(words).width);
+  const key = `${font} ${words}`;
+  if (!widths.has(key)) {
+    family ??= getComputedStyle(document.body).fontFamily;
+    pen.font = `${font} ${family}`;
+    widths.set(key, Math.ceil(pen.measureText(words).width));
+  }
+  return widths.get(key);
 }
 
 function sizesOf({ nodes, devices }) {
@@ -29,6 +40,7 @@ function sizesOf({ nodes, devices }) {
   };
 }
 
+/** Where a node is drawn. */
 const place = (node) => ({ x: EDGE + node.layer * (sizes.box + sizes.gap), y: EDGE + 14 + node.row * ROW });
 
 function nodeShape(node) {
@@ -73,7 +85,7 @@ function wayShape(device, a, b) {
   return svg("path", { class: kinds.filter(Boolean).join(" "), d: wayOf(device, a, b).d });
 }
 
-function signShape(device, a, b) {
+function signShape(device, a, b, href) {
   const way = wayOf(device, a, b);
   const odd = device.alive && device.closed !== device.normal;
   const words = [device.closed && "closed", odd && "odd", !device.alive && "gone"].filter(Boolean);
@@ -83,7 +95,7 @@ function signShape(device, a, b) {
   const mark = odd ? [svg("path", { class: "ring", d: `M${way.x} ${way.y - 13}l13 13l-13 13l-13 -13z` })] : [];
   return svg(
     "a",
-    { class: words.join(" "), "aria-label": `${device.name}: ${state}. Enter a switching.` },
+    { class: words.join(" "), href, "aria-label": `${device.name}: ${state}. Enter a switching.` },
     svg("rect", { class: "hit", x: way.x - HIT / 2, y: way.y - HIT / 2, width: HIT, height: HIT }),
     ...mark,
     svg("rect", { class: "box", x: way.x - 6, y: way.y - 6, width: 12, height: 12 }),
@@ -100,15 +112,20 @@ class Shape {
     this.hadFocus = false;
   }
 
-  show(...from) {
+  /** Whether it was drawn anew. */
+  show(layer, ...from) {
     const told = JSON.stringify(from);
-    if (told === this.told) return;
+    if (told === this.told) return false;
     const old = this.element;
     this.element = this.draw(...from);
     this.told = told;
-    if (!old) return;
+    if (!old) {
+      layer.append(this.element);
+      return true;
+    }
     this.hadFocus = old === document.activeElement;
     old.replaceWith(this.element);
+    return true;
   }
 
   /** A link that was drawn anew takes the focus again: it needs its address for that. */
@@ -118,72 +135,223 @@ class Shape {
   }
 }
 
-/** The diagram of a network, drawn larger where there is room: from the top on, a slice at a time, so that a large one
- * keeps nobody waiting. Shown again, it draws what has changed: the rest stays, and with it what has the focus and how far
- * it is scrolled. */
+/** The diagram of a network: from the top on, a slice at a time, so that a large one keeps nobody waiting. Shown again, it
+ * draws what has changed: the rest stays, and with it what has the focus and how far it is scrolled. Rows change their order
+ * only while nobody looks into it. The tabulator stops once, arrows go from device to device. */
 export class Diagram {
   constructor() {
-    this.element = el("div", { class: "scroll tall diagram-place", tabindex: "0", role: "region", "aria-label": "One-line diagram, scrolls" });
+    this.place = el("div", { class: "scroll tall diagram-place", role: "group", "aria-label": "One-line diagram" });
+    this.jump = el("select", { input: () => this.goTo(Number(this.jump.value)) });
+    const zoom = (sign, words, step) => el("button", { type: "button", "aria-label": words, click: () => this.zoomBy(step) }, sign);
+    this.late = el("button", { type: "button", hidden: true, click: () => this.arrange() }, "Without supply first");
+    const tools = el("div", { class: "buttons no-print" }, field("Go to feeder", this.jump), zoom("\u2212", "Smaller", -1), zoom("+", "Larger", 1));
+    this.element = el("section", { class: "network", "aria-label": "The network" }, el("div", { class: "row" }, el("h2", {}, "Network"), tools), this.place, el("div", { class: "row no-print" }, this.late, legend()));
+    this.zoom = Number(store?.getItem(KEPT) ?? ZOOMS.indexOf(1));
     this.network = "";
+    this.here = 0; // the device at which the tabulator stops
+    this.place.addEventListener("keydown", (event) => this.key(event));
+    this.place.addEventListener("focusin", ({ target }) => this.stopAt(Number(target.closest("a")?.dataset.at ?? this.here)));
+    for (const [name, is] of [["pointerenter", true], ["pointerleave", false]]) this.place.addEventListener(name, () => { this.isPointed = is; this.settle(); });
+    this.place.addEventListener("focusout", () => setTimeout(() => this.settle()));
   }
 
-  show(shown, link, room) {
-    const network = JSON.stringify([shown.nodes.map(({ name, layer, row }) => [name, layer, row]), shown.devices.map(({ name, a, b, tree }) => [name, a, b, tree])]);
-    Object.assign(this, { shown, link });
-    if (network !== this.network) this.begin(room);
-    else this.parts.slice(0, this.drawn).forEach((part) => this.draw(part));
+  /** Somebody looks into the diagram: its rows stay where they are. */
+  get isHeld() {
+    return this.isPointed || this.place.scrollTop > 0 || this.place.contains(document.activeElement);
+  }
+
+  settle() {
+    if (!this.late.hidden && !this.isHeld) this.arrange();
+  }
+
+  show(shown, link) {
+    const network = JSON.stringify([shown.nodes.map(({ name, layer }) => [name, layer]), shown.devices.map(({ name, a, b, tree }) => [name, a, b, tree])]);
+    const rows = shown.nodes.map((node) => node.row);
+    Object.assign(this, { shown, link, wanted: rows });
+    const isNew = network !== this.network;
     this.network = network;
+    if (isNew || !this.isHeld) this.rows = rows;
+    this.late.hidden = this.rows.join() === rows.join();
+    shown.nodes.forEach((node, at) => (node.row = this.rows[at]));
+    this.feeders();
+    if (isNew) this.begin();
+    else this.redraw();
   }
 
-  begin(room) {
+  /** Brings the rows into the order that they have now. */
+  arrange() {
+    this.place.scrollTop = 0;
+    this.late.hidden = true;
+    this.rows = this.wanted;
+    this.shown.nodes.forEach((node, at) => (node.row = this.rows[at]));
+    this.redraw();
+  }
+
+  /** The feeders to go to: those with a part that is without supply say so. */
+  feeders() {
+    const dead = new Map();
+    for (const { feeder, supplied } of this.shown.nodes) if (feeder) dead.set(feeder, dead.get(feeder) || !supplied);
+    const sorted = [...dead].sort(([one, isOut], [other, isOtherOut]) => isOtherOut - isOut || one - other);
+    const told = sorted.join();
+    if (told === this.told) return;
+    this.told = told;
+    const words = sorted.map(([feeder, isOut]) => [String(feeder), `${feeder}${isOut ? ", without supply" : ""}`]);
+    this.jump.replaceChildren(...choice([["", "choose"], ...words]).children);
+    this.jump.value = ""; // each option that is moved is the chosen one for a moment
+  }
+
+  goTo(feeder) {
+    const rows = this.shown.nodes.filter((node) => node.feeder === feeder).map((node) => node.row);
+    if (rows.length) this.place.scrollTo(0, (place({ layer: 0, row: Math.min(...rows) }).y - EDGE) * this.scale);
+  }
+
+  begin() {
     const { nodes, devices } = this.shown;
     sizes = sizesOf(this.shown);
     const layers = Math.max(...nodes.map((node) => node.layer)) + 1;
     const rows = Math.max(...nodes.map((node) => node.row)) + 1;
-    const width = EDGE + layers * (sizes.box + sizes.gap) - sizes.gap + sizes.margin, height = EDGE * 2 + rows * ROW + 24;
-    const scale = Math.min(1.5, Math.max(1, room / width));
-    const on_paper = width > WIDEST_ON_PAPER ? " no-print" : "";
-    const picture = svg("svg", { class: `diagram${on_paper}`, width: width * scale, height: height * scale, viewBox: `0 0 ${width} ${height}`, role: "group", "aria-label": "One-line diagram" });
+    this.width = EDGE + layers * (sizes.box + sizes.gap) - sizes.gap + sizes.margin;
+    this.height = EDGE * 2 + rows * ROW + 24;
+    const on_paper = this.width > WIDEST_ON_PAPER ? " no-print" : "";
+    this.picture = svg("svg", { class: `diagram${on_paper}`, viewBox: `0 0 ${this.width} ${this.height}`, role: "group", "aria-label": "Devices: arrow keys go from one to the next" });
     this.layers = { way: svg("g"), node: svg("g"), sign: svg("g") };
-    picture.append(...Object.values(this.layers));
+    this.picture.append(...Object.values(this.layers));
     const note = on_paper ? el("p", { class: "print-only" }, "The diagram of this network is too wide for paper: it is on the screen.") : "";
-    this.element.replaceChildren(picture, note);
-    this.parts = [
-      ...nodes.map((node, at) => ({ at, y: place(node).y, x: node.layer, node: new Shape(nodeShape) })),
-      ...devices.map((device, at) => ({ at, ...wayOf(device, nodes[device.a], nodes[device.b]), way: new Shape(wayShape), sign: new Shape(signShape) })),
-    ].sort((one, other) => one.y - other.y || one.x - other.x);
+    this.place.replaceChildren(this.picture, note);
+    this.size();
+    this.place.scrollLeft = sizes.box * this.scale; // GRID is in the middle of all rows: its column is empty at the top
+    const parts = nodes.map((_, at) => ({ at, node: new Shape(nodeShape) }));
+    this.devices = devices.map((_, at) => ({ at, way: new Shape(wayShape), sign: new Shape(signShape) }));
+    this.parts = [...parts, ...this.devices];
+    this.redraw();
+  }
+
+  /** The parts from the top on, of those in one row from the left on. */
+  sort() {
+    const { nodes, devices } = this.shown;
+    for (const part of this.parts) Object.assign(part, part.node ? place(nodes[part.at]) : wayOf(devices[part.at], nodes[devices[part.at].a], nodes[devices[part.at].b]));
+    const order = (one, other) => one.y - other.y || one.x - other.x;
+    this.parts.sort(order);
+    this.devices.sort(order);
+  }
+
+  redraw() {
+    this.sort();
+    if (!this.devices.some((part) => part.at === this.here)) this.here = 0;
     this.drawn = 0;
-    this.drawOn();
+    this.round = (this.round ?? 0) + 1;
+    this.drawOn(this.round);
   }
 
   /** Draws the next slice, and the others when there is time. */
-  drawOn() {
+  drawOn(round) {
     const { parts, drawn } = this;
     const slice = parts.slice(drawn, drawn + SLICE);
     slice.forEach((part) => this.draw(part));
-    for (const [name, layer] of Object.entries(this.layers)) layer.append(...slice.filter((part) => part[name]).map((part) => part[name].element));
     this.drawn = drawn + slice.length;
-    this.element.setAttribute("aria-busy", String(this.drawn < parts.length));
-    if (this.drawn < parts.length) idle(() => parts === this.parts && this.drawOn());
+    this.place.setAttribute("aria-busy", String(this.drawn < parts.length));
+    if (this.drawn < parts.length) idle(() => round === this.round && this.drawOn(round));
   }
 
   draw({ at, node, way, sign }) {
     const { nodes, devices } = this.shown;
     if (node) {
-      node.show(nodes[at]);
+      node.show(this.layers.node, nodes[at]);
       return;
     }
     const device = devices[at], a = nodes[device.a], b = nodes[device.b];
-    way.show(device, a, b);
-    sign.show(device, a, b);
-    sign.element.setAttribute("href", this.link(device));
+    way.show(this.layers.way, device, a, b);
+    if (!sign.show(this.layers.sign, device, a, b, this.link(device))) return;
+    sign.element.setAttribute("tabindex", at === this.here ? "0" : "-1");
+    sign.element.dataset.at = at;
     sign.giveFocus();
+  }
+
+  // Size.
+
+  /** Larger than its place needs only where there is room for it. */
+  size() {
+    const room = this.place.clientWidth / this.width;
+    this.scale = ZOOMS[this.zoom] * Math.min(1.5, Math.max(1, room));
+    this.picture.setAttribute("width", this.width * this.scale);
+    this.picture.setAttribute("height", this.height * this.scale);
+  }
+
+  /** Another size: what is in the middle stays there. */
+  zoomBy(step) {
+    const { place: at, scale } = this;
+    const middle = [at.scrollLeft + at.clientWidth / 2, at.scrollTop + at.clientHeight / 2];
+    this.zoom = Math.min(ZOOMS.length - 1, Math.max(0, this.zoom + step));
+    store?.setItem(KEPT, this.zoom);
+    this.size();
+    const [x, y] = middle.map((each) => (each * this.scale) / scale);
+    at.scrollTo(x - at.clientWidth / 2, y - at.clientHeight / 2);
+  }
+
+  // The keyboard.
+
+  stopAt(at) {
+    for (const part of this.devices) if (part.at === this.here || part.at === at) part.sign.element?.setAttribute("tabindex", part.at === at ? "0" : "-1");
+    this.here = at;
+  }
+
+  key(event) {
+    if (event.key === "+" || event.key === "-") this.zoomBy(event.key === "+" ? 1 : -1);
+    else if (!(event.key in STEPS) || event.ctrlKey || event.altKey) return;
+    else this.focus(STEPS[event.key](this));
+    event.preventDefault();
+  }
+
+  focus(part) {
+    if (!part?.sign.element) return;
+    this.stopAt(part.at);
+    part.sign.element.focus({ preventScroll: true });
+    part.sign.element.scrollIntoView({ block: "nearest", inline: "nearest" });
+  }
+
+  get index() {
+    return this.devices.findIndex((part) => part.at === this.here);
+  }
+
+  /** The node of a device at its side away from GRID, or the one towards it. */
+  end(isFar) {
+    const { nodes, devices } = this.shown, { a, b } = devices[this.here];
+    return nodes[a].layer < nodes[b].layer === isFar ? b : a;
+  }
+
+  /** The first device of the tree that has a node at the other side. */
+  next(isFar) {
+    const { nodes, devices } = this.shown, node = this.end(isFar);
+    const other = ({ a, b }) => (a === node ? b : b === node ? a : null);
+    return this.devices.find(({ at }) => at !== this.here && devices[at].tree && other(devices[at]) !== null && nodes[other(devices[at])].layer > nodes[node].layer === isFar);
+  }
+
+  /** The first device of the next or the last feeder by rows. */
+  feeder(step) {
+    const feederOf = (part) => { const { a, b } = this.shown.devices[part.at]; return this.shown.nodes[b].feeder || this.shown.nodes[a].feeder; };
+    const { index } = this, own = feederOf(this.devices[index]);
+    const found = step > 0 ? this.devices.slice(index + 1) : this.devices.slice(0, index).reverse();
+    return found.find((part) => feederOf(part) !== own) ?? found.at(-1);
   }
 }
 
-export function legend() {
-  return el("ul", { class: "legend" }, [
+/** To which device each key leads. */
+const STEPS = {
+  ArrowDown: (diagram) => diagram.devices[diagram.index + 1],
+  ArrowUp: (diagram) => diagram.devices[diagram.index - 1],
+  ArrowRight: (diagram) => diagram.next(true),
+  ArrowLeft: (diagram) => diagram.next(false),
+  PageDown: (diagram) => diagram.feeder(1),
+  PageUp: (diagram) => diagram.feeder(-1),
+  Home: (diagram) => diagram.devices[0],
+  End: (diagram) => diagram.devices.at(-1),
+};
+
+function legend() {
+  const words = [
     "\u25a0 closed", "\u25a1 open", "\u25c7 around it and ! : not its normal position", "dashed red frame, OUT: without supply",
     "double frame, by a tie: supplied another way than normal", "arc: normally open or second way", "thick bar: bus",
-  ].map((words) => el("li", {}, words)));
+    "keys: arrows from device to device, PgUp and PgDn to another feeder, + and \u2212 for the size",
+  ].map((each) => el("li", {}, each));
+  return el("details", { class: "no-print" }, el("summary", {}, "What the signs mean"), el("ul", { class: "legend" }, words));
 }

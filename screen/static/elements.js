@@ -1,4 +1,5 @@
-// Elements whose texts are set as text, lengths of time, and references.
+// Elements whose texts are set as text; numbers, moments, lengths of time, and references as they are shown.
+import { known } from "./requests.js";
 
 /** An element: attributes, listeners where a value is a function, and children, which are texts or elements. */
 export function el(tag, attributes = {}, ...children) {
@@ -20,6 +21,40 @@ function fill(made, attributes, children) {
     else if (value !== false && value !== null && value !== undefined) made.setAttribute(name, value);
   }
   made.append(...children.flat().filter((child) => child !== null && child !== undefined && child !== ""));
+}
+
+export function number(value) {
+  return Number(value).toLocaleString("en-US").replaceAll(",", "\u2009");
+}
+
+export function signed(value) {
+  return (value > 0 ? "+" : value < 0 ? "\u2212" : "") + number(Math.abs(value));
+}
+
+/** A moment as the server wrote it by the clock of the book's zone: date, time and offset. */
+const clock = (text) => [text.slice(0, 10), text.slice(11, 19), text.slice(19)];
+export const momentWords = (text) => clock(text).join(" ");
+
+const timeOf = (text, parts) => el("time", { datetime: text }, parts.map((part) => [" ", el("span", { class: "nowrap" }, part)]).flat().slice(1));
+
+export function moment(value) {
+  const text = typeof value === "string" ? value : value.text;
+  return text ? timeOf(text, clock(text)) : "";
+}
+
+/** A moment in a list: its offset only in an hour that the clock shows twice. */
+export function listed(value) {
+  const text = typeof value === "string" ? value : value.text;
+  if (!text) return "";
+  const [day, time, offset] = clock(text), local = text.slice(0, 19);
+  const isTwice = known.book.doubles.some(([from, until]) => from <= local && local < until);
+  return timeOf(text, isTwice ? [day, time, offset] : [day, time]);
+}
+
+/** A moment as seen from another one: its day where that is another one, its offset where the clock was set in between. */
+export function momentFrom({ text }, other) {
+  const [day, time, offset] = clock(text), [otherDay, , otherOffset] = clock(other.text);
+  return timeOf(text, [day !== otherDay && day, time, offset !== otherOffset && offset].filter(Boolean));
 }
 
 export function duration(seconds) {

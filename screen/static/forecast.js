@@ -30,7 +30,7 @@ function amountRows(moved) {
 /** What moves; with the desk's reply beside it, where they differ. */
 export function movesTable(moved, beside = null) {
   if (!moved.length && !beside?.length) return el("p", {}, "Nothing changes.");
-  if (!beside) return table(["of", "#customer-seconds"], amountRows(moved));
+  if (!beside) return table(["of", "#customer-seconds"], amountRows(moved), "Amounts that change");
   const other = new Map(beside.map(([dim, key, amount]) => [`${dim} ${key}`, amount]));
   const all = [...moved];
   for (const [dim, key] of beside) if (!moved.some((move) => move[0] === dim && move[1] === key)) all.push([dim, key, null]);
@@ -38,7 +38,7 @@ export function movesTable(moved, beside = null) {
     const there = other.get(`${dim} ${key}`);
     return [names[dim](key), amount === null ? "nothing" : signed(amount), there === undefined ? "nothing" : signed(there), amount === there ? "equal" : "DIFFERS"];
   });
-  return table(["of", "#computed here", "#the desk's reply", "compared"], rows);
+  return table(["of", "#computed here", "#the desk's reply", "compared"], rows, "Amounts that change, compared");
 }
 
 const isAtEnd = (until) => until.second > known.book.last.second;

@@ -4,27 +4,31 @@ import { breakable, BRIEF } from "./common.js";
 import { el } from "./elements.js";
 
 const HELD_SECONDS = 120; // after the last sign of a reader: a page that nobody touches shows its rows in their order
+const TOUCHED_SECONDS = 10; // after a finger, which points at nothing between two touches
 const KINDS = { "#": "n", "~": "no-print" };
 
 /** A cell's text as it is shown; a cell is a text, or `told` with what makes its content anew. */
 const toldOf = (cell) => (typeof cell === "string" ? cell : cell.told);
 
 export class KeyedTable {
-  /** Heads as those of `table`; `ended` is said in a row that isn't wanted any more while the table is held. */
-  constructor(heads, name, ended) {
+  /** Heads as those of `table`; `ended` is said in a row that isn't wanted any more while the table is held. Roles are told,
+   * since rows that are laid out as cards have none of their own. */
+  constructor(heads, name, caption, ended) {
     this.heads = heads;
     this.ended = ended;
     this.rows = new Map(); // by key: the row's element, its cells, and what they tell
     this.wanted = [];
     this.isPointed = false;
     this.touched = 0; // when the reader last gave a sign
-    this.body = el("tbody", {});
-    const head = heads.map((words) => el("th", { scope: "col", class: KINDS[words[0]] }, words.replace(/^[#~]/, "")));
-    this.element = el("div", { class: "scroll" }, el("table", { class: `cards ${name}` }, el("thead", {}, el("tr", {}, head)), this.body));
+    this.body = el("tbody", { role: "rowgroup" });
+    const head = heads.map((words) => el("th", { scope: "col", role: "columnheader", class: KINDS[words[0]] }, words.replace(/^[#~]/, "")));
+    const top = el("thead", { role: "rowgroup" }, el("tr", { role: "row" }, head));
+    this.element = el("div", { class: "scroll" }, el("table", { class: name, role: "table" }, el("caption", { class: "hidden" }, caption), top, this.body));
     this.body.addEventListener("pointerenter", () => { this.isPointed = true; this.touch(); });
     this.body.addEventListener("pointerleave", () => { this.isPointed = false; this.settle(); });
     this.body.addEventListener("focusout", () => setTimeout(() => this.settle()));
     document.addEventListener("selectionchange", () => { this.touch(); this.settle(); });
+    this.body.addEventListener("touchstart", () => this.hold(), { passive: true });
     for (const name of ["pointermove", "focusin", "keydown"]) this.body.addEventListener(name, () => this.touch());
   }
 
@@ -32,8 +36,14 @@ export class KeyedTable {
     this.touched = Date.now();
   }
 
-  /** Somebody points at a row, goes over them by the keyboard, or has selected some of their text: no row moves meanwhile. */
+  hold() {
+    clearTimeout(this.finger);
+    this.finger = setTimeout(() => { this.finger = null; this.settle(); }, TOUCHED_SECONDS * 1000);
+  }
+
+  /** Somebody points at a row or has just touched one, goes over them by the keyboard, or has selected some of their text: no row moves meanwhile. */
   get isHeld() {
+    if (this.finger) return true;
     if (Date.now() - this.touched > HELD_SECONDS * 1000) return false;
     const selected = document.getSelection();
     const isSelected = selected && !selected.isCollapsed && selected.containsNode(this.body, true);
@@ -73,8 +83,8 @@ export class KeyedTable {
   patch({ key, cells }) {
     let row = this.rows.get(key);
     if (!row) {
-      const places = cells.map((_, at) => el("td", { class: KINDS[this.heads[at][0]], "data-label": this.heads[at].replace(/^[#~]/, "") }));
-      row = { element: el("tr", { "data-key": key }, places), told: [] };
+      const places = cells.map((_, at) => el("td", { role: "cell", class: KINDS[this.heads[at][0]], "data-label": this.heads[at].replace(/^[#~]/, "") }));
+      row = { element: el("tr", { "data-key": key, role: "row", tabindex: "-1" }, places), told: [] };
       this.rows.set(key, row);
       this.body.append(row.element);
     }

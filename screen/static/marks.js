@@ -1,11 +1,12 @@
 // The days that are marked, each with who marked it and, where the screen's log knows that, when.
-import { el, get, moment, onCommands, table } from "./common.js";
+import { el, get, onCommands, table } from "./common.js";
+import { listed } from "./elements.js";
 
 export function markedDays() {
   const place = el("div", {});
   const show = async () => {
-    const rows = (await get("/api/marks")).map((row) => [row.day, row.engineer, row.at ? moment(row.at) : "", row.login]);
-    place.replaceChildren(rows.length ? table(["day", "marked by", "sent", "login"], rows) : el("p", {}, "No day is marked."));
+    const rows = (await get("/api/marks")).map((row) => [row.day, row.engineer, row.at ? listed(row.at) : "", row.login]);
+    place.replaceChildren(rows.length ? table(["day", "marked by", "sent", "login"], rows, "Marked days") : el("p", {}, "No day is marked."));
   };
   onCommands(show);
   show();

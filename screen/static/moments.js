@@ -48,6 +48,7 @@ export class MomentField {
     setInterval(() => this.isNow && this.tick(), 1000);
     setInterval(() => this.isNow && this.ask(), SET_AGAIN_SECONDS * 1000);
     document.addEventListener("visibilitychange", () => !document.hidden && this.isNow && this.ask());
+    window.addEventListener("awake", () => this.isNow && this.ask());
   }
 
   /** The time by the server's clock, from which the field's own goes on. */

@@ -72,9 +72,9 @@ function showNodes() {
   if (!isNew(nodes, seen)) return;
   const rows = seen.map((node) => [
     node.name, ["source", "bus", "section"][node.kind], node.feeder ? String(node.feeder) : "",
-    node.kind === 2 ? el("button", { type: "button", class: "small", click: () => showCustomers(node.name) }, "Customers") : "",
+    node.kind === 2 ? el("button", { type: "button", class: "small", click: () => showCustomers({ section: node.name }) }, "Customers") : "",
   ]);
-  renew(nodes, el("h2", {}, `${number(seen.length)} nodes`), scrolling("Nodes", table(["node", "kind", "#feeder", "~customers"], rows)));
+  renew(nodes, el("h2", {}, `${number(seen.length)} nodes`), scrolling("Nodes", table(["node", "kind", "#feeder", "~customers"], rows, "Nodes")));
 }
 
 function showDevices() {
@@ -85,14 +85,19 @@ function showDevices() {
     device.name, `${name(device.a)} \u2013 ${name(device.b)}`, device.normal, device.since || "always", device.until || "without end",
     form ? el("button", { type: "button", class: "small", "aria-label": `In service from/to: ${device.name}`, click: () => form.choose("life", device.name, device.since, device.until) }, "From/to") : "",
   ]);
-  renew(devices, el("h2", {}, `${number(seen.length)} devices`), scrolling("Devices", table(["device", "between", "normal", "in the network from", "until before", "~in service"], rows)));
+  renew(devices, el("h2", {}, `${number(seen.length)} devices`), scrolling("Devices", table(["device", "between", "normal", "in the network from", "until before", "~in service"], rows, "Devices")));
 }
 
-async function showCustomers(section) {
-  const shown = await get("/api/customers", { section });
+/** The customers of a section, or the one of a number: where that is, and whether it has supply now. */
+async function showCustomers(asked) {
+  const shown = await get("/api/customers", asked), { section } = shown;
+  if (!shown.found) {
+    customers.replaceChildren(el("p", { class: "warn" }, asked.number ? `No customer has the number ${asked.number}.` : `${section} has no customers.`));
+    return;
+  }
   const rows = shown.customers.map((row) => [String(row.no), row.since, row.until || "without end"]);
   const more = shown.found > shown.customers.length ? ` The first ${shown.customers.length} are shown.` : "";
-  customers.replaceChildren(el("div", { class: "card", tabindex: "-1" }, el("h2", {}, `${number(shown.found)} customers of ${section}`), el("p", {}, more), scrolling("Customers", table(["#customer", "in service from", "until before"], rows))));
+  customers.replaceChildren(el("div", { class: "card", tabindex: "-1" }, el("h2", {}, asked.number ? `Customer ${asked.number}: section ${section}` : `${number(shown.found)} customers of ${section}`), el("p", {}, el("a", { href: `/?text=${section}` }, `Outages of ${section} now`), more), scrolling("Customers", table(["#customer", "in service from", "until before"], rows, `Customers of ${section}`))));
   customers.firstElementChild.focus();
 }
 
@@ -103,10 +108,17 @@ function show() {
   document.body.dataset.number = known.book.number;
 }
 
+function searchForm(search) {
+  const found = text({ inputmode: "numeric", maxlength: 10 });
+  const find = (event) => { event.preventDefault(); if (found.value.trim()) showCustomers({ number: found.value.trim() }); };
+  const row = el("div", { class: "row" }, field("Search nodes and devices", search), field("Customer's number to find", found), el("button", {}, "Find"));
+  return el("form", { class: "card short no-print", "aria-label": "Search", submit: find }, row);
+}
+
 begin(async () => {
   const search = text({ "data-search": "yes", input: settled(() => { searched = search.value.trim().toUpperCase(); show(); }) });
   form = known.me.may_send ? commandForm() : null;
-  main.append(words, lookOnly(), form ? form.element : "", el("div", { class: "card short no-print" }, field("Search nodes and devices", search)), customers, el("div", { class: "two" }, devices, nodes), foot("Devices, nodes and customers are those of the book; what a change would do is computed here."));
+  main.append(words, searchForm(search), customers, el("div", { class: "two" }, devices, nodes), lookOnly(), form ? form.element : "", foot("Devices, nodes and customers are those of the book; what a change would do is computed here."));
   onCommands(async () => { await reloadBook(); show(); });
   show();
 });

@@ -1,22 +1,22 @@
 // Who is out at a second, and how the network stands.
 import { fromAddress, toAddress } from "./address.js";
-import { begin, el, foot, get, known, moment, number, onCommands, painted, settled } from "./common.js";
+import { begin, el, foot, get, known, moment, momentWords, number, onCommands, painted, settled } from "./common.js";
 import { MomentField } from "./moments.js";
-import { Diagram, legend } from "./diagram.js";
+import { Diagram } from "./diagram.js";
 import { Outages } from "./outages.js";
 
 const AGAIN_SECONDS = 15; // after which a page that shows the time that is now is shown again
+const SLIDER_SECONDS = 600, DAY_SECONDS = 86400;
 
 const main = document.getElementById("main");
-const tiles = el("div", { class: "tiles" });
-const picture = el("section", { "aria-label": "The network" });
+const tiles = el("div", { class: "tiles inline" });
 const trouble = el("div", {});
 const diagram = new Diagram();
 let at = fromAddress(["at"]).at ?? "";
 let early = at ? null : get("/api/now").catch(() => null); // is asked for while the page's head is
 let field, slider, outages, count = 0;
 
-const link = (device) => `/enter?${new URLSearchParams({ device: device.name, ...(at ? { at } : {}) })}`;
+const link = (device) => `/enter?device=${encodeURIComponent(device.name)}${at && `&at=${encodeURIComponent(at)}`}`;
 const tile = (isOut, words, value, more = "") => el("div", { class: isOut ? "tile out" : "tile" }, `${words} `, el("b", {}, value), more && ` ${more}`);
 
 async function show({ anew = false } = {}) {
@@ -32,6 +32,7 @@ async function show({ anew = false } = {}) {
   if (mine !== count) return; // a later question was asked meanwhile
   trouble.replaceChildren();
   if (!at) slider.value = shown.at.second;
+  slider.setAttribute("aria-valuetext", momentWords(shown.at.text));
   outages.at = at;
   const found = outages.show(shown, { anew });
   tiles.replaceChildren(
@@ -42,13 +43,30 @@ async function show({ anew = false } = {}) {
   );
   document.body.dataset.number = shown.number;
   await painted();
-  if (mine === count) diagram.show(shown, link, main.clientWidth - 40);
+  if (mine === count) diagram.show(shown, link);
 }
 
 function goTo(second) {
   at = second;
   toAddress({ at });
   return show({ anew: true });
+}
+
+/** The arrows move the slider by its step, these keys by a day. */
+function byDays(event) {
+  const days = { PageUp: 1, PageDown: -1 }[event.key];
+  if (!days) return;
+  event.preventDefault();
+  slider.value = Number(slider.value) + days * DAY_SECONDS;
+  slider.dispatchEvent(new Event("input"));
+}
+
+/** The address of a new outage leads to its row; the same one can be asked for again. */
+function toRow() {
+  const key = location.hash.slice(1);
+  if (!/^entry-[0-9]+$/.test(key)) return;
+  history.replaceState(null, "", location.pathname + location.search);
+  outages.point(key);
 }
 
 function controls() {
@@ -60,26 +78,27 @@ function controls() {
   }, 50);
   field = new MomentField("Go to time", "", moved, { may_be_empty: true });
   slider = el("input", {
-    type: "range", min: first.second, max: last.second, step: 60, value: last.second, "aria-label": "Second of the period",
+    type: "range", min: first.second, max: last.second, step: SLIDER_SECONDS, value: last.second, "aria-label": "Time in the period", keydown: byDays,
     input: settled(() => { const second = slider.value; field.set(second).then(() => goTo(second)); }, 60),
   });
   const now = el("button", { type: "button", click: () => { field.input.value = ""; field.second = ""; field.told.replaceChildren(); goTo(""); } }, "Now");
   const row = el("div", { class: "row" }, outages.fields(), field.element, now);
   const narrow = matchMedia("(max-width: 40rem)").matches;
   const card = el("form", { class: "card short", submit: (event) => event.preventDefault(), "aria-label": "Filter and time" }, row, slider);
-  return el("details", { class: "search no-print", open: !narrow }, el("summary", {}, "Filter, order, time"), card);
+  return el("details", { class: "search beside no-print", open: !narrow }, el("summary", {}, "Filter, order, time"), card);
 }
 
 begin(async () => {
   outages = new Outages();
   const shownControls = controls();
-  picture.append(el("h2", {}, "The network"), legend(), diagram.element);
-  main.append(tiles, trouble, shownControls, outages.element, picture, foot("Who is without supply is computed here, from the book's entries."));
+  main.append(tiles, trouble, shownControls, el("div", { class: "side" }, outages.element, diagram.element), foot("Who is without supply is computed here, from the book's entries."));
   onCommands(() => show());
   if (at) {
     await field.set(at);
     slider.value = field.second;
   }
   await show();
+  toRow();
+  window.addEventListener("hashchange", toRow);
   setInterval(() => at || show(), AGAIN_SECONDS * 1000);
 });

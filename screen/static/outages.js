@@ -1,12 +1,11 @@
 // Outages: what one switching cut off and is still without supply, largest first; filtered and sorted by the page's address.
 import { fromAddress, toAddress } from "./address.js";
-import { breakable, BRIEF, causes, choice, duration, el, field, known, moment, number, settled, text } from "./common.js";
-import { ticketOf } from "./elements.js";
+import { breakable, BRIEF, causes, choice, duration, el, field, known, number, settled, text } from "./common.js";
+import { momentFrom, ticketOf } from "./elements.js";
 import { KeyedTable } from "./keyed.js";
 
 const HEADS = ["cut off by", "#customers", "sections", "#feeder", "since", "#for", "cause", "crew", "entry", "supplied again", "~close"];
 const ORDERS = { largest: "largest first", longest: "longest first", newest: "newest first", feeder: "by feeder" };
-const SECTIONS_SHOWN = 1; // by name; more are unfolded
 
 /** The outages of what is without supply, by the entry that cut it off: its sections, all that they have in common. */
 export function outagesOf(shown) {
@@ -41,10 +40,10 @@ const wordsOf = (outage) => [outage.device, outage.crew, outage.reference, ...ou
 export class Outages {
   constructor() {
     this.wanted = { feeder: "", cause: "", text: "", order: "", ...fromAddress(["feeder", "cause", "text", "order"]) };
-    this.table = new KeyedTable(HEADS, "outages", "supplied again");
+    this.table = new KeyedTable(HEADS, "outages", "Outages, by what cut them off", "supplied again");
     this.title = el("h2", {});
-    this.none = el("div", {});
-    this.element = el("section", { "aria-label": "Outages" }, this.title, this.none, this.table.element);
+    this.none = el("div", { role: "status" });
+    this.element = el("section", { "aria-label": "Outages", class: "list" }, this.title, this.none, this.table.element);
     this.shown = null;
   }
 
@@ -92,6 +91,16 @@ export class Outages {
     return all.length;
   }
 
+  /** Leads to a row, by the keyboard too; what isn't there has supply again, or is hidden by a filter. */
+  point(key) {
+    const row = this.table.rows.get(key)?.element;
+    row?.focus();
+    row?.scrollIntoView({ block: "center" });
+    if (row) return;
+    this.none.dataset.told = key; // until the rows are shown again
+    this.none.replaceChildren(el("p", { class: "warn" }, this.shown.outages.some((each) => `entry-${each.entry}` === key) ? "A filter hides this outage." : "This outage is over: its sections have supply again."));
+  }
+
   /** Nothing is out, or nothing of what is looked for; a filter that hides outages says so. */
   say(all, isFiltered) {
     const words = all.length ? isFiltered && "Not all outages are shown." : "All sections are supplied.";
@@ -107,21 +116,21 @@ export class Outages {
     return [
       outage.device ? this.linked(outage) : "no switching",
       number(outage.customers),
-      outage.sections.length > SECTIONS_SHOWN ? { told: `${names} ${outage.customers}`, make: () => unfolded(outage, names) } : names,
+      { told: `${names} ${outage.customers}`, make: () => unfolded(outage, names) },
       outage.feeders.join(", "),
-      { told: outage.since.text, make: () => moment(outage.since) },
+      { told: `${outage.since.text} ${at.text.slice(0, 10)}`, make: () => momentFrom(outage.since, at) },
       duration(at.second - outage.since.second),
       outage.device ? `${outage.cause} ${outage.cause_name}` : "0 UNASSIGNED",
       outage.crew || "",
       outage.entry ? { told: `${outage.entry} ${outage.reference}`, make: () => entryLink(outage) } : "",
-      outage.until ? { told: outage.until.text, make: () => moment(outage.until) } : { told: "open", make: () => el("span", { class: "open" }, "open") },
+      outage.until ? { told: outage.until.text, make: () => momentFrom(outage.until, at) } : { told: "open", make: () => el("span", { class: "open" }, "open") },
       this.closing(outage),
     ];
   }
 
   linked(outage) {
     const href = this.form(outage);
-    return { told: href, make: () => el("a", { class: "outage nowrap", href }, outage.device) };
+    return { told: href, make: () => el("a", { class: outage.device.length > BRIEF ? "outage" : "outage nowrap", href }, breakable(outage.device)) };
   }
 
   /** The form of an outage, filled in. */
@@ -138,9 +147,12 @@ export class Outages {
   }
 }
 
+/** How many sections, or the name of the one; unfolded, each with its customers. */
 function unfolded(outage, names) {
   const rows = outage.sections.map((row) => el("li", {}, row.section, el("span", { class: "note" }, ` ${number(row.customers)}`)));
-  return [el("details", {}, el("summary", {}, `${rows.length} sections`), el("ul", { class: "names" }, rows)), el("span", { class: "print-only" }, names)];
+  const one = rows.length === 1 && el("span", { class: "one" }, breakable(names));
+  const summary = el("summary", {}, one || "", el("span", { class: one ? "many" : null }, `${rows.length} section${one ? "" : "s"}`));
+  return [el("details", {}, summary, el("ul", { class: "names" }, rows)), el("span", { class: "print-only" }, names)];
 }
 
 /** An entry's number, and its ticket's. */

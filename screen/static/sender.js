@@ -26,7 +26,7 @@ function intentOf(commands, shown, { name = "", remark = "" }) {
 }
 
 /** `read` answers the command or a list of them, or null where a field is missing. `form` sends by the Enter key too. While
- * `clock` shows the time that is now, a command's second is the one at which it is sent. `outage` tells the name and the remark
+ * `clock` shows the time that is now, a command's second is the one at which it is sent. `outage` answers the name and the remark
  * of an outage. `after` hears the replies, or null and the refusal, and what was sent; `left`, that the form is free for others. */
 export class Sender {
   constructor({ read, lock, form, clock = null, outage = () => ({}), after = () => {}, left = () => {}, label = "Send", missing = "Fill in the fields: what it would do is shown here before it is sent." }) {

@@ -1,7 +1,7 @@
 // The switching log: entries, what each command moved, corrections and withdrawals; and the screen's own log.
 import { fromAddress, toAddress } from "./address.js";
-import { begin, causes, choice, el, field, foot, get, known, list, lookOnly, moment, momentWords, number, onCommands, renew, scrolling, settled, source, spelled, table, text, zoneName } from "./common.js";
-import { ticketOf } from "./elements.js";
+import { begin, causes, choice, el, field, foot, get, known, list, lookOnly, momentWords, number, onCommands, renew, scrolling, settled, source, spelled, table, text, zoneName } from "./common.js";
+import { listed, ticketOf } from "./elements.js";
 import { MomentField } from "./moments.js";
 import { movesTable } from "./forecast.js";
 import { search as goToSearch } from "./keys.js";
@@ -67,8 +67,7 @@ async function filters() {
       field("Crew", make("crew", text({ list: "crews" }))),
       field("Section", make("section", text({ list: "sections" }))),
       field("Feeder", make("feeder", choice([["", "any"], ...feeders()]))),
-      field("Day", make("day", el("input", { type: "date", min: days[0], max: days[days.length - 1] }))),
-      await dayButtons(),
+      el("div", { class: "together" }, field("Day", make("day", el("input", { type: "date", min: days[0], max: days[days.length - 1] }))), await dayButtons()),
       field("Status", make("marked", choice([["", "all"], ["late", "late"], ["corrected", "corrected"], ["withdrawn", "withdrawn"]]))),
       field("Order", make("order", choice([["newest", "newest first"], ["second", "by second"]]))),
     ),
@@ -84,7 +83,7 @@ function turns(shown) {
   const turn = (by, words, ends) => el("button", { type: "button", disabled: ends, click: () => { from += by; show(); } }, words);
   const last = from + shown.rows.length;
   const place = el("span", {}, `${number(from + 1)}\u2013${number(last)} of ${number(shown.found)}`);
-  return el("div", { class: "buttons turns" }, turn(-100, back, from === 0), place, turn(100, on, last >= shown.found));
+  return el("div", { class: "buttons turns no-print" }, turn(-100, back, from === 0), place, turn(100, on, last >= shown.found));
 }
 
 async function show() {
@@ -100,7 +99,7 @@ async function show() {
   if (shown.day) inputs.day.value = shown.day; // a day in words, as its date
   const lines = shown.rows.map((entry) => [
     el("button", { type: "button", class: "small open-entry", "data-entry": entry.no, "aria-label": `Entry ${entry.no}: look, correct, withdraw`, click: () => open(entry.no) }, String(entry.no)),
-    moment(entry.second),
+    listed(entry.second),
     entry.device,
     entry.action,
     `${entry.cause} ${entry.cause_name}`,
@@ -112,8 +111,8 @@ async function show() {
   const empty = searchWords() ? [el("p", { class: "warn" }, `No entries for ${searchWords()}.`), clearing()] : [el("p", {}, "The book has no entries yet.")];
   renew(
     rows,
-    el("h2", {}, `${number(shown.found)} of ${number(shown.of)} entries`),
-    ...(lines.length ? [table(["entry", "time", "device", "position", "cause", "crew", "reference", "status"], lines, null, classes)] : empty),
+    el("h2", {}, `${number(shown.found)} of ${number(shown.of)} entries${shown.found > lines.length ? `: ${number(from + 1)}\u2013${number(from + lines.length)}` : ""}`),
+    ...(lines.length ? [table(["entry", "time", "device", "position", "cause", "crew", "reference", "status"], lines, "Entries", classes)] : empty),
     shown.found > 100 ? turns(shown) : "",
   );
   document.body.dataset.number = shown.number;
@@ -160,7 +159,7 @@ function work(entry, words, asked) {
   const crew = text({ list: "crews", maxlength: 16, value: entry.crew });
   const changed = () => sender.update();
   const second = new MomentField(`Time (${zoneName()})`, momentWords(entry.second.text), changed, { touched: () => sender.age() });
-  const told = el("div", {}, second.element, field("Position", position), field("Cause", cause), field("Crew", crew, spelled(crew, "crew")));
+  const told = el("div", {}, second.element, field("Position", position), field("Cause of the entry", cause), field("Crew of the entry", crew, spelled(crew, "crew")));
   const read = () => {
     const seen = { f1: String(entry.no), f2: String(entry.revision) };
     if (kind.value === "withdraw") return { kind: "withdraw", ...seen };

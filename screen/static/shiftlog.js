@@ -1,5 +1,6 @@
 // The screen's own log, one row for each sending: when, by whom, what, and what came of it; and the page that a shift hands over.
-import { el, get, moment, settled, table, text } from "./common.js";
+import { el, get, settled, table, text } from "./common.js";
+import { listed } from "./elements.js";
 
 const MOST = 60; // rows that are shown here; the page for the hand-over has all of a shift
 
@@ -20,7 +21,7 @@ export async function showLog() {
     return;
   }
   const lines = shown.slice(0, MOST).map((row) => [
-    moment(row.at),
+    listed(row.at),
     row.by,
     row.remark ? `${row.words} (${row.remark})` : row.words,
     row.entry ? el("a", { href: `/sheet?entry=${row.entry}` }, row.result) : row.result,
@@ -33,5 +34,5 @@ export async function showLog() {
 export function shiftLog() {
   for (const input of [since, name]) input.addEventListener("input", settled(showLog));
   const search = el("div", { class: "row no-print" }, el("label", {}, "Since ", since), el("label", {}, "By ", name), link);
-  return el("section", { "aria-label": "The screen's log" }, el("details", {}, el("summary", {}, "The screen's own log: who sent what, when"), search, rows));
+  return el("section", { "aria-label": "The screen's log" }, el("details", {}, el("summary", {}, "The screen's own log: who sent what, when; latest first"), search, rows));
 }

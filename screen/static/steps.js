@@ -10,11 +10,11 @@ class Step {
     this.isChosen = false; // the position, by hand
     this.device = text({ list: "devices", maxlength: 24, required: true });
     this.position = choice([["open", "open"], ["close", "close"]]);
-    this.stands = el("div", { class: "note", role: "status" });
+    this.note = el("div", { class: "note", role: "status" });
     const touched = () => { this.isChosen = false; steps.touched(); };
     this.second = new MomentField(`Time (${zoneName()})`, "", () => steps.look(), { goes: true, touched });
     this.rest = el("div", { class: "rest" }, this.second.element, field("Switched to", this.position));
-    this.element = el("div", { class: "step", role: "group", "aria-label": `Step ${number}` }, field("Device", this.device, this.stands), this.rest);
+    this.element = el("div", { class: "step", role: "group", "aria-label": `Step ${number}` }, field("Device", this.device, this.note), this.rest);
     this.device.addEventListener("input", () => { touched(); steps.look(); steps.tidy(); });
     this.position.addEventListener("input", () => { this.isChosen = true; steps.look(); });
   }
@@ -33,7 +33,7 @@ class Step {
   }
 
   say(words) {
-    if (this.stands.textContent !== words) this.stands.replaceChildren(words);
+    if (this.note.textContent !== words) this.note.replaceChildren(words);
   }
 }
 
@@ -90,7 +90,7 @@ export class Steps {
     this.rows.forEach((row) => row.lock(locked));
   }
 
-  /** The book has another command: it is asked anew. */
+  /** The book has another command: it is asked again. */
   forgetBook() {
     this.asked.clear();
   }

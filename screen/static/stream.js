@@ -1,6 +1,8 @@
 // The server's events, by one stream for all pages of a browser. A browser opens six connections to a server at most (by
-// HTTP/1.1), so a stream for each page would leave none for questions. The pages that are looked at queue for a lock: the one
-// that has it holds the stream and passes each event on to the others. A page that is hidden gives the lock back.
+// HTTP/1.1), so a stream for each page would leave none for questions. The pages queue for a lock: the one that has it holds the
+// stream and passes each event on to the others. A page that is looked at takes the lock, since timers of hidden pages are slow;
+// while none is looked at a hidden one keeps it, so that the tab can say what is new.
+import { duration } from "./elements.js";
 import { get } from "./requests.js";
 
 const NAME = "outagebook-events";
@@ -8,6 +10,7 @@ const DELAYS = [0.5, 1, 2, 5, 10]; // seconds before the next try, the last one 
 const SILENCE = 25; // seconds; the server sends an event every 10
 const FIRST_NEWS = 3; // seconds that a page which is looked at again waits for the first event
 const QUESTION = 5; // seconds for the question whether the server is there
+const ASLEEP = 10; // seconds by which the clock has gone on between two looks, a second apart, where the computer was asleep
 
 export class Stream {
   /** `heard` takes each event, `lost` the reason why there are none: what is shown may then be old. */
@@ -21,21 +24,43 @@ export class Stream {
     this.tries = 0;
     this.latest = null; // what was passed on last
     this.round = 0; // counts joins and leavings: what belongs to an older one is dropped
-    document.addEventListener("visibilitychange", () => (document.hidden ? this.leave() : this.join()));
-    if (!document.hidden) this.join();
+    this.looked = Date.now();
+    setInterval(() => this.look(), 1000);
+    document.addEventListener("visibilitychange", () => this.turn());
+    if (this.channel || !document.hidden) this.join();
+  }
+
+  /** The page is looked at, or isn't any more. Without locks a hidden page has no stream. */
+  turn() {
+    this.looked = Date.now();
+    if (!document.hidden) {
+      if (!this.leads) this.join({ steal: true });
+    } else if (!this.channel) this.leave();
+    else if (!this.leads) clearTimeout(this.silence);
   }
 
   /** Queues for the stream, and asks the page that has it what it heard last. */
-  join() {
+  join(options = null) {
     this.leave();
     const round = this.round;
-    this.expect(FIRST_NEWS);
+    if (!document.hidden) this.expect(FIRST_NEWS);
     if (!this.channel) {
       this.lead(round);
       return;
     }
-    this.queue({ signal: this.waits.signal }, round);
+    this.queue(options ?? { signal: this.waits.signal }, round);
     this.channel.postMessage({ ask: true });
+  }
+
+  /** After a sleep what is shown is old, and the stream may have ended without a word: pages and their clocks begin anew. */
+  look() {
+    const gone = Math.round((Date.now() - this.looked) / 1000);
+    this.looked = Date.now();
+    if (document.hidden || gone < ASLEEP) return;
+    this.lost(`this computer was asleep for ${duration(gone)}`);
+    window.dispatchEvent(new Event("awake"));
+    this.latest = null;
+    this.join();
   }
 
   queue(options, round) {
@@ -101,10 +126,11 @@ export class Stream {
 
   take(news) {
     if (news.ask) {
+      this.look();
       if (this.leads && this.latest) this.channel.postMessage(this.latest.event ? { event: { ...this.latest.event, what: "beat" } } : this.latest);
       return;
     }
-    if (!document.hidden) this.expect(SILENCE);
+    if (this.leads || !document.hidden) this.expect(SILENCE);
     if (news.event) this.heard(news.event);
     else this.lost(news.lost);
   }

@@ -39,7 +39,7 @@ function share(amount, whole) {
 function amounts(rows, head, later = null) {
   const whole = rows.reduce((sum, [, amount]) => sum + amount, 0);
   const heads = [head, later ? "#customer-seconds up to now" : "#customer-seconds", "share", ...(later ? ["#to the period's end"] : [])];
-  return table(heads, rows.map(([name, amount], at) => [name, number(amount), share(amount, whole), ...(later ? [number(later[at])] : [])]));
+  return table(heads, rows.map(([name, amount], at) => [name, number(amount), share(amount, whole), ...(later ? [number(later[at])] : [])]), `Customer-seconds by ${head}`);
 }
 
 const tile = (name, words, unit) => el("div", { class: "tile" }, `${name} `, el("b", {}, words), ` ${unit}`);
@@ -109,7 +109,7 @@ async function show() {
     shown.to_now ? toNowPart(shown.to_now) : "",
     wholePart(shown),
     el("div", { class: "two" },
-      el("section", {}, el("h2", {}, shown.to_now ? "Indices, to the period's end" : "Indices"), table(["index", "#all", "#without major event days"], indices), el("p", { class: "note" }, note)),
+      el("section", {}, el("h2", {}, shown.to_now ? "Indices, to the period's end" : "Indices"), table(["index", "#all", "#without major event days"], indices, "Indices"), el("p", { class: "note" }, note)),
       amountParts(shown),
     ),
     daysPart(shown),

@@ -23,7 +23,14 @@ from pathlib import Path
 HERE = Path(__file__).resolve().parent
 DEBIAN_PYTHON = Path("/usr/bin/python3")  # sees Debian's packages
 SHORT = {"SCREEN_KILLS": "5"}
-WHOLE = {"SCREEN_KILLS": "100", "SCREEN_COMMANDS": "200", "SCREEN_SECONDS": "60", "SCREEN_LONG": "yes"}
+WHOLE = {
+    "SCREEN_KILLS": "100",
+    "SCREEN_COMMANDS": "200",
+    "SCREEN_SECONDS": "60",
+    "SCREEN_LONG": "yes",
+    "SCREEN_AWAY": "60",
+    "SCREEN_STORM": "600",
+}
 IN_SHORT = (
     "test_forecasts",
     "test_figures",
@@ -34,7 +41,7 @@ IN_SHORT = (
     "test_outage.Outages.test_killed_between_steps_and_resumed",
     "test_proxy.BehindNginx.test_logins_and_who_may_send",
     "test_proxy.BehindNginx.test_one_connection_for_all_pages",
-    "test_browser.Live.test_eight_tabs_or_windows_of_one_browser",
+    "test_browser.Live.test_ten_tabs_or_windows_of_one_browser",
     "test_browser.Live.test_after_any_answer_a_page_hears_again",
     "test_browser.Live.test_commands_without_an_answer_stay_in_the_head_of_every_page",
     "test_browser.Live.test_the_time_is_now_until_one_is_typed",
@@ -42,6 +49,8 @@ IN_SHORT = (
     "test_browser.Live.test_what_was_shown_and_what_it_did",
     "test_browser.Storm.test_a_row_is_an_outage_and_the_largest_comes_first",
     "test_browser.Storm.test_rows_stay_while_somebody_reads_them",
+    "test_storm.Pages.test_a_new_outage_is_said",
+    "test_storm.Pages.test_the_diagram_by_the_keyboard",
     "test_browser.Operators.test_two_operators_and_a_double_click",
     "test_browser.Operators.test_the_keyboard_alone",
     "test_browser.Breaks.test_a_reply_that_was_lost",

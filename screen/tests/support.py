@@ -3,6 +3,7 @@
 from __future__ import annotations
 
 import atexit
+import itertools
 import json
 import os
 import shutil
@@ -12,6 +13,7 @@ import sys
 import tempfile
 import threading
 import time
+import unittest
 import urllib.error
 import urllib.request
 from collections.abc import Callable
@@ -92,22 +94,24 @@ def small(name: str, days_ago: int = 7) -> Path:
     return live(name, "small", SMALL, days_ago)
 
 
-def storm_text() -> str:
-    """Three feeders, each with a section at its breaker and four behind switches; the section of feeder f behind its switch s
-    has f + s customers."""
+def storm_text(feeders: int = 3, branches: int = 4, length: int = 1) -> str:
+    """Feeders, each with a section at its breaker and branches behind switches, each of so many sections one behind the other;
+    the first section of feeder f behind its switch s has f + s customers, as long as these are fewer than ten."""
     rows = ["cause,N1,1,TREE,,,,", "cause,N2,2,STORM,,,,"]
     customers: list[str] = []
-    for feeder in (1, 2, 3):
-        rows += [
-            f"section,S{feeder},QUAY-{feeder},{feeder},,,,",
-            f"device,D{feeder},CB-{feeder},GRID,QUAY-{feeder},closed,,",
-        ]
-        customers.append(f"QUAY-{feeder}")
-        for switch in (1, 2, 3, 4):
-            name = f"{feeder}{switch}"
-            rows += [f"section,S{name},MILL-{name},{feeder},,,,"]
-            rows += [f"device,D{name},LBS-{name},QUAY-{feeder},MILL-{name},closed,,"]
-            customers += [f"MILL-{name}"] * (feeder + switch)
+
+    def add(name: str, device: str, above: str, count: int, feeder: int) -> None:
+        rows.append(f"section,S-{name},{name},{feeder},,,,")
+        rows.append(f"device,D-{device},{device},{above},{name},closed,,")
+        customers.extend([name] * count)
+
+    for feeder in range(1, feeders + 1):
+        add(f"QUAY-{feeder}", f"CB-{feeder}", "GRID", 1, feeder)
+        for branch, step in itertools.product(range(1, branches + 1), range(1, length + 1)):
+            names = [f"{feeder}{branch}"] + [f"{feeder}{branch}-{number}" for number in range(2, length + 1)]
+            above = f"MILL-{names[step - 2]}" if step > 1 else f"QUAY-{feeder}"
+            count = 1 + (feeder + branch + step - 2) % 9
+            add(f"MILL-{names[step - 1]}", f"LBS-{names[step - 1]}", above, count, feeder)
     rows += [f"connect,C{number},{number},{section},0,,," for number, section in enumerate(customers, 1)]
     return "\n".join(["kind,ref,f1,f2,f3,f4,f5,f6", *rows]) + "\n"
 
@@ -233,6 +237,15 @@ class Screen:
     def post(self, command: dict[str, str]) -> tuple[int, Any]:
         return self.call("/api/command", json.dumps(command).encode(), {"Content-Type": "application/json"})
 
+    def switch(self, position: str, device: str, cause: int = 1, second: int | None = None, crew: str = "BERT") -> int:
+        """A switching by the login's own name, now or at a second: the number of its command."""
+        name = self.headers["Cookie"].partition("=")[2]
+        fields = {"f1": device, "f2": position, "f3": str(second or int(time.time())), "f4": str(cause), "f5": crew}
+        status, shown = self.post({"kind": "switch", "ref": f"SCR-{name}-{time.time_ns()}", **fields})
+        if status != 200:
+            raise AssertionError(shown)
+        return int(shown["reply"]["no"])
+
     def number(self) -> int:
         """The last command that the screen knows."""
         found: int = self.call("/health")[1]["number"]
@@ -244,13 +257,29 @@ class Screen:
         return int(children[0])
 
 
+class Case(unittest.TestCase):
+    """A test whose desks, screens and proxies end with it; where no book is named they are over the sample's."""
+
+    def desk(self, book: Path | None = None, port: int = 0) -> Desk:
+        found = Desk(book or fortnight(f"{self.id()}-{time.time_ns()}"), port)
+        self.addCleanup(found.kill)
+        return found
+
+    def screen(self, *words: str, desk: Desk | None = None, book: Path | None = None, **how: Path) -> Screen:
+        book = book or (desk.book if desk else fortnight(f"{self.id()}-{time.time_ns()}"))
+        found = Screen(book, *words, desk=desk, **how)
+        self.addCleanup(found.end)
+        return found
+
+
 class Between:
     """A proxy before the screen. It hands bytes on; while it has a status, it answers each request with that and a page of
     its own, as nginx does while the screen is away."""
 
     def __init__(self) -> None:
-        self.screen, self.status = 0, 0
+        self.screen, self.status, self.is_held = 0, 0, False
         self.open: set[socket.socket] = set()
+        self.dead: set[socket.socket] = set()
         self.socket = socket.create_server(("127.0.0.1", 0))
         self.port = self.socket.getsockname()[1]
         threading.Thread(target=self.run, daemon=True).start()
@@ -263,6 +292,11 @@ class Between:
                 each.shutdown(socket.SHUT_RDWR)
             except OSError:
                 pass
+
+    def hold(self, is_held: bool) -> None:
+        """Lets all connections die, those that are open and those of the time in which it holds: none is ended."""
+        self.is_held = is_held
+        self.dead |= self.open
 
     def run(self) -> None:
         while True:
@@ -283,23 +317,29 @@ class Between:
                     return
                 with socket.create_connection(("127.0.0.1", self.screen)) as screen:
                     screen.sendall(data)
-                    threading.Thread(target=pump, args=(client, screen), daemon=True).start()
-                    pump(screen, client)
+                    threading.Thread(target=pump, args=(client, screen, self.is_dead), daemon=True).start()
+                    pump(screen, client, self.is_dead)
         except OSError:
             pass
         finally:
             self.open.discard(client)
+
+    def is_dead(self, *ends: socket.socket) -> bool:
+        if self.is_held:
+            self.dead.update(ends)
+        return not self.dead.isdisjoint(ends)
 
     def end(self) -> None:
         self.socket.close()
         self.answer(502)
 
 
-def pump(source: socket.socket, to: socket.socket) -> None:
-    """Hands bytes on until one side ends."""
+def pump(source: socket.socket, to: socket.socket, is_dead: Callable[..., bool]) -> None:
+    """Hands bytes on until one side ends; a dead connection takes them and hands on none."""
     try:
         while data := source.recv(65_536):
-            to.sendall(data)
+            if not is_dead(source, to):
+                to.sendall(data)
         to.shutdown(socket.SHUT_RDWR)
     except OSError:
         pass

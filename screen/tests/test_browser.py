@@ -8,14 +8,17 @@ import subprocess
 import threading
 import time
 import unittest
+from collections import Counter
 from http.server import BaseHTTPRequestHandler, ThreadingHTTPServer
 
 import browser
 import support
 from selenium.webdriver.common.keys import Keys
+from server.reader import read_rows
 from test_server import LIGHTHOUSE, Cutter
 
 COMMANDS = int(os.environ.get("SCREEN_COMMANDS", "24"))
+AWAY_SECONDS = float(os.environ.get("SCREEN_AWAY", "2"))  # in which the proxy answers 502
 NAMELESS = """
 const named = (each) => each.labels?.length || each.ariaLabel || each.textContent.trim();
 const controls = [...document.querySelectorAll("input, select, button, a, summary, [tabindex='0']")].filter((each) => !named(each));
@@ -69,7 +72,7 @@ A4 = 702  # pixels between its margins
 LATE = "/enter?device=LBS-22&at=2025-04-06T23:52:00%2B02:00"
 
 
-class Case(unittest.TestCase):
+class Case(support.Case):
     browsers: list[browser.Browser] = []
 
     @classmethod
@@ -78,18 +81,6 @@ class Case(unittest.TestCase):
         for each in cls.browsers:
             cls.addClassCleanup(each.end)
         cls.one, cls.other = cls.browsers
-
-    def screen(self, *words: str, desk: support.Desk | None = None, book: str = "") -> support.Screen:
-        found = support.Screen(
-            desk.book if desk else support.fortnight(book or self._testMethodName), *words, desk=desk
-        )
-        self.addCleanup(found.end)
-        return found
-
-    def desk(self) -> support.Desk:
-        found = support.Desk(support.fortnight(self._testMethodName))
-        self.addCleanup(found.kill)
-        return found
 
     one: browser.Browser
     other: browser.Browser
@@ -117,6 +108,29 @@ class Operators(Case):
         self.one.unfold(".outcome")
         self.assertIn('"no":103', self.one.text(".reply"))
         self.assertEqual(self.one.complaints() + self.other.complaints(), [])
+
+    def test_two_operators_on_one_device(self) -> None:
+        """Both see what the closing gives back, and send at once: the book has it once, and each is told what their own did."""
+        screen = self.screen()
+        pages = {"ANNA": self.one, "BERT": self.other}
+        for name, page in pages.items():
+            page.open(screen.url + LATE, name)
+            page.says(".forecast", "Customer-minutes lost: \u221224")
+            page.wait(lambda: page.find(".send").is_enabled(), "the button")
+        for page in pages.values():
+            page.driver.execute_script("setTimeout(() => document.querySelector('.send').click())")
+        for page in pages.values():
+            page.wait(lambda: page.all(".outcome .equal, .outcome .otherwise, .outcome .note"), "what became of it")
+        acted = [
+            json.loads(screen.call(f"/api/entries/{row['no']}")[1]["history"][0]["text"])["moved"]
+            for row in screen.call("/api/sheet")[1]["rows"]
+            if row["device"] == "LBS-22" and row["no"] > 35
+        ]
+        closed = [["cause", 5, -1440], ["feeder", 2, -1440], ["day", 13, -1440]]
+        self.assertEqual([moved for moved in acted if moved], [closed])
+        for page in pages.values():
+            said = page.text(".outcome")
+            self.assertTrue(any(each in said for each in ("As forecast", "it changed them by 0", "Not sent")), said)
 
     def test_a_form_that_changed_since_its_forecast_is_not_sent(self) -> None:
         screen = self.screen()
@@ -309,8 +323,7 @@ class Operators(Case):
             text = support.folder() / "row.csv"
             text.write_text(f"kind,ref,f1,f2,f3,f4,f5,f6\n{row}\n")
             support.run("import", "--book", book, text)
-        screen = support.Screen(book)
-        self.addCleanup(screen.end)
+        screen = self.screen(book=book)
         page = self.one
         page.open(f"{screen.url}/enter?device=B1")
         page.fill("Time (", "2025-10-26 02:30:00")
@@ -328,6 +341,11 @@ class Operators(Case):
         page.says(".forecast", "2025-10-26 03:30:00 +01:00")
         page.send()
         self.assertIn("03:30:00+01:00", screen.call("/api/entries/1")[1]["second"]["text"])
+        screen.log_in("BERT")
+        screen.switch("close", "B1", second=1_761_440_400)
+        page.open(f"{screen.url}/sheet")
+        self.assertIn("2025-10-26 02:00:00 +01:00", page.says("main table", "03:30:00"))  # an hour that comes twice
+        self.assertNotIn("03:30:00 +01:00", page.text("main table"))
 
 
 # Locks of the browser's pages as on a busy machine.
@@ -372,10 +390,7 @@ class Live(Case):
 
     def switch(self, position: str, device: str = "LBS-1") -> int:
         """A switching by another client, now: the number of its command."""
-        command = {"kind": "switch", "f1": device, "f2": position, "f3": str(self.second()), "f4": "1", "f5": "BERT"}
-        status, shown = self.live.post({**command, "ref": f"SCR-BERT-{time.time_ns()}"})
-        self.assertEqual(status, 200, shown)
-        return int(shown["reply"]["no"])
+        return self.live.switch(position, device, second=self.second())
 
     def windows(self, page: browser.Browser, kind: str, urls: list[str]) -> list[str]:
         """Opens each address in a tab or a window of its own: their handles."""
@@ -391,10 +406,10 @@ class Live(Case):
             page.ready()
         return handles
 
-    def eight(self, kind: str, position: str, seen: str) -> None:
+    def ten(self, kind: str, position: str, seen: str) -> None:
         page = self.one
         page.open(f"{self.url}/")
-        routes = ("/enter?device=LBS-1", "/sheet", "/network", "/year", "/", "/enter", "/sheet", "/")
+        routes = ("/enter?device=LBS-1", "/sheet", "/network", "/year", "/", "/enter", "/", "/network", "/sheet")
         handles = self.windows(page, kind, [self.url + route for route in routes])
         page.driver.switch_to.window(handles[0])
         page.fill("Cause", "1")
@@ -402,16 +417,16 @@ class Live(Case):
         page.says(".forecast", "Customer-minutes lost")
         page.click(".send")
         page.says(".outcome", "Saved as")
-        page.driver.switch_to.window(handles[7])
-        page.says("main", seen)
         page.driver.switch_to.window(handles[6])
+        page.says("main", seen)
+        page.driver.switch_to.window(handles[8])
         page.says("main table", str(len(self.live.call("/api/sheet")[1]["rows"])))
         self.assertEqual(page.text(".alarm"), "")
 
-    def test_eight_tabs_or_windows_of_one_browser(self) -> None:
+    def test_ten_tabs_or_windows_of_one_browser(self) -> None:
         """A browser opens six connections to a server: with a stream of events for each page the seventh page got nothing."""
-        self.eight("tab", "open", "MILL")
-        self.eight("window", "close", "All sections are supplied")
+        self.ten("tab", "open", "MILL")
+        self.ten("window", "close", "All sections are supplied")
 
     def test_the_window_that_has_the_stream_is_closed(self) -> None:
         page = self.one
@@ -436,10 +451,11 @@ class Live(Case):
             page.says(".alarm", words)  # after the end of the stream itself
             self.assertTrue(page.driver.title.startswith("(!) "))
             self.switch(("open", "close")[number % 2])
+            time.sleep(AWAY_SECONDS if status == 502 else 0)
             self.between.answer(0)
             page.wait(lambda: page.text(".alarm") == "", "the page without its alarm")
             page.says("main", ("cut off by", "All sections are supplied")[number % 2])
-            self.assertEqual(page.driver.title, "Now - book - outage book")
+            self.assertRegex(page.driver.title, r"^(\([0-9]+\) )?Now - book - outage book$")
 
     def test_the_alarm_stays_in_sight(self) -> None:
         page = self.other
@@ -464,6 +480,41 @@ class Live(Case):
             "import('/static/common.js').then(({ get }) => get('/api/now', {}, 1)).catch((trouble) => done(trouble.message));"
         )
         self.assertIn("no answer within 1 seconds", page.driver.execute_async_script(script))
+
+    def test_a_desk_that_is_stopped_is_told_of(self) -> None:
+        """It takes connections and answers nothing: every page says so, also one that sends nothing, until it goes on."""
+        page = self.one
+        page.open(f"{self.url}/")
+        desk = self.live.desk_process()
+        os.kill(desk, signal.SIGSTOP)
+        self.addCleanup(os.kill, desk, signal.SIGCONT)
+        said = page.says(".alarm", "The desk is away: nothing can be saved now")
+        self.assertIn("no answer within 10 seconds", said)
+        self.assertTrue(page.driver.title.startswith("(!) "))
+        os.kill(desk, signal.SIGCONT)
+        page.wait(lambda: page.text(".alarm") == "", "the page without its alarm")
+
+    def test_a_computer_that_was_asleep(self) -> None:
+        """Its connections died unheard, and its clock went on by an hour: the page says that it may be old, and begins anew."""
+        for page, route in ((self.one, "/"), (self.other, "/enter?device=LBS-1")):
+            page.open(self.url + route)
+        self.one.says("main", "All sections are supplied")
+        self.other.says(".moment", "Now: this clock goes on")
+        self.between.hold(True)
+        self.addCleanup(self.between.hold, False)
+        self.switch("open")
+        for page in (self.one, self.other):
+            page.record(".alarm")
+            page.driver.execute_script("const now = Date.now; Date.now = () => now() + 3600000;")
+            page.recorded("this computer was asleep for 1 h")
+        self.between.hold(False)
+        self.one.says("main table", "LBS-1")
+        for page in (self.one, self.other):
+            page.wait(lambda: page.text(".alarm") == "", "the page without its alarm")
+        shown = (
+            "return Date.parse(document.querySelector('.moment input').value.replace(' ', 'T').replace(' ', '')) / 1000"
+        )
+        self.other.wait(lambda: abs(self.other.driver.execute_script(shown) - time.time()) < 30, "the server's time")
 
     def test_commands_without_an_answer_stay_in_the_head_of_every_page(self) -> None:
         """The desk hangs; the pages that sent are left: the commands are shown until they are answered, and act once."""
@@ -704,16 +755,7 @@ class Storm(Case):
 
     @classmethod
     def switch(cls, position: str, device: str, cause: int = 1, seconds_back: int = 600) -> None:
-        fields = {
-            "f1": device,
-            "f2": position,
-            "f3": str(int(time.time()) - seconds_back),
-            "f4": str(cause),
-            "f5": "BERT",
-        }
-        status, shown = cls.live.post({"kind": "switch", "ref": f"SCR-BERT-{time.time_ns()}", **fields})
-        if status != 200:
-            raise AssertionError(shown)
+        cls.live.switch(position, device, cause, int(time.time()) - seconds_back)
 
     def rows(self, page: browser.Browser) -> list[list[str]]:
         found: list[list[str]] = page.driver.execute_script(STATE)
@@ -834,8 +876,7 @@ class Breaks(Case):
         desk = self.desk()
         proxy = Cutter(desk.port)
         self.addCleanup(proxy.end)
-        screen = support.Screen(desk.book, "--desk", f"http://127.0.0.1:{proxy.port}")
-        self.addCleanup(screen.end)
+        screen = self.screen("--desk", f"http://127.0.0.1:{proxy.port}", book=desk.book)
         self.one.open(screen.url + LATE)
         self.one.wait(lambda: self.one.find(".send").is_enabled(), "the button")
         proxy.cuts = 2
@@ -880,8 +921,7 @@ class Breaks(Case):
         page.says(".outcome", "Send again")
         first.end()
         proxy.cuts = 0
-        second = support.Screen(desk.book, *words, "--port", str(first.port))
-        self.addCleanup(second.end)
+        second = self.screen(*words, "--port", str(first.port), book=desk.book)
         page.driver.refresh()
         page.ready()
         page.says(".unanswered", "1 command without an answer")
@@ -892,13 +932,11 @@ class Breaks(Case):
 
     def test_a_desk_away_is_told(self) -> None:
         desk = self.desk()
-        screen = support.Screen(desk.book, desk=desk)
-        self.addCleanup(screen.end)
+        screen = self.screen(desk=desk)
         self.one.open(f"{screen.url}/")
         desk.kill()
         self.one.says(".alarm", "The desk is away")
-        again = support.Desk(desk.book, desk.port)
-        self.addCleanup(again.kill)
+        again = self.desk(desk.book, desk.port)
         self.one.says(".state", "Connected")
         self.one.wait(lambda: "The desk is away" not in self.one.text("main"), "the page without it")
 
@@ -979,8 +1017,7 @@ class Pages(Case):
         rows += [f"switch,{'R' * 39}4,{word}-D1,open,2025-03-25T10:00:00+01:00,1,{'M' * 16},"]
         text = support.folder() / "long.csv"
         text.write_text("kind,ref,f1,f2,f3,f4,f5,f6\n" + "\n".join(rows) + "\n")
-        screen = support.Screen(support.new_book("long-names", text))
-        self.addCleanup(screen.end)
+        screen = self.screen(book=support.new_book("long-names", text))
         self.addCleanup(self.one.media, "")
         self.addCleanup(self.one.resize, 1280, 900)
         for page in self.browsers:
@@ -1009,7 +1046,7 @@ class Pages(Case):
         screen = self.screen()
         self.one.open(f"{screen.url}/")
         self.one.fill("Go to time", "2025-03-27 14:50:00")
-        told = self.one.says("main", "2025-03-27 14:22:10 +01:00")
+        told = self.one.says("main", "14:22:10")
         for words in ("CHURCH-ROW", "CB-1", "2 TREE", "OUT-0327-1", "27 min 50 s"):
             self.assertIn(words, told)
         self.assertEqual(len(self.one.all(".diagram .node.out")), 4)
@@ -1055,8 +1092,7 @@ class Pages(Case):
             self.assertFalse([each for each in self.one.all("button.send, button.main") if each.is_enabled()], route)
         self.one.open(screen.url + LATE)
         self.one.says("main", "This screen is for looking")
-        copy = support.Screen(support.fortnight("a-copy"), "--no-desk")
-        self.addCleanup(copy.end)
+        copy = self.screen("--no-desk")
         self.one.driver.delete_all_cookies()
         self.one.open(f"{copy.url}/year", None)
         self.one.says("main", "194.126")
@@ -1074,7 +1110,7 @@ class Pages(Case):
 
     def shares_are_shares(self, page: browser.Browser) -> None:
         """Bars and figures of causes are parts of the whole, and add up to it."""
-        bars = "return [...document.querySelectorAll('table')].find((each) => each.textContent.startsWith('cause'))"
+        bars = "return [...document.querySelectorAll('table')].find((each) => each.caption.textContent.endsWith('by cause'))"
         found = page.driver.execute_script(
             f"{bars}.querySelectorAll('.share').values().map((each) => [each.firstChild.value, each.textContent]).toArray()"
         )
@@ -1166,8 +1202,10 @@ class Origins(Case):
 class Crowd(Case):
     def test_random_commands_by_two_browsers_and_a_third_client(self) -> None:
         desk = self.desk()
-        screen = support.Screen(desk.book, desk=desk)
-        self.addCleanup(screen.end)
+        screen = self.screen(desk=desk)
+        third = browser.Browser()
+        self.addCleanup(third.end)
+        third.open(f"{screen.url}/", "CLEO")
         failures: list[str] = []
 
         def enter(page: browser.Browser, name: str, seed: int) -> None:
@@ -1206,9 +1244,14 @@ class Crowd(Case):
         last = 102 + COMMANDS // 2 * 2 + COMMANDS // 4 + 3
         support.until(lambda: screen.number() == last, what="all commands")
         self.assertIsNone(screen.call("/health")[1]["differs"])
+        shown = "return [document.body.dataset.number, document.querySelector('.alarm').textContent]"
+        third.wait(lambda: third.driver.execute_script(shown) == [str(last), ""], "the last command where nobody sends")
+        senders = Counter(command.ref.rpartition("-")[0] for command in read_rows(desk.book).commands[102:])
+        sent = {
+            name: senders[name] for name in ("SCR-ANNA", "SCR-BERT", "CURL")
+        }  # none is lost, and none is there twice
+        self.assertEqual(sent, {"SCR-ANNA": COMMANDS // 2, "SCR-BERT": COMMANDS // 2, "CURL": COMMANDS // 4})
         totals = desk.get("/totals")
-        third = browser.Browser()
-        self.addCleanup(third.end)
         for page, name in ((self.one, "ANNA"), (self.other, "BERT"), (third, "CLEO")):
             page.open(f"{screen.url}/year", name)
             shown = page.text("main").replace("\u2009", "")

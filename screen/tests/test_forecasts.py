@@ -130,11 +130,10 @@ class Office:
         return len(steps)
 
 
-class Forecasts(unittest.TestCase):
+class Forecasts(support.Case):
     def test_random_commands_with_lives(self) -> None:
         for seed in (1, 2, 3):
-            desk = support.Desk(support.fortnight(f"random-{seed}"))
-            self.addCleanup(desk.kill)
+            desk = self.desk()
             office = Office(self, desk, seed)
             for number in range(COMMANDS):
                 office.act(number)

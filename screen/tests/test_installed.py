@@ -12,7 +12,7 @@ UNITS = ("outagebook.service", "outagebook-screen.service", "outagebook@north.se
 ANALYZE = shutil.which("systemd-analyze")
 
 
-class Installed(unittest.TestCase):
+class Installed(support.Case):
     def test_it_starts_from_its_place(self) -> None:
         prefix = support.folder() / "prefix"
         words = ["sh", str(support.ROOT / "install.sh"), str(prefix)]
@@ -20,8 +20,7 @@ class Installed(unittest.TestCase):
             words, check=True, capture_output=True, env={"PATH": "/usr/bin:/bin", "PROGRAM": str(support.PROGRAM)}
         )
         book = support.fortnight("installed")
-        screen = support.Screen(book, command=prefix / "bin/outagebook-screen", program=prefix / "bin/outagebook")
-        self.addCleanup(screen.end)
+        screen = self.screen(command=prefix / "bin/outagebook-screen", program=prefix / "bin/outagebook", book=book)
         self.assertEqual(screen.call("/health")[1]["desk"], "here")
         for route in ("/", "/static/now.js", "/static/screen.css", "/report", "/download/commands.csv"):
             self.assertEqual(support.call(screen.url + route)[0], 200, route)
@@ -44,8 +43,7 @@ class Installed(unittest.TestCase):
             verify = [ANALYZE, "verify", *(str(units / unit) for unit in UNITS)]
             done = subprocess.run(verify, capture_output=True, text=True, check=False)
             self.assertEqual((done.returncode, done.stdout + done.stderr), (0, ""))
-        desk = support.Desk(support.fortnight("of-a-unit"))
-        self.addCleanup(desk.kill)
+        desk = self.desk()
         line = next(row for row in (units / UNITS[1]).read_text().splitlines() if row.startswith("ExecStart="))
         line = line.replace("/var/lib/outagebook/book.db", str(desk.book)).replace("--port 8081", "--port 0")
         started = shlex.split(line.partition("=")[2].replace("http://127.0.0.1:8080", desk.url))

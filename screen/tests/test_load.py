@@ -69,12 +69,10 @@ class Listener(threading.Thread):
                         self.told[event["number"]] = time.monotonic()
 
 
-class Load(unittest.TestCase):
+class Load(support.Case):
     def test_twenty_pages_and_a_slow_one(self) -> None:
-        desk = support.Desk(support.fortnight("twenty"))
-        self.addCleanup(desk.kill)
-        screen = support.Screen(desk.book, desk=desk)
-        self.addCleanup(screen.end)
+        desk = self.desk()
+        screen = self.screen(desk=desk)
         slow = socket.create_connection(("127.0.0.1", screen.port))
         slow.setsockopt(socket.SOL_SOCKET, socket.SO_RCVBUF, 2_048)
         slow.sendall(f"GET /events HTTP/1.1\r\nHost: 127.0.0.1:{screen.port}\r\n\r\n".encode())
@@ -121,11 +119,9 @@ class Load(unittest.TestCase):
     )
     def test_a_year(self) -> None:
         book = year()
-        desk = support.Desk(book)
-        self.addCleanup(desk.kill)
+        desk = self.desk(book)
         begun = time.monotonic()
-        screen = support.Screen(book, desk=desk)
-        self.addCleanup(screen.end)
+        screen = self.screen(desk=desk)
         started, processor = time.monotonic() - begun, processor_seconds(screen.process.pid)
         pages = {}
         for route in (

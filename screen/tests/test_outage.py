@@ -62,7 +62,7 @@ class Outages(Case):
         self.addCleanup(self.live.end)
         self.between.screen = self.live.port
         self.url = f"http://127.0.0.1:{self.between.port}"
-        self.keys = 0
+        self.keys, self.begun = 0, int(time.time())
 
     def press(self, page: browser.Browser, *words: str) -> None:
         """Presses keys one by one, and counts them."""
@@ -71,8 +71,8 @@ class Outages(Case):
             self.keys += 1
 
     def clock(self, minutes_ago: int) -> str:
-        """A time as an operator types it."""
-        return ZONE.text_of(int(time.time()) - 60 * minutes_ago)[11:16].replace(":", "")
+        """A time before the test began, as an operator types it."""
+        return ZONE.text_of(self.begun - 60 * minutes_ago)[11:16].replace(":", "")
 
     def enter(self, page: browser.Browser) -> None:
         """Types the steps and the cause: all but the sending."""

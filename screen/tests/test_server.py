@@ -42,22 +42,9 @@ def is_running(process: int) -> bool:
         return False
 
 
-class Case(unittest.TestCase):
-    def screen(self, name: str, *words: str, desk: support.Desk | None = None) -> support.Screen:
-        book = desk.book if desk else support.fortnight(name)
-        found = support.Screen(book, *words, desk=desk)
-        self.addCleanup(found.end)
-        return found
-
-    def desk(self, name: str) -> support.Desk:
-        found = support.Desk(support.fortnight(name))
-        self.addCleanup(found.kill)
-        return found
-
-
-class Commands(Case):
+class Commands(support.Case):
     def test_a_switching_acts_once_and_is_as_forecast(self) -> None:
-        screen = self.screen("one-switching")
+        screen = self.screen()
         screen.log_in("ANNA")
         query = "&".join(f"{name}={value}" for name, value in LIGHTHOUSE.items())
         forecast = screen.call(f"/api/forecast?{query}")[1]
@@ -72,7 +59,7 @@ class Commands(Case):
         self.assertEqual(screen.call("/api/now")[1]["outages"], [])
 
     def test_refusals_in_words(self) -> None:
-        screen = self.screen("refusals")
+        screen = self.screen()
         screen.log_in("ANNA")
         wrong = [
             (
@@ -100,8 +87,8 @@ class Commands(Case):
         self.assertIn("number 103", conflict["words"])
 
     def test_commands_that_come_another_way(self) -> None:
-        desk = self.desk("another-way")
-        screen = self.screen("", desk=desk)
+        desk = self.desk()
+        screen = self.screen(desk=desk)
         desk.post({**LIGHTHOUSE, "ref": "CURL-1"})
         support.until(lambda: screen.number() == 103, what="the command of another client")
         rows = (support.FORTNIGHT_FILES / "corrections.csv").read_bytes().splitlines(keepends=True)[:3]
@@ -112,7 +99,7 @@ class Commands(Case):
 
     def test_other_spellings_of_a_command(self) -> None:
         """A command is kept in the book's own spelling, however a client of the screen spelled it."""
-        screen = self.screen("spellings")
+        screen = self.screen()
         screen.log_in("ANNA")
         spelled = {**LIGHTHOUSE, "f3": "2025-04-06T23:52:00+02:00", "f4": "05"}
         self.assertEqual(screen.post({**spelled, "ref": "SCR-ANNA-1"})[1]["equal"], True)
@@ -123,13 +110,13 @@ class Commands(Case):
 
     def test_the_second_that_is_now(self) -> None:
         """A book whose period is over is looked at, and told, at its last second."""
-        screen = self.screen("now")
+        screen = self.screen()
         last = {"second": 1_743_976_799, "text": "2025-04-06T23:59:59+02:00"}
         self.assertEqual(screen.call("/api/second")[1], {**last, "goes": False, "gone": 0.0})
         self.assertEqual(screen.call("/api/now")[1]["at"], last)
 
     def test_the_log_has_login_reference_and_answer(self) -> None:
-        screen = self.screen("log")
+        screen = self.screen()
         screen.log_in("ANNA")
         screen.post({**LIGHTHOUSE, "ref": "SCR-ANNA-1"})
         lines = [json.loads(line) for line in screen.book.with_name("book.db-screen.jsonl").read_text().splitlines()]
@@ -142,7 +129,7 @@ class Commands(Case):
         self.assertEqual(shown[0]["result"], "saved: command 103, entry 36")
 
     def test_import_with_its_report(self) -> None:
-        screen = self.screen("import")
+        screen = self.screen()
         screen.log_in("ANNA")
         rows = (support.FORTNIGHT_FILES / "corrections.csv").read_bytes()
         status, shown = screen.call("/api/import", rows, {"Content-Type": "text/csv"})
@@ -151,7 +138,7 @@ class Commands(Case):
         self.assertEqual(screen.call("/api/year")[1]["totals"]["W"], "357670")
 
     def test_the_whole_year_and_its_texts(self) -> None:
-        screen = self.screen("year")
+        screen = self.screen()
         table = (support.FORTNIGHT_FILES / "fortnight.table.txt").read_text()
         self.assertEqual(screen.call("/api/year")[1]["text"], table)
         self.assertEqual(support.call(f"{screen.url}/download/table.txt")[1].decode(), table)
@@ -161,7 +148,7 @@ class Commands(Case):
         self.assertIn(b"SAIDI", support.call(f"{screen.url}/report")[1])
 
     def test_a_copy_without_a_desk(self) -> None:
-        screen = self.screen("copy", "--no-desk")
+        screen = self.screen("--no-desk")
         screen.log_in("ANNA")
         self.assertEqual(screen.call("/health")[1]["desk"], "none")
         self.assertEqual(screen.call("/api/year")[1]["totals"]["W"], "366070")
@@ -269,15 +256,14 @@ exec "{program}" "$@"
 """
 
 
-class Reports(Case):
+class Reports(support.Case):
     def test_eight_who_ask_for_the_report(self) -> None:
         """It is made once for all of them, and again after a command. What comes another way isn't kept waiting by it."""
-        desk = self.desk("reports")
+        desk = self.desk()
         calls, program = desk.book.with_name("calls"), desk.book.with_name("slow")
         program.write_text(SLOW_PROGRAM.format(calls=calls, program=support.PROGRAM))
         program.chmod(0o755)
-        screen = support.Screen(desk.book, desk=desk, program=program)
-        self.addCleanup(screen.end)
+        screen = self.screen(desk=desk, program=program)
         found: list[tuple[int, bytes]] = []
         readers = [
             threading.Thread(target=lambda: found.append(support.call(f"{screen.url}/report"))) for _ in range(8)
@@ -325,11 +311,10 @@ class Reports(Case):
         self.assertEqual(asyncio.run(ask()), [[each] * 5 for each in ("1", "1", "2", away, away, "5")])
 
     def test_the_table_is_asked_for_once_a_command(self) -> None:
-        desk = self.desk("tables")
+        desk = self.desk()
         between = Cutter(desk.port)
         self.addCleanup(between.end)
-        screen = support.Screen(desk.book, "--desk", f"http://127.0.0.1:{between.port}")
-        self.addCleanup(screen.end)
+        screen = self.screen("--desk", f"http://127.0.0.1:{between.port}", book=desk.book)
         screen.log_in("ANNA")
         first = screen.call("/api/year")[1]
         self.assertEqual([screen.call("/api/year")[1] for _ in range(3)], [first] * 3)
@@ -339,12 +324,12 @@ class Reports(Case):
         self.assertEqual(between.routes.count("/table"), 2)
 
 
-class Faults(Case):
+class Faults(support.Case):
     def test_own_desk_is_killed_again_and_again(self) -> None:
         """The desk is killed at random moments while commands are sent: none is lost, none acts twice. One that had no answer
         in all its tries is told as not known, and sent again under its reference."""
         times = int(os.environ.get("SCREEN_KILLS", "8"))
-        screen = self.screen("killed")
+        screen = self.screen()
         screen.log_in("ANNA")
         ended = threading.Event()
 
@@ -388,11 +373,10 @@ class Faults(Case):
 
     def test_a_lost_reply(self) -> None:
         """The connection is cut after the desk has committed: the screen sends the command again, and it acted once."""
-        desk = self.desk("lost")
+        desk = self.desk()
         proxy = Cutter(desk.port)
         self.addCleanup(proxy.end)
-        screen = support.Screen(desk.book, "--desk", f"http://127.0.0.1:{proxy.port}")
-        self.addCleanup(screen.end)
+        screen = self.screen("--desk", f"http://127.0.0.1:{proxy.port}", book=desk.book)
         screen.log_in("ANNA")
         proxy.cuts = 2
         status, shown = screen.post({**LIGHTHOUSE, "ref": "SCR-ANNA-1"})
@@ -400,19 +384,18 @@ class Faults(Case):
         self.assertEqual(screen.number(), 103)
 
     def test_a_desk_that_is_away(self) -> None:
-        desk = self.desk("away")
-        screen = self.screen("", desk=desk)
+        desk = self.desk()
+        screen = self.screen(desk=desk)
         screen.log_in("ANNA")
         desk.kill()
         support.until(lambda: screen.call("/health")[1]["desk"] == "away", what="the desk away")
         self.assertEqual(screen.call("/health")[0], 503)
         self.assertEqual(screen.call("/api/now")[0], 200)
-        again = support.Desk(desk.book, desk.port)
-        self.addCleanup(again.kill)
+        again = self.desk(desk.book, desk.port)
         support.until(lambda: screen.call("/health")[1]["desk"] == "here", what="the desk here")
 
     def test_the_screen_takes_its_desk_with_it(self) -> None:
-        screen = self.screen("with-it")
+        screen = self.screen()
         desk = screen.desk_process()
         screen.process.kill()
         support.until(lambda: not is_running(desk), what="its end")
@@ -499,11 +482,11 @@ async def unread_reply() -> str:
             server.close()
 
 
-class Hostile(Case):
+class Hostile(support.Case):
     """Bad requests: a named answer or a closed connection, and the desk isn't touched."""
 
     def setUp(self) -> None:
-        self.seen = self.screen(f"hostile-{self._testMethodName}")
+        self.seen = self.screen()
         self.seen.log_in("ANNA")
 
     def command(self, **headers: str | None) -> int:
@@ -571,7 +554,7 @@ class Hostile(Case):
 
     def test_a_thousand_connections_that_say_nothing(self) -> None:
         """They are closed without a word, half a head is told why, and meanwhile a command is answered at once."""
-        screen = self.screen("silent", "--head-seconds", "3")
+        screen = self.screen("--head-seconds", "3")
         screen.log_in("ANNA")
         silent = [socket.create_connection(("127.0.0.1", screen.port), timeout=30) for _ in range(1_000)]
         half = socket.create_connection(("127.0.0.1", screen.port), timeout=30)
@@ -590,12 +573,11 @@ class Hostile(Case):
     def test_bodies_that_stop_half_way(self) -> None:
         """A body that stops is told so within the limit, also one that goes on too slowly, and one whose sender goes away
         ends its connection. The desk hears of none of them."""
-        desk = self.desk("half-bodies")
+        desk = self.desk()
         between = Cutter(desk.port)
         self.addCleanup(between.end)
         url = f"http://127.0.0.1:{between.port}"
-        screen = support.Screen(desk.book, "--desk", url, "--body-seconds", "2")
-        self.addCleanup(screen.end)
+        screen = self.screen("--desk", url, "--body-seconds", "2", book=desk.book)
         screen.log_in("ANNA")
         command = json.dumps({**LIGHTHOUSE, "ref": "SCR-ANNA-1"}).encode()
         rows = (support.FORTNIGHT_FILES / "corrections.csv").read_bytes()
@@ -640,9 +622,9 @@ class Hostile(Case):
             self.assertIn("Connection: close", head)
 
 
-class Logins(Case):
+class Logins(support.Case):
     def test_the_proxys_login(self) -> None:
-        screen = self.screen("proxy", "--proxy", "127.0.0.1", "--senders", "desk-")
+        screen = self.screen("--proxy", "127.0.0.1", "--senders", "desk-")
         self.assertEqual(screen.call("/api/me")[0], 401)
         screen.headers = {"X-Remote-User": "desk-anna.b"}
         me = screen.call("/api/me")[1]
@@ -656,7 +638,7 @@ class Logins(Case):
 
     def test_logins_that_fold_to_one_name(self) -> None:
         """Each has a name of its own, also after the screen was started again; readers take none."""
-        desk = self.desk("folded")
+        desk = self.desk()
         words = ("--proxy", "127.0.0.1", "--senders", "desk-")
 
         def names(screen: support.Screen, logins: tuple[str, ...]) -> list[str]:
@@ -675,13 +657,12 @@ class Logins(Case):
             other = found[number - 1]
             self.assertEqual(screen.post({**command, "ref": f"SCR-{other}-2"})[0], 422)
         screen.end()
-        again = support.Screen(desk.book, *words, desk=desk)
-        self.addCleanup(again.end)
+        again = self.screen(*words, desk=desk)
         self.assertEqual(names(again, logins[::-1]), found[::-1])
 
     def test_open_pages_are_counted_by_login(self) -> None:
         """One login that opens pages without end leaves the others theirs."""
-        screen = self.screen("streams")
+        screen = self.screen()
         request = f"GET /events HTTP/1.1\r\nHost: 127.0.0.1:{screen.port}\r\nCookie: screen_name="
 
         def status(login: str) -> bytes:
@@ -695,13 +676,13 @@ class Logins(Case):
         self.assertEqual(status("BERT"), b"200")
 
     def test_a_login_of_a_browser_is_no_proxys(self) -> None:
-        screen = self.screen("no-proxy")
+        screen = self.screen()
         self.assertEqual(screen.call("/api/me", headers={"X-Remote-User": "desk-anna"})[1]["login"], "")
-        elsewhere = self.screen("proxy-elsewhere", "--proxy", "10.0.7.1")
+        elsewhere = self.screen("--proxy", "10.0.7.1")
         self.assertEqual(elsewhere.call("/api/me", headers={"X-Remote-User": "desk-anna"})[0], 401)
 
     def test_read_only(self) -> None:
-        screen = self.screen("read-only", "--read-only")
+        screen = self.screen("--read-only")
         screen.log_in("ANNA")
         self.assertEqual(screen.post({**LIGHTHOUSE, "ref": "SCR-ANNA-1"})[0], 403)
         self.assertFalse(screen.call("/api/me")[1]["may_send"])

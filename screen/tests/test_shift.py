@@ -302,11 +302,10 @@ class Pages(unittest.TestCase):
         self.assertIn("BERT", marked)
 
 
-class Stops(unittest.TestCase):
+class Stops(support.Case):
     def test_what_came_while_the_screen_was_stopped(self) -> None:
         """It is in the log, as of another program; a command of the screen's own that had no answer isn't said to be lost."""
-        desk = support.Desk(support.small("stopped"))
-        self.addCleanup(desk.kill)
+        desk = self.desk(support.small("stopped"))
         screen = support.Screen(desk.book, desk=desk)
         screen.log_in("ANNA")
         command = {
@@ -321,8 +320,7 @@ class Stops(unittest.TestCase):
         screen.end()
         closed = {**command, "ref": "OMS-1", "f2": "close", "f3": str(int(command["f3"]) + 45)}
         self.assertEqual(desk.post(closed)[0], 200)
-        again = support.Screen(desk.book, desk=desk)
-        self.addCleanup(again.end)
+        again = self.screen(desk=desk)
         rows = again.call("/api/log")[1]
         self.assertEqual([row["kind"] for row in rows], ["elsewhere", "switch"])
         last = support.LAST_OF_SMALL + 2
@@ -335,8 +333,7 @@ class Stops(unittest.TestCase):
 
     def test_a_period_that_is_over(self) -> None:
         """Today is no day of it: that is said. Its hand-over shows supply at its last second."""
-        screen = support.Screen(support.fortnight("over"), "--no-desk", "--name", "North <1>", "--training")
-        self.addCleanup(screen.end)
+        screen = self.screen("--no-desk", "--name", "North <1>", "--training")
         status, shown = screen.call("/api/sheet?day=today")
         self.assertEqual(status, 422)
         self.assertRegex(shown["words"], r"today, \d{4}-\d\d-\d\d, is no day of the book's period")
