@@ -179,7 +179,7 @@ function head() {
     el("div", { class: "who" }, state, who, rename, printed),
   );
   const line = el("div", { class: "line" }, news.element);
-  heading.replaceWith(el("div", { class: "top" }, banner, line), unanswered());
+  heading.replaceWith(el("div", { class: "page-top" }, banner, line), unanswered());
   line.prepend(heading);
   showTitle();
 }
@@ -240,7 +240,7 @@ function askName(again = false) {
     trouble,
     el("div", { class: "buttons" }, el("button", { class: "main" }, "This is my name")),
   );
-  document.querySelector("main .top").after(form);
+  document.querySelector("main .page-top").after(form);
   if (again) given.focus();
 }
 

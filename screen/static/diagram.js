@@ -8,6 +8,7 @@ const ARC = 92; // from a box to the name at an arc
 const LONG = 14; // letters: a longer name at an arc has room in the gap between columns
 const NAME_FONT = "bold 13px", SIGN_FONT = "bold 11px"; // as in the style: the widest in which a name is shown
 const WIDEST_ON_PAPER = 1500; // of a picture that can still be read there
+const LOW = 450; // of a picture that is below the list, not next to it
 const SLICE = 150; // nodes and devices that are drawn in one go
 const ZOOMS = [0.35, 0.5, 0.7, 1, 1.4, 2], KEPT = "outagebook-zoom";
 
@@ -212,6 +213,7 @@ export class Diagram {
     const rows = Math.max(...nodes.map((node) => node.row)) + 1;
     this.width = EDGE + layers * (sizes.box + sizes.gap) - sizes.gap + sizes.margin;
     this.height = EDGE * 2 + rows * ROW + 24;
+    this.element.classList.toggle("large", this.height > LOW);
     const on_paper = this.width > WIDEST_ON_PAPER ? " no-print" : "";
     this.picture = svg("svg", { class: `diagram${on_paper}`, viewBox: `0 0 ${this.width} ${this.height}`, role: "group", "aria-label": "Devices: arrow keys go from one to the next" });
     this.layers = { way: svg("g"), node: svg("g"), sign: svg("g") };

@@ -212,7 +212,7 @@ class Pages(test_browser.Case):
         page.open(f"{self.live.url}/sheet")
         page.says("main h2", "31 of 31")
         page.driver.execute_script("scrollTo(0, document.querySelector('tbody tr:nth-child(20)').offsetTop + 300)")
-        top, head = (page.driver.execute_script(PLACE, page.find(each)) for each in (".top", "main thead th"))
+        top, head = (page.driver.execute_script(PLACE, page.find(each)) for each in (".page-top", "main thead th"))
         self.assertEqual(top[1], 0)
         self.assertAlmostEqual(head[1], top[3], delta=2)
 
