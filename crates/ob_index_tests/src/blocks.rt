@@ -1,11 +1,10 @@
 //! Tests of a section with 100,000 customers in three blocks, against the sum over its customers
 //! one by one.
-use crate::sums::sum_of;
+use crate::moved::{period_of, sum_of};
 use ob_cust::{Customer, Roll};
 use ob_net::Second;
 use ob_post::{Dim, Moved, amounts};
 use ob_sweep::Run;
-use ob_time::Period;
 use std::alloc::Global;
 use std::test::Fail;
 
@@ -47,14 +46,9 @@ fn plain_sum(customers: &[Customer], run: &Run) -> u64 {
     sum
 }
 
-// A day in UTC.
-fn day_of(alloc: Global, first: &[u8]) -> Result<Period, Fail> {
-    Ok(Period::from_text(alloc, first, 1, b"UTC0")?)
-}
-
 // The amounts of an outage interval in 1970-01-02, with cause 3 and feeder 7.
 fn amounts_in(alloc: Global, run: &Run, roll: &Roll) -> Result<Vec<Moved>, Fail> {
-    let day = day_of(alloc, b"1970-01-02")?;
+    let day = period_of(alloc, b"1970-01-02", 1, b"UTC0")?;
     if run.since < day.first_second() || run.until <= run.since || day.end_second() < run.until {
         return Err("a run out of place".into());
     }
@@ -77,7 +71,7 @@ fn a_run_across_the_end_of_a_block(rt: HostRuntime) -> Result<(), Fail> {
     assert!(rt; roll.blocks(1)?.len() == 3);
     assert!(rt; plain_sum(roll.customers(), &ACROSS) == 16_065_000);
     for (dim, key) in [(Dim::Cause, 3), (Dim::Feeder, 7), (Dim::Day, 0)] {
-        assert!(rt; sum_of(&rows, dim, Some(key))? == 16_065_000);
+        assert!(rt; sum_of(&rows, dim, key)? == 16_065_000);
     }
     Ok(())
 }
@@ -115,7 +109,7 @@ const OUT_OF_THE_DAY: [(u32, Second, Option<Second>); 4] = [
 fn services_out_of_the_day_add_nothing(rt: HostRuntime) -> Result<(), Fail> {
     let roll = roll_of(rt.alloc(), &OUT_OF_THE_DAY)?;
     let rows = amounts_in(rt.alloc(), &WHOLE_DAY, &roll)?;
-    assert!(rt; sum_of(&rows, Dim::Cause, Some(3))? == 0);
-    assert!(rt; sum_of(&rows, Dim::Day, Some(0))? == 0);
+    assert!(rt; sum_of(&rows, Dim::Cause, 3)? == 0);
+    assert!(rt; sum_of(&rows, Dim::Day, 0)? == 0);
     Ok(())
 }

@@ -1,45 +1,13 @@
-//! Tests of the amounts that moves leave in postings, and of the moves from some amounts to others.
-ghost use Rattle.std.specs.Prelude.{◌≡◌, IsTrue};
+//! Tests of the moves from some amounts to others, of dimensions and of laws.
+ghost use Rattle.std.specs.Prelude.{IsTrue};
 ghost use Rattle.std.specs.List.{All};
 ghost use Rattle.ob_index_tests.specs.Small.{IsSmall};
-ghost use Rattle.ob_post.specs.Postings.{day_count};
 
-use crate::alike::{alike, apply, none, nothing, twice};
 use crate::moved::{Row, are, row};
-use ob_post::{Dim, Moved, Postings, laws, moves};
+use ob_post::{Dim, Moved, laws, moves};
 use std::alloc::Global;
 use std::process::Abort;
 use std::test::Fail;
-
-// A worked example. An opening, a correction that moves nothing, an earlier closing and a second
-// supply leave 9,000 customer-seconds under each of cause 3, feeder 1 and day 0. Then each of these
-// amounts moves below 0 and back.
-#[test]
-fn moves_leave_the_amount(rt: HostRuntime) -> Result<(), Fail> {
-    let mut postings = nothing(rt.alloc())?;
-    apply(&mut postings, &alike(414_000), 0, 414_000);
-    apply(&mut postings, &none(), 414_000, 414_000);
-    apply(&mut postings, &alike(-246_600), 414_000, 167_400);
-    apply(&mut postings, &alike(-158_400), 167_400, 9_000);
-    apply(&mut postings, &twice(-10_000, 10_000), 9_000, 9_000);
-    amounts_are(&rt, &postings, 9_000);
-    Ok(())
-}
-
-fn amounts_are(rt: &impl Abort, postings: &Postings, amount: u64)
-    requires { day_count postings.now ≡ 2 }
-{
-    assert!(rt; postings.amount(Dim::Cause, 3) == amount);
-    assert!(rt; postings.amount(Dim::Feeder, 1) == amount);
-    assert!(rt; postings.amount(Dim::Day, 0) == amount);
-    assert!(rt; postings.amount(Dim::Cause, 0) == 0);
-    assert!(rt; postings.amount(Dim::Cause, 63) == 0);
-    assert!(rt; postings.amount(Dim::Feeder, 255) == 0);
-    assert!(rt; postings.amount(Dim::Day, 1) == 0);
-    assert!(rt; postings.total(Dim::Cause) == amount);
-    assert!(rt; postings.total(Dim::Feeder) == amount);
-    assert!(rt; postings.total(Dim::Day) == amount);
-}
 
 // Answers whether the row has a key that postings keep, and a small difference.
 fn is_small(row: &Moved) -> bool

@@ -1,8 +1,7 @@
 //! Tests of the amounts of outage intervals.
 ghost use Rattle.std.specs.Prelude.{◌≡◌};
 
-use crate::made::period_of;
-use crate::moved::{Row, are, row};
+use crate::moved::{Row, are, period_of, row};
 use ob_cust::{Customer, Roll};
 use ob_net::Second;
 use ob_post::{Dim, Moved, amounts, post_run, post_runs};
@@ -107,40 +106,6 @@ fn amounts_are(
     )
 }
 
-// A worked example: an outage interval across midnight, with 3,000 and 6,000 customer-seconds.
-#[test]
-fn amounts_over_midnight(rt: HostRuntime) -> Result<(), Fail> {
-    amounts_are(
-        &rt,
-        rt.alloc(),
-        T + 100_000,
-        (T + 85_800, T + 87_600),
-        &[
-            (Dim::Cause, 3, 9_000),
-            (Dim::Feeder, 2, 9_000),
-            (Dim::Day, 0, 3_000),
-            (Dim::Day, 1, 6_000),
-        ],
-    )
-}
-
-// A worked example: a customer joins during an outage interval, so five customers count for an hour
-// and one for half of it.
-#[test]
-fn amounts_where_a_customer_joins(rt: HostRuntime) -> Result<(), Fail> {
-    amounts_are(
-        &rt,
-        rt.alloc(),
-        T + 5_400,
-        (T + 3_600, T + 7_200),
-        &[
-            (Dim::Cause, 3, 19_800),
-            (Dim::Feeder, 2, 19_800),
-            (Dim::Day, 0, 19_800),
-        ],
-    )
-}
-
 // An outage interval of one second at midnight.
 #[test]
 fn amounts_of_one_second(rt: HostRuntime) -> Result<(), Fail> {
@@ -151,22 +116,6 @@ fn amounts_of_one_second(rt: HostRuntime) -> Result<(), Fail> {
         (T + 86_400, T + 86_401),
         &[(Dim::Cause, 3, 5), (Dim::Feeder, 2, 5), (Dim::Day, 1, 5)],
     )
-}
-
-// A worked example: in a zone that loses an hour, an outage interval of one customer covers the
-// first day, of 82,800 seconds, and an hour of the second.
-#[test]
-fn amounts_of_a_short_day(rt: HostRuntime) -> Result<(), Fail> {
-    let period = period_of(rt.alloc(), b"2024-03-10", 2, b"EST5EDT,M3.2.0,M11.1.0")?;
-    let roll = roll(rt.alloc(), &[(1, 4, 0)])?;
-    let run = run(1_710_046_800, 1_710_133_200, Some(1));
-    let wanted = &[
-        (Dim::Cause, 3, 86_400),
-        (Dim::Feeder, 2, 86_400),
-        (Dim::Day, 0, 82_800),
-        (Dim::Day, 1, 3_600),
-    ];
-    have_amounts(&rt, rt.alloc(), &run, &roll, &period, wanted)
 }
 
 // Appends the amounts of two outage intervals of section 4, one of ten minutes with cause 3 and one

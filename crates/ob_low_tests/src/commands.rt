@@ -72,13 +72,6 @@ fn ends(a: &[u8], b: &[u8]) -> Option<Ends> {
     Ends::new(Name::read(a)?, Name::read(b)?)
 }
 
-// Checks that no text is a body.
-fn are_no_bodies(rt: &impl Abort, texts: &[&[u8]]) {
-    for text in texts {
-        assert!(rt; read_body(text).is_none());
-    }
-}
-
 // The eight fields of a row.
 fn row_of(line: &str) -> [&[u8]; 8] {
     let mut row: [&[u8]; 8] = [b""; 8];
@@ -93,18 +86,6 @@ fn row_of(line: &str) -> [&[u8]; 8] {
 fn has_body(rt: &impl Abort, alloc: Global, command: &Command, body: &[u8]) -> Result<(), Stop> {
     let text = body_text(alloc, command)?;
     assert!(rt; text.as_slice() == body);
-    Ok(())
-}
-
-// A row without quotes, and the reference and the body expected from it.
-type RowRow<'t> = (&'t str, &'t [u8], &'t [u8]);
-
-fn says(rt: &impl Abort, alloc: Global, rows: &[RowRow<'_>]) -> Result<(), Fail> {
-    for (row, reference, body) in rows {
-        let (found, command) = read_row(&row_of(row))?;
-        assert!(rt; found.bytes() == *reference);
-        has_body(rt, alloc, &command, body)?;
-    }
     Ok(())
 }
 
@@ -125,77 +106,43 @@ fn bodies_and_back(rt: HostRuntime) -> Result<(), Fail> {
     Ok(())
 }
 
+// Rows without quotes, with the reference and the body expected from each. The last four are of
+// moments 5,000 and 6,000 seconds after 2024 began.
+const ROWS: &'static str = "\
+cause,R1,03,STORM,,,, => R1 cause 3 STORM
+section,R2,S1,007,,,, => R2 section S1 7
+device,R3,B1,GRID,S1,closed,, => R3 device B1 GRID S1 closed 0 -
+life,R4,T1,,,,, => R4 life T1 0 -
+life,R4,T1,,01704073200,,, => R4 life T1 0 1704073200
+life,R4,T1,007,7,,, => R4 life T1 7 7
+connect,R4,0011,S3,2024-01-01T01:30:00Z,,, => R4 connect 11 S3 1704072600 -
+revise,R4,11,0,00,,, => R4 revise 11 0 0
+switch,R5,B1,open,2024-01-01T02:00:00+01:00,3,K1, => R5 switch B1 open 1704070800 3 K1
+correct,R6,4,1,close,01704073800,3,K1 => R6 correct 4 1 close 1704073800 3 K1
+unmark,R7,2024-02-29,K1,,,, => R7 unmark 2024-02-29 K1
+device,R1,X1,BUS-A,S1,closed,2024-01-01T01:23:20Z, => R1 device X1 BUS-A S1 closed 1704072200 -
+device,R2,X1,BUS-A,S1,open,,2024-01-01T02:40:00+01:00 => R2 device X1 BUS-A S1 open 0 1704073200
+life,R3,T1,2024-01-01T01:23:20Z,1704073200,,, => R3 life T1 1704072200 1704073200
+life,R4,T1,,2024-01-01T01:40:00Z,,, => R4 life T1 0 1704073200
+";
+
+// Checks the reference and the body of a row.
+fn says(rt: &impl Abort, alloc: Global, line: &str) -> Result<(), Fail> {
+    let (row, wanted) = line.split_once(" => ").ok_or("a line")?;
+    let (reference, body) = wanted.split_once(" ").ok_or("a body")?;
+    let (found, command) = read_row(&row_of(row))?;
+    assert!(rt; found.bytes() == reference.as_bytes());
+    has_body(rt, alloc, &command, body.as_bytes())?;
+    Ok(())
+}
+
 #[test]
 fn rows(rt: HostRuntime) -> Result<(), Fail> {
     rows_law();
-    says(
-        &rt,
-        rt.alloc(),
-        &[
-            ("cause,R1,03,STORM,,,,", b"R1", b"cause 3 STORM"),
-            ("section,R2,S1,007,,,,", b"R2", b"section S1 7"),
-            (
-                "device,R3,B1,GRID,S1,closed,,",
-                b"R3",
-                b"device B1 GRID S1 closed 0 -",
-            ),
-            ("life,R4,T1,,,,,", b"R4", b"life T1 0 -"),
-            ("life,R4,T1,,01704073200,,,", b"R4", b"life T1 0 1704073200"),
-            ("life,R4,T1,007,7,,,", b"R4", b"life T1 7 7"),
-            (
-                "connect,R4,0011,S3,2024-01-01T01:30:00Z,,,",
-                b"R4",
-                b"connect 11 S3 1704072600 -",
-            ),
-            ("revise,R4,11,0,00,,,", b"R4", b"revise 11 0 0"),
-            (
-                "switch,R5,B1,open,2024-01-01T02:00:00+01:00,3,K1,",
-                b"R5",
-                b"switch B1 open 1704070800 3 K1",
-            ),
-            (
-                "correct,R6,4,1,close,01704073800,3,K1",
-                b"R6",
-                b"correct 4 1 close 1704073800 3 K1",
-            ),
-            (
-                "unmark,R7,2024-02-29,K1,,,,",
-                b"R7",
-                b"unmark 2024-02-29 K1",
-            ),
-        ],
-    )
-}
-
-// 5,000 and 6,000 seconds after the year began.
-#[test]
-fn rows_of_lives_by_civil_moments(rt: HostRuntime) -> Result<(), Fail> {
-    says(
-        &rt,
-        rt.alloc(),
-        &[
-            (
-                "device,R1,X1,BUS-A,S1,closed,2024-01-01T01:23:20Z,",
-                b"R1",
-                b"device X1 BUS-A S1 closed 1704072200 -",
-            ),
-            (
-                "device,R2,X1,BUS-A,S1,open,,2024-01-01T02:40:00+01:00",
-                b"R2",
-                b"device X1 BUS-A S1 open 0 1704073200",
-            ),
-            (
-                "life,R3,T1,2024-01-01T01:23:20Z,1704073200,,,",
-                b"R3",
-                b"life T1 1704072200 1704073200",
-            ),
-            (
-                "life,R4,T1,,2024-01-01T01:40:00Z,,,",
-                b"R4",
-                b"life T1 0 1704073200",
-            ),
-        ],
-    )
+    for line in ROWS.lines() {
+        says(&rt, rt.alloc(), line)?;
+    }
+    Ok(())
 }
 
 #[test]
@@ -237,85 +184,42 @@ fn bad_rows(rt: HostRuntime) {
     );
 }
 
-#[test]
-fn no_bodies(rt: HostRuntime) {
-    are_no_bodies(
-        &rt,
-        &[
-            b"",
-            b" ",
-            b"cause",
-            b"cause 3",
-            b"cause  STORM",
-            b"cause 3 ",
-            b"cause 3 STORM ",
-            b" cause 3 STORM",
-            b"cause  3 STORM",
-            b"cause 3  STORM",
-            b"cause 3\tSTORM",
-            b"cause 03 STORM",
-            b"cause 0 STORM",
-            b"cause 64 STORM",
-            b"cause +3 STORM",
-            b"cause 3 storm",
-            b"Cause 3 STORM",
-            b"causes 3 STORM",
-            b"cause 3 STORM\n",
-            b"bus A23456789-123456789-12345",
-            b"section S1 256",
-            b"section S1 0",
-            b"section S1 007",
-            b"device B1 GRID GRID closed 0 -",
-            b"device B1 GRID S1 close 0 -",
-            b"device B1 GRID closed 0 -",
-            b"device B1 GRID S1 S2 closed 0 -",
-            b"connect 11 S3 1704072600",
-            b"connect 11 S3 1704072600 ",
-            b"connect 11 S3 - -",
-            b"connect 011 S3 1704072600 -",
-            b"connect 4294967296 S3 1704072600 -",
-            b"connect 11 S3 2024-01-01T01:30:00Z -",
-            b"connect 11 S3 100000000000 -",
-            b"connect 11 S3 00 -",
-            b"switch B1 opened 1704070800 3 K1",
-            b"switch B1 closed 1704070800 3 K1",
-            b"correct 4 close 1704073800 3 K1",
-            b"correct 4 1 close 1704073800 3 K1 K1",
-            b"mark 2024-02-30 K1",
-            b"mark 24-02-29 K1",
-        ],
-    );
-}
+// Texts that are no bodies, between bars.
+const NO_BODIES: &'static str = "\
+|| |cause|cause 3|cause  STORM|cause 3 |cause 3 STORM | cause 3 STORM|cause  3 STORM|
+|cause 3  STORM|cause 3\tSTORM|cause 03 STORM|cause 0 STORM|cause 64 STORM|cause +3 STORM|
+|cause 3 storm|Cause 3 STORM|causes 3 STORM|cause 3 STORM\n|bus A23456789-123456789-12345|
+|section S1 256|section S1 0|section S1 007|device B1 GRID GRID closed 0 -|
+|device B1 GRID S1 close 0 -|device B1 GRID closed 0 -|device B1 GRID S1 S2 closed 0 -|
+|connect 11 S3 1704072600|connect 11 S3 1704072600 |connect 11 S3 - -|
+|connect 011 S3 1704072600 -|connect 4294967296 S3 1704072600 -|
+|connect 11 S3 2024-01-01T01:30:00Z -|connect 11 S3 100000000000 -|connect 11 S3 00 -|
+|switch B1 opened 1704070800 3 K1|switch B1 closed 1704070800 3 K1|
+|correct 4 close 1704073800 3 K1|correct 4 1 close 1704073800 3 K1 K1|mark 2024-02-30 K1|
+|mark 24-02-29 K1|
+";
 
 // The bodies of `device` and `life` need a beginning and an end.
+const NO_BODIES_OF_LIVES: &'static str = "\
+|device X1 BUS-A S1 closed|device X1 BUS-A S1 closed |device X1 BUS-A S1 closed 1704072200|
+|device X1 BUS-A S1 closed 1704072200 |device X1 BUS-A S1 closed  -|
+|device X1 BUS-A S1 closed - -|device X1 BUS-A S1 closed 00 -|device X1 BUS-A S1 closed 0 01|
+|device X1 BUS-A S1 closed 2024-01-01T01:23:20Z -|device X1 BUS-A S1 closed 0 - -|life T1|
+|life T1 0|life T1 0 |life T1  -|life T1 - -|life T1 00 -|life T1 0 2024-01-01T01:40:00Z|
+|life T1 100000000000 -|life T1 0 - |life T1 0 - -|life t1 0 -|
+";
+
+// Checks that the texts between the bars are no bodies; one of them is the end of each line.
+fn are_no_bodies(rt: &impl Abort, texts: &str) {
+    for text in texts.split('|') {
+        assert!(rt; read_body(text.as_bytes()).is_none(), "{text}");
+    }
+}
+
 #[test]
-fn no_bodies_of_lives(rt: HostRuntime) {
-    are_no_bodies(
-        &rt,
-        &[
-            b"device X1 BUS-A S1 closed",
-            b"device X1 BUS-A S1 closed ",
-            b"device X1 BUS-A S1 closed 1704072200",
-            b"device X1 BUS-A S1 closed 1704072200 ",
-            b"device X1 BUS-A S1 closed  -",
-            b"device X1 BUS-A S1 closed - -",
-            b"device X1 BUS-A S1 closed 00 -",
-            b"device X1 BUS-A S1 closed 0 01",
-            b"device X1 BUS-A S1 closed 2024-01-01T01:23:20Z -",
-            b"device X1 BUS-A S1 closed 0 - -",
-            b"life T1",
-            b"life T1 0",
-            b"life T1 0 ",
-            b"life T1  -",
-            b"life T1 - -",
-            b"life T1 00 -",
-            b"life T1 0 2024-01-01T01:40:00Z",
-            b"life T1 100000000000 -",
-            b"life T1 0 - ",
-            b"life T1 0 - -",
-            b"life t1 0 -",
-        ],
-    );
+fn no_bodies(rt: HostRuntime) {
+    are_no_bodies(&rt, NO_BODIES);
+    are_no_bodies(&rt, NO_BODIES_OF_LIVES);
 }
 
 #[test]

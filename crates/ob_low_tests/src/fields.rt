@@ -6,48 +6,29 @@ use ob_net::{
 };
 use std::process::Abort;
 
-fn are_names(rt: &impl Abort, texts: &[&[u8]]) {
-    for text in texts {
-        match Name::read(text) {
-            Some(name) => assert!(rt; name.bytes() == *text),
-            None => assert!(rt; false),
+// Checks that the texts between the bars are names.
+fn are_names(rt: &impl Abort, texts: &str) {
+    for text in texts.split('|') {
+        match Name::read(text.as_bytes()) {
+            Some(name) => assert!(rt; name.bytes() == text.as_bytes()),
+            None => assert!(rt; false, "{text}"),
         }
     }
 }
 
-fn are_no_names(rt: &impl Abort, texts: &[&[u8]]) {
-    for text in texts {
-        assert!(rt; Name::read(text).is_none());
+// Checks that the texts between the bars are no names.
+fn are_no_names(rt: &impl Abort, texts: &str) {
+    for text in texts.split('|') {
+        assert!(rt; Name::read(text.as_bytes()).is_none(), "{text}");
     }
 }
 
 #[test]
 fn identifiers(rt: HostRuntime) {
-    are_names(
-        &rt,
-        &[
-            b"A",
-            b"T1-2_Z",
-            b"ABCDEFGHIJKLMNOPQRSTUVWX",
-            b"0123456789-_AZ",
-        ],
-    );
+    are_names(&rt, "A|T1-2_Z|ABCDEFGHIJKLMNOPQRSTUVWX|0123456789-_AZ");
     are_no_names(
         &rt,
-        &[
-            b"",
-            b"ABCDEFGHIJKLMNOPQRSTUVWXY",
-            b"a",
-            b"Tz",
-            b" T1",
-            b"T 1",
-            b"T/",
-            b"T:",
-            b"T@",
-            b"T[",
-            b"T.1",
-            b"T\xC3\x84",
-        ],
+        "|ABCDEFGHIJKLMNOPQRSTUVWXY|a|Tz| T1|T 1|T/|T:|T@|T[|T.1|T\u{C4}",
     );
     let long = [b'R'; 41];
     assert!(rt; Ref::read(&long[..40]).is_some() && Ref::read(&long).is_none());

@@ -1,7 +1,8 @@
 //! Tests of the in-service intervals (lives) of devices: their seconds, the life that a network
 //! keeps for each device, and the devices that are open outside their lives.
+use crate::networks::{add_all, answers};
 use ob_net::Pos::{Closed, Opened};
-use ob_net::{Life, Name, Net, Pos, Refusal, Second};
+use ob_net::{Life, Net, Pos, Refusal, Second};
 use std::alloc::Global;
 use std::process::Abort;
 use std::test::Fail;
@@ -10,112 +11,16 @@ fn life(since: Second, until: Option<Second>) -> Life {
     Life { since, until }
 }
 
-// A life, a second, and whether the life contains the second.
-fn hold(rt: &impl Abort, rows: &[(Life, Second, bool)]) {
-    for (life, second, wanted) in rows {
-        assert!(rt; life.holds(*second) == *wanted);
-    }
-}
-
 #[test]
-fn seconds_of_a_life(rt: HostRuntime) {
-    hold(
-        &rt,
-        &[
-            (life(10, Some(20)), 9, false),
-            (life(10, Some(20)), 10, true),
-            (life(10, Some(20)), 19, true),
-            (life(10, Some(20)), 20, false),
-            (life(10, None), 9, false),
-            (life(10, None), 10, true),
-            (life(0, None), 0, true),
-            (life(0, Some(1)), 0, true),
-            (life(0, Some(1)), 1, false),
-        ],
-    );
-}
-
-// A life, and whether it ends later than it begins.
-fn end_later(rt: &impl Abort, rows: &[(Life, bool)]) {
-    for (life, wanted) in rows {
-        assert!(rt; life.ends_later() == *wanted);
-    }
-}
-
-#[test]
-fn ends_of_lives(rt: HostRuntime) {
-    end_later(
-        &rt,
-        &[
-            (life(10, Some(11)), true),
-            (life(10, Some(10)), false),
-            (life(10, Some(9)), false),
-            (life(0, Some(0)), false),
-            (life(10, None), true),
-        ],
-    );
-}
-
-// A life, a second, a bound, and the expected answer: the first second after the given one at which
-// the life begins or ends, or the bound if it comes first.
-fn turn(rt: &impl Abort, rows: &[(Life, Second, Second, Second)]) {
-    for (life, after, least, wanted) in rows {
-        assert!(rt; life.next_turn(*after, *least) == *wanted);
-    }
-}
-
-#[test]
-fn turns_of_a_life(rt: HostRuntime) {
-    turn(
-        &rt,
-        &[
-            (life(10, Some(20)), 0, 30, 10),
-            (life(10, Some(20)), 9, 30, 10),
-            (life(10, Some(20)), 10, 30, 20),
-            (life(10, Some(20)), 19, 30, 20),
-            (life(10, Some(20)), 20, 30, 30),
-            (life(10, Some(20)), 0, 10, 10),
-            (life(10, Some(20)), 0, 5, 5),
-            (life(10, Some(20)), 12, 15, 15),
-            (life(10, None), 10, 30, 30),
-        ],
-    );
-}
-
-fn name(text: &[u8]) -> Result<Name, Fail> {
-    Ok(Name::read(text).ok_or("a name")?)
-}
-
-// A device's name and the names of its two ends.
-type Ends<'r> = [&'r [u8]; 3];
-
-// Adds a closed device with a life; answers why it is refused, or None.
-fn add(net: &mut Net, device: &Ends<'_>, life: Life) -> Result<Option<Refusal>, Fail> {
-    let (a, b) = (name(device[1])?, name(device[2])?);
-    if a == b {
-        return Err("one end".into());
-    }
-    net.reserve_one()?;
-    Ok(net.add_device(name(device[0])?, a, b, Closed, life).err())
-}
-
-// Adds devices with their lives; each row has the expected refusal, or None.
-fn answers(
-    rt: &impl Abort,
-    net: &mut Net,
-    rows: &[(Ends<'_>, Life, Option<Refusal>)],
-) -> Result<(), Fail> {
-    for (device, life, refusal) in rows {
-        assert!(rt; add(net, device, *life)? == *refusal);
-    }
-    Ok(())
-}
-
-fn with_a_bus(alloc: Global) -> Result<Net, Fail> {
-    let mut net = Net::new(alloc)?;
-    net.reserve_one()?;
-    net.add_bus(name(b"BUS-A")?)?;
-    Ok(net)
+fn a_life(rt: HostRuntime) {
+    let short = life(10, Some(20));
+    assert!(rt; !short.holds(9) && short.holds(10) && short.holds(19) && !short.holds(20));
+    assert!(rt; short.ends_later() && !life(10, Some(10)).ends_later());
+    assert!(rt; short.next_turn(9, 30) == 10 && short.next_turn(10, 30) == 20);
+    assert!(rt; short.next_turn(20, 30) == 30 && short.next_turn(12, 15) == 15);
+    let endless = life(10, None);
+    assert!(rt; !endless.holds(9) && endless.holds(10) && endless.ends_later());
+    assert!(rt; endless.next_turn(0, 30) == 10 && endless.next_turn(10, 30) == 30);
 }
 
 // The lives of three parallel devices.
@@ -134,17 +39,16 @@ const LIVES: [Life; 3] = [
     },
 ];
 
+const THREE: &'static str = "\
+bus BUS-A
+device D1 GRID BUS-A closed 0 -
+device D2 BUS-A GRID closed 10 20
+device D3 GRID BUS-A closed 15 -
+";
+
 fn three(rt: &impl Abort, alloc: Global) -> Result<Net, Fail> {
-    let mut net = with_a_bus(alloc)?;
-    answers(
-        rt,
-        &mut net,
-        &[
-            ([b"D1", b"GRID", b"BUS-A"], LIVES[0], None),
-            ([b"D2", b"BUS-A", b"GRID"], LIVES[1], None),
-            ([b"D3", b"GRID", b"BUS-A"], LIVES[2], None),
-        ],
-    )?;
+    let mut net = Net::new(alloc)?;
+    add_all(rt, &mut net, THREE)?;
     Ok(net)
 }
 
@@ -171,56 +75,21 @@ fn each_device_has_its_life(rt: HostRuntime) -> Result<(), Fail> {
     Ok(())
 }
 
+const BAD: &'static str = "\
+device D1 GRID BUS-Z closed 5 5 => UnknownName
+device D1 BUS-Z GRID closed 5 5 => UnknownName
+device D1 GRID BUS-A closed 5 5 => NameTaken
+device D9 GRID BUS-A closed 5 5 => BadLife
+device D9 GRID BUS-A closed 5 4 => BadLife
+device D9 GRID BUS-A closed 0 0 => BadLife
+";
+
 #[test]
 fn a_bad_life_behind_names(rt: HostRuntime) -> Result<(), Fail> {
     let mut net = three(&rt, rt.alloc())?;
-    let unknown = Some(Refusal::UnknownName);
-    let taken = Some(Refusal::NameTaken);
-    let bad = Some(Refusal::BadLife);
-    answers(
-        &rt,
-        &mut net,
-        &[
-            ([b"D1", b"GRID", b"BUS-Z"], life(5, Some(5)), unknown),
-            ([b"D1", b"BUS-Z", b"GRID"], life(5, Some(5)), unknown),
-            ([b"D1", b"GRID", b"BUS-A"], life(5, Some(5)), taken),
-            ([b"D9", b"GRID", b"BUS-A"], life(5, Some(5)), bad),
-            ([b"D9", b"GRID", b"BUS-A"], life(5, Some(4)), bad),
-            ([b"D9", b"GRID", b"BUS-A"], life(0, Some(0)), bad),
-        ],
-    )?;
+    answers(&rt, &mut net, BAD)?;
     have_lives(&rt, &net, &LIVES);
-    answers(
-        &rt,
-        &mut net,
-        &[([b"D9", b"GRID", b"BUS-A"], life(5, Some(6)), None)],
-    )
-}
-
-// Adds the devices D1 to D2048.
-fn fill(rt: &impl Abort, alloc: Global, net: &mut Net) -> Result<(), Fail> {
-    for number in 1..2049 {
-        let device = format!(in alloc; "D{number}")?;
-        let ends: Ends<'_> = [device.as_bytes(), b"GRID", b"BUS-A"];
-        assert!(rt; add(net, &ends, life(1, None))? == None);
-    }
-    Ok(())
-}
-
-#[test]
-fn a_bad_life_before_the_limit(rt: HostRuntime) -> Result<(), Fail> {
-    let mut net = with_a_bus(rt.alloc())?;
-    fill(&rt, rt.alloc(), &mut net)?;
-    let full = Some(Refusal::Full(2048));
-    let bad = Some(Refusal::BadLife);
-    answers(
-        &rt,
-        &mut net,
-        &[
-            ([b"D9999", b"GRID", b"BUS-A"], life(5, Some(5)), bad),
-            ([b"D9999", b"GRID", b"BUS-A"], life(5, Some(6)), full),
-        ],
-    )
+    add_all(&rt, &mut net, "device D9 GRID BUS-A closed 5 6")
 }
 
 // A device, its new life, the expected answer, and the lives of all three devices after it.

@@ -47,7 +47,8 @@ fn add(net: &mut Net, body: &str) -> Result<Option<Refusal>, Fail> {
     }
 }
 
-fn add_all(rt: &impl Abort, net: &mut Net, script: &str) -> Result<(), Fail> {
+/// Adds the parts that body texts name, one a line.
+pub fn add_all(rt: &impl Abort, net: &mut Net, script: &str) -> Result<(), Fail> {
     for body in script.lines() {
         assert!(rt; add(net, body)? == None);
     }
@@ -211,123 +212,80 @@ fn parts_that_are_not_refused(rt: HostRuntime) -> Result<(), Fail> {
     Ok(())
 }
 
-// The number of network searches, the devices' positions, and whether each node is supplied.
-type SupplyRow<'r> = (u128, &'r [Pos], &'r [bool]);
+// Positions of the devices CB-A, CB-B, D1, D2, D3 and TIE, closed or open, and which of the nodes
+// GRID, BUS-A, BUS-B, S1, S2 and S3 are then supplied.
+const SUPPLY: &'static str = "\
+ccccco ++++++ all devices in their normal positions
+cccccc ++++++ a loop over the tie
+ccocco +++--+ a feeder without supply: its breaker is open
+ccoccc ++++++ the same feeder supplied over the tie
+cccoco ++++-+ only the last section of the feeder supplied over the tie
+occcco +-+--+ a bus without supply
+occccc ++++++ the same bus supplied through its own feeder, over the tie
+occcoc +-+--- an island of both feeders
+oocccc +----- both buses without supply
+oooooo +----- every device open
+";
 
-fn supplies(rt: &impl Abort, net: &mut Net, rows: &[SupplyRow<'_>]) -> Result<(), Fail> {
-    for (searches, positions, wanted) in rows {
-        assert!(rt; net.searches() == *searches);
-        assert!(rt; positions.len() == usize::from(net.devices()));
-        let supplied = net.supplied(positions)?;
-        assert!(rt; supplied.as_slice() == *wanted);
+// Searches the network once with these positions.
+fn supplies(rt: &impl Abort, alloc: Global, net: &mut Net, line: &str) -> Result<(), Fail> {
+    let mut positions = Vec::new(alloc);
+    let mut wanted = Vec::new(alloc);
+    for byte in line.bytes().take(6) {
+        positions.push(if byte == b'c' { Closed } else { Opened })?;
     }
+    for byte in line.bytes().skip(7).take(6) {
+        wanted.push(byte == b'+')?;
+    }
+    assert!(rt; positions.len() == usize::from(net.devices()));
+    let supplied = net.supplied(&positions)?;
+    assert!(rt; supplied == wanted, "{line}");
     Ok(())
 }
 
-// The devices by number: CB-A, CB-B, D1, D2, D3, TIE. The nodes by number: GRID, BUS-A, BUS-B, S1,
-// S2, S3.
 #[test]
 fn supply(rt: HostRuntime) -> Result<(), Fail> {
     walk_law();
     let mut net = meshed(&rt, rt.alloc())?;
-    supplies(
-        &rt,
-        &mut net,
-        &[
-            // all devices in their normal positions
-            (
-                0,
-                &[Closed, Closed, Closed, Closed, Closed, Opened],
-                &[true, true, true, true, true, true],
-            ),
-            // a loop over the tie
-            (
-                1,
-                &[Closed, Closed, Closed, Closed, Closed, Closed],
-                &[true, true, true, true, true, true],
-            ),
-            // a feeder without supply: its breaker is open
-            (
-                2,
-                &[Closed, Closed, Opened, Closed, Closed, Opened],
-                &[true, true, true, false, false, true],
-            ),
-            // the same feeder supplied over the tie
-            (
-                3,
-                &[Closed, Closed, Opened, Closed, Closed, Closed],
-                &[true, true, true, true, true, true],
-            ),
-            // only the last section of the feeder supplied over the tie
-            (
-                4,
-                &[Closed, Closed, Closed, Opened, Closed, Opened],
-                &[true, true, true, true, false, true],
-            ),
-            // a bus without supply
-            (
-                5,
-                &[Opened, Closed, Closed, Closed, Closed, Opened],
-                &[true, false, true, false, false, true],
-            ),
-            // the same bus supplied through its own feeder, over the tie
-            (
-                6,
-                &[Opened, Closed, Closed, Closed, Closed, Closed],
-                &[true, true, true, true, true, true],
-            ),
-            // an island of both feeders
-            (
-                7,
-                &[Opened, Closed, Closed, Closed, Opened, Closed],
-                &[true, false, true, false, false, false],
-            ),
-            // both buses without supply
-            (
-                8,
-                &[Opened, Opened, Closed, Closed, Closed, Closed],
-                &[true, false, false, false, false, false],
-            ),
-            // every device open
-            (
-                9,
-                &[Opened, Opened, Opened, Opened, Opened, Opened],
-                &[true, false, false, false, false, false],
-            ),
-        ],
-    )?;
+    for line in SUPPLY.lines() {
+        supplies(&rt, rt.alloc(), &mut net, line)?;
+    }
     counts(&rt, &net, 6, 6, 10);
     Ok(())
 }
 
-// Adds the part of each body; each row has the expected refusal, or None.
-fn answers(rt: &impl Abort, net: &mut Net, rows: &[(&str, Option<Refusal>)]) -> Result<(), Fail> {
-    for (body, refusal) in rows {
-        assert!(rt; add(net, body)? == *refusal);
+/// Adds the parts that body texts name, one a line; a line may end with ` => ` and the name of the
+/// expected refusal.
+pub fn answers(rt: &impl Abort, net: &mut Net, lines: &str) -> Result<(), Fail> {
+    for line in lines.lines() {
+        let (body, wanted) = line.split_once(" => ").unwrap_or((line, ""));
+        let found = match add(net, body)? {
+            Some(refusal) => refusal.name(),
+            None => "",
+        };
+        assert!(rt; found == wanted, "{line}: {found}");
     }
     Ok(())
 }
 
+const NAMES: &'static str = "\
+bus GRID => NameTaken
+bus S3 => NameTaken
+section BUS-A 3 => NameTaken
+device D9 S9 S1 closed 0 - => UnknownName
+device D9 S1 S9 closed 0 - => UnknownName
+device D1 S1 S9 closed 0 - => UnknownName
+device D9 D1 S1 closed 0 - => UnknownName
+device D1 S1 S3 closed 0 - => NameTaken
+device TIE S3 S1 closed 0 - => NameTaken
+device S1 S1 S3 closed 0 -
+bus TIE
+";
+
 #[test]
 fn names(rt: HostRuntime) -> Result<(), Fail> {
     let mut net = meshed(&rt, rt.alloc())?;
-    answers(
-        &rt,
-        &mut net,
-        &[
-            ("bus GRID", Some(Refusal::NameTaken)),
-            ("bus S3", Some(Refusal::NameTaken)),
-            ("section BUS-A 3", Some(Refusal::NameTaken)),
-            ("device D9 S9 S1 closed 0 -", Some(Refusal::UnknownName)),
-            ("device D9 S1 S9 closed 0 -", Some(Refusal::UnknownName)),
-            ("device D1 S1 S9 closed 0 -", Some(Refusal::UnknownName)),
-            ("device D9 D1 S1 closed 0 -", Some(Refusal::UnknownName)),
-            ("device D1 S1 S3 closed 0 -", Some(Refusal::NameTaken)),
-            ("device TIE S3 S1 closed 0 -", Some(Refusal::NameTaken)),
-            ("device S1 S1 S3 closed 0 -", None),
-            ("bus TIE", None),
-        ],
-    )?;
+    answers(&rt, &mut net, NAMES)?;
     counts(&rt, &net, 7, 7, 0);
     Ok(())
 }
@@ -351,35 +309,27 @@ fn fill_devices(rt: &impl Abort, alloc: Global, net: &mut Net) -> Result<(), Fai
     Ok(())
 }
 
+const ONE_NODE_MORE: &'static str = "\
+section ONE-MORE 1 => Full
+bus GRID => NameTaken
+";
+
+const ONE_DEVICE_MORE: &'static str = "\
+device ONE-MORE GRID N1 closed 5 5 => BadLife
+device D2047 GRID N1 closed 0 - => NameTaken
+device D2047 GRID N1024 closed 0 - => UnknownName
+";
+
 #[test]
 fn most_nodes_and_devices(rt: HostRuntime) -> Result<(), Fail> {
     let mut net = Net::new(rt.alloc())?;
     fill_nodes(&rt, rt.alloc(), &mut net)?;
-    answers(
-        &rt,
-        &mut net,
-        &[
-            ("bus ONE-MORE", Some(Refusal::Full(1024))),
-            ("section ONE-MORE 1", Some(Refusal::Full(1024))),
-            ("bus GRID", Some(Refusal::NameTaken)),
-        ],
-    )?;
+    assert!(rt; add(&mut net, "bus ONE-MORE")? == Some(Refusal::Full(1024)));
+    answers(&rt, &mut net, ONE_NODE_MORE)?;
     fill_devices(&rt, rt.alloc(), &mut net)?;
-    answers(
-        &rt,
-        &mut net,
-        &[
-            (
-                "device ONE-MORE GRID N1 closed 0 -",
-                Some(Refusal::Full(2048)),
-            ),
-            ("device D2047 GRID N1 closed 0 -", Some(Refusal::NameTaken)),
-            (
-                "device D2047 GRID N1024 closed 0 -",
-                Some(Refusal::UnknownName),
-            ),
-        ],
-    )?;
+    let one_more = add(&mut net, "device ONE-MORE GRID N1 closed 0 -")?;
+    assert!(rt; one_more == Some(Refusal::Full(2048)));
+    answers(&rt, &mut net, ONE_DEVICE_MORE)?;
     counts(&rt, &net, 1024, 2048, 0);
     Ok(())
 }

@@ -5,48 +5,30 @@ use std::io;
 use std::io::{ErrorKind, Write};
 
 /// Takes at most `step` bytes a write while it has room; once full it answers the error `full`, or
-/// 0 if there is none. The write with the number `interrupted`, counted from 0, is interrupted.
+/// 0 if there is none.
 #[derive(Drop)]
 pub struct Sink {
     pub taken: Vec<u8>,
     pub step: usize,
     pub room: usize,
     pub full: Option<ErrorKind>,
-    pub interrupted: Option<usize>,
     pub calls: usize,
 }
 
-/// A sink that is never interrupted while it has room.
+/// A sink in which nothing is yet.
 pub fn sink_of(alloc: Global, step: usize, room: usize, full: Option<ErrorKind>) -> Watched<Sink> {
     Watched::new(Sink {
         taken: Vec::new(alloc),
         step,
         room,
         full,
-        interrupted: None,
-        calls: 0,
-    })
-}
-
-/// A sink that interrupts one write.
-pub fn interrupted_at(alloc: Global, call: usize) -> Watched<Sink> {
-    Watched::new(Sink {
-        taken: Vec::new(alloc),
-        step: 3,
-        room: 100,
-        full: None,
-        interrupted: Some(call),
         calls: 0,
     })
 }
 
 impl Write for Sink {
     fn write(&mut self, buf: &[u8]) -> io::Result<usize> {
-        let call = self.calls;
-        self.calls = call.saturating_add(1);
-        if self.interrupted == Some(call) {
-            return Err(io::Error::from(ErrorKind::Interrupted));
-        }
+        self.calls = self.calls.saturating_add(1);
         if self.room == 0 {
             return match self.full {
                 Some(kind) => Err(io::Error::from(kind)),

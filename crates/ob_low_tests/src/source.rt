@@ -7,7 +7,6 @@ use std::io::{ErrorKind, Read};
 #[derive(Clone, Copy)]
 pub enum Interrupted {
     Never,
-    Once(usize),
     EachOther,
 }
 
@@ -16,18 +15,16 @@ impl Interrupted {
     pub fn at(self, call: usize) -> bool {
         match self {
             Interrupted::Never => false,
-            Interrupted::Once(number) => call == number,
             Interrupted::EachOther => call % 2 == 0,
         }
     }
 }
 
 /// Gives at most `step` bytes a read. After its bytes it fails if `fails` is set; otherwise it
-/// reports the end once and goes on with the bytes of `next`.
+/// reports the end.
 #[derive(Drop)]
 pub struct Source<'b> {
     pub rest: &'b [u8],
-    pub next: &'b [u8],
     pub step: usize,
     pub fails: bool,
     pub interrupted: Interrupted,
@@ -38,7 +35,6 @@ pub struct Source<'b> {
 pub fn source_of(rest: &[u8], step: usize, interrupted: Interrupted) -> Watched<Source<'_>> {
     Watched::new(Source {
         rest,
-        next: b"",
         step,
         fails: false,
         interrupted,
@@ -50,22 +46,9 @@ pub fn source_of(rest: &[u8], step: usize, interrupted: Interrupted) -> Watched<
 pub fn failing(rest: &[u8], step: usize) -> Watched<Source<'_>> {
     Watched::new(Source {
         rest,
-        next: b"",
         step,
         fails: true,
         interrupted: Interrupted::Never,
-        calls: 0,
-    })
-}
-
-/// A source of two texts that reports an end after each and interrupts one read.
-pub fn two_texts<'b>(rest: &'b [u8], next: &'b [u8], call: usize) -> Watched<Source<'b>> {
-    Watched::new(Source {
-        rest,
-        next,
-        step: 3,
-        fails: false,
-        interrupted: Interrupted::Once(call),
         calls: 0,
     })
 }
@@ -81,8 +64,6 @@ impl Read for Source<'_> {
             if self.fails {
                 return Err(io::Error::from(ErrorKind::Other));
             }
-            self.rest = self.next;
-            self.next = b"";
             return Ok(0);
         }
         let count = self.rest.len().min(self.step).min(buf.len());

@@ -1,6 +1,7 @@
-//! Tests of whole texts, read and written.
-use crate::sink::{Sink, interrupted_at, sink_of};
-use crate::source::{Interrupted, Source, failing, source_of, two_texts};
+//! Tests of whole texts, read and written. Readers and writers that fail at each byte or are
+//! interrupted before each are those of `ob_total_tests` and `ob_desk_tests`.
+use crate::sink::sink_of;
+use crate::source::{Interrupted, Source, failing, source_of};
 use ob_net::{Fault, Retries, Watched, read_some, read_text, write_text};
 use std::alloc::Global;
 use std::io::ErrorKind;
@@ -97,14 +98,6 @@ fn texts_above_the_limit(rt: HostRuntime) {
 }
 
 #[test]
-fn reads_that_fail_behind_a_front(rt: HostRuntime) {
-    for count in 0..=TEXT.len() {
-        let mut reader = failing(&TEXT[..count], 3);
-        reads_none(&rt, rt.alloc(), &mut reader, 10, true);
-    }
-}
-
-#[test]
 fn texts_above_one_chunk(rt: HostRuntime) {
     let long = [b'x'; 5000];
     let mut reader = source_of(&long, 5000, Interrupted::Never);
@@ -115,67 +108,10 @@ fn texts_above_one_chunk(rt: HostRuntime) {
     }
 }
 
-// Without an interruption, the first text takes four reads and one more that finds the end, and the
-// second takes three.
-#[test]
-fn two_texts_are_read_with_one_interruption(rt: HostRuntime) {
-    for call in 0..9 {
-        let mut reader = two_texts(TEXT, b"abcdef", call);
-        reads(&rt, rt.alloc(), &mut reader, 10, TEXT);
-        reads(&rt, rt.alloc(), &mut reader, 10, b"abcdef");
-    }
-}
-
-// Writes the text with at most `step` bytes a write.
-fn writes(rt: &impl Abort, alloc: Global, step: usize) {
-    let mut writer = sink_of(alloc, step, 100, None);
-    assert!(rt; write_text(&mut writer, &mut Retries::new(), TEXT) == Ok(()));
-    assert!(rt; !writer.has_failed());
-    assert!(rt; writer.into_parts().0.taken.as_slice() == TEXT);
-}
-
-#[test]
-fn texts_are_written(rt: HostRuntime) {
-    for step in [1, 3, 100] {
-        writes(&rt, rt.alloc(), step);
-    }
-}
-
-// Writes the text to a writer that has room only for this front of it.
-fn writes_a_front(rt: &impl Abort, mut writer: Watched<Sink>, front: &[u8]) {
-    let written = write_text(&mut writer, &mut Retries::new(), TEXT);
-    assert!(rt; written == Err(Fault::Output) && writer.has_failed());
-    assert!(rt; writer.into_parts().0.taken.as_slice() == front);
-}
-
-#[test]
-fn writes_that_fail_behind_a_front(rt: HostRuntime) {
-    for step in [1, 3, 100] {
-        for room in 0..TEXT.len() {
-            let writer = sink_of(rt.alloc(), step, room, None);
-            writes_a_front(&rt, writer, &TEXT[..room]);
-            let writer = sink_of(rt.alloc(), step, room, Some(ErrorKind::Other));
-            writes_a_front(&rt, writer, &TEXT[..room]);
-        }
-    }
-}
-
 // Two writes succeed, and the third is retried as often as the limit allows.
 #[test]
 fn interrupted_for_ever(rt: HostRuntime) {
     let mut writer = sink_of(rt.alloc(), 3, 4, Some(ErrorKind::Interrupted));
     assert!(rt; write_text(&mut writer, &mut Retries::new(), TEXT) == Err(Fault::Output));
     assert!(rt; writer.into_parts().0.calls == 2 + 65_537);
-}
-
-// Without an interruption, the first text takes four writes and the second takes two.
-#[test]
-fn two_texts_are_written_with_one_interruption(rt: HostRuntime) {
-    for call in 0..7 {
-        let mut writer = interrupted_at(rt.alloc(), call);
-        let mut retries = Retries::new();
-        assert!(rt; write_text(&mut writer, &mut retries, TEXT) == Ok(()));
-        assert!(rt; write_text(&mut writer, &mut retries, b"abcdef") == Ok(()));
-        assert!(rt; writer.into_parts().0.taken.as_slice() == b"0123456789abcdef".as_slice());
-    }
 }

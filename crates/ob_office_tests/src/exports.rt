@@ -1,6 +1,6 @@
 //! Tests of exports of the amounts that the commands moved, and of sinks and writers that fail.
 use crate::office::Office;
-use crate::script::{A_DAY, Outcome, Step, Story, is_told};
+use crate::script::{A_DAY, Outcome, Step, is_told};
 use crate::sinks::{Shelf, Sink};
 use crate::sources::{FAILING, JOLTING, Way};
 use crate::texts::{CORRECTION, OUTAGE};
@@ -28,38 +28,34 @@ const EXPORT: &'static str = "cmd,dim,key,delta
 // The numbers of rows in the tables of the outage with its correction.
 const ROWS: &[i64] = &[1, 3, 5, 5, 5, 10, 4, 0, 26, 12, 320];
 
-const EXPORTED: Story<'static> = Story {
-    sql: "",
-    first: &[
-        Step::Make(A_DAY),
-        Step::Import(OUTAGE, Outcome::Took(25, 0)),
-        Step::Import(CORRECTION, Outcome::Took(1, 0)),
-        Step::Export(Ok(12), EXPORT),
-        Step::Write(JOLTING, Ok(12), EXPORT, ""),
-    ],
-    next: &[],
-    rows: ROWS,
-};
+const EXPORTED: &[Step] = &[
+    Step::Make(A_DAY),
+    Step::Import(OUTAGE, Outcome::Took(25, 0)),
+    Step::Import(CORRECTION, Outcome::Took(1, 0)),
+    Step::Export(Ok(12), EXPORT),
+    Step::Write(JOLTING, Ok(12), EXPORT, ""),
+];
 
 #[test]
 fn an_export(rt: HostRuntime) -> Result<(), AllocError> {
-    is_told(&rt, rt.alloc(), &EXPORTED, false)
+    is_told(&rt, rt.alloc(), false, EXPORTED, ROWS)
 }
 
-const OF_NOTHING: Story<'static> = Story {
-    sql: "",
-    first: &[
-        Step::Export(Err(Stop::Fault(Fault::Reopen)), ""),
-        Step::Make(A_DAY),
-        Step::Export(Ok(0), "cmd,dim,key,delta\n"),
-    ],
-    next: &[],
-    rows: &[1, 1, 1, 0, 0, 0, 0, 0, 0, 0, 320],
-};
+const OF_NOTHING: &[Step] = &[
+    Step::Export(Err(Stop::Fault(Fault::Reopen)), ""),
+    Step::Make(A_DAY),
+    Step::Export(Ok(0), "cmd,dim,key,delta\n"),
+];
 
 #[test]
 fn exports_of_nothing(rt: HostRuntime) -> Result<(), AllocError> {
-    is_told(&rt, rt.alloc(), &OF_NOTHING, false)
+    is_told(
+        &rt,
+        rt.alloc(),
+        false,
+        OF_NOTHING,
+        &[1, 1, 1, 0, 0, 0, 0, 0, 0, 0, 320],
+    )
 }
 
 // The amounts that the outage and its correction moved, each the same under cause 3, feeder 1 and
@@ -88,9 +84,19 @@ fn are_first(taken: &[(u32, Moved)], count: usize) -> bool {
     taken.len() == count
 }
 
-/// Answers whether a sink with this much room takes the first amounts, and its fault comes back if
-/// there are more.
-pub fn is_handed<O: Office>(alloc: Global, office: &mut O, room: usize) -> bool {
+/// Answers whether sinks with room for each number of amounts take the first ones.
+pub fn are_handed<O: Office>(alloc: Global, office: &mut O) -> bool {
+    for room in 0..=AMOUNTS {
+        if !is_handed(alloc, office, room) {
+            return false;
+        }
+    }
+    true
+}
+
+// Answers whether a sink with this much room takes the first amounts, and its fault comes back if
+// there are more.
+fn is_handed<O: Office>(alloc: Global, office: &mut O, room: usize) -> bool {
     let mut shelf = Shelf::new(alloc, room);
     let wanted = if room < AMOUNTS {
         Err(Stop::Fault(Fault::Output))
@@ -113,34 +119,17 @@ pub fn are_told<O: Office>(alloc: Global, office: &mut O) -> bool {
 }
 
 // Sinks with room for each number of amounts, from none to all twelve.
-const SINKS: Story<'static> = Story {
-    sql: "",
-    first: &[
-        Step::Make(A_DAY),
-        Step::Import(OUTAGE, Outcome::Took(25, 0)),
-        Step::Import(CORRECTION, Outcome::Took(1, 0)),
-        Step::Hand(0),
-        Step::Hand(1),
-        Step::Hand(2),
-        Step::Hand(3),
-        Step::Hand(4),
-        Step::Hand(5),
-        Step::Hand(6),
-        Step::Hand(7),
-        Step::Hand(8),
-        Step::Hand(9),
-        Step::Hand(10),
-        Step::Hand(11),
-        Step::Hand(12),
-        Step::Replies,
-    ],
-    next: &[],
-    rows: ROWS,
-};
+const SINKS: &[Step] = &[
+    Step::Make(A_DAY),
+    Step::Import(OUTAGE, Outcome::Took(25, 0)),
+    Step::Import(CORRECTION, Outcome::Took(1, 0)),
+    Step::Hands,
+    Step::Replies,
+];
 
 #[test]
 fn sinks_that_fail(rt: HostRuntime) -> Result<(), AllocError> {
-    is_told(&rt, rt.alloc(), &SINKS, false)
+    is_told(&rt, rt.alloc(), false, SINKS, ROWS)
 }
 
 /// Answers whether an export of this text to a writer with less room stops with an output fault
@@ -177,60 +166,50 @@ const STUCK: Way = Way {
 
 // Writers that fail after each byte in turn, one that takes no further byte, and one that is
 // interrupted without end.
-const WRITERS: Story<'static> = Story {
-    sql: "",
-    first: &[
-        Step::Make(A_DAY),
-        Step::Import(OUTAGE, Outcome::Took(25, 0)),
-        Step::Import(CORRECTION, Outcome::Took(1, 0)),
-        Step::BreakAlways(FAILING, EXPORT),
-        Step::Break(JOLTING, EXPORT, 40),
-        Step::Break(STUCK, EXPORT, 40),
-    ],
-    next: &[],
-    rows: ROWS,
-};
+const WRITERS: &[Step] = &[
+    Step::Make(A_DAY),
+    Step::Import(OUTAGE, Outcome::Took(25, 0)),
+    Step::Import(CORRECTION, Outcome::Took(1, 0)),
+    Step::BreakAlways(FAILING, EXPORT),
+    Step::Break(JOLTING, EXPORT, 40),
+    Step::Break(STUCK, EXPORT, 40),
+];
 
 #[test]
 fn writers_that_fail(rt: HostRuntime) -> Result<(), AllocError> {
-    is_told(&rt, rt.alloc(), &WRITERS, false)
+    is_told(&rt, rt.alloc(), false, WRITERS, ROWS)
 }
 
 const LAST_LINE: &'static str = "26,day,0,-1200\n";
 
 // The thirteen writes of the header and twelve lines may be retried 65,536 times in all.
-const INTERRUPTED: Story<'static> = Story {
-    sql: "",
-    first: &[
-        Step::Make(A_DAY),
-        Step::Import(OUTAGE, Outcome::Took(25, 0)),
-        Step::Import(CORRECTION, Outcome::Took(1, 0)),
-        Step::Write(
-            Way {
-                step: 1_000_000,
-                jolts: 5_042,
-                end: None,
-            },
-            Err(Stop::Fault(Fault::Output)),
-            EXPORT,
-            LAST_LINE,
-        ),
-        Step::Write(
-            Way {
-                step: 1_000_000,
-                jolts: 5_041,
-                end: None,
-            },
-            Ok(12),
-            EXPORT,
-            "",
-        ),
-    ],
-    next: &[],
-    rows: ROWS,
-};
+const INTERRUPTED: &[Step] = &[
+    Step::Make(A_DAY),
+    Step::Import(OUTAGE, Outcome::Took(25, 0)),
+    Step::Import(CORRECTION, Outcome::Took(1, 0)),
+    Step::Write(
+        Way {
+            step: 1_000_000,
+            jolts: 5_042,
+            end: None,
+        },
+        Err(Stop::Fault(Fault::Output)),
+        EXPORT,
+        LAST_LINE,
+    ),
+    Step::Write(
+        Way {
+            step: 1_000_000,
+            jolts: 5_041,
+            end: None,
+        },
+        Ok(12),
+        EXPORT,
+        "",
+    ),
+];
 
 #[test]
 fn interrupted_in_each_line(rt: HostRuntime) -> Result<(), AllocError> {
-    is_told(&rt, rt.alloc(), &INTERRUPTED, false)
+    is_told(&rt, rt.alloc(), false, INTERRUPTED, ROWS)
 }

@@ -10,7 +10,6 @@ use ob_import::{
 };
 use ob_jobs::export_moves;
 use ob_net::{Stop, Watched};
-use ob_post::Dim;
 use ob_store::Keeper;
 use ob_sweep::{Timeline, Windowed};
 use sqlite::{Alter, Connection};
@@ -61,12 +60,6 @@ pub trait Office {
     /// Creates a book of a period.
     fn makes(&mut self, period: &Period) -> Result<(), Stop>;
 
-    /// Reads the book that the tables hold.
-    fn loads(&mut self) -> Result<(), Stop>;
-
-    /// Migrates the tables of version 1 to version 2. Answers whether they were of version 1.
-    fn migrates(&mut self) -> Result<bool, Stop>;
-
     /// Answers whether no table differs from what the commands in the tables give.
     fn audits(&mut self) -> Result<bool, Stop>;
 
@@ -89,15 +82,8 @@ pub trait Office {
     /// Exports to a writer.
     fn writes(&mut self, alloc: Global, sink: Sink) -> Written;
 
-    /// The number of commands that the book has accepted, and its customer-seconds; None if there
-    /// is no book.
-    fn shows(&self) -> Option<(u32, u64)>;
-
-    /// Answers whether the book has these totals.
-    fn has_totals(&self, text: &[u8]) -> bool;
-
-    /// Answers whether the book has this annual table.
-    fn has_table(&self, text: &[u8]) -> bool;
+    /// Answers whether there is a book.
+    fn has_book(&self) -> bool;
 
     /// Does a job; answers what it prints to this writer, and how it ends.
     fn does(&mut self, alloc: Global, ask: Ask, sink: Sink) -> Told;
@@ -107,23 +93,10 @@ pub trait Office {
     fn lacks_book(&mut self, alloc: Global) -> bool;
 }
 
-// Answers whether a text was printed that equals this one.
-fn is_text(printed: Result<Vec<u8>, Stop>, text: &[u8]) -> bool {
-    matches!(printed, Ok(found) if found.as_slice() == text)
-}
-
 impl<S: Alter, T: Timeline> Office for Keeper<S, T> {
     fn makes(&mut self, period: &Period) -> Result<(), Stop> {
         let (first, days, zone) = *period;
         self.create(first.as_bytes(), days, zone.as_bytes())
-    }
-
-    fn loads(&mut self) -> Result<(), Stop> {
-        self.load()
-    }
-
-    fn migrates(&mut self) -> Result<bool, Stop> {
-        self.migrate()
     }
 
     fn audits(&mut self) -> Result<bool, Stop> {
@@ -176,25 +149,8 @@ impl<S: Alter, T: Timeline> Office for Keeper<S, T> {
         }
     }
 
-    fn shows(&self) -> Option<(u32, u64)> {
-        match self.book() {
-            Some(book) => Some((book.accepted(), book.postings().total(Dim::Cause))),
-            None => None,
-        }
-    }
-
-    fn has_totals(&self, text: &[u8]) -> bool {
-        match self.book() {
-            Some(book) => is_text(book.totals_text(), text),
-            None => false,
-        }
-    }
-
-    fn has_table(&self, text: &[u8]) -> bool {
-        match self.book() {
-            Some(book) => is_text(book.annual_text(), text),
-            None => false,
-        }
+    fn has_book(&self) -> bool {
+        self.book().is_some()
     }
 
     fn does(&mut self, alloc: Global, ask: Ask, sink: Sink) -> Told {

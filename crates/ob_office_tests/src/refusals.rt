@@ -1,7 +1,6 @@
 //! Tests of rows that can't be read, and of other spellings of rows that can.
 use crate::office::Office;
-use crate::script::{A_DAY, Outcome, Step, Story, is_told};
-use crate::texts::OUTAGE;
+use crate::script::{A_DAY, Outcome, Step, is_told};
 use ob_net::Refusal;
 use std::alloc::{AllocError, Global};
 
@@ -15,34 +14,35 @@ pub fn is_refused<O: Office>(alloc: Global, office: &mut O, row: &str, column: u
 }
 
 // A book refuses each row, and stays as it is.
-const BAD_ROWS: Story<'static> = Story {
-    sql: "",
-    first: &[
-        Step::Make(A_DAY),
-        Step::Row("cause,R1,64,STORM,,,,", 3),
-        Step::Row("cause,R1,3,AAAAAAAAAAAAAAAAAAAAAAAAA,,,,", 4),
-        Step::Row("cause,R1,3,STORM,,,", 0),
-        Step::Row("switch,R1,B1,open,3600,3,K1,x", 8),
-        Step::Row("device,R1,X1,S1,S1,open,,", 5),
-        Step::Row("device,R1,X1,S1,S2,open,-,x", 7),
-        Step::Row("device,R1,X1,S1,S2,open,,-", 8),
-        Step::Row("life,R1,,,,,,", 3),
-        Step::Row("life,R1,T1,2024-01-01,,,,", 4),
-        Step::Row("life,R1,T1,,-,,,", 5),
-        Step::Row("life,R1,T1,,,x,,", 6),
-        Step::Row("cause,R1,3,STORM,,,,,", 0),
-        Step::Row("causes,R1,3,STORM,,,,", 1),
-        Step::Row("cause,,3,STORM,,,,", 2),
-        Step::Row("cause,,64,,,,,x", 2),
-        Step::Row(" cause,R1,3,STORM,,,,", 1),
-    ],
-    next: &[],
-    rows: &[1, 1, 1, 0, 0, 0, 0, 0, 0, 0, 320],
-};
+const BAD_ROWS: &[Step] = &[
+    Step::Make(A_DAY),
+    Step::Row("cause,R1,64,STORM,,,,", 3),
+    Step::Row("cause,R1,3,AAAAAAAAAAAAAAAAAAAAAAAAA,,,,", 4),
+    Step::Row("cause,R1,3,STORM,,,", 0),
+    Step::Row("switch,R1,B1,open,3600,3,K1,x", 8),
+    Step::Row("device,R1,X1,S1,S1,open,,", 5),
+    Step::Row("device,R1,X1,S1,S2,open,-,x", 7),
+    Step::Row("device,R1,X1,S1,S2,open,,-", 8),
+    Step::Row("life,R1,,,,,,", 3),
+    Step::Row("life,R1,T1,2024-01-01,,,,", 4),
+    Step::Row("life,R1,T1,,-,,,", 5),
+    Step::Row("life,R1,T1,,,x,,", 6),
+    Step::Row("cause,R1,3,STORM,,,,,", 0),
+    Step::Row("causes,R1,3,STORM,,,,", 1),
+    Step::Row("cause,,3,STORM,,,,", 2),
+    Step::Row("cause,,64,,,,,x", 2),
+    Step::Row(" cause,R1,3,STORM,,,,", 1),
+];
 
 #[test]
 fn bad_rows(rt: HostRuntime) -> Result<(), AllocError> {
-    is_told(&rt, rt.alloc(), &BAD_ROWS, false)
+    is_told(
+        &rt,
+        rt.alloc(),
+        false,
+        BAD_ROWS,
+        &[1, 1, 1, 0, 0, 0, 0, 0, 0, 0, 320],
+    )
 }
 
 // A text with a byte order mark, CRLF, quotes, an empty line, and no end of its last line.
@@ -57,42 +57,20 @@ bus,R2,BUS-A,,,,,
 section,R3,S1,1,,,,
 ";
 
-const BOTH: Story<'static> = Story {
-    sql: "",
-    first: &[
-        Step::Make(A_DAY),
-        Step::Import(QUOTED, Outcome::Took(3, 0)),
-        Step::Import(PLAIN, Outcome::Took(0, 3)),
-        Step::Import(QUOTED, Outcome::Took(0, 3)),
-    ],
-    next: &[],
-    rows: &[1, 2, 3, 0, 0, 0, 0, 0, 3, 0, 320],
-};
+const BOTH: &[Step] = &[
+    Step::Make(A_DAY),
+    Step::Import(QUOTED, Outcome::Took(3, 0)),
+    Step::Import(PLAIN, Outcome::Took(0, 3)),
+    Step::Import(QUOTED, Outcome::Took(0, 3)),
+];
 
 #[test]
 fn marks_line_ends_and_quotes(rt: HostRuntime) -> Result<(), AllocError> {
-    is_told(&rt, rt.alloc(), &BOTH, false)
-}
-
-// Rows under references that the outage has.
-const SPELT: &'static str = "kind,ref,f1,f2,f3,f4,f5,f6
-connect,N12,01,S1,2024-01-01T01:00:00+01:00,,,
-switch,N22,B1,open,2024-01-01T01:00:00Z,03,K1,
-correct,N25,4,1,close,1704073800,3,K1
-";
-
-const SPELT_OTHERWISE: Story<'static> = Story {
-    sql: "",
-    first: &[
-        Step::Make(A_DAY),
-        Step::Import(OUTAGE, Outcome::Took(25, 0)),
-        Step::Import(SPELT, Outcome::Stopped(0, 2, 3, Refusal::RefConflict(25))),
-    ],
-    next: &[],
-    rows: &[1, 3, 5, 5, 5, 10, 4, 0, 25, 9, 320],
-};
-
-#[test]
-fn another_spelling_is_the_same_command(rt: HostRuntime) -> Result<(), AllocError> {
-    is_told(&rt, rt.alloc(), &SPELT_OTHERWISE, false)
+    is_told(
+        &rt,
+        rt.alloc(),
+        false,
+        BOTH,
+        &[1, 2, 3, 0, 0, 0, 0, 0, 3, 0, 320],
+    )
 }

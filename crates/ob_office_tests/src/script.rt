@@ -1,5 +1,5 @@
 //! Steps with a `Keeper`, one after another, and the answer to each.
-use crate::exports::{always_breaks_off, are_told, breaks_off, is_handed};
+use crate::exports::{always_breaks_off, are_handed, are_told, breaks_off};
 use crate::office::{Heard, Office, Period, Report, Trial, over};
 use crate::refusals::is_refused;
 use crate::sinks::{Sink, WIDE};
@@ -8,7 +8,7 @@ use crate::streams::are_broken;
 use crate::tables::has_rows;
 use ob_import::{ImportFault, ImportReport};
 use ob_net::{Fault, Refusal, Stop};
-use sqlite::{Alter, Connection};
+use sqlite::Connection;
 use std::alloc::{AllocError, Global};
 use std::process::Abort;
 
@@ -53,12 +53,6 @@ pub const A_DAY: Period = ("2024-01-01", 1, "UTC0");
 pub enum Step {
     /// Creates a book of this period.
     Make(Period),
-    /// Loads the book in the tables.
-    Load,
-    /// Checks that no book is loaded, since the tables aren't those of a book of version 2.
-    LoadNone,
-    /// Migrates the tables, with this answer.
-    Migrate(Result<bool, Stop>),
     /// Imports this text, from memory or from a reader.
     Import(&'static str, Outcome),
     /// Imports this text from a reader that gives it in this way.
@@ -69,10 +63,6 @@ pub enum Step {
     Row(&'static str, u8),
     /// Imports this text, with this reported progress.
     Hear(&'static str, Heard),
-    /// Checks that the book has these totals.
-    Totals(&'static str),
-    /// Checks that the book has this annual table.
-    Table(&'static str),
     /// Exports this text, with this answer.
     Export(Result<u64, Stop>, &'static str),
     /// Exports to a writer that has room for this text and takes it in this way: the text without
@@ -82,8 +72,8 @@ pub enum Step {
     Break(Way, &'static str, usize),
     /// Checks the same with room for each number of bytes.
     BreakAlways(Way, &'static str),
-    /// Gives the moves of the outage with its correction to a sink with this much room.
-    Hand(usize),
+    /// Gives the moves of the outage with its correction to sinks with room for each number of them.
+    Hands,
     /// Checks that the stored replies have these moves.
     Replies,
 }
@@ -101,9 +91,6 @@ fn imported<O: Office>(alloc: Global, office: &mut O, by_reader: bool, text: &st
 fn holds<O: Office>(alloc: Global, office: &mut O, by_reader: bool, step: &Step) -> bool {
     match step {
         Step::Make(period) => office.makes(period) == Ok(()),
-        Step::Load => office.loads() == Ok(()),
-        Step::LoadNone => office.loads() != Ok(()),
-        Step::Migrate(wanted) => office.migrates() == *wanted,
         Step::Import(text, wanted) => {
             imported(alloc, office, by_reader, text) == wanted.report()
         }
@@ -115,8 +102,6 @@ fn holds<O: Office>(alloc: Global, office: &mut O, by_reader: bool, step: &Step)
         Step::Hear(text, wanted) => {
             office.hears(alloc, Source::new(text.as_bytes(), WHOLE)) == *wanted
         }
-        Step::Totals(text) => office.has_totals(text.as_bytes()),
-        Step::Table(text) => office.has_table(text.as_bytes()),
         Step::Export(end, text) => {
             is_written(alloc, office, Sink::new(alloc, WIDE, WHOLE), *end, text)
         }
@@ -129,7 +114,7 @@ fn holds<O: Office>(alloc: Global, office: &mut O, by_reader: bool, step: &Step)
         },
         Step::Break(way, text, room) => breaks_off(alloc, office, *way, text.as_bytes(), *room),
         Step::BreakAlways(way, text) => always_breaks_off(alloc, office, *way, text.as_bytes()),
-        Step::Hand(room) => is_handed(alloc, office, *room),
+        Step::Hands => are_handed(alloc, office),
         Step::Replies => are_told(alloc, office),
     }
 }
@@ -151,7 +136,7 @@ fn is_written<O: Office>(
 fn is_sound<O: Office>(office: &mut O) -> bool {
     match office.audits() {
         Ok(is_same) => is_same,
-        Err(stop) => stop == Stop::Refused(Refusal::BadBook) && office.shows() == None,
+        Err(stop) => stop == Stop::Refused(Refusal::BadBook) && !office.has_book(),
     }
 }
 
@@ -175,55 +160,33 @@ impl Trial for Script<'_> {
     }
 }
 
-/// Statements, the steps of a `Keeper` over the tables that they make, those of another one over
-/// the tables that the first leaves, and the numbers of rows that the tables then have.
-pub struct Story<'s> {
-    pub sql: &'static str,
-    pub first: &'s [Step],
-    pub next: &'s [Step],
-    pub rows: &'s [i64],
-}
-
-// Checks the steps with two `Keeper`s over a database, and the numbers of rows afterwards. When a
-// `Keeper` has done its steps, no table may differ from what the commands give.
-fn is_told_over<S: Alter + Drop>(
-    rt: &impl Abort,
-    alloc: Global,
-    conn: Connection<S>,
-    story: &Story<'_>,
-    by_reader: bool,
-) {
-    let mut conn = conn;
-    assert!(rt; conn.execute_batch(story.sql).is_ok());
-    let steps = story.first;
-    let conn = over(rt, alloc, conn, &mut Script { steps, by_reader });
-    let steps = story.next;
-    let mut conn = over(rt, alloc, conn, &mut Script { steps, by_reader });
-    has_rows(rt, alloc, &mut conn, story.rows);
-}
-
-/// Checks a story over a store in memory. Its texts are in memory, or each comes from a reader.
+/// Checks steps with a `Keeper` over a store in memory, the numbers of rows that the tables then
+/// have, and that no table differs from what the commands give. The texts of the steps are in
+/// memory, or each comes from a reader.
 pub fn is_told(
     rt: &impl Abort,
     alloc: Global,
-    story: &Story<'_>,
     by_reader: bool,
+    steps: &[Step],
+    rows: &[i64],
 ) -> Result<(), AllocError> {
     match Connection::open_in_memory(alloc) {
         Ok(conn) => {
-            is_told_over(rt, alloc, conn, story, by_reader);
+            let mut conn = over(rt, alloc, conn, &mut Script { steps, by_reader });
+            has_rows(rt, alloc, &mut conn, rows);
             Ok(())
         }
         Err(_) => Err(AllocError),
     }
 }
 
-/// Checks a story with each text in memory, and then with each text from a reader.
+/// Checks steps with each text in memory, and then with each text from a reader.
 pub fn is_told_both_ways(
     rt: &impl Abort,
     alloc: Global,
-    story: &Story<'_>,
+    steps: &[Step],
+    rows: &[i64],
 ) -> Result<(), AllocError> {
-    is_told(rt, alloc, story, false)?;
-    is_told(rt, alloc, story, true)
+    is_told(rt, alloc, false, steps, rows)?;
+    is_told(rt, alloc, true, steps, rows)
 }

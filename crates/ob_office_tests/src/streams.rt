@@ -1,6 +1,6 @@
 //! Tests of imports from readers that fail or are interrupted.
 use crate::office::Office;
-use crate::script::{A_DAY, Outcome, Step, Story, is_told};
+use crate::script::{A_DAY, Outcome, Step, is_told};
 use crate::sources::{FAILING, JOLTING, Source, Way};
 use crate::texts::{OUTAGE, TWO_NAMES};
 use ob_net::Fault;
@@ -34,32 +34,34 @@ pub fn are_broken<O: Office>(alloc: Global, office: &mut O, text: &[u8]) -> bool
     true
 }
 
-const FRONTS: Story<'static> = Story {
-    sql: "",
-    first: &[Step::Make(A_DAY), Step::ReadFronts(TWO_NAMES)],
-    next: &[],
-    rows: &[1, 2, 4, 0, 0, 0, 0, 0, 4, 0, 320],
-};
+const FRONTS: &[Step] = &[Step::Make(A_DAY), Step::ReadFronts(TWO_NAMES)];
 
 #[test]
 fn readers_that_fail(rt: HostRuntime) -> Result<(), AllocError> {
-    is_told(&rt, rt.alloc(), &FRONTS, false)
+    is_told(
+        &rt,
+        rt.alloc(),
+        false,
+        FRONTS,
+        &[1, 2, 4, 0, 0, 0, 0, 0, 4, 0, 320],
+    )
 }
 
 // Each byte of the outage comes after an interrupted read.
-const EACH_BYTE: Story<'static> = Story {
-    sql: "",
-    first: &[
-        Step::Make(A_DAY),
-        Step::Read(JOLTING, OUTAGE, Outcome::Took(25, 0)),
-    ],
-    next: &[],
-    rows: &[1, 3, 5, 5, 5, 10, 4, 0, 25, 9, 320],
-};
+const EACH_BYTE: &[Step] = &[
+    Step::Make(A_DAY),
+    Step::Read(JOLTING, OUTAGE, Outcome::Took(25, 0)),
+];
 
 #[test]
 fn an_interrupted_reader(rt: HostRuntime) -> Result<(), AllocError> {
-    is_told(&rt, rt.alloc(), &EACH_BYTE, false)
+    is_told(
+        &rt,
+        rt.alloc(),
+        false,
+        EACH_BYTE,
+        &[1, 3, 5, 5, 5, 10, 4, 0, 25, 9, 320],
+    )
 }
 
 const FOR_EVER: Way = Way {
@@ -69,19 +71,20 @@ const FOR_EVER: Way = Way {
 };
 
 // The whole text, and then only interrupted reads.
-const STUCK: Story<'static> = Story {
-    sql: "",
-    first: &[
-        Step::Make(A_DAY),
-        Step::Read(FOR_EVER, TWO_NAMES, Outcome::Broken(4, 0, Fault::Input)),
-    ],
-    next: &[],
-    rows: &[1, 2, 4, 0, 0, 0, 0, 0, 4, 0, 320],
-};
+const STUCK: &[Step] = &[
+    Step::Make(A_DAY),
+    Step::Read(FOR_EVER, TWO_NAMES, Outcome::Broken(4, 0, Fault::Input)),
+];
 
 #[test]
 fn a_reader_interrupted_for_ever(rt: HostRuntime) -> Result<(), AllocError> {
-    is_told(&rt, rt.alloc(), &STUCK, false)
+    is_told(
+        &rt,
+        rt.alloc(),
+        false,
+        STUCK,
+        &[1, 2, 4, 0, 0, 0, 0, 0, 4, 0, 320],
+    )
 }
 
 const TOO_OFTEN: Way = Way {
@@ -97,18 +100,19 @@ const JUST_NOT: Way = Way {
 };
 
 // A text in one piece: its read and the read of its end may be retried 65,536 times in all.
-const INTERRUPTED: Story<'static> = Story {
-    sql: "",
-    first: &[
-        Step::Make(A_DAY),
-        Step::Read(TOO_OFTEN, TWO_NAMES, Outcome::Broken(4, 0, Fault::Input)),
-        Step::Read(JUST_NOT, TWO_NAMES, Outcome::Took(0, 4)),
-    ],
-    next: &[],
-    rows: &[1, 2, 4, 0, 0, 0, 0, 0, 4, 0, 320],
-};
+const INTERRUPTED: &[Step] = &[
+    Step::Make(A_DAY),
+    Step::Read(TOO_OFTEN, TWO_NAMES, Outcome::Broken(4, 0, Fault::Input)),
+    Step::Read(JUST_NOT, TWO_NAMES, Outcome::Took(0, 4)),
+];
 
 #[test]
 fn interrupted_in_two_reads(rt: HostRuntime) -> Result<(), AllocError> {
-    is_told(&rt, rt.alloc(), &INTERRUPTED, false)
+    is_told(
+        &rt,
+        rt.alloc(),
+        false,
+        INTERRUPTED,
+        &[1, 2, 4, 0, 0, 0, 0, 0, 4, 0, 320],
+    )
 }

@@ -51,33 +51,6 @@ switch,N24,T1,close,1704071400,3,K1,
 switch,N25,B1,close,1704074400,3,K1,
 ";
 
-/// The network of the outage and its customers, without a switching. The life of each device begins
-/// at 0 and has no end.
-pub const BASE: &'static str = "\
-kind,ref,f1,f2,f3,f4,f5,f6
-cause,N1,3,STORM,,,,
-cause,N2,4,PLANNED,,,,
-bus,N3,BUS-A,,,,,
-section,N4,S1,1,,,,
-section,N5,S2,1,,,,
-section,N6,S3,2,,,,
-device,N7,I1,GRID,BUS-A,closed,0,
-device,N8,B1,BUS-A,S1,closed,0,
-device,N9,W1,S1,S2,closed,0,
-device,N10,B2,BUS-A,S3,closed,0,
-device,N11,T1,S2,S3,open,0,
-connect,N12,1,S1,1704067200,,,
-connect,N13,2,S1,1704067200,,,
-connect,N14,3,S2,1704067200,,,
-connect,N15,4,S2,1704067200,,,
-connect,N16,5,S2,1704067200,,,
-connect,N17,6,S3,1704067200,,,
-connect,N18,7,S3,1704067200,,,
-connect,N19,8,S3,1704067200,,,
-connect,N20,9,S3,1704067200,,,
-connect,N21,10,S3,1704067200,,,
-";
-
 /// The breaker closed ten minutes earlier.
 pub const CORRECTION: &'static str = "\
 kind,ref,f1,f2,f3,f4,f5,f6

@@ -11,7 +11,6 @@ const ANOTHER: Step = Step::Make(b"2024-02-01", 2, b"UTC0", BAD_BOOK);
 // A second book is refused, by the `Keeper` that has the first and by another one; the first book
 // stays.
 const SECOND: Story = Story {
-    title: "a second book",
     book: TWO_FEEDERS_BOOK,
     cases: &[&[
         ANOTHER,
@@ -33,7 +32,6 @@ const BAD_PERIOD: Result<(), Stop> = Err(Stop::Refused(Refusal::BadPeriod));
 
 // Books of such periods are refused; afterwards a book of another period can still be created.
 const PERIODS: Story = Story {
-    title: "periods",
     book: &[],
     cases: &[&[
         Step::Make(b"2024-01-01", 0, b"UTC0", BAD_PERIOD),
@@ -57,7 +55,6 @@ fn a_period_that_there_is_not(rt: HostRuntime) -> Result<(), Stop> {
 
 // No book can be created in a database that holds a table.
 const SOMETHING_ELSE: Story = Story {
-    title: "a table",
     book: &[],
     cases: &[&[
         Step::Change("CREATE TABLE note (id INTEGER PRIMARY KEY) STRICT"),
@@ -75,7 +72,6 @@ fn a_database_of_something_else(rt: HostRuntime) -> Result<(), Stop> {
 // Without a book, sending a command or asking for a stored reply requires one to be loaded first;
 // then a book is created, and takes commands.
 const BEGUN: Story = Story {
-    title: "no book",
     book: &[],
     cases: &[&[
         Step::Tell("N1 cause 3 STORM => no: 22 Reopen"),

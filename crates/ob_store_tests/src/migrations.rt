@@ -4,7 +4,7 @@ use crate::books::OUTAGE_BOOK;
 use crate::office::{BAD_BOOK, NO_OLD_BOOK, OLD_VERSION};
 use crate::old::TO_VERSION_ONE;
 use crate::scripts::{CORRECTED, JOINS_IN_OUTAGE, OUTAGE, TWO_FEEDERS};
-use crate::steps::{NEW, Step, Story, tell};
+use crate::steps::{NEW, Step, Story, spoil, tell};
 use ob_net::Stop;
 
 // The tables of the outage become those of a book of version 1, which can't be loaded. They are
@@ -24,7 +24,6 @@ const MIGRATED: &[Step] = &[
 
 // Notes what the outage leaves in version 2; then a book with it is created over another database.
 const OF_TODAY: Story = Story {
-    title: "version 1",
     book: OUTAGE_BOOK,
     cases: &[&[
         Step::Note,
@@ -58,33 +57,6 @@ fn the_outage_of_version_one(rt: HostRuntime) -> Result<(), Stop> {
     tell(&rt, rt.alloc(), OF_TODAY)
 }
 
-// The rows of the outage after the migration: five lives, 25 commands, the body text of a device
-// with a life, no other command's text with the two new fields, and the customer-seconds.
-const FOUND: Story = Story {
-    title: "rows",
-    book: MIGRATED,
-    cases: &[&[
-        Step::Find("SELECT version FROM meta", 2),
-        Step::Find(
-            "SELECT count(*) FROM life WHERE since = 0 AND until IS NULL",
-            5,
-        ),
-        Step::Find("SELECT count(*) FROM cmd", 25),
-        Step::Find(
-            "SELECT count(*) FROM cmd WHERE id = 7 AND body = 'device I1 GRID BUS-A closed 0 -'",
-            1,
-        ),
-        Step::Find("SELECT count(*) FROM cmd WHERE body LIKE '% 0 -'", 5),
-        Step::Find("SELECT amount FROM posting WHERE dim = 1 AND k = 3", 9_000),
-    ]],
-    then: &[],
-};
-
-#[test]
-fn rows_of_the_outage(rt: HostRuntime) -> Result<(), Stop> {
-    tell(&rt, rt.alloc(), FOUND)
-}
-
 // A device's command is known under its reference, another command is not that one, and from then
 // on a device with a life can be added.
 const AGAIN: &'static str = "\
@@ -94,7 +66,6 @@ N22 switch B1 open 1704070800 3 K1 => 22: cause 3 414000, feeder 1 414000, day 0
 ";
 
 const AFTER_A_MIGRATION: Story = Story {
-    title: "after a migration",
     book: MIGRATED,
     cases: &[
         // A correction.
@@ -124,7 +95,6 @@ fn commands_of_a_migrated_book(rt: HostRuntime) -> Result<(), Stop> {
 
 // A book of version 2 stays, in the tables and in memory.
 const OF_VERSION_TWO: Story = Story {
-    title: "today",
     book: OUTAGE_BOOK,
     cases: &[&[
         Step::Note,
@@ -161,110 +131,83 @@ const MARKED_OLD: &[Step] = &[
 ];
 
 // A row is changed in each table.
-const CHANGED: Story = Story {
-    title: "a row that is changed",
-    book: MARKED_OLD,
-    cases: &[
-        &[Step::Change("UPDATE meta SET days = 2")],
-        &[Step::Change("UPDATE cause SET name = 'FLOOD' WHERE code = 3")],
-        &[Step::Change("UPDATE node SET feeder = 2 WHERE name = 'S1'")],
-        &[Step::Change("UPDATE device SET a = b, b = a WHERE name = 'T1'")],
-        &[Step::Change("UPDATE customer SET until = 1704153600 WHERE id = 1")],
-        &[Step::Change("UPDATE entry SET kept = 0 WHERE id = 3")],
-        &[Step::Change("UPDATE mark SET engineer = 'E2'")],
-        &[Step::Change("UPDATE cmd SET body = 'bus BUS-C' WHERE id = 3")],
-        &[Step::Change("UPDATE moved SET delta = delta + 1 WHERE cmd = 22 AND dim = 2")],
-        &[Step::Change("UPDATE posting SET amount = amount + 1 WHERE dim = 3 AND k = 0")],
-    ],
-    then: LEFT,
-};
+const CHANGED: &'static str = "\
+UPDATE meta SET days = 2
+UPDATE cause SET name = 'FLOOD' WHERE code = 3
+UPDATE node SET feeder = 2 WHERE name = 'S1'
+UPDATE device SET a = b, b = a WHERE name = 'T1'
+UPDATE customer SET until = 1704153600 WHERE id = 1
+UPDATE entry SET kept = 0 WHERE id = 3
+UPDATE mark SET engineer = 'E2'
+UPDATE cmd SET body = 'bus BUS-C' WHERE id = 3
+UPDATE moved SET delta = delta + 1 WHERE cmd = 22 AND dim = 2
+UPDATE posting SET amount = amount + 1 WHERE dim = 3 AND k = 0
+";
 
 #[test]
 fn a_row_that_is_changed(rt: HostRuntime) -> Result<(), Stop> {
-    tell(&rt, rt.alloc(), CHANGED)
+    spoil(&rt, rt.alloc(), MARKED_OLD, CHANGED, LEFT)
 }
 
 // A row is added to or deleted from each table.
-const MORE_OR_LESS: Story = Story {
-    title: "rows more or less",
-    book: MARKED_OLD,
-    cases: &[
-        &[Step::Change("DELETE FROM meta")],
-        &[Step::Change("DELETE FROM cause WHERE code = 4")],
-        &[Step::Change("INSERT INTO node (id, name, kind, feeder) VALUES (9, 'S9', 2, 9)")],
-        &[Step::Change("DELETE FROM device WHERE name = 'I1'")],
-        &[Step::Change("DELETE FROM customer WHERE id = 10")],
-        &[Step::Change("DELETE FROM entry WHERE id = 4")],
-        &[Step::Change("DELETE FROM mark")],
-        &[Step::Change("DELETE FROM cmd WHERE id = 26")],
-        &[Step::Change("DELETE FROM moved WHERE cmd = 25 AND dim = 3")],
-        &[Step::Change("DELETE FROM posting WHERE dim = 1 AND k = 63")],
-    ],
-    then: LEFT,
-};
+const MORE_OR_LESS: &'static str = "\
+DELETE FROM meta
+DELETE FROM cause WHERE code = 4
+INSERT INTO node (id, name, kind, feeder) VALUES (9, 'S9', 2, 9)
+DELETE FROM device WHERE name = 'I1'
+DELETE FROM customer WHERE id = 10
+DELETE FROM entry WHERE id = 4
+DELETE FROM mark
+DELETE FROM cmd WHERE id = 26
+DELETE FROM moved WHERE cmd = 25 AND dim = 3
+DELETE FROM posting WHERE dim = 1 AND k = 63
+";
 
 #[test]
 fn rows_more_or_less(rt: HostRuntime) -> Result<(), Stop> {
-    tell(&rt, rt.alloc(), MORE_OR_LESS)
+    spoil(&rt, rt.alloc(), MARKED_OLD, MORE_OR_LESS, LEFT)
 }
 
 // Numbers with a gap, periods that don't exist, and texts that are no command of version 1: a
 // device with a life, a life, two spaces, and a reference with a space.
-const NO_COMMANDS: Story = Story {
-    title: "commands of no old book",
-    book: MARKED_OLD,
-    cases: &[
-        &[Step::Change("UPDATE cmd SET id = 27 WHERE id = 26")],
-        &[Step::Change("UPDATE meta SET day0 = '2024-1-1'")],
-        &[Step::Change("UPDATE meta SET zone = 'NOWHERE/AT/ALL'")],
-        &[Step::Change("UPDATE cmd SET body = 'device T1 S2 S3 open 0 -' WHERE id = 11")],
-        &[Step::Change("UPDATE cmd SET body = 'device T1 S2 S3 open 0 1704153600' WHERE id = 11")],
-        &[Step::Change("INSERT INTO cmd (id, ref, body) VALUES (27, 'N27', 'life T1 0 -')")],
-        &[Step::Change("UPDATE cmd SET body = 'life T1 0 -' WHERE id = 26")],
-        &[Step::Change("UPDATE cmd SET body = 'cause 3  STORM' WHERE id = 1")],
-        &[Step::Change("UPDATE cmd SET ref = 'N 1' WHERE id = 1")],
-    ],
-    then: LEFT,
-};
+const NO_COMMANDS: &'static str = "\
+UPDATE cmd SET id = 27 WHERE id = 26
+UPDATE meta SET day0 = '2024-1-1'
+UPDATE meta SET zone = 'NOWHERE/AT/ALL'
+UPDATE cmd SET body = 'device T1 S2 S3 open 0 -' WHERE id = 11
+UPDATE cmd SET body = 'device T1 S2 S3 open 0 1704153600' WHERE id = 11
+INSERT INTO cmd (id, ref, body) VALUES (27, 'N27', 'life T1 0 -')
+UPDATE cmd SET body = 'life T1 0 -' WHERE id = 26
+UPDATE cmd SET body = 'cause 3  STORM' WHERE id = 1
+UPDATE cmd SET ref = 'N 1' WHERE id = 1
+";
 
 #[test]
 fn commands_of_no_old_book(rt: HostRuntime) -> Result<(), Stop> {
-    tell(&rt, rt.alloc(), NO_COMMANDS)
+    spoil(&rt, rt.alloc(), MARKED_OLD, NO_COMMANDS, LEFT)
 }
 
 // Other versions in the heading, a table of lives (with a row or without) in version 1, and missing
 // tables.
-const OTHER_TABLES: Story = Story {
-    title: "other tables",
-    book: MARKED_OLD,
-    cases: &[
-        &[Step::Change("UPDATE meta SET version = 0")],
-        &[Step::Change("UPDATE meta SET version = 3")],
-        &[Step::Change(
-            "CREATE TABLE life (device INTEGER PRIMARY KEY REFERENCES device (id), since INTEGER NOT NULL, \
-     until INTEGER) STRICT",
-        )],
-        &[Step::Change(
-            "CREATE TABLE life (device INTEGER PRIMARY KEY REFERENCES device (id), since INTEGER NOT NULL, \
-     until INTEGER) STRICT; INSERT INTO life (device, since, until) VALUES (4, 0, NULL)",
-        )],
-        &[Step::Change("CREATE TABLE life (note INTEGER PRIMARY KEY) STRICT")],
-        &[Step::Change("DROP TABLE mark")],
-        &[Step::Change("DROP TABLE posting")],
-        &[Step::Change("DROP TABLE meta")],
-    ],
-    then: LEFT,
-};
+const OTHER_TABLES: &'static str = "\
+UPDATE meta SET version = 0
+UPDATE meta SET version = 3
+CREATE TABLE life (device INTEGER PRIMARY KEY REFERENCES device (id), since INTEGER NOT NULL, until INTEGER) STRICT
+CREATE TABLE life (device INTEGER PRIMARY KEY REFERENCES device (id), since INTEGER NOT NULL, until INTEGER) STRICT; INSERT INTO life (device, since, until) VALUES (4, 0, NULL)
+CREATE TABLE life (note INTEGER PRIMARY KEY) STRICT
+DROP TABLE mark
+DROP TABLE posting
+DROP TABLE meta
+";
 
 #[test]
 fn other_tables(rt: HostRuntime) -> Result<(), Stop> {
-    tell(&rt, rt.alloc(), OTHER_TABLES)
+    spoil(&rt, rt.alloc(), MARKED_OLD, OTHER_TABLES, LEFT)
 }
 
 // Commands that version 1 didn't accept after a switching, or at all, and that version 2 accepts. A
 // device's body text is changed to the old form.
 const LATER_PARTS: Story = Story {
-    title: "parts behind a switching",
     book: OUTAGE_BOOK,
     cases: &[
         &[Step::Tell("N26 bus BUS-B => 26")],
@@ -298,7 +241,6 @@ fn parts_behind_a_switching(rt: HostRuntime) -> Result<(), Stop> {
 // Version 1 over the tables of version 2, and version 2 over the ten tables of version 1. The
 // migration takes the latter for tables of version 2, and they hold no book.
 const OTHER_VERSIONS: Story = Story {
-    title: "another version",
     book: OUTAGE_BOOK,
     cases: &[
         &[
@@ -329,7 +271,6 @@ fn another_number_in_the_heading(rt: HostRuntime) -> Result<(), Stop> {
 
 // Databases with nothing or something else in them.
 const SOMETHING_ELSE: Story = Story {
-    title: "something else",
     book: &[],
     cases: &[
         &[],
@@ -346,7 +287,6 @@ fn databases_of_something_else(rt: HostRuntime) -> Result<(), Stop> {
 
 // A book of version 1 with only its period.
 const BEGUN: Story = Story {
-    title: "no commands",
     book: &[],
     cases: &[&[
         NEW,

@@ -1,13 +1,12 @@
 //! The calls of a `Keeper` that the tests use.
-use crate::random::books::Shows;
 use crate::rows::put_rows;
 use ob_book::Book;
 use ob_command::{Command, read_body};
-use ob_net::{Fault, Ref, Refusal, Stop};
+use ob_net::{Fault, Life, Ref, Refusal, Second, Stop};
 use ob_store::{Keeper, Reply};
 use ob_sweep::{Timeline, Windowed};
 use sqlite::{Alter, Connection, Error, MemStore};
-use std::alloc::Global;
+use std::alloc::{AllocError, Global};
 
 /// The tables aren't those of a book.
 pub const BAD_BOOK: Result<(), Stop> = Err(Stop::Refused(Refusal::BadBook));
@@ -57,8 +56,6 @@ impl Found {
 /// The calls of a `Keeper` over a store, without their contracts: with these each function that
 /// makes some calls takes long to prove.
 pub trait Office: Drop {
-    type Shown: Shows;
-
     /// A `Keeper` without a book, over an empty database.
     fn opens(alloc: Global) -> Result<Self, Stop>;
 
@@ -81,8 +78,11 @@ pub trait Office: Drop {
     /// Migrates the tables of version 1 to version 2. Answers whether they were of version 1.
     fn migrates(&mut self) -> Result<bool, Stop>;
 
-    /// The book, or None if there is none.
-    fn shown(&self) -> Option<&Self::Shown>;
+    /// Answers whether there is a book.
+    fn has_book(&self) -> bool;
+
+    /// The totals, the indices and the annual table of the book, and the lives of its devices.
+    fn texts(&self, alloc: Global) -> Result<Vec<u8>, Stop>;
 
     /// Another `Keeper`, without a book, over the same tables after some work on them, and what
     /// that work read.
@@ -167,9 +167,23 @@ fn done<S: Alter>(alloc: Global, conn: &mut Connection<S>, work: Work) -> Result
     }
 }
 
-impl<S: Blank, T: Timeline> Office for Keeper<S, T> {
-    type Shown = Book<T>;
+// Appends a life to a text, with the largest number if it has no end.
+fn put_life(alloc: Global, text: &mut Vec<u8>, life: Life) -> Result<(), AllocError> {
+    let (since, until) = (life.since, life.until.unwrap_or(Second::MAX));
+    text.extend_from_slice(format!(in alloc; "{since} {until}\n")?.as_bytes())
+}
 
+fn texts_of<T: Timeline>(alloc: Global, book: &Book<T>) -> Result<Vec<u8>, Stop> {
+    let mut text = book.totals_text()?;
+    text.extend_from_slice(&book.indices_text()?)?;
+    text.extend_from_slice(&book.annual_text()?)?;
+    for device in 0..book.net().devices() {
+        put_life(alloc, &mut text, book.net().life_of(device))?;
+    }
+    Ok(text)
+}
+
+impl<S: Blank, T: Timeline> Office for Keeper<S, T> {
     fn opens(alloc: Global) -> Result<Keeper<S, T>, Stop> {
         adopted(alloc, S::connects(alloc)?)
     }
@@ -205,8 +219,15 @@ impl<S: Blank, T: Timeline> Office for Keeper<S, T> {
         self.migrate()
     }
 
-    fn shown(&self) -> Option<&Book<T>> {
-        self.book()
+    fn has_book(&self) -> bool {
+        self.book().is_some()
+    }
+
+    fn texts(&self, alloc: Global) -> Result<Vec<u8>, Stop> {
+        match self.book() {
+            Some(book) => texts_of(alloc, book),
+            None => Err(REOPEN),
+        }
     }
 
     fn again(self, alloc: Global, work: Work) -> Result<(Keeper<S, T>, Found), Stop> {

@@ -37,11 +37,6 @@ N24 switch T1 close 1704071400 3 K1 => 24: cause 3 -246600, feeder 1 -246600, da
 N25 switch B1 close 1704074400 3 K1 => 25: cause 3 -158400, feeder 1 -158400, day 0 -158400
 ";
 
-/// After the outage: an opening ten minutes before the breaker's.
-pub const OPENED_BEFORE: &'static str = "\
-N26 switch W1 open 1704070200 4 K1 => 26: cause 3 -1800, cause 4 3600, feeder 1 1800, day 0 1800
-";
-
 /// After the outage: the breaker closed ten minutes earlier, sent several times under one
 /// reference. The same under another reference comes too late, and no other command can have the
 /// reference.
@@ -61,39 +56,6 @@ N27 withdraw 3 2 => no: 8 Withdrawn
 N26 withdraw 3 1 => 26: cause 3 246600, feeder 1 246600, day 0 246600
 ";
 
-/// The outage interval of S2 gets a late opening's cause up to its end, also after W1's next entry.
-pub const RELABELLED: &'static str = "\
-N22 switch B1 open 1704070800 3 K1 => 22: cause 3 414000, feeder 1 414000, day 0 414000
-N23 switch W1 close 1704071200 3 K1 => 23
-N24 switch B1 close 1704074400 3 K1 => 24: cause 3 -396000, feeder 1 -396000, day 0 -396000
-N25 switch W1 open 1704070200 4 K1 => 25: cause 3 -10800, cause 4 12600, feeder 1 1800, day 0 1800
-";
-
-/// Closed, and opened again in the same second for another cause: one outage interval, with the
-/// first opening's cause.
-pub const OPENED_AGAIN: &'static str = "\
-N22 switch B2 open 1704070800 3 K1 => 22: cause 3 414000, feeder 2 414000, day 0 414000
-N23 switch B2 close 1704071200 3 K1 => 23: cause 3 -412000, feeder 2 -412000, day 0 -412000
-N24 switch B2 open 1704071200 4 K1 => 24: cause 3 412000, feeder 2 412000, day 0 412000
-N25 switch B2 close 1704072200 4 K1 => 25: cause 3 -407000, feeder 2 -407000, day 0 -407000
-";
-
-/// A customer is connected during an outage; its service gets an end within the outage, and then
-/// has no end again.
-pub const CONNECTED: &'static str = "\
-N22 switch B2 open 1704070800 4 K1 => 22: cause 4 414000, feeder 2 414000, day 0 414000
-N23 switch B2 close 1704074400 4 K1 => 23: cause 4 -396000, feeder 2 -396000, day 0 -396000
-N24 connect 11 S3 1704072600 - => 24: cause 4 1800, feeder 2 1800, day 0 1800
-N25 revise 11 1704072600 1704073200 => 25: cause 4 -1200, feeder 2 -1200, day 0 -1200
-N26 revise 11 1704072600 - => 26: cause 4 1200, feeder 2 1200, day 0 1200
-";
-
-/// A section without a device.
-pub const APART: &'static str = "\
-N22 section S9 9 => 22
-N23 connect 11 S9 1704067200 - => 23: cause 0 86400, feeder 9 86400, day 0 86400
-";
-
 /// After the outage: the tie's life ends while the tie supplies S2, which is sent twice; then the
 /// life is set without an end.
 pub const TIE_STAYS: &'static str = "\
@@ -107,14 +69,6 @@ N26 life T1 0 - => no: 11 RefConflict 26
 pub const JOINS_IN_OUTAGE: &'static str = "\
 N26 device X1 BUS-A S1 closed 1704072200 - => 26: cause 3 -4400, feeder 1 -4400, day 0 -4400
 N26 device X1 BUS-A S1 closed 0 - => no: 11 RefConflict 26
-";
-
-/// The life of S3's breaker ends; an entry opens it in the first second after its life, and another
-/// in the second before.
-pub const BREAKER_GONE: &'static str = "\
-N22 life B2 0 1704070800 => 22: cause 0 414000, feeder 2 414000, day 0 414000
-N23 switch B2 open 1704070800 4 K1 => 23
-N24 switch B2 open 1704070799 4 K1 => 24: cause 0 -414000, cause 4 414005, feeder 2 5, day 0 5
 ";
 
 /// After the outage: parts are added to the network, and the life of one is set again.

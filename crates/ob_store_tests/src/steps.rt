@@ -1,7 +1,5 @@
 //! Steps with a `Keeper` over a store in memory, one after another, and the answer to each.
-use crate::office::{Found, InMemory, Office, REOPEN, Work};
-use crate::random::books::Shows;
-use crate::random::kept::keeps_lists;
+use crate::office::{Found, InMemory, Office, Work};
 use crate::texts::{answer_text, stored_text};
 use ob_net::Stop;
 use std::alloc::Global;
@@ -47,8 +45,6 @@ pub enum Step {
     /// customers, entries, marked days, commands, moves, amounts. The amounts of each dimension add
     /// up to the total, and each is the sum of the moves under its key.
     Leave(&'static [i64], i64),
-    /// Sends this many random lists to other `Keeper`s, which answer them as the plain lists do.
-    Lists(u32),
 }
 
 /// A new book of 2024-01-01 in UTC.
@@ -74,16 +70,69 @@ impl Noted {
 /// a book, then those of the case, then those that follow each case.
 #[derive(Clone, Copy)]
 pub struct Story {
-    pub title: &'static str,
     pub book: &'static [Step],
     pub cases: &'static [&'static [Step]],
     pub then: &'static [Step],
 }
 
-/// Checks each case of a story. The message about a failed step begins with the title of the story
-/// and the text of the last script or change of the tables in the case.
+/// Checks each case of a story. The message about a failed step has the text of the last script or
+/// change of the tables in the case.
 pub fn tell(rt: &impl Abort, alloc: Global, story: Story) -> Result<(), Stop> {
-    told::<InMemory>(rt, alloc, &story)
+    for case in story.cases {
+        is_told::<InMemory>(rt, alloc, title_of(case), &[story.book, *case, story.then])?;
+    }
+    Ok(())
+}
+
+/// Checks each line of a text, a change of the tables of a book and, after ` => `, the answer to an
+/// audit then; and the steps that follow each.
+pub fn spoil(
+    rt: &impl Abort,
+    alloc: Global,
+    book: &[Step],
+    lines: &'static str,
+    then: &[Step],
+) -> Result<(), Stop> {
+    for line in lines.lines() {
+        match line.split_once(" => ") {
+            Some((sql, wanted)) => {
+                let case = &[Step::Change(sql), Step::Audit(wanted)];
+                is_told::<InMemory>(rt, alloc, sql, &[book, case, then])?;
+            }
+            None => is_told::<InMemory>(rt, alloc, line, &[book, &[Step::Change(line)], then])?,
+        }
+    }
+    Ok(())
+}
+
+/// Checks scripts on a book, one after another: the lines get the answers in them, another `Keeper`
+/// loads the book that each leaves, and in the end it has these numbers of rows and this total.
+pub fn leave(
+    rt: &impl Abort,
+    alloc: Global,
+    book: &[Step],
+    scripts: &[&'static str],
+    rows: &'static [i64],
+    total: i64,
+) -> Result<(), Stop> {
+    left::<InMemory>(rt, alloc, book, scripts, &[Step::Leave(rows, total)])
+}
+
+fn left<O: Office>(
+    rt: &impl Abort,
+    alloc: Global,
+    book: &[Step],
+    scripts: &[&'static str],
+    then: &[Step],
+) -> Result<(), Stop> {
+    let mut noted = Noted::nothing(alloc);
+    let mut office = goes_on(rt, alloc, O::opens(alloc)?, &mut noted, "book", book)?;
+    for script in scripts {
+        let steps = &[Step::Tell(*script), Step::Reopen];
+        office = goes_on(rt, alloc, office, &mut noted, *script, steps)?;
+    }
+    goes_on(rt, alloc, office, &mut noted, "rows", then)?;
+    Ok(())
 }
 
 fn title_of(case: &[Step]) -> &'static str {
@@ -97,25 +146,18 @@ fn title_of(case: &[Step]) -> &'static str {
     title
 }
 
-fn told<O: Office>(rt: &impl Abort, alloc: Global, story: &Story) -> Result<(), Stop> {
-    for case in story.cases {
-        is_case_told::<O>(rt, alloc, story, case)?;
-    }
-    Ok(())
-}
-
-fn is_case_told<O: Office>(
+// Checks steps, one part after another, with a `Keeper` over an empty store.
+fn is_told<O: Office>(
     rt: &impl Abort,
     alloc: Global,
-    story: &Story,
-    case: &[Step],
+    text: &str,
+    parts: &[&[Step]],
 ) -> Result<(), Stop> {
-    let (title, text) = (story.title, title_of(case));
     let mut noted = Noted::nothing(alloc);
-    let office = O::opens(alloc)?;
-    let office = goes_on(rt, alloc, office, &mut noted, title, text, story.book)?;
-    let office = goes_on(rt, alloc, office, &mut noted, title, text, case)?;
-    goes_on(rt, alloc, office, &mut noted, title, text, story.then)?;
+    let mut office = O::opens(alloc)?;
+    for steps in parts {
+        office = goes_on(rt, alloc, office, &mut noted, text, steps)?;
+    }
     Ok(())
 }
 
@@ -124,14 +166,13 @@ fn goes_on<O: Office>(
     alloc: Global,
     office: O,
     noted: &mut Noted,
-    title: &str,
     text: &str,
     steps: &[Step],
 ) -> Result<O, Stop> {
     let mut office = office;
     for (place, step) in steps.iter().enumerate() {
         let (next, holds) = taken(rt, alloc, office, noted, step)?;
-        assert!(rt; holds, "{title}: {text}: step {place}, from 0");
+        assert!(rt; holds, "{text}: step {place}, from 0");
         office = next;
     }
     Ok(office)
@@ -169,21 +210,20 @@ fn is_answered<O: Office>(
 ) -> Result<bool, Stop> {
     match step {
         Step::Make(first, days, zone, wanted) => Ok(office.makes(first, *days, zone) == *wanted),
-        Step::Tell(script) => is_told(rt, alloc, office, script),
+        Step::Tell(script) => is_answered_so(rt, alloc, office, script),
         Step::Reply(no, wanted) => is_stored(alloc, office, *no, wanted),
         Step::Audit(wanted) => Ok(office.audits() == *wanted),
         Step::Load(wanted) => Ok(office.loads() == *wanted),
         Step::Migrate(wanted) => Ok(office.migrates() == *wanted),
-        Step::Has(wanted) => Ok(office.shown().is_some() == *wanted),
+        Step::Has(wanted) => Ok(office.has_book() == *wanted),
         Step::Note => note(alloc, office, noted),
         Step::Same => is_same(alloc, office, noted),
-        Step::Lists(lists) => keeps_lists::<O>(rt, alloc, *lists),
         _ => Ok(true),
     }
 }
 
 // Checks that the lines of a script get the answers in them, one after another.
-fn is_told<O: Office>(
+fn is_answered_so<O: Office>(
     rt: &impl Abort,
     alloc: Global,
     office: &mut O,
@@ -210,10 +250,7 @@ fn is_stored<O: Office>(
 // What the book shows, with its devices' lives, and the stored replies of its commands, of which
 // there are fewer than forty.
 fn shown<O: Office>(alloc: Global, office: &mut O) -> Result<Vec<u8>, Stop> {
-    let mut text = match office.shown() {
-        Some(book) => book.texts(alloc)?,
-        None => return Err(REOPEN),
-    };
+    let mut text = office.texts(alloc)?;
     for no in 0..40 {
         let reply = stored_text(alloc, &office.replies(no))?;
         text.extend_from_slice(reply.as_bytes())?;

@@ -84,55 +84,21 @@ fn say(rt: &impl Abort, alloc: Global, table: &[(&[u8], &str)]) -> Result<(), Fa
     Ok(())
 }
 
+// The forms of rows and headers are those of `rows.rt`.
 #[test]
 fn forms_of_texts(rt: HostRuntime) -> Result<(), Fail> {
+    let header = "refused 1 BadField 0 row 0";
     say(
         &rt,
         rt.alloc(),
         &[
-            (b"", "refused 1 BadField 0 row 0"),
-            (b"\n", "refused 1 BadField 0 row 0"),
-            (b"span,A0,0,10000,,,,\n", "refused 1 BadField 0 row 0"),
-            (
-                b"ref,kind,f1,f2,f3,f4,f5,f6\nspan,A0,0,10,,,,\n",
-                "refused 1 BadField 0 row 0",
-            ),
-            (
-                b"kind,ref,f1,f2,f3,f4,f5\nspan,A0,0,10,,,,\n",
-                "refused 1 BadField 0 row 0",
-            ),
-            (
-                b"kind,ref,f1,f2,f3,f4,f5,f6,\nspan,A0,0,10,,,,\n",
-                "refused 1 BadField 0 row 0",
-            ),
-            (
-                b"Kind,ref,f1,f2,f3,f4,f5,f6\nspan,A0,0,10,,,,\n",
-                "refused 1 BadField 0 row 0",
-            ),
-            (b"kind,ref,f1,f2,f3,f4,f5,f6", "refused 1 BadField 0 row 0"),
-            (
-                b"kind,ref,f1,f2,f3,f4,f5,f6\n\n",
-                "refused 1 BadField 0 row 0",
-            ),
+            (b"", header),
+            (b"span,A0,0,10000,,,,\n", header),
+            (b"kind,ref,f1,f2,f3,f4,f5,f6", header),
+            (b"kind,ref,f1,f2,f3,f4,f5,f6\n\n", header),
             (
                 b"\xEF\xBB\xBFkind,ref,f1,f2,f3,f4,f5,f6\nspan,A0,0,10,,,,",
                 "W 0",
-            ),
-            (
-                b"\xEF\xBB\xBF\xEF\xBB\xBFkind,ref,f1,f2,f3,f4,f5,f6\nspan,A0,0,10,,,,",
-                "refused 1 BadField 0 row 0",
-            ),
-            (
-                b"kind,ref,f1,f2,f3,f4,f5,f6\r\nspan,A0,0,10,,,,\r\nsection,A1,S1,1,,,,\r\nconnect,C1,1,S1,0,,,\r\n",
-                "W 10",
-            ),
-            (
-                b"kind,ref,f1,f2,f3,f4,f5,f6\rspan,A0,0,10,,,,\rsection,A1,S1,1,,,,\rconnect,C1,1,S1,0,,,",
-                "W 10",
-            ),
-            (
-                b"\"kind\",ref,f1,f2,f3,f4,f5,\"f6\"\n\"span\",\"A0\",\"0\",\"10\",,,,\"\"\nsection,A1,\"S1\",1,,,,\n\"connect\",C1,1,S1,0,\"\",,",
-                "W 10",
             ),
             (
                 b"\n\r\nkind,ref,f1,f2,f3,f4,f5,f6\n\n\nspan,A0,0,10,,,,\n\r\r\nbus,A1,bus,,,,,\n",
@@ -140,10 +106,6 @@ fn forms_of_texts(rt: HostRuntime) -> Result<(), Fail> {
             ),
             (
                 b"kind,ref,f1,f2,f3,f4,f5,f6\nspan,A0,0,10,,,,\n\"\"\n",
-                "refused 1 BadField 0 row 2",
-            ),
-            (
-                b"kind,ref,f1,f2,f3,f4,f5,f6\nspan,A0,0,10,,,,\n \n",
                 "refused 1 BadField 0 row 2",
             ),
         ],

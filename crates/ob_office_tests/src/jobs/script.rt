@@ -24,13 +24,16 @@ pub const INPUT: Halt = Some((Stop::Fault(Fault::Input), None));
 /// An output can't be made or written.
 pub const OUTPUT: Halt = Some((Stop::Fault(Fault::Output), None));
 
-/// A step on a store, and the expected answer: a job, its status, why it stopped, and what it
-/// printed.
+/// A step on a store, with a `Keeper` of its own, and the expected answer: a job, its status, why it
+/// stopped, and what it printed.
+#[derive(Clone, Copy)]
 pub enum Step {
-    /// Checks that each job that works on a book stops because there is none.
-    Lack,
+    /// Runs these statements.
+    Sql(&'static str),
     /// Does a job that prints exactly this.
     Do(Ask, u8, Halt, &'static str),
+    /// Does such a job, after which each job that works on a book stops because there is none.
+    Lack(Ask, u8, Halt, &'static str),
     /// Does a job whose printed text begins with this.
     Begin(Ask, &'static str),
     /// Does a job with a writer that has less room than this line: the part that fits is written.
@@ -38,9 +41,6 @@ pub enum Step {
     /// Does the same with room for each number of bytes.
     BreakAlways(Ask, &'static str),
 }
-
-/// Statements, and the steps of a `Keeper` over the tables that they leave.
-pub type Part = (&'static str, &'static [Step]);
 
 /// Creates a book.
 pub const MADE: Step = Step::Do(Ask::Make(1), 0, None, "created\n");
@@ -83,13 +83,26 @@ fn always_breaks_off<O: Office>(alloc: Global, office: &mut O, ask: Ask, line: &
     true
 }
 
+// Answers whether a job gets the expected answer.
+fn is_done<O: Office>(
+    alloc: Global,
+    office: &mut O,
+    ask: Ask,
+    status: u8,
+    halt: Halt,
+    text: &str,
+) -> bool {
+    let told = office.does(alloc, ask, Sink::new(alloc, 4_000, FULL));
+    ended(&told, status, halt, text.as_bytes())
+}
+
 // Answers whether a step gets the expected answer.
 fn holds<O: Office>(alloc: Global, office: &mut O, step: &Step) -> bool {
     match step {
-        Step::Lack => office.lacks_book(alloc),
-        Step::Do(ask, status, halt, text) => {
-            let told = office.does(alloc, *ask, Sink::new(alloc, 4_000, FULL));
-            ended(&told, *status, *halt, text.as_bytes())
+        Step::Sql(_) => true,
+        Step::Do(ask, status, halt, text) => is_done(alloc, office, *ask, *status, *halt, text),
+        Step::Lack(ask, status, halt, text) => {
+            is_done(alloc, office, *ask, *status, *halt, text) && office.lacks_book(alloc)
         }
         Step::Begin(ask, text) => {
             let told = office.does(alloc, *ask, Sink::new(alloc, 4_000, FULL));
@@ -100,47 +113,43 @@ fn holds<O: Office>(alloc: Global, office: &mut O, step: &Step) -> bool {
     }
 }
 
-// The steps of the part of this number.
+// The step at this place, from 0.
 #[derive(Clone, Copy)]
-struct Script {
-    part: usize,
-    steps: &'static [Step],
+struct One<'s> {
+    place: usize,
+    step: &'s Step,
 }
 
-impl Trial for Script {
+impl Trial for One<'_> {
     fn run<A: Abort, O: Office>(&mut self, rt: &A, alloc: Global, office: &mut O) {
-        let part = self.part;
-        for (place, step) in self.steps.iter().enumerate() {
-            assert!(rt;
-                holds(alloc, office, step),
-                "part {part}, step {place}, from 0"
-            );
-        }
+        let place = self.place;
+        assert!(rt; holds(alloc, office, self.step), "step {place}, from 0");
     }
 }
 
-// Checks the parts over a database, each with a `Keeper` of its own.
+// Checks the steps over a database.
 fn are_done_over<S: Alter + Drop>(
     rt: &impl Abort,
     alloc: Global,
     conn: Connection<S>,
-    parts: &[Part],
+    steps: &[Step],
 ) -> Result<(), Stop> {
     let mut conn = conn;
-    for (part, told) in parts.iter().enumerate() {
-        let (sql, steps) = *told;
-        if conn.execute_batch(sql).is_err() {
-            return Err(STORE);
+    for (place, step) in steps.iter().enumerate() {
+        if let Step::Sql(sql) = step {
+            if conn.execute_batch(*sql).is_err() {
+                return Err(STORE);
+            }
         }
-        conn = over(rt, alloc, conn, &mut Script { part, steps });
+        conn = over(rt, alloc, conn, &mut One { place, step });
     }
     Ok(())
 }
 
-/// Checks the parts over a store in memory.
-pub fn are_done(rt: &impl Abort, alloc: Global, parts: &[Part]) -> Result<(), Stop> {
+/// Checks the steps over a store in memory.
+pub fn are_done(rt: &impl Abort, alloc: Global, steps: &[Step]) -> Result<(), Stop> {
     match Connection::open_in_memory(alloc) {
-        Ok(conn) => are_done_over(rt, alloc, conn, parts),
+        Ok(conn) => are_done_over(rt, alloc, conn, steps),
         Err(_) => Err(STORE),
     }
 }
