@@ -229,7 +229,7 @@ def busy(page: browser.Browser) -> float:
     return float(next(each["value"] for each in found if each["name"] == "TaskDuration"))
 
 
-class LargeStorm(test_browser.Case):
+class LargeStorm(support.Case):
     def test_sixty_outages_on_a_thousand_sections(self) -> None:
         """The ten largest are on the first screen of each size, no page is busy for long, and what a click hits stays where it is."""
         live = self.screen(book=support.live(self.id(), "large-storm", support.storm_text(20, 7, 7)))
