@@ -13,6 +13,11 @@ OUTAGES = 60
 SIZES = ((390, 844), (1280, 900), (1920, 1080))
 LARGEST = 10
 LONG_TASK = 0.2  # seconds in which a page may answer nothing
+SHOWS = """
+const [number, done] = arguments;
+const look = () => (document.body.dataset.number === number ? done() : setTimeout(look, 50));
+look();
+"""
 WATCHES = """
 window.tasks = [];
 new PerformanceObserver((list) => list.getEntries().forEach((each) => tasks.push(each.duration))).observe({ type: "longtask" });
@@ -217,7 +222,14 @@ class Pages(test_browser.Case):
         self.assertAlmostEqual(head[1], top[3], delta=2)
 
 
-class LargeStorm(test_browser.Case):
+def busy(page: browser.Browser) -> float:
+    """The seconds of a processor that a page's scripts, styles and drawing have taken: they don't depend on what else runs."""
+    page.driver.execute_cdp_cmd("Performance.enable", {"timeDomain": "threadTicks"})
+    found = page.driver.execute_cdp_cmd("Performance.getMetrics", {})["metrics"]
+    return float(next(each["value"] for each in found if each["name"] == "TaskDuration"))
+
+
+class LargeStorm(support.Case):
     def test_sixty_outages_on_a_thousand_sections(self) -> None:
         """The ten largest are on the first screen of each size, no page is busy for long, and what a click hits stays where it is."""
         live = self.screen(book=support.live(self.id(), "large-storm", support.storm_text(20, 7, 7)))
@@ -229,28 +241,28 @@ class LargeStorm(test_browser.Case):
             page.open(f"{live.url}/")
             page.wait(lambda: page.find(".diagram-place").get_attribute("aria-busy") == "false", "the whole diagram")
             page.driver.execute_script(WATCHES)
+            page.driver.set_script_timeout(support.WAIT_SECONDS)
         reader = pages[1]
         link = reader.find("[data-key=entry-1] .close")
         place = reader.driver.execute_script(PLACE, link)
         devices = [f"LBS-{feeder}{branch}-{2 + feeder % 5}" for branch in (1, 3, 5) for feeder in range(1, 21)]
-        begun, slowest = time.monotonic(), 0.0
+        begun, slowest, taken = time.monotonic(), 0.0, [0.0] * len(pages)
         for number, device in enumerate(devices[1:] + ["CB-7"], 1):
             time.sleep(max(0.0, begun + number * STORM_SECONDS / OUTAGES - time.monotonic()))
             reader.point_at(reader.find(f"[data-key=entry-1] td:nth-child({1 + number % 2})"))  # as a hand does
-            sent = time.monotonic()
+            sent, before = time.monotonic(), [busy(page) for page in pages]
             last = str(live.switch("open", device))
             for page in pages:
-                page.wait(
-                    lambda: page.driver.execute_script("return document.body.dataset.number") == last, "the outage"
-                )
+                page.driver.execute_async_script(SHOWS, last)
             slowest = max(slowest, time.monotonic() - sent)
+            taken = [so_far + busy(page) - at for so_far, page, at in zip(taken, pages, before)]
             self.assertEqual(reader.driver.execute_script(PLACE, link), place)
         reader.point_at(reader.find("h1"))
         out: dict[int, int] = {}
         for row in live.call("/api/now")[1]["outages"]:
             out[row["entry"]] = out.get(row["entry"], 0) + row["customers"]
         least = sorted(out.values())[-LARGEST]
-        for page, (width, height) in zip(pages, SIZES):
+        for page, (width, height), processor in zip(pages, SIZES, taken):
             page.wait(
                 lambda: page.driver.execute_script("return document.querySelector('tbody tr').dataset.key")
                 == f"entry-{max(out, key=lambda entry: out[entry])}",
@@ -262,10 +274,13 @@ class LargeStorm(test_browser.Case):
             self.assertEqual((len(shown), min(shown)), (LARGEST, least), width)
             tasks = sorted(each / 1000 for each in page.driver.execute_script("return window.tasks")) or [0.0]
             rows = len(page.driver.execute_script(ON_FIRST_SCREEN))
-            print(
-                f"{width} x {height}: {rows} rows on the first screen, longest task {tasks[-1]:.3f} s of {len(tasks)}"
+            words = (
+                f"{processor / OUTAGES:.3f} s of a processor until an outage is shown, longest task {tasks[-1]:.3f} s"
             )
-            self.assertLess(tasks[-1], support.limit(LONG_TASK), width)
+            print(f"{width} x {height}: {rows} rows on the first screen, {words} at load {os.getloadavg()[0]:.0f}")
+            self.assertLess(processor / OUTAGES, LONG_TASK, width)  # in all tasks together
+            if support.limit(1) == 1:  # else a task waits for other programs
+                self.assertLess(tasks[-1], LONG_TASK, width)
             self.assertEqual(page.complaints(), [])
         print(
             f"{len(devices)} outages in {time.monotonic() - begun:.0f} s, each on all three pages within {slowest:.2f} s"
