@@ -6,7 +6,7 @@ use Rattle.ob_base.specs.declared.stop.Fault.{Fault as AFault}
 use Rattle.ob_stream.specs.Watching.{watched_inner}
 use Rattle.ob_stream.specs.declared.watched.Watched.{Watched}
 use Rattle.ob_tables.specs.declared.table.Table.{Table}
-use Rattle.ob_store.specs.Calls.{AnswersRead, CommitsNothing, OnOldTables, OnTables, WasClean}
+use Rattle.ob_store.specs.Calls.{CommitsNothing, OnOldTables, OnTables, ReadAnswers, WasClean}
 use Rattle.ob_store.specs.Crashing.{Loads}
 use Rattle.ob_store.specs.Keepers.{Ghosts, KeeperValue}
 use Rattle.ob_store.specs.Keeping.{IsBookAfter}
@@ -35,7 +35,7 @@ module _ {S : Type 0} (g : Ghosts S) where
     pub stops : IfErr found IsLoadFault
     pub clean : WasClean g old new
     pub survives : CommitsNothing g old new
-    pub answers : AnswersRead g old new found
+    pub answers : ReadAnswers g old new found
     pub audited : OnTables g old new (Audited g old new found)
     pub outdated : OnOldTables g old new (Outdated g old new found)
 

@@ -2,7 +2,7 @@
 use Rattle.std.specs.Prelude.{◌≡◌, Bool, Result, IfErr, OnOk}
 use Rattle.ob_base.specs.declared.stop.Stop.{Stop}
 use Rattle.ob_compare.specs.Reading.{IsReadFault}
-use Rattle.ob_store.specs.Calls.{AnswersMigrate, CommitsUpgrade, CurrentLeft, IfStoredOld, OldMigrated, OnOldTables, OnTables, StoredMigrated, WasClean}
+use Rattle.ob_store.specs.Calls.{CommitsUpgrade, IfStoredOld, LeavesCurrentTables, MigratesOldTables, MigratesStoredBook, MigrationAnswers, OnOldTables, OnTables, WasClean}
 use Rattle.ob_store.specs.Keepers.{Ghosts, KeeperValue}
 use Rattle.ob_store.specs.Keeping.{IsBookAfter}
 use Rattle.ob_store.specs.OldCrashing.{OldCrashLaw}
@@ -16,8 +16,8 @@ module _ {S : Type 0} (g : Ghosts S) where
     pub stops : IfErr done IsReadFault
     pub clean : WasClean g old new
     pub survives : CommitsUpgrade g old new
-    pub goes_on : AnswersMigrate g old new done
-    pub migrated : OnOldTables g old new (OldMigrated g old new done)
-    pub current : OnTables g old new (CurrentLeft g old new done)
-    pub kept : IfStoredOld g old new (λ b. StoredMigrated g new b done)
+    pub goes_on : MigrationAnswers g old new done
+    pub migrated : OnOldTables g old new (MigratesOldTables g old new done)
+    pub current : OnTables g old new (LeavesCurrentTables g old new done)
+    pub kept : IfStoredOld g old new (λ b. MigratesStoredBook g new b done)
     pub crash : OldCrashLaw g g

@@ -5,7 +5,7 @@ use Rattle.ob_base.specs.declared.stop.Stop.{Stop}
 use Rattle.ob_base.specs.declared.stop.Stop.TheVariants.{Fault}
 use Rattle.ob_base.specs.declared.stop.Fault.TheVariants.{Reopen}
 use Rattle.ob_book.specs.Acts.{ActState, Referenced, start}
-use Rattle.ob_store.specs.Calls.{CommandFailed}
+use Rattle.ob_store.specs.Calls.{HasCommandCause}
 use Rattle.ob_store.specs.Keepers.{Ghosts, KeeperValue, StoresNumbers, Ties}
 use Rattle.ob_store.specs.Creating.{Created}
 use Rattle.ob_store.specs.declared.reply.Reply.{Reply as GivenReply}
@@ -23,11 +23,11 @@ module _ {S : Type 0} (g : Ghosts S) (old new : KeeperValue S) (Is : ActState �
 
   module _ (a : Referenced) where
     -- without a book the keeper tells that, and no fault of the store
-    not_opened : (r : Result GivenReply Stop) → r ≡ Err (Fault Reopen) → (x : ActState) → CommandFailed g {X = GivenReply} old new x a r
-    not_opened r e x = subst (λ (r : Result GivenReply Stop). CommandFailed g {X = GivenReply} old new x a r) (sym e) (λ store. absurd cc)
+    not_opened : (r : Result GivenReply Stop) → r ≡ Err (Fault Reopen) → (x : ActState) → HasCommandCause g {X = GivenReply} old new x a r
+    not_opened r e x = subst (λ (r : Result GivenReply Stop). HasCommandCause g {X = GivenReply} old new x a r) (sym e) (λ store. absurd cc)
 
     pub acts_for_cause : (r : Result GivenReply Stop) → (old.book ≡ None → r ≡ Err (Fault Reopen))
-        → ((x : ActState) → Ties g old x → IsSome old.book → CommandFailed g {X = GivenReply} old new x a r) → Stands g Is old → ActsForCause g {X = GivenReply} Is old new a r
+        → ((x : ActState) → Ties g old x → IsSome old.book → HasCommandCause g {X = GivenReply} old new x a r) → Stands g Is old → ActsForCause g {X = GivenReply} Is old new a r
     acts_for_cause r reopen cause stands = elim (by_book g old new Is old.book refl stands) [
       | inl none ↦ let it = standing stands in (it.0, it.1, not_opened r (reopen none) it.0)
       | inr it ↦ (it.0, it.1, cause it.0 it.2 it.3)

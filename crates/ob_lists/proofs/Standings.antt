@@ -10,7 +10,7 @@ use Rattle.ob_base.specs.declared.stop.Refusal.TheVariants.{BadField, UnknownNam
 use Rattle.ob_state.specs.State.{BookState}
 use Rattle.ob_book.specs.Acts.{ActState, Referenced, act}
 use Rattle.ob_store.specs.Acting.{Acted, reply_as}
-use Rattle.ob_store.specs.Calls.{AnswersMigrate, OldMigrated, StillStores, StoredMigrated, WasEmpty}
+use Rattle.ob_store.specs.Calls.{MigratesOldTables, MigratesStoredBook, MigrationAnswers, StillStores, WasEmpty}
 use Rattle.ob_store.specs.Crashing.{HasLoaded, LoadLaw, Loads}
 use Rattle.ob_store.specs.Creating.{Created}
 use Rattle.ob_store.specs.Keepers.{Ghosts, HasOldTables, IsClean, IsOpen, KeeperValue, StatesOld, Stores, StoresEitherVersion, StoresOld, Ties}
@@ -198,7 +198,7 @@ module _ {S : Type 0} (g : Ghosts S) (old new : KeeperValue S) where
 
     -- ---- a migration
     -- the clauses of a migration
-    module _ (r : Result Bool Stop) (on : AnswersMigrate g old new r) (clean : IsClean g new) (was_clean : IsClean g old)
+    module _ (r : Result Bool Stop) (on : MigrationAnswers g old new r) (clean : IsClean g new) (was_clean : IsClean g old)
         (how : (new.book ≡ old.book) ⊎ (new.book ≡ None)) where
       in_upgrade : (x : ActState) → Is x → StoresEitherVersion g new x → old.book ≡ None → Stands g Is new
       in_upgrade x is keeps lost = inr (inr (inr (record { book = x; is = is; keeps = keeps; lost = still_lost lost how })))
@@ -206,16 +206,16 @@ module _ {S : Type 0} (g : Ghosts S) (old new : KeeperValue S) where
       now_kept : (x : ActState) → Is x → Stores g new x → old.book ≡ None → Stands g Is new
       now_kept x is keeps lost = inl (record { book = x; is = is; ties = tie_none x keeps (still_lost lost how) })
 
-    migrated_kept : (r : Result Bool Stop) (on : AnswersMigrate g old new r) (clean : IsClean g new) (was_clean : IsClean g old)
-        (how : (new.book ≡ old.book) ⊎ (new.book ≡ None)) (it : KeptOld g Is old) → (IsOpen g old → StoredMigrated g new it.book r) → Stands g Is new
+    migrated_kept : (r : Result Bool Stop) (on : MigrationAnswers g old new r) (clean : IsClean g new) (was_clean : IsClean g old)
+        (how : (new.book ≡ old.book) ⊎ (new.book ≡ None)) (it : KeptOld g Is old) → (IsOpen g old → MigratesStoredBook g new it.book r) → Stands g Is new
     migrated_kept (Ok true) on clean was_clean how it kept = now_kept (Ok true) on clean was_clean how it.book it.is (kept (on.live clean tt)) it.lost
     migrated_kept (Ok false) on clean was_clean how it kept = absurd (kept (on.live clean tt))
     migrated_kept (Err (Refused r)) on clean was_clean how it kept = absurd (kept (on.live clean tt))
     migrated_kept (Err (Fault f)) on clean was_clean how it kept =
         in_upgrade (Err (Fault f)) on clean was_clean how it.book it.is (on.version clean it.book (as_either_version g old it.book it.keeps)) it.lost
 
-    migrated_either : (r : Result Bool Stop) (on : AnswersMigrate g old new r) (clean : IsClean g new) (was_clean : IsClean g old)
-        (how : (new.book ≡ old.book) ⊎ (new.book ≡ None)) (it : InUpgrade g Is old) → (HasOldTables old → OldMigrated g old new r) → Stands g Is new
+    migrated_either : (r : Result Bool Stop) (on : MigrationAnswers g old new r) (clean : IsClean g new) (was_clean : IsClean g old)
+        (how : (new.book ≡ old.book) ⊎ (new.book ≡ None)) (it : InUpgrade g Is old) → (HasOldTables old → MigratesOldTables g old new r) → Stands g Is new
     migrated_either (Ok true) on clean was_clean how it migrated =
         let live = on.live clean tt in
         let made = migrated (shows_old g old it.book it.keeps was_clean live) in
@@ -226,9 +226,9 @@ module _ {S : Type 0} (g : Ghosts S) (old new : KeeperValue S) where
     migrated_either (Err stop) on clean was_clean how it migrated =
         in_upgrade (Err stop) on clean was_clean how it.book it.is (on.version clean it.book it.keeps) it.lost
 
-    pub migrate_stands : (r : Result Bool Stop) → AnswersMigrate g old new r → IsClean g new → IsClean g old
-        → (new.book ≡ old.book) ⊎ (new.book ≡ None) → (HasOldTables old → OldMigrated g old new r)
-        → (IsOpen g old → (x : ActState) → StoresOld g old x → StoredMigrated g new x r) → Stands g Is old → Stands g Is new
+    pub migrate_stands : (r : Result Bool Stop) → MigrationAnswers g old new r → IsClean g new → IsClean g old
+        → (new.book ≡ old.book) ⊎ (new.book ≡ None) → (HasOldTables old → MigratesOldTables g old new r)
+        → (IsOpen g old → (x : ActState) → StoresOld g old x → MigratesStoredBook g new x r) → Stands g Is old → Stands g Is new
     migrate_stands r on clean was_clean how migrated kept (inl it) =
         inl (record { book = it.book; is = it.is; ties = tie_after it.book it.ties (on.book it.book it.ties.kept) how })
     migrate_stands r on clean was_clean how migrated kept (inr (inl it)) = inr (inl (record {

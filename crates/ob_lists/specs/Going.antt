@@ -11,7 +11,7 @@ use Rattle.ob_csv.specs.Rows.{Fields}
 use Rattle.ob_book.specs.Acts.{ActState, Referenced, is_same, start}
 use Rattle.ob_import.specs.Imports.{Says}
 use Rattle.ob_import.specs.Reports.{AreRows}
-use Rattle.ob_store.specs.Calls.{CommandFailed, OpensAfter}
+use Rattle.ob_store.specs.Calls.{HasCommandCause, OpensAfter}
 use Rattle.ob_store.specs.Keepers.{Ghosts, IsClean, KeeperValue, StoresNumbers, Ties}
 use Rattle.ob_lists.specs.Importing.{Ended, body_of, counted}
 use Rattle.ob_lists.specs.Streaming.{Accepts, AnswersStream, Stream}
@@ -70,7 +70,7 @@ module _ {S : Type 0} (g : Ghosts S) where
 
   -- where the store is told to have failed on a command, that has its cause, over one of these books
   abbrev pub ActsForCause : {X : Type 0} → (ActState → Type 0) → KeeperValue S → KeeperValue S → Referenced → Result X Stop → Type 0
-  ActsForCause Is old new a result = (x : ActState) × Is x × CommandFailed g old new x a result
+  ActsForCause Is old new a result = (x : ActState) × Is x × HasCommandCause g old new x a result
 
   -- a new book of the period that the texts name stands, with what was told since; and whatever a crash leaves has hidden row numbers
   -- 1, 2, 3 and so on

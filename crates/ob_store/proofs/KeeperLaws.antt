@@ -9,7 +9,7 @@ use Rattle.ob_commit.proofs.Commits.{numbers_survive}
 use Rattle.ob_record.specs.Tables.{tables_of}
 use Rattle.ob_parts.specs.OldTables.{HasOldBook, old_tables_of}
 use Rattle.sqlite.specs.Held.{state}
-use Rattle.ob_store.specs.Calls.{CommitsNothing, OldMigrated, WasEmpty}
+use Rattle.ob_store.specs.Calls.{CommitsNothing, MigratesOldTables, WasEmpty}
 use Rattle.ob_store.specs.Keepers.{CrashLeaves, Ghosts, HasOldTables, IsClean, IsOpen, KeeperValue, StatesOld, Stores, StoresEither, StoresEitherVersion, StoresNumbers, StoresOld}
 use Rattle.ob_store.specs.Loading.{trees_in}
 use Rattle.ob_store.proofs.OldBooks.{has_one}
@@ -65,11 +65,11 @@ module _ {S : Type 0} (g : Ghosts S) where
     states_old = has_one (trees_in g k.conn) b has_old_book
 
     -- where they became those of version 2, they are the book's
-    pub migrated_stores : (new : KeeperValue S) → OldMigrated g k new (Ok true) → Stores g new b
+    pub migrated_stores : (new : KeeperValue S) → MigratesOldTables g k new (Ok true) → Stores g new b
     migrated_stores new made = subst (λ (x : ActState). Stores g new x) (sym (made.1.1 b has_old_book)) made.2
 
     -- they were not of version 2 before
-    pub migrated_never : (new : KeeperValue S) → OldMigrated g k new (Ok false) → ⊥
+    pub migrated_never : (new : KeeperValue S) → MigratesOldTables g k new (Ok false) → ⊥
     migrated_never new told = two_versions (trees_in g k.conn) states_old told.0
 
   -- ---- a database that held nothing kept no book

@@ -1,5 +1,5 @@
 -- What a call makes of a keeper, as the crates above state it: no store, table or file is named by them.
-use Rattle.std.specs.Prelude.{ℕ, Bool, List, IsSome, Result}
+use Rattle.std.specs.Prelude.{◌≡◌, ℕ, Bool, List, IsSome, Result}
 use Rattle.sqlite_trees.specs.declared.store.Store.{Ghosts}
 use Rattle.sqlite.specs.Held.{state}
 use Rattle.sqlite.specs.State.{Survives}
@@ -8,10 +8,14 @@ use Rattle.ob_book.specs.Acts.{ActState, Referenced}
 use Rattle.ob_tables.specs.Steps.{HasFailed}
 use Rattle.ob_store.specs.Acting.{HasActCause}
 use Rattle.ob_store.specs.Crashing.{OpensAfterCrash}
-use Rattle.ob_store.specs.Creating.{HeldNothing, LeavesAll, MayBegin}
+use Rattle.ob_store.specs.Creating.{HasCreateCause, HeldNothing, LeavesAll, MayBegin}
 use Rattle.ob_store.specs.Keepers.{HasOldTables, HasTables, IsClean, IsOpen, StoresOld}
 use Rattle.ob_store.specs.Keeping.{Answers, KeeperValue, KeepsOn, Ties}
 use Rattle.ob_store.specs.Migrating.{LeavesKept, LeftAsItWas, Migrated, MigratesKept, MigratesOn}
+
+-- the store's queries may take as many steps as before
+abbrev pub KeepsLimit : {S : Type 0} → KeeperValue S → KeeperValue S → Type 0
+KeepsLimit old new = new.conn.step_limit ≡ old.conn.step_limit
 
 module _ {S : Type 0} (g : Ghosts S) where
   -- if the disk is clean after the call, it was before it
@@ -55,9 +59,13 @@ module _ {S : Type 0} (g : Ghosts S) where
   abbrev pub StoreFailed : KeeperValue S → KeeperValue S → Type 0
   StoreFailed old new = HasFailed (state g old.conn) (state g new.conn)
 
-  -- where the store is reported to have failed on a command over a book, it has; or it undid the command's rows
-  abbrev pub CommandFailed : {X : Type 0} → KeeperValue S → KeeperValue S → ActState → Referenced → Result X Stop → Type 0
-  CommandFailed old new b a result = HasActCause g old.conn new.conn b a result
+  -- where the store is reported to have failed on a command, it has; or it undid the rows of the command, which the book accepts
+  abbrev pub HasCommandCause : {X : Type 0} → KeeperValue S → KeeperValue S → ActState → Referenced → Result X Stop → Type 0
+  HasCommandCause old new b a result = HasActCause g old.conn new.conn b a result
+
+  -- where the store is reported to have failed on a new book of this period, it has; or it undid the book's rows
+  abbrev pub HasCreationCause : {X : Type 0} → KeeperValue S → KeeperValue S → List ℕ → ℕ → List ℕ → Result X Stop → Type 0
+  HasCreationCause old new first days zone result = HasCreateCause g old.conn new.conn first days zone result
 
   -- the database held nothing before a new book was made in it, and the store was open
   abbrev pub WasEmpty : KeeperValue S → KeeperValue S → Type 0
@@ -72,25 +80,25 @@ module _ {S : Type 0} (g : Ghosts S) where
   MayHaveBegun old new first days zone = MayBegin g old.conn new.conn first days zone
 
   -- the tables were read, over any database: how the answer depends on it, and what the store then keeps
-  abbrev pub AnswersRead : {X : Type 0} → KeeperValue S → KeeperValue S → Result X Stop → Type 0
-  AnswersRead old new result = Answers g old.conn new.conn result
+  abbrev pub ReadAnswers : {X : Type 0} → KeeperValue S → KeeperValue S → Result X Stop → Type 0
+  ReadAnswers old new result = Answers g old.conn new.conn result
 
   -- tables of version 1 were to become those of version 2, over any database: how the answer depends on it, and what the store
   -- then keeps
-  abbrev pub AnswersMigrate : KeeperValue S → KeeperValue S → Result Bool Stop → Type 0
-  AnswersMigrate old new result = MigratesOn g old.conn new.conn result
+  abbrev pub MigrationAnswers : KeeperValue S → KeeperValue S → Result Bool Stop → Type 0
+  MigrationAnswers old new result = MigratesOn g old.conn new.conn result
 
   -- the same over the tables of version 1
-  abbrev pub OldMigrated : KeeperValue S → KeeperValue S → Result Bool Stop → Type 0
-  OldMigrated old new result = Migrated g old.conn new.conn result
+  abbrev pub MigratesOldTables : KeeperValue S → KeeperValue S → Result Bool Stop → Type 0
+  MigratesOldTables old new result = Migrated g old.conn new.conn result
 
   -- the same over those of version 2, where nothing is written
-  abbrev pub CurrentLeft : KeeperValue S → KeeperValue S → Result Bool Stop → Type 0
-  CurrentLeft old new result = LeftAsItWas g old.conn new.conn result
+  abbrev pub LeavesCurrentTables : KeeperValue S → KeeperValue S → Result Bool Stop → Type 0
+  LeavesCurrentTables old new result = LeftAsItWas g old.conn new.conn result
 
   -- the same of a book of version 1 that an open store kept
-  abbrev pub StoredMigrated : KeeperValue S → ActState → Result Bool Stop → Type 0
-  StoredMigrated new b result = MigratesKept g new.conn b result
+  abbrev pub MigratesStoredBook : KeeperValue S → ActState → Result Bool Stop → Type 0
+  MigratesStoredBook new b result = MigratesKept g new.conn b result
 
 module _ {S R : Type 0} (g : Ghosts S) (h : Ghosts R) where
   -- the second keeper's store was opened over what a crash left of the first one's, whose disk was clean
