@@ -1,11 +1,10 @@
 -- What the program's server makes of a book.
 use Rattle.std.specs.Prelude.{◌≡◌, ◌⊎◌, ⊤, ℕ, Result, Ok, Err, IfErr}
-use Rattle.sqlite_trees.specs.declared.store.Store.{Ghosts}
 use Rattle.ob_base.specs.declared.stop.Stop.{Stop}
 use Rattle.ob_base.specs.declared.stop.Stop.TheVariants.{Fault}
 use Rattle.ob_base.specs.declared.stop.Fault.{Fault as AFault}
 use Rattle.ob_base.specs.declared.stop.Fault.TheVariants.{Input, Output}
-use Rattle.ob_store.specs.Keeping.{KeeperValue}
+use Rattle.ob_store.specs.Keepers.{Ghosts, KeeperValue}
 use Rattle.ob_desk.specs.Listening.{LeavesKeeper, ServesStreams, most_streams, unserved_fault}
 use Rattle.ob_desk.specs.declared.listen.Unserved.{Unserved}
 use Rattle.outagebook.specs.declared.desk.Complaints.{Complaints}

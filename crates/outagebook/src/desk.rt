@@ -6,9 +6,8 @@ use crate::tell_stop;
 use ob_base::{Fault, Stop};
 use ob_desk::{FaultLog, Listener, Unserved, run_serve};
 use ob_jobs::ServeBook;
-use ob_store::Keeper;
+use ob_store::{Alter, Keeper};
 use ob_sweep::Timeline;
-use sqlite::Alter;
 use std::net::{Ipv4Addr, TcpListener};
 
 /// Prints on standard error the faults that ended streams.
